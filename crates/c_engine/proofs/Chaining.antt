@@ -1,10 +1,9 @@
 -- The list of free places once one place has changed.
-use Rattle.std.specs.Prelude.{ℕ, suc, ◌≡◌, ◌≢◌, ◌<◌, ◌==◌, ◌&&◌, ◌||◌, List, [], ◌∷◌, ◌++◌, length, nat_lt, slice_get, slice_set, Option, Some, None, Bool, true, false}
+use Rattle.std.specs.Prelude.{ℕ, ◌≡◌, ◌≢◌, ◌<◌, ◌==◌, ◌||◌, List, [], ◌∷◌, ◌++◌, length, nat_lt, slice_get, slice_set, Option, Some, Bool, true, false}
 use Rattle.std.proofs.Common.{◌∙◌, sym, ap, refl, arith, ◌⊎◌, inl, inr}
 use Rattle.std.proofs.Math.Logic.{∥∥₁_map, ∥∥₁_elim}
 use Rattle.std.proofs.Props.{props}
 use Rattle.std.proofs.lemmas.Bool.{cases_eq, eq-eqb, ne_eqb, lt-ltb, false≢true}
-use Rattle.std.proofs.lemmas.Option.{slice_get_past}
 use Rattle.c_engine.specs.FreePlaces.{is_nothing, holds_nothing, has_free, is_among, IsChain, AreChained, AllTaken}
 use Rattle.c_engine.specs.declared.places.Held.{Held}
 use Rattle.c_engine.specs.declared.places.Held.TheVariants.{Nothing}
@@ -26,7 +25,8 @@ behind_first : (n x : ℕ) (xs : List ℕ) → n ≢ x → is_among n (x ∷ xs)
 behind_first n x xs other among = let no : (x == n) ≡ false = ne_eqb x n (λ e. other (sym e)) in rw no at among
 
 -- where no place of the chain changes, it is a chain still
-chain_stays : (old new : List Place) (from : ℕ) (chain : List ℕ) → ((at : ℕ) → is_among at chain ≡ true → slice_get new at ≡ slice_get old at) → IsChain old from chain → IsChain new from chain
+chain_stays : (old new : List Place) (from : ℕ) (chain : List ℕ) → ((at : ℕ) → is_among at chain ≡ true → slice_get new at ≡ slice_get old at)
+    → IsChain old from chain → IsChain new from chain
 chain_stays old new from [] same is = is
 chain_stays old new from (at ∷ rest) same is =
     let next = is.3 in (
@@ -37,7 +37,8 @@ chain_stays old new from (at ∷ rest) same is =
     )
 
 -- each place of a chain holds nothing
-chain_is_free : (places : List Place) (from : ℕ) (chain : List ℕ) → IsChain places from chain → (n : ℕ) → is_among n chain ≡ true → holds_nothing (slice_get places n) ≡ true
+chain_is_free : (places : List Place) (from : ℕ) (chain : List ℕ) → IsChain places from chain → (n : ℕ) → is_among n chain ≡ true
+    → holds_nothing (slice_get places n) ≡ true
 chain_is_free places from [] is n among = absurd (false≢true among)
 chain_is_free places from (at ∷ rest) is n among = elim (cases_eq n at) [
   | inl same ↦ ap (λ (i : ℕ). holds_nothing (slice_get places i)) same ∙ ap (λ (o : Option Place). holds_nothing o) is.3.1 ∙ is.3.2
@@ -55,13 +56,15 @@ not_true b never = elim (cases_true b) [
 ]
 
 -- a place that holds something is not of the chain
-not_among : (places : List Place) (from : ℕ) (chain : List ℕ) (n : ℕ) → IsChain places from chain → holds_nothing (slice_get places n) ≡ false → is_among n chain ≡ false
+not_among : (places : List Place) (from : ℕ) (chain : List ℕ) (n : ℕ) → IsChain places from chain → holds_nothing (slice_get places n) ≡ false
+    → is_among n chain ≡ false
 not_among places from chain n is taken = not_true (is_among n chain) (λ among. false≢true (sym taken ∙ chain_is_free places from chain is n among))
 
 -- ---- what changes
 
 -- a place that is taken stays taken
-pub stays_taken : (places : List Place) (free at : ℕ) (p q : Place) → slice_get places at ≡ Some p → is_nothing p.held ≡ false → is_nothing q.held ≡ false → ∥ AreChained places free ∥₁ → ∥ AreChained (slice_set places at q) free ∥₁
+pub stays_taken : (places : List Place) (free at : ℕ) (p q : Place) → slice_get places at ≡ Some p → is_nothing p.held ≡ false → is_nothing q.held ≡ false
+    → ∥ AreChained places free ∥₁ → ∥ AreChained (slice_set places at q) free ∥₁
 stays_taken places free at p q here taken stays chained = ∥∥₁_map chained (λ c.
     let out : is_among at c.chain ≡ false = not_among places free c.chain at c.is_chain (ap (λ (o : Option Place). holds_nothing o) here ∙ taken) in
     let apart : (n : ℕ) → is_among n c.chain ≡ true → slice_get (slice_set places at q) n ≡ slice_get places n =
@@ -70,13 +73,15 @@ stays_taken places free at p q here taken stays chained = ∥∥₁_map chained 
       chain = c.chain;
       is_chain = chain_stays places (slice_set places at q) free c.chain apart c.is_chain;
       all = λ n none. elim (cases_eq n at) [
-        | inl same ↦ absurd (false≢true (sym (ap (λ (i : ℕ). holds_nothing (slice_get (slice_set places at q) i)) same ∙ ap (λ (o : Option Place). holds_nothing o) (set_here places at p q here) ∙ stays) ∙ none))
+        | inl same ↦ absurd (false≢true (sym (ap (λ (i : ℕ). holds_nothing (slice_get (slice_set places at q) i)) same
+            ∙ ap (λ (o : Option Place). holds_nothing o) (set_here places at p q here) ∙ stays) ∙ none))
         | inr other ↦ c.all n (ap (λ (o : Option Place). holds_nothing o) (sym (set_apart places at n q other)) ∙ none)
       ];
     })
 
 -- a place that held something is the first of the chain from now on
-pub becomes_free : (places : List Place) (free at : ℕ) (p q : Place) → slice_get places at ≡ Some p → at < 65536 → is_nothing p.held ≡ false → is_nothing q.held ≡ true → q.next ≡ free
+pub becomes_free : (places : List Place) (free at : ℕ) (p q : Place) → slice_get places at ≡ Some p → at < 65536 → is_nothing p.held ≡ false
+    → is_nothing q.held ≡ true → q.next ≡ free
     → ∥ AreChained places free ∥₁ → ∥ AreChained (slice_set places at q) at ∥₁
 becomes_free places free at p q here low taken none next chained = ∥∥₁_map chained (λ c.
     let out : is_among at c.chain ≡ false = not_among places free c.chain at c.is_chain (ap (λ (o : Option Place). holds_nothing o) here ∙ taken) in
@@ -98,7 +103,8 @@ begins_there places at [] is low = absurd (omega (arith, is, low))
 begins_there places at (x ∷ rest) is low = (rest, ap (λ (i : ℕ). i ∷ rest) (sym is.0))
 
 -- the first of the chain is taken, and the next one is the first from now on
-pub becomes_taken : (places : List Place) (at : ℕ) (p q : Place) → slice_get places at ≡ Some p → at < 65536 → is_nothing q.held ≡ false → ∥ AreChained places at ∥₁ → ∥ AreChained (slice_set places at q) p.next ∥₁
+pub becomes_taken : (places : List Place) (at : ℕ) (p q : Place) → slice_get places at ≡ Some p → at < 65536 → is_nothing q.held ≡ false
+    → ∥ AreChained places at ∥₁ → ∥ AreChained (slice_set places at q) p.next ∥₁
 becomes_taken places at p q here low taken chained = ∥∥₁_map chained (λ c.
     let first = begins_there places at c.chain c.is_chain low in
     let rest : List ℕ = first.0 in
@@ -111,7 +117,8 @@ becomes_taken places at p q here low taken chained = ∥∥₁_map chained (λ c
       chain = rest;
       is_chain = chain_stays places (slice_set places at q) p.next rest apart behind;
       all = λ n empty. elim (cases_eq n at) [
-        | inl here_is ↦ absurd (false≢true (sym (ap (λ (i : ℕ). holds_nothing (slice_get (slice_set places at q) i)) here_is ∙ ap (λ (o : Option Place). holds_nothing o) (set_here places at p q here) ∙ taken) ∙ empty))
+        | inl here_is ↦ absurd (false≢true (sym (ap (λ (i : ℕ). holds_nothing (slice_get (slice_set places at q) i)) here_is
+            ∙ ap (λ (o : Option Place). holds_nothing o) (set_here places at p q here) ∙ taken) ∙ empty))
         | inr other ↦
             let among : is_among n c.chain ≡ true = c.all n (ap (λ (o : Option Place). holds_nothing o) (sym (set_apart places at n q other)) ∙ empty) in
             behind_first n at rest other (rw first.1 at among)
@@ -134,7 +141,8 @@ all_taken places free chained none at = ∥∥₁_elim chained (Prim.hlevel prop
     not_true (holds_nothing (slice_get places at)) (λ nothing. let among : is_among at c.chain ≡ true = c.all at nothing in false≢true (rw empty at among)))
 
 -- one place more, behind all that are taken
-pub becomes_more : (places : List Place) (free : ℕ) (q : Place) → length places < 65536 → is_nothing q.held ≡ true → q.next ≡ 65536 → has_free places free ≡ false → ∥ AreChained places free ∥₁
+pub becomes_more : (places : List Place) (free : ℕ) (q : Place) → length places < 65536 → is_nothing q.held ≡ true → q.next ≡ 65536
+    → has_free places free ≡ false → ∥ AreChained places free ∥₁
     → ∥ AreChained (places ++ q ∷ []) (length places) ∥₁
 becomes_more places free q low none next full chained =
     let taken : AllTaken places = all_taken places free chained full in

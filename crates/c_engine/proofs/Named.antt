@@ -6,7 +6,7 @@ use Rattle.std.proofs.lemmas.Bool.{cases_eq, eq-eqb, ne_eqb, lt-ltb, ltb-true, f
 use Rattle.std.proofs.lemmas.Option.{slice_get_past, slice_get_cases, get_or_from_slice_get}
 use Rattle.snapshot.specs.Txn.{TxnValue}
 use Rattle.c_engine.specs.FreePlaces.{is_nothing, has_free}
-use Rattle.c_engine.specs.Held.{held_in, named, named_in, stamp_of, transaction_in, SameNumbers, IsKept}
+use Rattle.c_engine.specs.Held.{held_in, named_in, stamp_of, transaction_in, SameNumbers, IsKept}
 use Rattle.c_engine.specs.Numbers.{place_in, stamp_in, tag_in}
 use Rattle.c_engine.specs.declared.places.Held.{Held}
 use Rattle.c_engine.specs.declared.places.Held.TheVariants.{Nothing, Transaction, Ticket, View}
@@ -117,11 +117,13 @@ pub no_stamp : (q : Place) (own : ℕ) → q.held ≡ Nothing → (stamp : ℕ) 
 no_stamp q own none stamp = both (q.stamp == stamp) q.held none ∙ sym (both (own == stamp) Nothing refl)
 
 -- a place is put in another's stead
-pub replaced : (tag : ℕ) (places : List Place) (number : ℕ) (p q : Place) (held : Held) → tag_in number ≡ tag → slice_get places (place_in number) ≡ Some p → p.stamp ≡ stamp_in number
+pub replaced : (tag : ℕ) (places : List Place) (number : ℕ) (p q : Place) (held : Held) → tag_in number ≡ tag → slice_get places (place_in number) ≡ Some p
+    → p.stamp ≡ stamp_in number
     → ((stamp : ℕ) → held_in stamp (Some q) ≡ (if stamp_in number == stamp then held else Nothing))
     → (n : ℕ) → named_in tag (slice_set places (place_in number) q) n ≡ (if n == number then held else named_in tag places n)
 replaced tag places number p q held own at stamp is =
-    changed tag places (slice_set places (place_in number) q) number q held own (set_here places (place_in number) p q at) (λ j apart. set_apart places (place_in number) j q apart)
+    changed tag places (slice_set places (place_in number) q) number q held own (set_here places (place_in number) p q at)
+    (λ j apart. set_apart places (place_in number) j q apart)
     (λ s other. ap (λ (o : Option Place). held_in s o) at ∙ other_stamp p s (λ e. other (e ∙ stamp))) is
 
 -- ---- what a place is written with
@@ -132,7 +134,8 @@ pub record There (tag : ℕ) (places : List Place) (number : ℕ) (p : Place) : 
   pub at : slice_get places (place_in number) ≡ Some p
   pub stamp : p.stamp ≡ stamp_in number
 
-pub there : (tag : ℕ) (places : List Place) (number : ℕ) (p : Place) → named_in tag places number ≢ Nothing → p ≡ get_or places (place_in number) p → There tag places number p
+pub there : (tag : ℕ) (places : List Place) (number : ℕ) (p : Place) → named_in tag places number ≢ Nothing → p ≡ get_or places (place_in number) p
+    → There tag places number p
 there tag places number p some read =
     let own : tag_in number ≡ tag = has_tag tag places number some in
     let named_is : named_in tag places number ≡ placed_in places number = tagged tag number (placed_in places number) own in
@@ -141,14 +144,17 @@ there tag places number p some read =
           let same : p ≡ w.0 = read ∙ get_or_from_slice_get places (place_in number) w.0 p w.2 in
           elim (cases_eq w.0.stamp (stamp_in number)) [
             | inl stamp ↦ record { tag_is = own; at = w.2 ∙ ap (λ (x : Place). Some x) (sym same); stamp = ap (λ (x : Place). x.stamp) same ∙ stamp }
-            | inr other ↦ absurd (some (named_is ∙ ap (λ (o : Option Place). held_in (stamp_in number) o) w.2 ∙ other_stamp w.0 (stamp_in number) (λ e. other (sym e))))
+            | inr other ↦ absurd (some (named_is ∙ ap (λ (o : Option Place). held_in (stamp_in number) o) w.2
+                ∙ other_stamp w.0 (stamp_in number) (λ e. other (sym e))))
           ]
       | inr w ↦ absurd (some (named_is ∙ ap (λ (o : Option Place). held_in (stamp_in number) o) w.1))
     ]
 
 -- such a place is written with what is held under the same stamp
-pub written : (tag : ℕ) (places : List Place) (number : ℕ) (p q : Place) → named_in tag places number ≢ Nothing → p ≡ get_or places (place_in number) p → q.stamp ≡ p.stamp
-    → (named_in tag places number ≡ p.held) × ((n : ℕ) → named_in tag (slice_set places (place_in number) q) n ≡ (if n == number then q.held else named_in tag places n))
+pub written : (tag : ℕ) (places : List Place) (number : ℕ) (p q : Place) → named_in tag places number ≢ Nothing → p ≡ get_or places (place_in number) p
+    → q.stamp ≡ p.stamp
+    → (named_in tag places number ≡ p.held) × ((n : ℕ) → named_in tag (slice_set places (place_in number) q) n ≡
+    (if n == number then q.held else named_in tag places n))
 written tag places number p q some read own =
     let at = there tag places number p some read in
     let yes : (p.stamp == stamp_in number) ≡ true = eq-eqb p.stamp (stamp_in number) at.stamp in
@@ -158,7 +164,8 @@ written tag places number p q some read own =
     )
 
 -- it is emptied, and its number names nothing
-pub emptied : (tag : ℕ) (places : List Place) (number : ℕ) (p q : Place) → named_in tag places number ≢ Nothing → p ≡ get_or places (place_in number) p → q.held ≡ Nothing
+pub emptied : (tag : ℕ) (places : List Place) (number : ℕ) (p q : Place) → named_in tag places number ≢ Nothing → p ≡ get_or places (place_in number) p
+    → q.held ≡ Nothing
     → ((n : ℕ) → named_in tag (slice_set places (place_in number) q) n ≡ (if n == number then Nothing else named_in tag places n))
 emptied tag places number p q some read none =
     let at = there tag places number p some read in
@@ -171,14 +178,17 @@ free_here places at q here low none =
     rw (below, here, none) refl
 
 -- what a place that holds nothing is written with has a number that named nothing
-pub kept : (tag : ℕ) (places : List Place) (number at : ℕ) (p q : Place) (held : Held) → tag_in number ≡ tag → place_in number ≡ at → stamp_in number ≡ p.stamp → slice_get places at ≡ Some p → p.held ≡ Nothing
+pub kept : (tag : ℕ) (places : List Place) (number at : ℕ) (p q : Place) (held : Held) → tag_in number ≡ tag → place_in number ≡ at
+    → stamp_in number ≡ p.stamp → slice_get places at ≡ Some p → p.held ≡ Nothing
     → q.stamp ≡ p.stamp → q.held ≡ held
     → (named_in tag places number ≡ Nothing) × ((n : ℕ) → named_in tag (slice_set places at q) n ≡ (if n == number then held else named_in tag places n))
 kept tag places number at p q held tag_is place stamp here none own is = (
-  tagged tag number (placed_in places number) tag_is ∙ ap (λ (i : ℕ). held_in (stamp_in number) (slice_get places i)) place ∙ ap (λ (o : Option Place). held_in (stamp_in number) o) here
+  tagged tag number (placed_in places number) tag_is ∙ ap (λ (i : ℕ). held_in (stamp_in number) (slice_get places i)) place
+      ∙ ap (λ (o : Option Place). held_in (stamp_in number) o) here
       ∙ both (p.stamp == stamp_in number) p.held none,
   λ n. ap (λ (i : ℕ). named_in tag (slice_set places i q) n) (sym place)
-      ∙ replaced tag places number p q q.held tag_is (ap (λ (i : ℕ). slice_get places i) place ∙ here) (sym stamp) (own_stamp q (stamp_in number) (own ∙ sym stamp)) n
+      ∙ replaced tag places number p q q.held tag_is (ap (λ (i : ℕ). slice_get places i) place ∙ here) (sym stamp)
+      (own_stamp q (stamp_in number) (own ∙ sym stamp)) n
       ∙ ap (λ (h : Held). if n == number then h else named_in tag places n) is,
 )
 
@@ -220,7 +230,8 @@ placed_more places q none n = elim (cases_eq (place_in n) (length places)) [
   | inl same ↦
       let before : slice_get places (place_in n) ≡ None = slice_get_past places (place_in n) (omega (arith, same)) in
       let after : slice_get (places ++ q ∷ []) (place_in n) ≡ Some q = ap (λ (i : ℕ). slice_get (places ++ q ∷ []) i) same ∙ push_here places q in
-      ap (λ (o : Option Place). held_in (stamp_in n) o) after ∙ both (q.stamp == stamp_in n) q.held none ∙ sym (ap (λ (o : Option Place). held_in (stamp_in n) o) before)
+      ap (λ (o : Option Place). held_in (stamp_in n) o) after ∙ both (q.stamp == stamp_in n) q.held none
+      ∙ sym (ap (λ (o : Option Place). held_in (stamp_in n) o) before)
   | inr other ↦ ap (λ (o : Option Place). held_in (stamp_in n) o) (push_apart places (place_in n) q other)
 ]
 
@@ -231,7 +242,8 @@ added tag places q none n = ap (λ (h : Held). if tag_in n == tag then h else No
 -- ---- stamps
 
 -- the place gets this stamp, and no other changes
-set_stamp : (places : List Place) (at : ℕ) (p q : Place) → slice_get places at ≡ Some p → (j : ℕ) → stamp_of (slice_get (slice_set places at q) j) ≡ (if j == at then q.stamp else stamp_of (slice_get places j))
+set_stamp : (places : List Place) (at : ℕ) (p q : Place) → slice_get places at ≡ Some p → (j : ℕ)
+    → stamp_of (slice_get (slice_set places at q) j) ≡ (if j == at then q.stamp else stamp_of (slice_get places j))
 set_stamp places at p q here j = elim (cases_eq j at) [
   | inl same ↦
       let yes : (j == at) ≡ true = eq-eqb j at same in
@@ -246,7 +258,8 @@ here_stamp : (places : List Place) (at j : ℕ) (p : Place) → slice_get places
 here_stamp places at j p here same = ap (λ (i : ℕ). stamp_of (slice_get places i)) same ∙ ap (λ (o : Option Place). stamp_of o) here
 
 -- it has its own stamp again: no stamp changes
-pub same_stamps : (places : List Place) (at : ℕ) (p q : Place) → slice_get places at ≡ Some p → q.stamp ≡ p.stamp → (j : ℕ) → stamp_of (slice_get (slice_set places at q) j) ≡ stamp_of (slice_get places j)
+pub same_stamps : (places : List Place) (at : ℕ) (p q : Place) → slice_get places at ≡ Some p → q.stamp ≡ p.stamp → (j : ℕ)
+    → stamp_of (slice_get (slice_set places at q) j) ≡ stamp_of (slice_get places j)
 same_stamps places at p q here own j = set_stamp places at p q here j ∙ elim (cases_eq j at) [
   | inl same ↦ let yes : (j == at) ≡ true = eq-eqb j at same in rw yes (own ∙ sym (here_stamp places at j p here same))
   | inr other ↦ let no : (j == at) ≡ false = ne_eqb j at other in rw no refl
@@ -254,7 +267,8 @@ same_stamps places at p q here own j = set_stamp places at p q here j ∙ elim (
 
 -- it has the next stamp
 pub raised_stamp : (places : List Place) (at : ℕ) (p q : Place) → slice_get places at ≡ Some p → q.stamp ≡ (p.stamp + 1) % 4294967296
-    → (j : ℕ) → stamp_of (slice_get (slice_set places at q) j) ≡ (if j == at then (stamp_of (slice_get places j) + 1) % 4294967296 else stamp_of (slice_get places j))
+    → (j : ℕ) → stamp_of (slice_get (slice_set places at q) j) ≡
+    (if j == at then (stamp_of (slice_get places j) + 1) % 4294967296 else stamp_of (slice_get places j))
 raised_stamp places at p q here next j = set_stamp places at p q here j ∙ elim (cases_eq j at) [
   | inl same ↦
       let yes : (j == at) ≡ true = eq-eqb j at same in
@@ -281,7 +295,8 @@ is_transaction (Ticket ticket) txn e = absurd (cc)
 is_transaction (View view) txn e = absurd (cc)
 
 -- what is kept once a place was made free is kept beside what there was before
-pub kept_after : (held : Held) (number : ℕ) (before free after : Places) → SameNumbers before free → IsKept held number free after → IsKept held number before after
+pub kept_after : (held : Held) (number : ℕ) (before free after : Places) → SameNumbers before free → IsKept held number free after
+    → IsKept held number before after
 kept_after held number before free after same kept = record {
   free = sym (same.names number) ∙ kept.free;
   own = kept.own ∙ same.stamps.tag;

@@ -1,5 +1,5 @@
 -- What the calls of an engine do to its store.
-use Rattle.std.specs.Prelude.{◌≡◌, ◌≢◌, ◌≤◌, ◌⊎◌, ◌==◌, ◌&&◌, ◌%◌, ℕ, Bool, true, false, IsTrue, ℤ, List, [], filter, length, take, nat_le, Result, Ok, Err, Option, Some, None, MatchBool, MatchOption, IfSome}
+use Rattle.std.specs.Prelude.{◌≡◌, ◌≢◌, ◌⊎◌, ◌==◌, ◌&&◌, ◌%◌, ℕ, Bool, true, false, ℤ, List, [], filter, length, take, nat_le, Result, Ok, Err, Option, Some, None, MatchBool, MatchOption}
 use Rattle.disk.specs.Areas.{Areas, AreSound}
 use Rattle.disk.specs.Calls.{fresh_on}
 use Rattle.group.specs.Tickets.{TicketValue}

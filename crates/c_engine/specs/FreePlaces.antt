@@ -32,7 +32,8 @@ is_among n (x ∷ xs) = (x == n) || is_among n xs
 -- From this place on these are free, each with the number of the next one, and no one twice.
 abbrev pub IsChain : List Place → ℕ → List ℕ → Type 0
 IsChain places from [] = 65536 ≤ from
-IsChain places from (at ∷ rest) = (from ≡ at) × (at < 65536) × (is_among at rest ≡ false) × ((place : Place) × (slice_get places at ≡ Some place) × (is_nothing place.held ≡ true) × IsChain places place.next rest)
+IsChain places from (at ∷ rest) = (from ≡ at) × (at < 65536) × (is_among at rest ≡ false)
+    × ((place : Place) × (slice_get places at ≡ Some place) × (is_nothing place.held ≡ true) × IsChain places place.next rest)
 
 -- each place that holds nothing is found from the one that became free last
 pub record AreChained (places : List Place) (free : ℕ) : Type 0 where

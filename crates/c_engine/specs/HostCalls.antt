@@ -1,5 +1,5 @@
 -- The device calls that a host makes.
-use Rattle.std.specs.Prelude.{◌≡◌, ℕ, List, length, take, nat_le, Option, None, Some, MatchBool, MatchOption}
+use Rattle.std.specs.Prelude.{◌≡◌, ℕ, List, length, take, nat_le, Option, None, Some, MatchBool}
 use Rattle.disk.specs.Areas.{Areas, area_of, with_area, written, synced}
 use Rattle.disk.specs.declared.area.Area.{Area}
 use Rattle.c_engine.specs.Areas.{area_number}

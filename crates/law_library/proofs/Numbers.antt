@@ -1,5 +1,5 @@
 -- What numbers name, and the places of a list of calls.
-use Rattle.std.proofs.Common.{◌≡◌, ◌≢◌, ◌<◌, ◌==◌, ℕ, zero, suc, true, false, List, [], ◌∷◌, ◌++◌, length, Option, Some, None, refl, sym, ◌∙◌, ap, subst, inl, inr, arith}
+use Rattle.std.proofs.Common.{◌≡◌, ◌≢◌, ◌<◌, ◌==◌, ℕ, zero, suc, true, false, List, [], ◌∷◌, ◌++◌, length, Some, None, refl, sym, ◌∙◌, ap, inl, inr, arith}
 use Rattle.std.specs.Prelude.{slice_get, slice_set, if◌then◌else◌}
 use Rattle.std.proofs.lemmas.Bool.{cases_eq, eq-eqb, ne_eqb}
 use Rattle.run.specs.declared.held.Held.{Held}
@@ -8,7 +8,7 @@ use Rattle.run.proofs.Lists.{get-within, get-set_same}
 use Rattle.snapshot.specs.Txn.{TxnValue}
 use Rattle.group.specs.Tickets.{TicketValue}
 use Rattle.timequery.specs.View.{ViewValue}
-use Rattle.c_engine.specs.Held.{named, SameNumbers, IsKept, IsTaken, IsWritten, Names, transaction_in, ticket_in, view_in}
+use Rattle.c_engine.specs.Held.{named, IsKept, Names, transaction_in, ticket_in, view_in}
 use Rattle.c_engine.specs.declared.places.Held as engine
 use Rattle.c_engine.specs.declared.places.Held.TheVariants.{Nothing, Transaction, Ticket, View}
 use Rattle.c_engine.specs.declared.places.Places.{Places}
@@ -50,9 +50,11 @@ named-it n x old new names = let yes' : (n == n) ≡ true = eq-eqb n n refl in n
 
 -- ---- taken
 
-module _ (n : ℕ) (old new : Places) (xs : List Held) (at : ℕ → ℕ) (x : Held) (z : Held) (names : Names n Nothing old new) (some : held_as (named old n) ≡ Some x) (h : Holds old xs at) where
+module _ (n : ℕ) (old new : Places) (xs : List Held) (at : ℕ → ℕ) (x : Held) (z : Held) (names : Names n Nothing old new)
+    (some : held_as (named old n) ≡ Some x) (h : Holds old xs at) where
   is-other : (m : ℕ) (y : Held) → held_as (named new m) ≡ Some y → m ≢ n
-  is-other m y e same = let none : held_as (named new n) ≡ None = ap held_as (named-it n Nothing old new names) in let both : None ≡ Some y = sym none ∙ ap (λ (k : ℕ). held_as (named new k)) (sym same) ∙ e in absurd cc
+  is-other m y e same = let none : held_as (named new n) ≡ None = ap held_as (named-it n Nothing old new names) in let both : None ≡ Some y = sym none
+      ∙ ap (λ (k : ℕ). held_as (named new k)) (sym same) ∙ e in absurd cc
 
   before : (m : ℕ) (y : Held) → held_as (named new m) ≡ Some y → held_as (named old m) ≡ Some y
   before m y e = ap held_as (sym (named-other n m Nothing old new names (is-other m y e))) ∙ e
@@ -75,8 +77,10 @@ placed-other : (n i : ℕ) (at : ℕ → ℕ) (m : ℕ) → m ≢ n → placed n
 placed-other n i at m other = let no' : (m == n) ≡ false = ne_eqb m n other in rw no' refl
 
 -- a value is put into a place that no number has
-module _ (n i : ℕ) (x : engine.Held) (h : Held) (old new : Places) (xs ys : List Held) (at : ℕ → ℕ) (is : held_as x ≡ Some h) (names : Names n x old new) (here : slice_get ys i ≡ Some h)
-    (apart : (m : ℕ) (y : Held) → held_as (named old m) ≡ Some y → slice_get ys (at m) ≡ Some y × (at m ≢ i)) (once : (m k : ℕ) (y z : Held) → held_as (named old m) ≡ Some y → held_as (named old k) ≡ Some z → at m ≡ at k → m ≡ k) where
+module _ (n i : ℕ) (x : engine.Held) (h : Held) (old new : Places) (xs ys : List Held) (at : ℕ → ℕ) (is : held_as x ≡ Some h) (names : Names n x old new)
+    (here : slice_get ys i ≡ Some h)
+    (apart : (m : ℕ) (y : Held) → held_as (named old m) ≡ Some y → slice_get ys (at m) ≡ Some y × (at m ≢ i))
+    (once : (m k : ℕ) (y z : Held) → held_as (named old m) ≡ Some y → held_as (named old k) ≡ Some z → at m ≡ at k → m ≡ k) where
   was : (m : ℕ) (y : Held) → m ≢ n → held_as (named new m) ≡ Some y → held_as (named old m) ≡ Some y
   was m y other e = ap held_as (sym (named-other n m x old new names other)) ∙ e
 
@@ -104,23 +108,34 @@ module _ (n i : ℕ) (x : engine.Held) (h : Held) (old new : Places) (xs ys : Li
   put = record { same = put-same; once = put-once }
 
 -- it is put behind all others
-pub kept : (n : ℕ) (x : engine.Held) (h : Held) (old new : Places) (xs : List Held) (at : ℕ → ℕ) → held_as x ≡ Some h → IsKept x n old new → Holds old xs at → Holds new (xs ++ h ∷ []) (placed n (length xs) at)
+pub kept : (n : ℕ) (x : engine.Held) (h : Held) (old new : Places) (xs : List Held) (at : ℕ → ℕ) → held_as x ≡ Some h → IsKept x n old new → Holds old xs at
+    → Holds new (xs ++ h ∷ []) (placed n (length xs) at)
 kept n x h old new xs at is k holds =
     put n (length xs) x h old new xs (xs ++ h ∷ []) at is k.names (get-end xs h)
-    (λ m y e. (get-front xs (at m) y h (holds.same m y e), λ same. let within : at m < length xs = get-within xs (at m) y (holds.same m y e) in omega (arith, within, same))) holds.once
+    (λ m y e. (
+      get-front xs (at m) y h (holds.same m y e),
+      λ same. let within : at m < length xs =
+          get-within xs (at m) y (holds.same m y e) in omega (arith, within, same),
+    )) holds.once
 
 -- what was taken under one number is put back under another, into its own place
-pub put-back : (n n' : ℕ) (x : engine.Held) (y h : Held) (old mid new : Places) (xs : List Held) (at : ℕ → ℕ) → held_as x ≡ Some h → held_as (named old n) ≡ Some y → Names n Nothing old mid → IsKept x n' mid new → Holds old xs at
+pub put-back : (n n' : ℕ) (x : engine.Held) (y h : Held) (old mid new : Places) (xs : List Held) (at : ℕ → ℕ) → held_as x ≡ Some h
+    → held_as (named old n) ≡ Some y → Names n Nothing old mid → IsKept x n' mid new → Holds old xs at
     → Holds new (slice_set xs (at n) h) (placed n' (at n) at)
 put-back n n' x y h old mid new xs at is some names k holds =
     let out = taken n old mid xs at y h names some holds in
     put n' (at n) x h mid new xs (slice_set xs (at n) h) at is k.names (get-set_same xs (at n) y h (holds.same n y some))
-    (λ m z e. (out.same m z e, λ same. is-other n old mid xs at y h names some holds m z e (holds.once m n z y (before n old mid xs at y h names some holds m z e) some same))) out.once
+    (λ m z e. (
+      out.same m z e,
+      λ same. is-other n old mid xs at y h names some holds m z e
+          (holds.once m n z y (before n old mid xs at y h names some holds m z e) some same),
+    )) out.once
 
 -- ---- written
 
 -- the value of a number is replaced
-pub rewritten : (n : ℕ) (x : engine.Held) (y h : Held) (old new : Places) (xs : List Held) (at : ℕ → ℕ) → held_as x ≡ Some h → held_as (named old n) ≡ Some y → Names n x old new → Holds old xs at → Holds new (slice_set xs (at n) h) at
+pub rewritten : (n : ℕ) (x : engine.Held) (y h : Held) (old new : Places) (xs : List Held) (at : ℕ → ℕ) → held_as x ≡ Some h → held_as (named old n) ≡ Some y
+    → Names n x old new → Holds old xs at → Holds new (slice_set xs (at n) h) at
 rewritten n x y h old new xs at is some names holds = record {
   same = λ m z e. elim (cases_eq m n) [
     | inl same ↦

@@ -1,5 +1,5 @@
 -- A step that was refused, and whose device call was not counted, leaves the areas as they were.
-use Rattle.std.proofs.Common.{◌≡◌, ℕ, ◌==◌, ◌+◌, Bool, true, false, List, [], ◌∷◌, Option, Some, None, Result, Ok, Err, MatchBool, MatchOption, refl, sym, ◌∙◌, ap, subst, inl, inr, arith}
+use Rattle.std.proofs.Common.{◌≡◌, ℕ, ◌==◌, Bool, true, false, List, [], ◌∷◌, Option, Some, None, Result, Ok, Err, MatchBool, MatchOption, refl, sym, ◌∙◌, ap, subst, inl, inr, arith}
 use Rattle.std.specs.Prelude.{is_some, slice_get}
 use Rattle.std.proofs.lemmas.Bool.{eqb-true}
 use Rattle.disk.specs.Calls.{DiskState, Counts, counted, top, refused_answer}
@@ -71,23 +71,27 @@ step-same step.AdvanceSlot old new why takes = by-turn old.turn takes
 pub pump-same : (old new : StoreValue) (why : PumpFault) → Pumps true old (Err why) new → IfUncounted old new
 pump-same old new why pumps = by-failed old.transactions.failed pumps
   where
-    by-failed : (b : Bool) → MatchBool b ((pump_said why ≡ pump_said fault.Failed) × (new ≡ old)) (TakesStep true (next_step old.transactions) (started old) (Err why) new) → IfUncounted old new
+    by-failed : (b : Bool) → MatchBool b ((pump_said why ≡ pump_said fault.Failed) × (new ≡ old))
+        (TakesStep true (next_step old.transactions) (started old) (Err why) new) → IfUncounted old new
     by-failed true fails = nothing old new fails.1
     by-failed false takes = step-same (next_step old.transactions) (started old) new why takes
 
 -- ---- a job
 
-run-same : (left : List ℕ) (run : Run) (writer : InWriting) (j : Job) (old new : StoreValue) (why : PumpFault) → WritesOrSyncs true left run writer j old (Err why) new → IfUncounted old new
+run-same : (left : List ℕ) (run : Run) (writer : InWriting) (j : Job) (old new : StoreValue) (why : PumpFault)
+    → WritesOrSyncs true left run writer j old (Err why) new → IfUncounted old new
 run-same [] run writer j old new why syncs = uncounted _ old new syncs.call.counts
 run-same (b ∷ bs) run writer j old new why writes = uncounted _ old new writes.call.counts
 
-anchors-same : (next : Option ℕ) (anchors : Anchors) (source : Sourced) (count : ℕ) (j : Job) (old new : StoreValue) (why : PumpFault) → AnchorsOrSync true next anchors source count j old (Err why) new → IfUncounted old new
+anchors-same : (next : Option ℕ) (anchors : Anchors) (source : Sourced) (count : ℕ) (j : Job) (old new : StoreValue) (why : PumpFault)
+    → AnchorsOrSync true next anchors source count j old (Err why) new → IfUncounted old new
 anchors-same None anchors source count j old new why syncs = uncounted _ old new syncs.call.counts
 anchors-same (Some number) anchors source count j old new why writes = uncounted _ old new writes.call.counts
 
 work-same : (work : JobWork) (j : Job) (old new : StoreValue) (why : PumpFault) → Stores true work j old (Err why) new → IfUncounted old new
 work-same (works.Archive run writer) j old new why stores = run-same writer.left run writer j old new why stores
-work-same (works.Reclaim anchors source count) j old new why stores = anchors-same (slice_get old.transactions.reserved count) anchors source count j old new why stores
+work-same (works.Reclaim anchors source count) j old new why stores =
+    anchors-same (slice_get old.transactions.reserved count) anchors source count j old new why stores
 work-same (works.Floor scope floor floors) j old new why stores = absurd stores
 work-same (works.Grow g) j old new why grows = uncounted _ old new grows.call.counts
 
@@ -100,7 +104,8 @@ disk-ready (works.Grow g) v = refl
 slot-same : (j : Job) (old new : StoreValue) (why : PumpFault) → BeginsJobSlot true j old (Err why) new → IfUncounted old new
 slot-same j old new why (inl none) = nothing old new none.2
 slot-same j old new why (inr turns) =
-    uncounted refused_answer old new (subst (λ (d : DiskState). Counts {T = Unit {0}} {E = DeviceFault} refused_answer d new.disk) (disk-ready j.work old) turns.call.counts)
+    uncounted refused_answer old new (subst (λ (d : DiskState). Counts {T = Unit {0}} {E = DeviceFault} refused_answer d new.disk) (disk-ready j.work old)
+    turns.call.counts)
 
 stage-same : (stage : JobStage) (j : Job) (old new : StoreValue) (why : PumpFault) → TakesJobStep true stage j old (Err why) new → IfUncounted old new
 stage-same stages.Writing j old new why takes = work-same j.work j old new why takes
@@ -114,10 +119,12 @@ stage-same (stages.Turning turn) j old new why takes = uncounted _ old new takes
 pub job-same : (old new : StoreValue) (why : PumpFault) → PumpsJob true old (Err why) new → IfUncounted old new
 job-same old new why pumps = by-failed old.transactions.failed pumps
   where
-    by-job : (o : Option Job) → MatchOption o ((job_said why ≡ Ok job.Idle) × (new ≡ old)) (λ j. TakesJobStep true j.stage j old (Err why) new) → IfUncounted old new
+    by-job : (o : Option Job) → MatchOption o ((job_said why ≡ Ok job.Idle) × (new ≡ old)) (λ j. TakesJobStep true j.stage j old (Err why) new)
+        → IfUncounted old new
     by-job None idle = nothing old new idle.1
     by-job (Some j) takes = stage-same j.stage j old new why takes
 
-    by-failed : (b : Bool) → MatchBool b ((job_said why ≡ job_said fault.Failed) × (new ≡ old)) (MatchOption old.job ((job_said why ≡ Ok job.Idle) × (new ≡ old)) (λ j. TakesJobStep true j.stage j old (Err why) new)) → IfUncounted old new
+    by-failed : (b : Bool) → MatchBool b ((job_said why ≡ job_said fault.Failed) × (new ≡ old))
+        (MatchOption old.job ((job_said why ≡ Ok job.Idle) × (new ≡ old)) (λ j. TakesJobStep true j.stage j old (Err why) new)) → IfUncounted old new
     by-failed true fails = nothing old new fails.1
     by-failed false takes = by-job old.job takes

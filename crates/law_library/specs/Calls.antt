@@ -1,5 +1,5 @@
 -- What a program calls of an open store, and what each call does.
-use Rattle.std.specs.Prelude.{ℕ, ◌≡◌, ◌<◌, ◌^◌, List, [], ◌∷◌, Option, None, Some}
+use Rattle.std.specs.Prelude.{ℕ, ◌≡◌, ◌<◌, ◌^◌, List, ◌∷◌, Option, None, Some}
 use Rattle.history.specs.declared.key.Key.{Key}
 use Rattle.c_engine.specs.Engines.{BeginsEngine, Writes, SubmitsEngine, AbortsEngine, PumpsEngine, RedeemsEngine, GivesUp, GivesView, EndsView, ArchivesEngine, ReclaimsEngine, RaisesEngine, RaisesFloorOf, GrowsEngine, PumpsJobOf}
 use Rattle.c_engine.specs.Writes.{Puts, Deletes}

@@ -1,5 +1,5 @@
 -- What a host does that upholds what the header asks of it.
-use Rattle.std.specs.Prelude.{ℕ, ◌≡◌, true, false, List, [], ◌∷◌, length, Option, None, Some, MatchOption}
+use Rattle.std.specs.Prelude.{ℕ, ◌≡◌, true, false, List, [], ◌∷◌, length, Option, MatchOption}
 use Rattle.disk.specs.Areas.{Areas}
 use Rattle.disk.specs.Calls.{MadeInPart}
 use Rattle.c_engine.specs.Engines.{HasCalled, due_in, due_call}

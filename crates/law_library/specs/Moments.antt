@@ -11,7 +11,6 @@ use Rattle.run.specs.Promise.{Survives}
 use Rattle.c_engine.specs.Engines.{due_in, due_call}
 use Rattle.c_engine.specs.Held.{named}
 use Rattle.c_engine.specs.HostCalls.{HostCall, made}
-use Rattle.c_engine.specs.declared.engine.Engine.{Engine}
 use Rattle.c_engine.specs.declared.engine.Published.{Published}
 use Rattle.c_engine.specs.declared.engine.EngineState.{EngineState}
 use Rattle.c_engine.specs.declared.engine.EngineState.TheVariants.{Settled, Asks, Failed}

@@ -1,5 +1,5 @@
 -- What the library promises a host that upholds what the header asks, in the words of its users.
-use Rattle.std.specs.Prelude.{ℕ, ◌≡◌, true, List, []}
+use Rattle.std.specs.Prelude.{ℕ, ◌≡◌, List, []}
 use Rattle.disk.specs.Areas.{AreBytes, settled_on}
 use Rattle.history.specs.Histories.{History}
 use Rattle.history.specs.Machine.{opened}
@@ -31,9 +31,11 @@ MomentLeaves = (m : HostMoment) → IsHostMoment m → HostLeaves m × HostLeave
 
 -- a store that is opened from the bytes of an image that stands for a history is at a first moment, with nothing acknowledged
 abbrev pub OpensAtMoment : Type 0
-OpensAtMoment = (status heap archive : List ℕ) (mark : ℕ) (info : Info) (e : Engine) (header : Header) (h : History Value) (floors : ℕ → ℕ) → AreBytes status → AreBytes heap → AreBytes archive
+OpensAtMoment = (status heap archive : List ℕ) (mark : ℕ) (info : Info) (e : Engine) (header : Header) (h : History Value) (floors : ℕ → ℕ) → AreBytes status
+    → AreBytes heap → AreBytes archive
     → IsImageOf header (record { status = status; heap = heap; archive = archive }) h floors → OpensEngine status heap archive mark info e
-    → (m : HostMoment) × (m.host ≡ record { engine = e; areas = settled_on (record { status = status; heap = heap; archive = archive }) }) × (m.at.done ≡ []) × (m.at.world.machine ≡ opened h floors) × IsHostMoment m
+    → (m : HostMoment) × (m.host ≡ record { engine = e; areas = settled_on (record { status = status; heap = heap; archive = archive }) }) × (m.at.done ≡ [])
+    × (m.at.world.machine ≡ opened h floors) × IsHostMoment m
 
 -- what holds after some events: the host is at a moment that the machine has come to, and whatever a stop may leave of its areas survives, with every commit that was acknowledged
 pub record HostKeeps (h : History Value) (floors : ℕ → ℕ) (events : List Event) (host : Host) : Type 0 where
@@ -46,6 +48,8 @@ pub record HostKeeps (h : History Value) (floors : ℕ → ℕ) (events : List E
 
 -- The whole promise: for every list of events, on a store opened from the bytes of an image that stands for some history.
 abbrev pub LibraryPromise : Type 0
-LibraryPromise = (status heap archive : List ℕ) (mark : ℕ) (info : Info) (e : Engine) (header : Header) (h : History Value) (floors : ℕ → ℕ) (events : List Event) (host : Host) → AreBytes status → AreBytes heap → AreBytes archive
+LibraryPromise = (status heap archive : List ℕ) (mark : ℕ) (info : Info) (e : Engine) (header : Header) (h : History Value) (floors : ℕ → ℕ)
+    (events : List Event) (host : Host) → AreBytes status → AreBytes heap → AreBytes archive
     → IsImageOf header (record { status = status; heap = heap; archive = archive }) h floors → OpensEngine status heap archive mark info e
-    → HostRun events (record { engine = e; areas = settled_on (record { status = status; heap = heap; archive = archive }) }) host → HostKeeps h floors events host
+    → HostRun events (record { engine = e; areas = settled_on (record { status = status; heap = heap; archive = archive }) }) host
+    → HostKeeps h floors events host

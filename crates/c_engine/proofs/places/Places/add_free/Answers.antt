@@ -1,4 +1,4 @@
-use Rattle.std.proofs.Common.{◌≡◌, ◌<◌, ◌∙◌, List, [], ◌∷◌, ◌++◌, length, slice_get, Some, sym, ap, subst, refl, arith}
+use Rattle.std.proofs.Common.{◌≡◌, ◌∙◌, List, [], ◌∷◌, ◌++◌, length, slice_get, Some, sym, ap, subst, refl, arith}
 use Rattle.c_engine.specs.FreePlaces.{AreChained}
 use Rattle.c_engine.specs.Held.{named_in, stamp_of}
 use Rattle.c_engine.specs.declared.places.Held.TheVariants.{Nothing}

@@ -1,4 +1,4 @@
-use Rattle.std.proofs.Common.{◌≡◌, ◌<◌, ap, refl, ◌∙◌, arith}
+use Rattle.std.proofs.Common.{ap, refl, ◌∙◌}
 use Rattle.c_engine.specs.FreePlaces.{is_nothing}
 use Rattle.c_engine.specs.declared.places.Place.{Place}
 use Rattle.c_engine.proofs.Named.{kept, nothing_in, same_stamps}

@@ -1,5 +1,4 @@
-use Rattle.std.proofs.Common.{◌≡◌, false, sym, ◌∙◌}
-use Rattle.c_engine.specs.FreePlaces.{has_free}
+use Rattle.std.proofs.Common.{sym, ◌∙◌}
 use Rattle.c_engine.proofs.Chaining.{all_taken}
 use Rattle.c_engine.proofs.places.Places.make_free.Goals as goal
 

@@ -1,5 +1,4 @@
-use Rattle.std.proofs.Common.{◌≡◌, ◌≢◌, ◌∙◌, List, Some, false, sym, ap, refl}
-use Rattle.c_engine.specs.FreePlaces.{is_nothing}
+use Rattle.std.proofs.Common.{◌≡◌, ◌≢◌, ◌∙◌, List, Some, sym, ap, refl}
 use Rattle.c_engine.specs.Held.{named_in, transaction_in}
 use Rattle.c_engine.specs.Numbers.{place_in}
 use Rattle.c_engine.specs.declared.places.Held.TheVariants.{Nothing, Transaction}

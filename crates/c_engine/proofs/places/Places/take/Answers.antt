@@ -1,7 +1,6 @@
-use Rattle.std.proofs.Common.{◌≡◌, ◌≢◌, ◌+◌, ◌<◌, ◌%◌, List, slice_set, sym, ◌∙◌, refl, arith}
+use Rattle.std.proofs.Common.{◌+◌, ◌<◌, ◌%◌, List, slice_set, sym, ◌∙◌, refl, arith}
 use Rattle.c_engine.specs.Held.{named_in}
 use Rattle.c_engine.specs.Numbers.{place_in}
-use Rattle.c_engine.specs.declared.places.Held.TheVariants.{Nothing}
 use Rattle.c_engine.specs.declared.places.Place.{Place}
 use Rattle.c_engine.proofs.Named.{there, written, emptied, free_here, set_here, raised_stamp}
 use Rattle.c_engine.proofs.Chaining.{becomes_free, named_taken, is_free}

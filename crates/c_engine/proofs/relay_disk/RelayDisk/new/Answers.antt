@@ -1,4 +1,4 @@
-use Rattle.std.proofs.Common.{sym, ap, subst, ◌∙◌}
+use Rattle.std.proofs.Common.{sym, ap, ◌∙◌}
 use Rattle.disk.specs.Areas.{Areas, Image}
 use Rattle.c_engine.specs.LastWrites.{writes_of, last_writes}
 use Rattle.c_engine.proofs.Relaying.{none_noted}
