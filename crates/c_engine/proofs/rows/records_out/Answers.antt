@@ -1,4 +1,4 @@
-use Rattle.std.proofs.Common.{◌≡◌, ◌∙◌, ◌+◌, ◌<◌, ◌^◌, sym, subst, ap, length, map, take, get_or, List, [], ◌∷◌, ◌++◌, arith}
+use Rattle.std.proofs.Common.{◌≡◌, ◌∙◌, ◌<◌, ◌^◌, sym, subst, ap, length, map, take, get_or, List, [], ◌∷◌, ◌++◌, arith}
 use Rattle.std.proofs.lemmas.List.{map_more, length-take, length-map, take_all}
 use Rattle.c_engine.specs.Rows.{Shown, shown_record, shown_as, AreLaid, AreTold}
 use Rattle.c_engine.proofs.rows.records_out.Goals as goal

@@ -1,10 +1,10 @@
 -- `into_parts` moves two fields, and what they own goes with them.
-use Rattle.std.specs.Prelude.{Option, Some, None, is_some, true, Bool}
+use Rattle.std.specs.Prelude.{Option, Some, is_some, true}
 use mathlib.Core.Path.{◌≡◌, refl, sym, subst, ap, ◌∙◌}
 use mathlib.Core.List.{List, [], ◌∷◌, ◌++◌}
 use seplogic.Ra.Ura.{Ura}
 use mir.Val.{Val, vptr, vbool, vstruct, vnil, vcons, of_list}
-use base.Logic.{SProp, ent, emp, id⊢, fst∗, never}
+use base.Logic.{SProp, ent, id⊢, fst∗, never}
 use base.Fml.{ftrue, fsep}
 use prog.Memory.{Memory}
 use prog.Routine.{Routine}
@@ -20,7 +20,7 @@ use types.Run.{stop, fld, no_more, and_then, of_opd, returns, enter}
 use types.ByLocal.{alloc_all, pass_all, free_all, look_at, get, get_in, sets}
 use denote.Exit.{yes}
 use denote.Signature.{type_at}
-use denote.RawPtr.{Ptr, block_ptr, null_ptr, ptr_val, in_a_block}
+use denote.RawPtr.{Ptr, null_ptr, ptr_val, in_a_block}
 use Rattle.std_alloc.proofs.ResultValues.{and_tt}
 use denote.Steps.{nothing, heard}
 use denote.Triple.Spec.{triple_of}
@@ -28,8 +28,8 @@ use denote.Triple.Table.{entered}
 use denote.Triple.Walked.{says, Stays, stay_dropped, walk_of, ends_at, Goes-dropped, walk_Meets}
 use Rattle.std.proofs.alloc.Calls.{token, handle_tells}
 use Rattle.std_alloc.specs.Box.Ownership.{box_owns}
-use Rattle.std_alloc.proofs.BoxSteps.Form.{D, B, R, X, τ, word, box_typed}
-use Rattle.std_alloc.proofs.BoxSteps.Steps.{box_out, box_in}
+use Rattle.std_alloc.proofs.BoxSteps.Form.{D, R, X, τ, word, box_typed}
+use Rattle.std_alloc.proofs.BoxSteps.Steps.{box_in}
 use Rattle.c_engine.specs.Owned.{handle_owns}
 use Rattle.c_engine.proofs.Some.{value_of}
 use Rattle.c_engine.proofs.AsBox.{E, FromHandle as From}

@@ -1,36 +1,34 @@
 -- `of_parts` moves two fields, and what they own goes with them.
-use Rattle.std.specs.Prelude.{Option, Some, None, is_some, true, Bool}
-use mathlib.Core.Path.{◌≡◌, refl, sym, subst, ap, ◌∙◌}
+use Rattle.std.specs.Prelude.{Some, true}
+use mathlib.Core.Path.{refl, sym, subst, ap}
 use mathlib.Core.List.{List, [], ◌∷◌, ◌++◌}
 use seplogic.Ra.Ura.{Ura}
-use mir.Val.{Val, vptr, vbool, vstruct, vnil, vcons, of_list}
-use base.Logic.{SProp, ent, emp, id⊢, fst∗, never}
+use mir.Val.{Val, vptr, vbool, vstruct, vnil, vcons}
+use base.Logic.{SProp, ent, emp, id⊢}
 use base.Fml.{ftrue, fsep}
 use prog.Memory.{Memory}
 use prog.Routine.{Routine}
 use prog.Wp.{WpFn, Tables}
-use types.Logic.{Logic, sem}
-use contract.Monad.{Fun, fact}
+use types.Logic.{Logic}
+use contract.Monad.{Fun}
 use contract.Running.{tables, tables_of}
 use sound.WpLaws.{WpFn-mono}
-use mir.Raw.{raw as bare}
 use types.Kit.{Item, ‵, raw, ◌⊛◌, ◌$◌, ◌∵◌, !, qed, by, move, drop, use1, join, split, fsplit, fjoin, fpack, feq_i, suffices, rewrite, done}
 use types.Part.{whole, sub, agg}
 use types.Run.{true_lit, stop, fld, no_more, and_then, of_opd, returns, enter}
 use types.ByLocal.{alloc_all, pass_all, free_all, look_at, get, get_in, sets}
 use denote.Exit.{yes}
 use denote.Signature.{type_at}
-use denote.RawPtr.{Ptr, block_ptr, null_ptr, ptr_val, in_a_block}
+use denote.RawPtr.{Ptr, ptr_val}
 use Rattle.std_alloc.proofs.ResultValues.{and_tt}
-use denote.Steps.{nothing, heard}
+use denote.Steps.{nothing}
 use denote.Triple.Spec.{triple_of}
 use denote.Triple.Table.{entered}
 use denote.Triple.Walked.{says, Stays, stay_dropped, walk_of, ends_at, Goes-dropped, walk_Meets}
-use Rattle.std.proofs.alloc.Calls.{token, handle_tells}
+use Rattle.std.proofs.alloc.Calls.{token}
 use Rattle.std_alloc.specs.Box.Ownership.{box_owns}
-use Rattle.std_alloc.proofs.BoxSteps.Form.{D, B, R, X, τ, word, box_typed}
-use Rattle.std_alloc.proofs.BoxSteps.Steps.{box_out, box_in}
-use Rattle.c_engine.specs.Owned.{handle_owns}
+use Rattle.std_alloc.proofs.BoxSteps.Form.{D, B, R, word, box_typed}
+use Rattle.std_alloc.proofs.BoxSteps.Steps.{box_out}
 use denote.RattleType.{Valss}
 use denote.Struct.Struct.{within}
 use denote.Struct.Owning.{shape, to}

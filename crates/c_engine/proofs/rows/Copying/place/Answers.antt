@@ -1,4 +1,4 @@
-use Rattle.std.proofs.Common.{◌≡◌, ◌∙◌, ◌+◌, ◌-◌, ◌<◌, ◌≤◌, ap, sym, min, length, take, List, [], ◌∷◌, ◌++◌, ℕ, arith}
+use Rattle.std.proofs.Common.{◌≡◌, ◌∙◌, ◌<◌, ◌≤◌, ap, sym, min, length, take, List, [], ◌∷◌, ◌++◌, ℕ, arith}
 use Rattle.std.proofs.lemmas.List.{take_more_set, length-take}
 use Rattle.wire.specs.Values.{value_bytes}
 use Rattle.c_engine.specs.Rows.{row_at, shown_as}
