@@ -16,6 +16,7 @@ use Rattle.snapshot.specs.WriteSets.{with_write, without}
 use Rattle.snapshot.specs.declared.txn.TxnFault.{TxnFault}
 use Rattle.snapshot.specs.declared.txn.TxnFault.TheVariants as txn_fault
 use Rattle.group.specs.Tickets.{TicketValue}
+use Rattle.group.specs.declared.answers.BeginFault.{BeginFault}
 use Rattle.group.specs.declared.answers.BeginFault.TheVariants as begin
 use Rattle.group.specs.declared.answers.Submitted.{Submitted}
 use Rattle.group.specs.declared.answers.Submitted.TheVariants as submitted
@@ -27,7 +28,7 @@ use Rattle.shared.specs.declared.committed.Committed.TheVariants as committed
 use Rattle.shared.specs.declared.committed.CommitFault.{CommitFault}
 use Rattle.shared.specs.declared.committed.CommitFault.TheVariants as fault
 use Rattle.shared.specs.Commits.{WaitSays, ArePublished, AreRefused, AreSubmitted, CommitHappens}
-use Rattle.shared.specs.Posted.{Asked, GivenUp, ServedSays, IsBarred, AreBarred, HaveBadValue, IsUncopied, write_of, wrote, written}
+use Rattle.shared.specs.Posted.{Asked, GivenUp, ServedSays, IsBarred, AreBarred, HaveBadValue, AreUncopied, write_of, wrote, written}
 use Rattle.shared.specs.Seen.{Seen, seen_of, order_of, IsLater}
 use Rattle.shared.specs.Shared.{Submits, SubmitHappens, HasCommitAt, queued_seen}
 use Rattle.shared.specs.Shared as shared
@@ -193,12 +194,27 @@ commit-refused start brand changes writes label (fault.Submit why) seen after sa
 commit-refused start brand changes writes label fault.InDoubt seen after same says later = absurd says
 commit-refused start brand changes writes label fault.Stranger seen after same says later = absurd says
 
+uncopied-bad : (changes : List (KeyWrite Value)) → AreUncopied changes txn_fault.BadValue → HaveBadValue changes
+uncopied-bad [] none = none
+uncopied-bad (w ∷ ws) (inl one) = inl one
+uncopied-bad (w ∷ ws) (inr more) = inr (uncopied-bad ws more)
+
+uncopied-there : (changes : List (KeyWrite Value)) → AreUncopied changes txn_fault.Missing → ⊥
+uncopied-there [] none = none
+uncopied-there (w ∷ ws) (inl one) = one
+uncopied-there (w ∷ ws) (inr more) = uncopied-there ws more
+
+uncopied-few : (changes : List (KeyWrite Value)) → AreUncopied changes txn_fault.TooManyKeys → ⊥
+uncopied-few [] none = none
+uncopied-few (w ∷ ws) (inl one) = one
+uncopied-few (w ∷ ws) (inr more) = uncopied-few ws more
+
 -- nor one that could not be copied
-pub commit-uncopied : (start : Machine Value) (brand : ℕ) (changes : List Change) (label : ℕ) (why : TxnFault) (seen : Seen) → IsUncopied (map write_of changes) why → CommitHappens start brand changes label (Err (fault.Txn why)) seen
-commit-uncopied start brand changes label txn_fault.Missing seen none = absurd none
-commit-uncopied start brand changes label txn_fault.TooManyKeys seen none = absurd none
-commit-uncopied start brand changes label txn_fault.BadValue seen bad = bad
-commit-uncopied start brand changes label txn_fault.NoMemory seen any = tt
+pub commit-uncopied : (start : Machine Value) (brand : ℕ) (changes : List Change) (label : ℕ) (why : TxnFault) (seen : Seen) → AreUncopied (map write_of changes) why → CommitHappens start brand changes label (Err (fault.Txn why)) seen
+commit-uncopied start brand changes label txn_fault.Missing seen is = absurd (uncopied-there (map write_of changes) is)
+commit-uncopied start brand changes label txn_fault.TooManyKeys seen is = absurd (uncopied-few (map write_of changes) is)
+commit-uncopied start brand changes label txn_fault.BadValue seen is = uncopied-bad (map write_of changes) is
+commit-uncopied start brand changes label txn_fault.NoMemory seen is = tt
 
 -- ---- what the committer leaves
 
@@ -230,3 +246,33 @@ serves start brand begun txn label now writes first seen (submitted.ReadOnly tim
   s.says ∙ at ∙ r.snapshot ∙ ap (λ (x : Seen). last x.published) (sym r.seen_is),
   sym (begun-writes start brand begun first writes txn.writes r made) ∙ reads-nothing s.before (submission_of txn label now) txn.writes s.step.2,
 )
+
+pub serves-refused : (start : Machine Value) (brand : ℕ) (begun txn : TxnValue) (label now : ℕ) (writes : List (KeyWrite Value)) (first seen : Seen) (why : SubmitFault) → shared.Reads start brand begun first
+    → txn.writes ≡ written (at_snapshot begun.state begun.snapshot) begun.writes writes → IsLater first seen → SubmitHappens start brand txn label now (Err why) seen → ServedSays start brand writes label (Err (fault.Submit why)) seen
+serves-refused start brand begun txn label now writes first seen why r made early s = record {
+  first = first;
+  begun = begun;
+  txn = txn;
+  now = now;
+  reads = r;
+  made = made;
+  early = early;
+  submits = s;
+}
+
+-- where no transaction began
+pub serves-none : (start : Machine Value) (brand : ℕ) (writes : List (KeyWrite Value)) (label : ℕ) (why : BeginFault) (seen : Seen) → shared.BeginHappens start brand (Err why) seen → ServedSays start brand writes label (Err (fault.Begin why)) seen
+serves-none start brand writes label begin.NoMemory seen happens = happens
+serves-none start brand writes label begin.Failed seen happens = happens.1
+
+-- and where one was given up
+pub serves-given_up : (start : Machine Value) (brand : ℕ) (begun txn : TxnValue) (label : ℕ) (writes : List (KeyWrite Value)) (first seen : Seen) (why : TxnFault) → shared.Reads start brand begun first → txn.snapshot ≡ begun.snapshot
+    → AreBarred (at_snapshot begun.state begun.snapshot) begun.writes writes why → IsLater first seen → shared.AbortHappens start txn.snapshot seen → ServedSays start brand writes label (Err (fault.Txn why)) seen
+serves-given_up start brand begun txn label writes first seen why r at barred early over = record {
+  first = first;
+  begun = begun;
+  reads = r;
+  barred = barred;
+  early = early;
+  over = subst (λ (n : ℕ). shared.AbortHappens start n seen) at over;
+}

@@ -68,10 +68,10 @@ next-some v order some asks = by-tests (v.group == 0) refl (nat_lt 0 (length v.q
 -- ---- the answer of a step that does something
 
 turned : (stage : SlotStage) (turn : TurnState) (old new : StoreValue) (what : Did) → IsTurned stage turn old what new → what ≡ did.Idle → ⊥
-turned slots.Begun turn old new what is idle = absurd cc
-turned slots.BodyWritten turn old new what is idle = absurd cc
-turned slots.BodySynced turn old new what is idle = absurd cc
-turned slots.GateWritten turn old new what is idle = absurd cc
+turned slots.Begun turn old new what is idle = let no : did.BodyWritten ≡ did.Idle = sym is.0 ∙ idle in absurd cc
+turned slots.BodyWritten turn old new what is idle = let no : did.BodySynced ≡ did.Idle = sym is.0 ∙ idle in absurd cc
+turned slots.BodySynced turn old new what is idle = let no : did.GateWritten ≡ did.Idle = sym is.0 ∙ idle in absurd cc
+turned slots.GateWritten turn old new what is idle = let no : Path Did (did.Published old.transactions.group) did.Idle = sym is.0 ∙ idle in absurd cc
 turned slots.Opened turn old new what is idle = is
 
 turns : (tells : Bool) (turn : TurnState) (old new : StoreValue) (r : Result Did PumpFault) → TurnsSlot tells turn old r new → r ≡ Ok did.Idle → ⊥

@@ -477,11 +477,16 @@ reclaim-begins tells start brand table old new shares at pass r h starts =
       (h.state, h.reached, h.seen, reclaim-says old new h.state r h.stands.memory starts),
     )
 
+-- a start that is refused for another reason than that is one of a store that works
+first-works : (failed : Bool) (rest : Option StartFault) (Begins : Type 0) (r : Result (Unit {0}) StartFault) (old new : StoreValue) → MatchOption (cond failed (Some fault.Failed) rest) Begins (λ why. (r ≡ Err why) × (new ≡ old)) → (r ≡ Err fault.Failed → ⊥) → failed ≡ false
+first-works true rest Begins r old new is other = absurd (other is.0)
+first-works false rest Begins r old new is other = refl
+
 -- a floor begins, or is refused
 pub floor-begins : (tells : Bool) (start : Machine Value) (brand : ℕ) (table : TableId) (old new : StoreValue) (shares : ℕ) (at : TableId) (pass : SightValue) (scope : Option ℕ) (floor : ℕ) (r : Result (Unit {0}) StartFault) → IsShared tells start brand table old shares at pass → StartsFloor old scope floor r new
     → IsShared tells start brand table new shares at pass × FloorHappens start scope floor r pass.seen
 floor-begins tells start brand table old new shares at pass scope floor r h starts =
-    let did = by-answer r (floor-start-stands tells old new scope floor r h.state h.stands starts) in (did.0, (h.state, h.reached, h.seen, did.1))
+    let did = by-answer r refl (floor-start-stands tells old new scope floor r h.state h.stands starts) in (did.0, (h.state, h.reached, h.seen, did.1))
   where
     left : Leaves old.transactions new.transactions
     left = floor-leaves old new scope floor r starts
@@ -492,22 +497,25 @@ floor-begins tells start brand table old new shares at pass scope floor r h star
     same : Stands tells new h.state → IsShared tells start brand table new shares at pass
     same stands = quiet tells start brand table old new shares at pass h h.state stands goes h.reached refl left.mark left.heads
 
-    by-answer : (x : Result (Unit {0}) StartFault) → StartsOn tells h.state (raising_to scope floor) x new → IsShared tells start brand table new shares at pass × FloorSays h.state (raising_to scope floor) x
-    by-answer (Ok done) did = (
+    works : (x : Result (Unit {0}) StartFault) → r ≡ x → (x ≡ Err fault.Failed → ⊥) → h.state.failed ≡ false
+    works x is other = sym h.stands.memory.failed ∙ first-works old.transactions.failed _ _ r old new starts (λ failed. other (sym is ∙ failed))
+
+    by-answer : (x : Result (Unit {0}) StartFault) → r ≡ x → StartsOn tells h.state (raising_to scope floor) x new → IsShared tells start brand table new shares at pass × FloorSays h.state (raising_to scope floor) x
+    by-answer (Ok done) is did = (
       quiet tells start brand table old new shares at pass h (floor_started h.state (raising_to scope floor)) did.1 goes (stepped (FloorStarted (raising_to scope floor)) h.reached did.0) refl left.mark left.heads,
       did.0,
     )
-    by-answer (Err fault.NothingToDo) did = (same did.1, did.0)
-    by-answer (Err (fault.NotYet time)) did = (same did.1, did.0)
-    by-answer (Err (fault.InUse snapshot)) did = (same did.1, did.0)
-    by-answer (Err fault.Failed) did = (same did.1, did.0)
-    by-answer (Err fault.WrongProfile) did = (same did, tt)
-    by-answer (Err fault.JobBusy) did = (same did, tt)
-    by-answer (Err fault.StatusFull) did = (same did, tt)
-    by-answer (Err fault.ArchiveFull) did = absurd did
-    by-answer (Err fault.HeapFull) did = absurd did
-    by-answer (Err fault.NoMemory) did = (same did.1, did.0)
-    by-answer (Err fault.NotGrowable) did = absurd did
+    by-answer (Err fault.NothingToDo) is did = (same did.1, did.0)
+    by-answer (Err (fault.NotYet time)) is did = (same did.1, did.0)
+    by-answer (Err (fault.InUse snapshot)) is did = (same did.1, did.0)
+    by-answer (Err fault.Failed) is did = (same did.1, did.0)
+    by-answer (Err fault.WrongProfile) is did = (same did, works (Err fault.WrongProfile) is (λ no. absurd cc))
+    by-answer (Err fault.JobBusy) is did = (same did, works (Err fault.JobBusy) is (λ no. absurd cc))
+    by-answer (Err fault.StatusFull) is did = (same did, works (Err fault.StatusFull) is (λ no. absurd cc))
+    by-answer (Err fault.ArchiveFull) is did = absurd did
+    by-answer (Err fault.HeapFull) is did = absurd did
+    by-answer (Err fault.NoMemory) is did = (same did.1, (works (Err fault.NoMemory) is (λ no. absurd cc), did.0))
+    by-answer (Err fault.NotGrowable) is did = absurd did
 
 -- what the beginning of a growth answers, by whether the store has failed
 growth-says : (old new : StoreValue) (m : Machine Value) (r : Result (Unit {0}) StartFault) → old.transactions.failed ≡ m.failed → StartsGrowth old r new → GrowthSays m r

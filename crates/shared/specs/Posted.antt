@@ -61,12 +61,17 @@ abbrev pub AreBarred : (Key → Option Value) → List (KeyWrite Value) → List
 AreBarred before writes [] why = ⊥
 AreBarred before writes (w ∷ ws) why = IsBarred before writes w why ⊎ AreBarred before (wrote before writes w.key w.write) ws why
 
--- why changes are not copied
-abbrev pub IsUncopied : List (KeyWrite Value) → TxnFault → Type 0
-IsUncopied writes txn_fault.Missing = ⊥
-IsUncopied writes txn_fault.TooManyKeys = ⊥
-IsUncopied writes txn_fault.BadValue = HaveBadValue writes
-IsUncopied writes txn_fault.NoMemory = Unit {0}
+-- why a change is not copied: its value is none, or memory was refused
+abbrev pub IsUncopied : KeyWrite Value → TxnFault → Type 0
+IsUncopied w txn_fault.Missing = ⊥
+IsUncopied w txn_fault.TooManyKeys = ⊥
+IsUncopied w txn_fault.BadValue = IsBadValue w.write
+IsUncopied w txn_fault.NoMemory = Unit {0}
+
+-- why one of these changes is not copied
+abbrev pub AreUncopied : List (KeyWrite Value) → TxnFault → Type 0
+AreUncopied [] why = ⊥
+AreUncopied (w ∷ ws) why = IsUncopied w why ⊎ AreUncopied ws why
 
 -- ---- requests
 

@@ -212,13 +212,13 @@ FloorSays m r (Err start_fault.NothingToDo) = Step IsValue m (FloorRefused r flo
 FloorSays m r (Err (start_fault.NotYet time)) = Step IsValue m (FloorRefused r (floor_starts.NotYet time)) m
 FloorSays m r (Err (start_fault.InUse snapshot)) = Step IsValue m (FloorRefused r (floor_starts.InUse snapshot)) m
 FloorSays m r (Err start_fault.Failed) = m.failed ≡ true
-FloorSays m r (Err start_fault.JobBusy) = Unit {0}
-FloorSays m r (Err start_fault.StatusFull) = Unit {0}
-FloorSays m r (Err start_fault.WrongProfile) = Unit {0}
+FloorSays m r (Err start_fault.JobBusy) = m.failed ≡ false
+FloorSays m r (Err start_fault.StatusFull) = m.failed ≡ false
+FloorSays m r (Err start_fault.WrongProfile) = m.failed ≡ false
 FloorSays m r (Err start_fault.ArchiveFull) = ⊥
 FloorSays m r (Err start_fault.HeapFull) = ⊥
 FloorSays m r (Err start_fault.NotGrowable) = ⊥
-FloorSays m r (Err start_fault.NoMemory) = IsSome r.scope
+FloorSays m r (Err start_fault.NoMemory) = (m.failed ≡ false) × IsSome r.scope
 
 -- at a state that steps lead to the machine does this, and it was seen
 abbrev pub FloorHappens : Machine Value → Option ℕ → ℕ → Result (Unit {0}) StartFault → Seen → Type 0

@@ -1,9 +1,9 @@
 //! Changes with memory of their own, and what a transaction makes of them.
-ghost use Rattle.std.specs.Prelude.{◌≡◌, ◌≢◌, ◌≤◌, ◌↔◌, [], ◌∷◌, map, take, length, Err, IfOk, IfErr, OnOk, OnErr, IsTrue};
+ghost use Rattle.std.specs.Prelude.{◌≡◌, ◌≢◌, ◌≤◌, ◌↔◌, map, take, length, Err, IfOk, IfErr, OnOk, OnErr, IsTrue};
 ghost use Rattle.law_image.specs.Values.{IsValue};
 ghost use Rattle.wire.specs.Values.{HasSizes};
 ghost use Rattle.snapshot.specs.Txn.{at_snapshot, with_put, IsFullFor};
-ghost use Rattle.shared.specs.Posted.{write_of, wrote, written, IsBarred, AreBarred, IsUncopied};
+ghost use Rattle.shared.specs.Posted.{write_of, wrote, written, IsBarred, AreBarred, IsUncopied, AreUncopied};
 
 use crate::change::Change;
 use history::{Key, KeyWrite};
@@ -17,7 +17,7 @@ pub(crate) fn copy_changes(
     changes: &[Change<'_>],
 ) -> Result<Vec<KeyWrite<Value>>, TxnFault>
     ensures ok { IfOk result (λ writes. writes.items ≡ map write_of changes.now) }
-    ensures err { IfErr result (IsUncopied (map write_of changes.now)) }
+    ensures err { IfErr result (AreUncopied (map write_of changes.now)) }
 {
     let mut writes = Vec::new(alloc);
     for change in changes {
@@ -31,7 +31,7 @@ pub(crate) fn copy_changes(
 
 fn copy_change(alloc: Global, change: &Change<'_>) -> Result<KeyWrite<Value>, TxnFault>
     ensures ok { IfOk result (λ write. write ≡ write_of change.now) }
-    ensures err { IfErr result (IsUncopied (write_of change.now ∷ [])) }
+    ensures err { IfErr result (IsUncopied (write_of change.now)) }
 {
     match *change {
         Change::Put { key, fields } => match Value::new(alloc, fields) {

@@ -9,7 +9,13 @@ ghost use Rattle.law_image.specs.Values.{Value};
 ghost use Rattle.law_refinement.specs.Homes.{IsSure};
 ghost use Rattle.law_refinement.specs.Laws.{SaysAt, SaysScanAt, SaysBetween, SaysScanBetween};
 ghost use Rattle.law_refinement.specs.Stands.{Stands, raising_of};
-ghost use Rattle.store.specs.Calls.{Aborts};
+ghost use Rattle.store.specs.Archives.{StartsArchive};
+ghost use Rattle.store.specs.Calls.{Begins, Aborts, Submits, Redeems};
+ghost use Rattle.store.specs.Floors.{StartsFloor};
+ghost use Rattle.store.specs.Growths.{StartsGrowth};
+ghost use Rattle.store.specs.Jobs.{PumpsJob};
+ghost use Rattle.store.specs.Pumps.{Pumps};
+ghost use Rattle.store.specs.Reclaims.{StartsReclaim};
 ghost use Rattle.shared.specs.Archives.{no_archive};
 ghost use Rattle.shared.specs.Counts.{told_count, unredeemed};
 ghost use Rattle.shared.specs.Moments.{OfSeen};
@@ -41,7 +47,8 @@ use store::{
 
 /// A store that stands for a state that steps of the machine lead to from the opening one, the book
 /// of the commits that callers were told of, and the pass that writes the published time. To a
-/// contract it is the store.
+/// contract it is the store. Each method makes one call of the store at most, and no more than that
+/// changes, as its first clause says.
 pub struct Locked<D: Disk, L: Opening> {
     store: Store<D>,
     book: Book<L>,
@@ -88,6 +95,7 @@ impl<D: Disk, L: Opening> Locked<D, L> {
         me: &mut Observer<L>,
     ) -> Result<SharedView<L>, AllocError>
         requires { cell.now.table.shared.table_id ≡ L.table }
+        ensures same { self.new ≡ self.old }
         ensures moment { IfOk result (λ v. v.seen ≡ me.new) }
         ensures later { IsLater me.old me.new }
     {
@@ -100,6 +108,7 @@ impl<D: Disk, L: Opening> Locked<D, L> {
     /// A view of all that is published, to be kept beside the lock, unless memory is refused.
     pub(crate) fn kept_view<R: Wait>(&mut self, rt: &R, cell: &PublishedCell) -> Option<KeptView<L>>
         requires { cell.now.table.shared.table_id ≡ L.table }
+        ensures { self.new ≡ self.old }
     {
         let mut seen = Observer::told_by(cell, &mut self.writer);
         match self.view(rt, cell, &mut seen) {
@@ -115,6 +124,7 @@ impl<D: Disk, L: Opening> Locked<D, L> {
         me: &mut Observer<L>,
     ) -> Result<Txn, BeginFault>
         requires { cell.now.table.shared.table_id ≡ L.table }
+        ensures is { Begins self.old result self.new }
         ensures happens { BeginHappens L.start L.mark result me.new }
         ensures later { IsLater me.old me.new }
     {
@@ -151,6 +161,7 @@ impl<D: Disk, L: Opening> Locked<D, L> {
         me: &mut Observer<L>,
     ) -> Result<Submitted, SubmitFault>
         requires { cell.now.table.shared.table_id ≡ L.table }
+        ensures is { Submits self.old txn label now result self.new }
         ensures happens { SubmitHappens L.start L.mark txn label now result me.new }
         ensures later { IsLater me.old me.new }
     {
@@ -168,6 +179,7 @@ impl<D: Disk, L: Opening> Locked<D, L> {
         me: &mut Observer<L>,
     ) -> Result<Did, PumpFault>
         requires { cell.now.table.shared.table_id ≡ L.table }
+        ensures is { Pumps D.tells self.old result self.new }
         ensures happens { PumpHappens L.start result me.new }
         ensures later { IsLater me.old me.new }
     {
@@ -188,6 +200,7 @@ impl<D: Disk, L: Opening> Locked<D, L> {
         me: &mut Observer<L>,
     ) -> Result<(), StartFault>
         requires { cell.now.table.shared.table_id ≡ L.table }
+        ensures is { StartsArchive self.old upto result self.new }
         ensures happens { ArchiveHappens L.start upto result me.new }
         ensures later { IsLater me.old me.new }
     {
@@ -202,6 +215,7 @@ impl<D: Disk, L: Opening> Locked<D, L> {
         me: &mut Observer<L>,
     ) -> Result<(), StartFault>
         requires { cell.now.table.shared.table_id ≡ L.table }
+        ensures is { StartsReclaim self.old result self.new }
         ensures happens { ReclaimHappens L.start result me.new }
         ensures later { IsLater me.old me.new }
     {
@@ -218,6 +232,7 @@ impl<D: Disk, L: Opening> Locked<D, L> {
         me: &mut Observer<L>,
     ) -> Result<(), StartFault>
         requires { cell.now.table.shared.table_id ≡ L.table }
+        ensures is { StartsFloor self.old scope floor result self.new }
         ensures happens { FloorHappens L.start scope floor result me.new }
         ensures later { IsLater me.old me.new }
     {
@@ -232,6 +247,7 @@ impl<D: Disk, L: Opening> Locked<D, L> {
         me: &mut Observer<L>,
     ) -> Result<(), StartFault>
         requires { cell.now.table.shared.table_id ≡ L.table }
+        ensures is { StartsGrowth self.old result self.new }
         ensures happens { GrowthHappens L.start result me.new }
         ensures later { IsLater me.old me.new }
     {
@@ -248,6 +264,7 @@ impl<D: Disk, L: Opening> Locked<D, L> {
         me: &mut Observer<L>,
     ) -> Result<JobDid, PumpFault>
         requires { cell.now.table.shared.table_id ≡ L.table }
+        ensures is { PumpsJob D.tells self.old result self.new }
         ensures happens { JobHappens L.start result me.new }
         ensures later { IsLater me.old me.new }
     {
@@ -268,6 +285,7 @@ impl<D: Disk, L: Opening> Locked<D, L> {
     ) -> Redeemed
         requires cell { cell.now.table.shared.table_id ≡ L.table }
         requires part { 0 < share.old.parts }
+        ensures is { Redeems self.old ticket result self.new }
         ensures says { RedeemSays L.mark ticket result me.new }
         ensures reached { SeenReached L.start me.new }
         ensures parts { share.new.parts ≡ share.old.parts }
@@ -354,6 +372,7 @@ impl<D: Disk, L: Opening> Locked<D, L> {
         me: &mut Observer<L>,
     ) -> Result<Vec<u64>, AllocError>
         requires { cell.now.table.shared.table_id ≡ L.table }
+        ensures same { self.new ≡ self.old }
         ensures times { IfOk result (λ times. times.items ≡ answers.times_of me.new.published label) }
         ensures reached { SeenReached L.start me.new }
         ensures later { IsLater me.old me.new }
@@ -400,6 +419,7 @@ impl<D: Disk, L: Opening> Locked<D, L> {
         ghost raising: { Option Raising }
         requires cell { cell.now.table.shared.table_id ≡ L.table }
         requires raising { raising_of self.old.job ≡ raising }
+        ensures is { PumpsJob D.tells self.old result self.new }
         ensures happens { JobHappens L.start result me.new }
         ensures later { IsLater me.old me.new }
     {
@@ -423,6 +443,7 @@ impl<D: Disk, L: Opening> Locked<D, L> {
         ghost writes: { List (KeyWrite Value) }
         requires cell { cell.now.table.shared.table_id ≡ L.table }
         requires writes { txn.writes ≡ writes }
+        ensures is { Submits self.old txn label now result self.new }
         ensures happens { SubmitHappens L.start L.mark txn label now result me.new }
         ensures later { IsLater me.old me.new }
     {

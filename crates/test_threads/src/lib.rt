@@ -18,6 +18,8 @@ mod moved_view;
 #[cfg(test)]
 mod noted;
 #[cfg(test)]
+mod refused;
+#[cfg(test)]
 mod vacuumed;
 #[cfg(test)]
 mod view_memory;

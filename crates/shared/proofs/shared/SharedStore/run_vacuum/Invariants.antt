@@ -7,3 +7,4 @@ invariant-loop g l =
     (goal.iterator-loop g).can_next l.iterator' × (goal.iterator-loop g).is_finite l.iterator'
     × IsLater l.initial.me l.me
     × IsSoFar g.L.Opening.start l.doing l.last l.me
+    × goal.F-IsAlwaysCallable g l.pause
