@@ -12,8 +12,8 @@ use crate::shared_view::SharedView;
 use disk::Disk;
 use std::alloc::AllocError;
 use std::mem;
-use std::sync::atomic::Ordering;
 use std::sync::Wait;
+use std::sync::atomic::Ordering;
 
 /// A view that is kept, and a pass that has seen as much.
 pub(crate) struct KeptView<L: Opening> {

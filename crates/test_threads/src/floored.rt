@@ -38,9 +38,15 @@ fn refuse_each<D: Disk, L: Opening, R: Wait + Abort>(
         Err(StartFault::NotYet(140))
     );
     assert_eq!(rt; store.archive_start(rt, 110, me), Ok(()));
-    assert_eq!(rt; store.floor_of_start(rt, 1, 120, me), Err(StartFault::JobBusy));
+    assert_eq!(rt;
+        store.floor_of_start(rt, 1, 120, me),
+        Err(StartFault::JobBusy)
+    );
     // Each relation has a floor of its own, and there is none for all.
-    assert_eq!(rt; store.floor_start(rt, 120, me), Err(StartFault::WrongProfile));
+    assert_eq!(rt;
+        store.floor_start(rt, 120, me),
+        Err(StartFault::WrongProfile)
+    );
 }
 
 /// A commit is published while a transaction reads before it.

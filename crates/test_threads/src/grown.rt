@@ -23,11 +23,7 @@ const GATE_STEPS: [JobDid; 4] = [
 ];
 
 /// All steps of a growth. None waits for a group.
-fn grow<D: Disk, L: Opening, R: Wait + Abort>(
-    rt: &R,
-    store: &SharedStore<D, L>,
-    me: Observer<L>,
-) {
+fn grow<D: Disk, L: Opening, R: Wait + Abort>(rt: &R, store: &SharedStore<D, L>, me: Observer<L>) {
     let mut me = me;
     assert_eq!(rt; store.grow_start(rt, &mut me), Ok(()));
     assert_eq!(rt; store.grow_start(rt, &mut me), Err(StartFault::JobBusy));
