@@ -1,5 +1,5 @@
 -- A store that was just opened, for threads.
-use Rattle.std.proofs.Common.{◌≡◌, ℕ, ◌+◌, ◌*◌, suc, List, [], ◌∷◌, map, length, Bool, refl, sym, ap, ◌∙◌, arith}
+use Rattle.std.proofs.Common.{◌≡◌, ℕ, ◌+◌, suc, List, [], ◌∷◌, map, length, Bool, refl, sym, ap, ◌∙◌, arith}
 use Rattle.std.specs.Prelude.{IsTrue}
 use Rattle.disk.specs.Areas.{Areas, AreSound, image_of}
 use Rattle.disk.specs.Calls.{DiskState}

@@ -1,13 +1,13 @@
 -- A step of a group answers that nothing is to be done just where no commit waits.
 use Rattle.std.proofs.Common.{◌≡◌, ◌↔◌, ℕ, suc, ◌<◌, ◌==◌, ◌&&◌, nat_lt, min, Bool, true, false, cond, List, [], ◌∷◌, length, Option, None, Some, Result, Ok, Err, MatchBool, MatchOption, inl, inr, refl, sym, ap, ◌∙◌, subst, arith}
-use Rattle.std.specs.Prelude.{◌⊎◌, is_some}
+use Rattle.std.specs.Prelude.{is_some}
 use Rattle.std.proofs.lemmas.Bool.Decides.{nat_tests}
-use Rattle.history.specs.Histories.{Commit, History}
+use Rattle.history.specs.Histories.{History}
 use Rattle.history.specs.Machine.{Machine}
 use Rattle.law_image.specs.Values.{Value}
 use Rattle.group.specs.Order.{StageFits, IsInOrder}
 use Rattle.group.specs.Queued.{QueuedValue}
-use Rattle.group.specs.Steps.{grouped, step_of, next_step, next_extent}
+use Rattle.group.specs.Steps.{step_of, next_step, next_extent}
 use Rattle.group.specs.Values.{TransactionsValue}
 use Rattle.group.specs.declared.answers.Did.{Did}
 use Rattle.group.specs.declared.answers.Did.TheVariants as did

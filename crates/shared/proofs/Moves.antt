@@ -52,7 +52,7 @@ use Rattle.law_refinement.specs.Calls.{raising_to, StartsOn}
 use Rattle.law_refinement.specs.Homes.{GoesOn}
 use Rattle.law_refinement.specs.Laws.{submission_of, event_of, begins_in, ends_in, job_ends_in}
 use Rattle.law_refinement.specs.Stands.{Stands, raising_of}
-use Rattle.law_refinement.specs.Leaving.{Leaves, LeftBySubmit, LeftByRedeem, count_in}
+use Rattle.law_refinement.specs.Leaving.{Leaves, LeftBySubmit, LeftByRedeem}
 use Rattle.law_refinement.proofs.FloorStarts.{in-use}
 use Rattle.law_refinement.proofs.Leaving.{pump-leaves}
 use Rattle.law_refinement.proofs.JobLeaving.{start-leaves, reclaim-leaves, floor-leaves, grow-leaves, pumped-leaves}

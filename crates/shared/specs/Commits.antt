@@ -1,6 +1,5 @@
 -- What a call of `commit` comes to.
 use Rattle.std.specs.Prelude.{◌≡◌, ◌<◌, ℕ, true, List, [], map, Contains, Result, Ok, Err}
-use Rattle.history.specs.declared.key.KeyWrite.{KeyWrite}
 use Rattle.history.specs.Histories.{History, IsHistory, last, state}
 use Rattle.history.specs.Machine.{Machine}
 use Rattle.law_image.specs.Values.{Value, IsValue}

@@ -1,4 +1,4 @@
-use Rattle.std.proofs.Common.{◌≡◌, Bool, rules, ap, subst, sym, ◌∙◌, Option}
+use Rattle.std.proofs.Common.{Bool, rules, ap, subst, sym, ◌∙◌, Option}
 use Rattle.crossbeam_utils.specs.Seq.{cell_view}
 use Rattle.history.specs.Floors.{Raising}
 use Rattle.history.specs.Histories.{History, IsHistory}
