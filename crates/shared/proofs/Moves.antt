@@ -52,7 +52,7 @@ use Rattle.law_refinement.specs.Calls.{raising_to, StartsOn}
 use Rattle.law_refinement.specs.Homes.{GoesOn}
 use Rattle.law_refinement.specs.Laws.{submission_of, event_of, begins_in, ends_in, job_ends_in}
 use Rattle.law_refinement.specs.Stands.{Stands, raising_of}
-use Rattle.law_refinement.specs.Leaving.{Leaves, LeftBySubmit, LeftByRedeem, count_in}
+use Rattle.law_refinement.specs.Leaving.{Leaves, LeftBySubmit, LeftByRedeem}
 use Rattle.law_refinement.proofs.FloorStarts.{in-use}
 use Rattle.law_refinement.proofs.Leaving.{pump-leaves}
 use Rattle.law_refinement.proofs.JobLeaving.{start-leaves, reclaim-leaves, floor-leaves, grow-leaves, pumped-leaves}
@@ -71,11 +71,11 @@ use Rattle.shared.specs.Archives.{ArchiveSeen, IsArchiveLater, archive_seen, no_
 use Rattle.shared.specs.Counts.{told_count, told_after}
 use Rattle.shared.specs.Reached.{Reached, opened, stepped}
 use Rattle.shared.specs.Seen.{Seen, SightValue, seen_of, IsLater}
-use Rattle.shared.specs.Shared.{IsShared, Submits, SubmitSays, SubmitHappens, FloorSays, FloorHappens, ArchiveSays, ArchiveHappens, ReclaimSays, ReclaimHappens, GrowthSays, GrowthHappens, queued_seen, job_seen, noted, done_in}
+use Rattle.shared.specs.Shared.{IsShared, Submits, SubmitSays, SubmitHappens, FloorSays, FloorHappens, ArchiveSays, ArchiveHappens, ReclaimSays, ReclaimHappens, GrowthSays, GrowthHappens, queued_seen, pumped_seen, done_seen, job_seen, noted, done_in}
 use Rattle.shared.proofs.Archives.{archive-same, archive-then, archive-first, archive-on}
 use Rattle.shared.proofs.Counting.{told-push, after-push, told-redeemed, after-redeemed, after-later, none-after}
 use Rattle.shared.proofs.Fronts.{last-seen, later-same}
-use Rattle.shared.proofs.Stepping.{follows, later-published, submit_seen, submit-seen, pump_seen, pump-seen, published-none, job-seen, later-job}
+use Rattle.shared.proofs.Stepping.{follows, submit_seen, submit-seen, broken-seen, published-none, pump-seen, later-pumped, job-seen, later-done, later-job}
 
 -- what is known of an archive, by another name
 pub known : {a b c : ArchiveSeen} → b ≡ a → IsArchiveLater a c → IsArchiveLater b c
@@ -331,7 +331,7 @@ pub record Pumped (tells : Bool) (start : Machine Value) (m : Machine Value) (ol
   pub run : MatchBool m.failed ((r ≡ Err pump.Failed) × (after ≡ m)) (Run IsValue m (begins_in m ++ ends_in m.gate r) after)
   pub stands : Stands tells new after
   pub reached : Reached start after
-  pub seen : seen_of after ≡ pump_seen r (seen_of m)
+  pub seen : seen_of after ≡ pumped_seen r (seen_of m)
   pub mark : new.transactions.mark ≡ old.transactions.mark
   pub heads : new.transactions.heads ≡ old.transactions.heads
   pub goes : GoesOn tells old new
@@ -348,7 +348,7 @@ pumped tells start m old new r reached stands sound pumps =
       run = subst (λ (b : Bool). MatchBool b ((r ≡ Err pump.Failed) × (m ≡ m)) (Run IsValue m (begins_in m ++ ends_in m.gate r) m)) (sym is) (did.0, refl);
       stands = did.1;
       reached = reached;
-      seen = subst (λ (x : Result Did PumpFault). seen_of m ≡ pump_seen x (seen_of m)) (sym did.0) (published-none (seen_of m));
+      seen = subst (λ (x : Result Did PumpFault). seen_of m ≡ pumped_seen x (seen_of m)) (sym did.0) (broken-seen m is ∙ ap (λ (s : Seen). record s { failed = true }) (published-none (seen_of m)));
       mark = mark;
       heads = heads;
       goes = pump-goes tells old new r m stands pumps;
@@ -366,9 +366,9 @@ pumped tells start m old new r reached stands sound pumps =
 
 -- once the pass has gone on
 pub pump-publishes : (tells : Bool) (start : Machine Value) (brand : ℕ) (table : TableId) (old new : StoreValue) (shares : ℕ) (at at' : TableId) (pass pass' : SightValue) (r : Result Did PumpFault) (h : IsShared tells start brand table old shares at pass) → Pumped tells start h.state old new r
-    → at' ≡ table → pass'.writes ≡ true → pass'.seen ≡ pump_seen r (seen_of h.state) → pass'.archive ≡ pass.archive → IsShared tells start brand table new shares at' pass'
+    → at' ≡ table → pass'.writes ≡ true → pass'.seen ≡ pumped_seen r (seen_of h.state) → pass'.archive ≡ pass.archive → IsShared tells start brand table new shares at' pass'
 pump-publishes tells start brand table old new shares at at' pass pass' r h p cell on seen archive =
-    let later' : IsLater (seen_of h.state) (seen_of p.after) = subst (λ (s : Seen). IsLater (seen_of h.state) s) (sym p.seen) (later-published (seen_of h.state) (count_in r)) in
+    let later' : IsLater (seen_of h.state) (seen_of p.after) = subst (λ (s : Seen). IsLater (seen_of h.state) s) (sym p.seen) (later-pumped r (seen_of h.state)) in
     let rises : last h.state.published ≤ last p.after.published = last-seen (seen_of h.state) (seen_of p.after) p.stands.machine.history later' in
     record {
       state = p.after;
@@ -425,11 +425,11 @@ archive-says old new upto m r stands starts = by-tests old.transactions.failed r
 
 -- an archive begins, or is refused
 pub archive-begins : (tells : Bool) (start : Machine Value) (brand : ℕ) (table : TableId) (old new : StoreValue) (shares : ℕ) (at : TableId) (pass : SightValue) (upto : ℕ) (r : Result (Unit {0}) StartFault) → IsShared tells start brand table old shares at pass → StartsArchive old upto r new
-    → IsShared tells start brand table new shares at pass × ArchiveHappens start upto r
+    → IsShared tells start brand table new shares at pass × ArchiveHappens start upto r pass.seen
 archive-begins tells start brand table old new shares at pass upto r h starts =
     let left = start-leaves old new upto r starts in (
       quiet tells start brand table old new shares at pass h h.state (archive-start-stands tells old new upto r h.state h.stands starts) (archive-start-goes tells old new upto r h.state h.stands starts) h.reached refl left.mark left.heads,
-      (h.state, h.reached, archive-says old new upto h.state r h.stands.memory starts),
+      (h.state, h.reached, h.seen, archive-says old new upto h.state r h.stands.memory starts),
     )
 
 -- what the beginning of a reclaim answers
@@ -470,18 +470,23 @@ reclaim-says old new m r stands starts = by-tests old.transactions.failed refl (
 
 -- a reclaim begins, or is refused
 pub reclaim-begins : (tells : Bool) (start : Machine Value) (brand : ℕ) (table : TableId) (old new : StoreValue) (shares : ℕ) (at : TableId) (pass : SightValue) (r : Result (Unit {0}) StartFault) → IsShared tells start brand table old shares at pass → StartsReclaim old r new
-    → IsShared tells start brand table new shares at pass × ReclaimHappens start r
+    → IsShared tells start brand table new shares at pass × ReclaimHappens start r pass.seen
 reclaim-begins tells start brand table old new shares at pass r h starts =
     let left = reclaim-leaves old new r starts in (
       quiet tells start brand table old new shares at pass h h.state (reclaim-start-stands tells old new r h.state h.stands starts) (reclaim-start-goes tells old new r h.state h.stands starts) h.reached refl left.mark left.heads,
-      (h.state, h.reached, reclaim-says old new h.state r h.stands.memory starts),
+      (h.state, h.reached, h.seen, reclaim-says old new h.state r h.stands.memory starts),
     )
+
+-- a start that is refused for another reason than that is one of a store that works
+first-works : (failed : Bool) (rest : Option StartFault) (Begins : Type 0) (r : Result (Unit {0}) StartFault) (old new : StoreValue) → MatchOption (cond failed (Some fault.Failed) rest) Begins (λ why. (r ≡ Err why) × (new ≡ old)) → (r ≡ Err fault.Failed → ⊥) → failed ≡ false
+first-works true rest Begins r old new is other = absurd (other is.0)
+first-works false rest Begins r old new is other = refl
 
 -- a floor begins, or is refused
 pub floor-begins : (tells : Bool) (start : Machine Value) (brand : ℕ) (table : TableId) (old new : StoreValue) (shares : ℕ) (at : TableId) (pass : SightValue) (scope : Option ℕ) (floor : ℕ) (r : Result (Unit {0}) StartFault) → IsShared tells start brand table old shares at pass → StartsFloor old scope floor r new
-    → IsShared tells start brand table new shares at pass × FloorHappens start scope floor r
+    → IsShared tells start brand table new shares at pass × FloorHappens start scope floor r pass.seen
 floor-begins tells start brand table old new shares at pass scope floor r h starts =
-    let did = by-answer r (floor-start-stands tells old new scope floor r h.state h.stands starts) in (did.0, (h.state, h.reached, did.1))
+    let did = by-answer r refl (floor-start-stands tells old new scope floor r h.state h.stands starts) in (did.0, (h.state, h.reached, h.seen, did.1))
   where
     left : Leaves old.transactions new.transactions
     left = floor-leaves old new scope floor r starts
@@ -492,22 +497,25 @@ floor-begins tells start brand table old new shares at pass scope floor r h star
     same : Stands tells new h.state → IsShared tells start brand table new shares at pass
     same stands = quiet tells start brand table old new shares at pass h h.state stands goes h.reached refl left.mark left.heads
 
-    by-answer : (x : Result (Unit {0}) StartFault) → StartsOn tells h.state (raising_to scope floor) x new → IsShared tells start brand table new shares at pass × FloorSays h.state (raising_to scope floor) x
-    by-answer (Ok done) did = (
+    works : (x : Result (Unit {0}) StartFault) → r ≡ x → (x ≡ Err fault.Failed → ⊥) → h.state.failed ≡ false
+    works x is other = sym h.stands.memory.failed ∙ first-works old.transactions.failed _ _ r old new starts (λ failed. other (sym is ∙ failed))
+
+    by-answer : (x : Result (Unit {0}) StartFault) → r ≡ x → StartsOn tells h.state (raising_to scope floor) x new → IsShared tells start brand table new shares at pass × FloorSays h.state (raising_to scope floor) x
+    by-answer (Ok done) is did = (
       quiet tells start brand table old new shares at pass h (floor_started h.state (raising_to scope floor)) did.1 goes (stepped (FloorStarted (raising_to scope floor)) h.reached did.0) refl left.mark left.heads,
       did.0,
     )
-    by-answer (Err fault.NothingToDo) did = (same did.1, did.0)
-    by-answer (Err (fault.NotYet time)) did = (same did.1, did.0)
-    by-answer (Err (fault.InUse snapshot)) did = (same did.1, did.0)
-    by-answer (Err fault.Failed) did = (same did.1, did.0)
-    by-answer (Err fault.WrongProfile) did = (same did, tt)
-    by-answer (Err fault.JobBusy) did = (same did, tt)
-    by-answer (Err fault.StatusFull) did = (same did, tt)
-    by-answer (Err fault.ArchiveFull) did = absurd did
-    by-answer (Err fault.HeapFull) did = absurd did
-    by-answer (Err fault.NoMemory) did = (same did.1, did.0)
-    by-answer (Err fault.NotGrowable) did = absurd did
+    by-answer (Err fault.NothingToDo) is did = (same did.1, did.0)
+    by-answer (Err (fault.NotYet time)) is did = (same did.1, did.0)
+    by-answer (Err (fault.InUse snapshot)) is did = (same did.1, did.0)
+    by-answer (Err fault.Failed) is did = (same did.1, did.0)
+    by-answer (Err fault.WrongProfile) is did = (same did, works (Err fault.WrongProfile) is (λ no. absurd cc))
+    by-answer (Err fault.JobBusy) is did = (same did, works (Err fault.JobBusy) is (λ no. absurd cc))
+    by-answer (Err fault.StatusFull) is did = (same did, works (Err fault.StatusFull) is (λ no. absurd cc))
+    by-answer (Err fault.ArchiveFull) is did = absurd did
+    by-answer (Err fault.HeapFull) is did = absurd did
+    by-answer (Err fault.NoMemory) is did = (same did.1, (works (Err fault.NoMemory) is (λ no. absurd cc), did.0))
+    by-answer (Err fault.NotGrowable) is did = absurd did
 
 -- what the beginning of a growth answers, by whether the store has failed
 growth-says : (old new : StoreValue) (m : Machine Value) (r : Result (Unit {0}) StartFault) → old.transactions.failed ≡ m.failed → StartsGrowth old r new → GrowthSays m r
@@ -528,11 +536,11 @@ growth-says old new m r same starts = by-tests old.transactions.failed refl (is_
 
 -- a growth begins, or is refused
 pub growth-begins : (tells : Bool) (start : Machine Value) (brand : ℕ) (table : TableId) (old new : StoreValue) (shares : ℕ) (at : TableId) (pass : SightValue) (r : Result (Unit {0}) StartFault) → IsShared tells start brand table old shares at pass → StartsGrowth old r new
-    → IsShared tells start brand table new shares at pass × GrowthHappens start r
+    → IsShared tells start brand table new shares at pass × GrowthHappens start r pass.seen
 growth-begins tells start brand table old new shares at pass r h starts =
     let left = grow-leaves old new r starts in (
       quiet tells start brand table old new shares at pass h h.state (grow-start-stands tells old new r h.state h.stands starts) (grow-start-goes tells old new r h.state h.stands starts) h.reached refl left.mark left.heads,
-      (h.state, h.reached, growth-says old new h.state r h.stands.memory.failed starts),
+      (h.state, h.reached, h.seen, growth-says old new h.state r h.stands.memory.failed starts),
     )
 
 pub record JobPumped (tells : Bool) (start : Machine Value) (m : Machine Value) (old new : StoreValue) (r : Result JobDid PumpFault) : Type 0 where
@@ -541,7 +549,7 @@ pub record JobPumped (tells : Bool) (start : Machine Value) (m : Machine Value) 
   pub stands : Stands tells new after
   pub reached : Reached start after
   pub seen : seen_of after ≡ job_seen r (raising_of old.job) (seen_of m)
-  pub later : IsLater (seen_of m) (seen_of after)
+  pub later : IsLater (seen_of m) (done_seen r (raising_of old.job) (seen_of m))
   pub left : Leaves old.transactions new.transactions
   pub goes : GoesOn tells old new
 
@@ -554,8 +562,8 @@ job-pumped tells start m old new r reached stands sound pumps = by-failure m.fai
       run = subst (λ (b : Bool). MatchBool b ((r ≡ Err pump.Failed) × (m ≡ m)) (Run IsValue m (job_ends_in m r) m)) (sym is) (did.0, refl);
       stands = did.1;
       reached = reached;
-      seen = subst (λ (x : Result JobDid PumpFault). seen_of m ≡ job_seen x (raising_of old.job) (seen_of m)) (sym did.0) refl;
-      later = later-same (seen_of m);
+      seen = subst (λ (x : Result JobDid PumpFault). seen_of m ≡ job_seen x (raising_of old.job) (seen_of m)) (sym did.0) (broken-seen m is);
+      later = subst (λ (x : Result JobDid PumpFault). IsLater (seen_of m) (done_seen x (raising_of old.job) (seen_of m))) (sym did.0) (later-same (seen_of m));
       left = pumped-leaves tells old new r pumps;
       goes = job-pump-goes tells old new r m stands pumps;
     }
@@ -565,24 +573,24 @@ job-pumped tells start m old new r reached stands sound pumps = by-failure m.fai
       stands = did.2;
       reached = follows start m did.0 (job_ends_in m r) reached did.1;
       seen = job-seen m did.0 old.job r stands.raises.is did.1;
-      later = later-job m did.0 old.job r stands.machine stands.raises.is did.1;
+      later = later-done m did.0 old.job r stands.machine stands.raises.is did.1;
       left = pumped-leaves tells old new r pumps;
       goes = job-pump-goes tells old new r m stands pumps;
     }
 
 -- what the pass is to see next is later
 pub job-later : (tells : Bool) (start : Machine Value) (brand : ℕ) (table : TableId) (old new : StoreValue) (shares : ℕ) (at : TableId) (pass : SightValue) (r : Result JobDid PumpFault) (h : IsShared tells start brand table old shares at pass) (raising : Option Raising)
-    → raising_of old.job ≡ raising → JobPumped tells start h.state old new r → IsLater pass.seen (job_seen r raising pass.seen)
+    → raising_of old.job ≡ raising → JobPumped tells start h.state old new r → IsLater pass.seen (done_seen r raising pass.seen)
 job-later tells start brand table old new shares at pass r h raising is p =
-    let first : IsLater (seen_of h.state) (job_seen r (raising_of old.job) (seen_of h.state)) = subst (λ (s : Seen). IsLater (seen_of h.state) s) p.seen p.later in
-    let next : IsLater (seen_of h.state) (job_seen r raising (seen_of h.state)) = subst (λ (o : Option Raising). IsLater (seen_of h.state) (job_seen r o (seen_of h.state))) is first in
-    subst (λ (s : Seen). IsLater s (job_seen r raising s)) (sym h.seen) next
+    let next : IsLater (seen_of h.state) (done_seen r raising (seen_of h.state)) = subst (λ (o : Option Raising). IsLater (seen_of h.state) (done_seen r o (seen_of h.state))) is p.later in
+    subst (λ (s : Seen). IsLater s (done_seen r raising s)) (sym h.seen) next
 
 -- once the pass has gone on
 pub job-keeps : (tells : Bool) (start : Machine Value) (brand : ℕ) (table : TableId) (old new : StoreValue) (shares : ℕ) (at at' : TableId) (pass pass' : SightValue) (r : Result JobDid PumpFault) (h : IsShared tells start brand table old shares at pass) (raising : Option Raising) → raising_of old.job ≡ raising
     → JobPumped tells start h.state old new r → at' ≡ at → pass'.writes ≡ true → pass'.seen ≡ job_seen r raising pass.seen → pass'.archive ≡ pass.archive → IsShared tells start brand table new shares at' pass'
 job-keeps tells start brand table old new shares at at' pass pass' r h raising is p same on seen archive =
-    let rises : last h.state.published ≤ last p.after.published = last-seen (seen_of h.state) (seen_of p.after) p.stands.machine.history p.later in
+    let later : IsLater (seen_of h.state) (seen_of p.after) = subst (λ (s : Seen). IsLater (seen_of h.state) s) (sym p.seen) (later-job r (raising_of old.job) (seen_of h.state) p.later) in
+    let rises : last h.state.published ≤ last p.after.published = last-seen (seen_of h.state) (seen_of p.after) p.stands.machine.history later in
     record {
       state = p.after;
       stands = p.stands;

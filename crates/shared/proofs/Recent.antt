@@ -7,18 +7,13 @@ use Rattle.history.specs.declared.key.Key.{Key}
 use Rattle.history.specs.declared.time.Version.{Version}
 use Rattle.history.specs.Time.{value_at}
 use Rattle.history.specs.Queries.{IsScanAt, IsScanBetween}
-use Rattle.history.specs.Histories.{History, last, state, between}
+use Rattle.history.specs.Histories.{History, last, between}
 use Rattle.history.specs.Answers as answers
 use Rattle.history.specs.Machine.{Machine}
 use Rattle.law_image.specs.Values.{Value}
 use Rattle.chains.specs.KeyWrites.{writes_of}
 use Rattle.chains.specs.Rows.{rows_in, scanned_rows}
 use Rattle.chains.specs.Scans.{scanned}
-use Rattle.chains.proofs.Shown.{scan_is}
-use Rattle.chains.proofs.ShownRows.{scan_of_rows}
-use Rattle.history.proofs.ScanNumbers.{numbers_of, state-written, between-written}
-use Rattle.history.proofs.ScansMade.{scan-made, scan_of_rows-made}
-use Rattle.floors.specs.Floors.{floor_at}
 use Rattle.timequery.specs.View.{ViewValue, AnswersAt, AnswersBetween, RefusesRecent, RefusesRecentScan, RefusesRecentRows, RefusesRecentWalk}
 use Rattle.timequery.specs.declared.fault.QueryFault.{QueryFault}
 use Rattle.timequery.specs.declared.fault.QueryFault.TheVariants as query
