@@ -37,7 +37,8 @@ not-told true none = refl
 not-told false none = absurd cc
 
 -- by whether the first has the time
-awaited-by : (t : ℕ) (x : CommitHead) (xs : List CommitHead) (d : Commit Value) (ds : History Value) (c : Commit Value) → x.time ≡ d.time → t < c.time → late t x ≡ 0 → Contains (d ∷ ds) c → (Contains ds c → is_awaited c.time xs ≡ true)
+awaited-by : (t : ℕ) (x : CommitHead) (xs : List CommitHead) (d : Commit Value) (ds : History Value) (c : Commit Value) → x.time ≡ d.time → t < c.time
+    → late t x ≡ 0 → Contains (d ∷ ds) c → (Contains ds c → is_awaited c.time xs ≡ true)
     → (b : Bool) → (x.time == c.time) ≡ b → cond b x.awaited (is_awaited c.time xs) ≡ true
 awaited-by t x xs d ds c named after none has rest true is =
     let same : x.time ≡ c.time = grind (arith, nat_tests) in
@@ -53,7 +54,8 @@ awaited-by t x xs d ds c named after none has rest false is = ⊎_elim
     (Contains-cons_cases d ds c has)
 
 -- none later than a time is told, and this one is later
-awaited-later : (t : ℕ) (heads : List CommitHead) (h : History Value) (c : Commit Value) → map name_at heads ≡ map name_of h → Contains h c → t < c.time → told_after t heads ≡ 0 → is_awaited c.time heads ≡ true
+awaited-later : (t : ℕ) (heads : List CommitHead) (h : History Value) (c : Commit Value) → map name_at heads ≡ map name_of h → Contains h c → t < c.time
+    → told_after t heads ≡ 0 → is_awaited c.time heads ≡ true
 awaited-later t [] [] c names has after none = absurd (Contains-nil c has)
 awaited-later t [] (d ∷ ds) c names has after none = absurd cc
 awaited-later t (x ∷ xs) [] c names has after none = absurd cc
@@ -65,11 +67,15 @@ awaited-later t (x ∷ xs) (d ∷ ds) c names has after none =
     let others : told_after t xs ≡ 0 = omega (arith, all) in
     awaited-by t x xs d ds c (ap (λ (n : Name). n.time) first) after one has (λ more. awaited-later t xs ds c behind more after others) (x.time == c.time) refl
 
-pub queue-awaited : (tells : Bool) (start : Machine Value) (brand : ℕ) (table : TableId) (v : StoreValue) (shares : ℕ) (at : TableId) (pass : SightValue) (h : IsShared tells start brand table v shares at pass) (time : ℕ) → HasCommitAt h.state.queue time → is_awaited time v.transactions.heads ≡ true
+pub queue-awaited : (tells : Bool) (start : Machine Value) (brand : ℕ) (table : TableId) (v : StoreValue) (shares : ℕ) (at : TableId) (pass : SightValue)
+    (h : IsShared tells start brand table v shares at pass) (time : ℕ) → HasCommitAt h.state.queue time → is_awaited time v.transactions.heads ≡ true
 queue-awaited tells start brand table v shares at pass h time found =
     let m = h.state in
     let legal : IsHistory IsValue (m.published ++ m.queue) = h.stands.machine.history in
-    let rising : HasRisingTimes (last m.published) m.queue = rising-from_following IsValue m.published m.queue (may_follow-behind IsValue [] m.published m.queue legal) in
+    let rising : HasRisingTimes (last m.published) m.queue =
+    rising-from_following IsValue m.published m.queue (may_follow-behind IsValue [] m.published m.queue legal) in
     let late : last m.published < found.0.time = later-time (last m.published) m.queue found.0 rising found.1 in
-    let awaited = awaited-later (last m.published) v.transactions.heads (m.published ++ m.queue) found.0 h.stands.memory.names (Contains-append_right m.published m.queue found.0 found.1) late h.none_waits in
+    let awaited =
+    awaited-later (last m.published) v.transactions.heads (m.published
+    ++ m.queue) found.0 h.stands.memory.names (Contains-append_right m.published m.queue found.0 found.1) late h.none_waits in
     subst (λ (t : ℕ). is_awaited t v.transactions.heads ≡ true) found.2 awaited

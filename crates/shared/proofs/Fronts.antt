@@ -61,7 +61,9 @@ front-within t (c ∷ cs) x (d ∷ ds) y same rising by =
     (found.0, cc (first, found.1))
 
 -- of what was seen at two times the one that has no later last time has no other commits
-pub front-seen : (early late new : Seen) → IsHistory IsValue (order_of new) → IsLater early new → IsLater late new → last early.published ≤ last late.published → IsFrontOf early.published late.published
+pub front-seen : (early late new : Seen) → IsHistory IsValue (order_of new) → IsLater early new → IsLater late new → last early.published ≤ last late.published
+    → IsFrontOf early.published late.published
 front-seen early late new legal e l by =
     let rising : HasRisingTimes 0 new.published = rising-from_following IsValue [] new.published (may_follow-front IsValue [] new.published new.queue legal) in
-    front-within 0 early.published e.published.0 late.published l.published.0 (sym e.published.1 ∙ l.published.1) (subst (λ (h : History Value). HasRisingTimes 0 h) e.published.1 rising) by
+    front-within 0 early.published e.published.0 late.published l.published.0 (sym e.published.1
+    ∙ l.published.1) (subst (λ (h : History Value). HasRisingTimes 0 h) e.published.1 rising) by

@@ -1,5 +1,6 @@
 -- A step of a group answers that nothing is to be done just where no commit waits.
-use Rattle.std.proofs.Common.{◌≡◌, ◌↔◌, ℕ, suc, ◌<◌, ◌==◌, ◌&&◌, nat_lt, min, Bool, true, false, cond, List, [], ◌∷◌, length, Option, None, Some, Result, Ok, Err, MatchBool, MatchOption, inl, inr, refl, sym, ap, ◌∙◌, subst, arith}
+use Rattle.std.proofs.Common.{◌≡◌, ◌↔◌, ℕ, suc, ◌<◌, ◌==◌, ◌&&◌, nat_lt, min, Bool, true, false, cond, List, [], ◌∷◌, length, Option, None, Some, Result, Ok}
+use Rattle.std.proofs.Common.{Err, MatchBool, MatchOption, inl, inr, refl, sym, ap, ◌∙◌, subst, arith}
 use Rattle.std.specs.Prelude.{is_some}
 use Rattle.std.proofs.lemmas.Bool.Decides.{nat_tests}
 use Rattle.history.specs.Histories.{History}
@@ -49,7 +50,9 @@ step-some (Storing member extent) group qs fits some is = not-idle (nat_lt membe
 next-none : (v : TransactionsValue) → v.queue ≡ [] → v.stage ≡ NoGroup → next_step v ≡ next.Idle
 next-none v empty is = by-tests (v.group == 0) (nat_lt 0 (length v.queue)) (ap (λ (qs : List QueuedValue). nat_lt 0 (length qs)) empty)
   where
-    by-tests : (a b : Bool) → b ≡ false → step_of (cond (a && b) (record v { group = min (length v.queue) 16; stage = Storing 0 0 }) v).stage (cond (a && b) (record v { group = min (length v.queue) 16; stage = Storing 0 0 }) v).group ≡ next.Idle
+    by-tests : (a b : Bool) → b ≡ false
+        → step_of (cond (a && b) (record v { group = min (length v.queue) 16; stage = Storing 0 0 }) v).stage
+        (cond (a && b) (record v { group = min (length v.queue) 16; stage = Storing 0 0 }) v).group ≡ next.Idle
     by-tests true true low = absurd cc
     by-tests true false low = step-none v.stage v.group is
     by-tests false b low = step-none v.stage v.group is
@@ -58,7 +61,8 @@ next-some : (v : TransactionsValue) → IsInOrder v → 0 < length v.queue → n
 next-some v order some asks = by-tests (v.group == 0) refl (nat_lt 0 (length v.queue)) refl asks
   where
     by-tests : (a : Bool) → (v.group == 0) ≡ a → (b : Bool) → nat_lt 0 (length v.queue) ≡ b
-        → step_of (cond (a && b) (record v { group = min (length v.queue) 16; stage = Storing 0 0 }) v).stage (cond (a && b) (record v { group = min (length v.queue) 16; stage = Storing 0 0 }) v).group ≡ next.Idle → ⊥
+        → step_of (cond (a && b) (record v { group = min (length v.queue) 16; stage = Storing 0 0 }) v).stage
+        (cond (a && b) (record v { group = min (length v.queue) 16; stage = Storing 0 0 }) v).group ≡ next.Idle → ⊥
     by-tests true none true high is = not-idle (nat_lt 0 (min (length v.queue) 16)) is
     by-tests true none false low is = absurd (grind (arith, nat_tests))
     by-tests false group b any is =
@@ -78,7 +82,8 @@ turns : (tells : Bool) (turn : TurnState) (old new : StoreValue) (r : Result Did
 turns tells turn old new (Ok what) t is = let same : what ≡ did.Idle = cc in turned turn.stage turn old new what t.answer same
 turns tells turn old new (Err why) t is = absurd cc
 
-not-done : (what : Did) → (what ≡ did.Idle → ⊥) → (after : TransactionsValue) (old new : StoreValue) (r : Result Did PumpFault) → Steps what after old r new → r ≡ Ok did.Idle → ⊥
+not-done : (what : Did) → (what ≡ did.Idle → ⊥) → (after : TransactionsValue) (old new : StoreValue) (r : Result Did PumpFault) → Steps what after old r new → r
+    ≡ Ok did.Idle → ⊥
 not-done what some after old new (Ok said) st is = let same : said ≡ did.Idle = cc in some (sym st.answer.0 ∙ same)
 not-done what some after old new (Err why) st is = absurd cc
 
@@ -86,7 +91,8 @@ begins : (tells : Bool) (old new : StoreValue) (r : Result Did PumpFault) → Ma
 begins tells old new r (inl none) is = let no : Path (Result Did PumpFault) (Err pump.NoMemory) (Ok did.Idle) = sym none.1 ∙ is in absurd cc
 begins tells old new r (inr begun) is = turns tells _ _ new r begun.turns is
 
-takes : (tells : Bool) (old new : StoreValue) (r : Result Did PumpFault) (s : NextStep) → (s ≡ next.Idle → ⊥) → TakesStep tells s old r new → r ≡ Ok did.Idle → ⊥
+takes : (tells : Bool) (old new : StoreValue) (r : Result Did PumpFault) (s : NextStep) → (s ≡ next.Idle → ⊥) → TakesStep tells s old r new → r ≡ Ok did.Idle
+    → ⊥
 takes tells old new r next.Idle some does is = some refl
 takes tells old new r next.WriteExtent some does is = by-extent (next_extent old.transactions) does
   where
@@ -105,23 +111,29 @@ takes tells old new r next.AdvanceSlot some does is = by-turn old.turn does
     by-turn None none = none
     by-turn (Some turn) t = turns tells turn old new r t is
 
-pub idles : (tells : Bool) (v new : StoreValue) (m : Machine Value) (r : Result Did PumpFault) → StandsInMemory v.transactions m → IsInOrder v.transactions → Pumps tells v r new → m.failed ≡ false → (r ≡ Ok did.Idle) ↔ (m.queue ≡ [])
+pub idles : (tells : Bool) (v new : StoreValue) (m : Machine Value) (r : Result Did PumpFault) → StandsInMemory v.transactions m → IsInOrder v.transactions
+    → Pumps tells v r new → m.failed ≡ false → (r ≡ Ok did.Idle) ↔ (m.queue ≡ [])
 idles tells v new m r stands order pumps works = by-lists v.transactions.queue m.queue refl stands.queue
   where
     step : TakesStep tells (next_step v.transactions) (started v) r new
-    step = subst (λ (b : Bool). MatchBool b ((r ≡ Err pump.Failed) × (new ≡ v)) (TakesStep tells (next_step v.transactions) (started v) r new)) (stands.failed ∙ works) pumps
+    step = subst (λ (b : Bool). MatchBool b ((r ≡ Err pump.Failed) × (new ≡ v)) (TakesStep tells (next_step v.transactions) (started v) r new)) (stands.failed
+        ∙ works) pumps
 
     idle : v.transactions.queue ≡ [] → r ≡ Ok did.Idle
     idle empty =
         let len : length v.transactions.queue ≡ 0 = ap (λ (qs : List QueuedValue). length qs) empty in
         let within = order.group_within in
-        let none : v.transactions.stage ≡ NoGroup = no-group v.transactions.stage v.transactions.group v.transactions.queue order.stage_fits (omega (arith, len, within)) in
+        let none : v.transactions.stage ≡ NoGroup =
+        no-group v.transactions.stage v.transactions.group v.transactions.queue order.stage_fits (omega (arith, len, within)) in
         (subst (λ (s : NextStep). TakesStep tells s (started v) r new) (next-none v.transactions empty none) step).0
 
-    by-lists : (qs : List QueuedValue) (cs : History Value) → v.transactions.queue ≡ qs → AllWait v.transactions.reclaimed v.transactions.versions qs cs → (r ≡ Ok did.Idle) ↔ (cs ≡ [])
+    by-lists : (qs : List QueuedValue) (cs : History Value) → v.transactions.queue ≡ qs → AllWait v.transactions.reclaimed v.transactions.versions qs cs
+        → (r ≡ Ok did.Idle) ↔ (cs ≡ [])
     by-lists [] [] empty all = (λ is. refl, λ none. idle empty)
     by-lists [] (c ∷ cs) empty all = absurd all
     by-lists (q ∷ qs) [] some all = absurd all
     by-lists (q ∷ qs) (c ∷ cs) some all =
-        let len : length v.transactions.queue ≡ suc (length qs) = ap (λ (l : List QueuedValue). length l) some in
-        (λ is. absurd (takes tells (started v) new r (next_step v.transactions) (next-some v.transactions order (omega (arith, len))) step is), λ none. absurd cc)
+        let len : length v.transactions.queue ≡ suc (length qs) = ap (λ (l : List QueuedValue). length l) some in (
+          λ is. absurd (takes tells (started v) new r (next_step v.transactions) (next-some v.transactions order (omega (arith, len))) step is),
+          λ none. absurd cc,
+        )

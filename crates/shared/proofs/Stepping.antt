@@ -1,5 +1,6 @@
 -- What was seen, as the machine steps.
-use Rattle.std.proofs.Common.{◌≡◌, ℕ, ◌≤◌, ◌==◌, ◌&&◌, nat_lt, length, Bool, true, false, cond, List, [], ◌∷◌, ◌++◌, take, drop, Option, None, Some, Result, Ok, Err, refl, sym, ap, ◌∙◌, subst, append_assoc, arith}
+use Rattle.std.proofs.Common.{◌≡◌, ℕ, ◌≤◌, ◌==◌, ◌&&◌, nat_lt, length, Bool, true, false, cond, List, [], ◌∷◌, ◌++◌, take, drop, Option, None, Some, Result, Ok}
+use Rattle.std.proofs.Common.{Err, refl, sym, ap, ◌∙◌, subst, append_assoc, arith}
 use Rattle.std.proofs.lemmas.List.{append-nil, take-append-drop}
 use Rattle.history.specs.Histories.{Commit, History}
 use Rattle.history.specs.Floors.{Raising}
@@ -39,12 +40,22 @@ follows start m n (e ∷ es) reached run = follows start run.0 n es (stepped e r
 -- ---- what comes next is later
 
 pub later-queued : (s : Seen) (c : Commit Value) → IsLater s (queued_seen s c)
-later-queued s c = record { published = front-same s.published; order = (c ∷ [], sym (append_assoc s.published s.queue (c ∷ []))); floors = λ relation. omega arith; failed = λ on. on }
+later-queued s c =
+    record {
+      published = front-same s.published;
+      order = (c ∷ [], sym (append_assoc s.published s.queue (c ∷ [])));
+      floors = λ relation. omega arith;
+      failed = λ on. on;
+    }
 
 pub later-published : (s : Seen) (count : ℕ) → IsLater s (published_seen s count)
 later-published s count = record {
   published = (take count s.queue, refl);
-  order = ([], append_assoc s.published (take count s.queue) (drop count s.queue) ∙ ap (λ (l : History Value). s.published ++ l) (take-append-drop count s.queue) ∙ sym (append-nil (order_of s)));
+  order = (
+    [],
+    append_assoc s.published (take count s.queue) (drop count s.queue)
+        ∙ ap (λ (l : History Value). s.published ++ l) (take-append-drop count s.queue) ∙ sym (append-nil (order_of s)),
+  );
   floors = λ relation. omega arith;
   failed = λ on. on;
 }
@@ -56,7 +67,8 @@ submit_seen (Ok (submitted.ReadOnly at)) s c = s
 submit_seen (Ok (submitted.Queued ticket)) s c = queued_seen s c
 submit_seen (Err why) s c = s
 
-pub submit-seen : (m after : Machine Value) (s : Submission Value) (r : Result Submitted SubmitFault) → Step IsValue m (event_of m s r) after → seen_of after ≡ submit_seen r (seen_of m) (commit_made m s)
+pub submit-seen : (m after : Machine Value) (s : Submission Value) (r : Result Submitted SubmitFault) → Step IsValue m (event_of m s r) after → seen_of after
+    ≡ submit_seen r (seen_of m) (commit_made m s)
 submit-seen m after s (Ok (submitted.ReadOnly at)) step = ap seen_of step.3.2
 submit-seen m after s (Ok (submitted.Queued ticket)) step = ap seen_of step.3.2
 submit-seen m after s (Err (refused.Conflict key)) step = ap seen_of step.3.2
@@ -106,14 +118,30 @@ pub pump-seen : (m n : Machine Value) (r : Result Did PumpFault) → Run IsValue
 pump-seen m n r run =
     let p = pump-publishes m n r run in
     ap (λ (h : History Value). record { published = h; queue = n.queue; floors = floors_listed n.floors; failed = n.failed }) p.published
-    ∙ ap (λ (q : History Value). record { published = m.published ++ take (count_in r) m.queue; queue = q; floors = floors_listed n.floors; failed = n.failed }) p.queue
-    ∙ ap (λ (f : ℕ → ℕ). record { published = m.published ++ take (count_in r) m.queue; queue = drop (count_in r) m.queue; floors = floors_listed f; failed = n.failed }) p.floors
-    ∙ ap (λ (b : Bool). record { published = m.published ++ take (count_in r) m.queue; queue = drop (count_in r) m.queue; floors = floors_listed m.floors; failed = b }) (pump-failed m n r run)
+    ∙ ap (λ (q : History Value). record {
+      published = m.published ++ take (count_in r) m.queue;
+      queue = q;
+      floors = floors_listed n.floors;
+      failed = n.failed;
+    }) p.queue
+    ∙ ap (λ (f : ℕ → ℕ). record {
+      published = m.published ++ take (count_in r) m.queue;
+      queue = drop (count_in r) m.queue;
+      floors = floors_listed f;
+      failed = n.failed;
+    }) p.floors
+    ∙ ap (λ (b : Bool). record {
+      published = m.published ++ take (count_in r) m.queue;
+      queue = drop (count_in r) m.queue;
+      floors = floors_listed m.floors;
+      failed = b;
+    }) (pump-failed m n r run)
     ∙ failed-as (has_failed r) (published_seen (seen_of m) (count_in r))
 
 -- the commits that are seen are the same in another order of words
 pub published-order : (s : Seen) (count : ℕ) → order_of (published_seen s count) ≡ order_of s
-published-order s count = append_assoc s.published (take count s.queue) (drop count s.queue) ∙ ap (λ (l : History Value). s.published ++ l) (take-append-drop count s.queue)
+published-order s count =
+    append_assoc s.published (take count s.queue) (drop count s.queue) ∙ ap (λ (l : History Value). s.published ++ l) (take-append-drop count s.queue)
 
 pub failed-order : (b : Bool) (s : Seen) → order_of (failed_seen b s) ≡ order_of s
 failed-order true s = refl
@@ -145,7 +173,9 @@ pub later-pumped : (r : Result Did PumpFault) (s : Seen) → IsLater s (pumped_s
 later-pumped r s = by-failure (has_failed r)
   where
     by-failure : (b : Bool) → IsLater s (failed_seen b (published_seen s (count_in r)))
-    by-failure true = later-then s (published_seen s (count_in r)) (record (published_seen s (count_in r)) { failed = true }) (later-published s (count_in r)) (later-failed (published_seen s (count_in r)))
+    by-failure true =
+        later-then s (published_seen s (count_in r)) (record (published_seen s (count_in r)) { failed = true }) (later-published s (count_in r))
+        (later-failed (published_seen s (count_in r)))
     by-failure false = later-published s (count_in r)
 
 -- ---- a step of a job
@@ -166,18 +196,21 @@ floor-seen m n job_did.ZerosSynced r run = ap seen_of run
 floor-seen m n job_did.BodyWritten r run = ap seen_of run
 floor-seen m n job_did.BodySynced r run = ap seen_of run.2 ∙ ap seen_of run.1.3
 floor-seen m n job_did.GateWritten r run = ap seen_of run.2 ∙ ap seen_of run.1.2
-floor-seen m n job_did.JobDone r run = ap seen_of run.2 ∙ ap seen_of run.1.3 ∙ ap (λ (l : List ℕ). record (seen_of m) { floors = l }) (listed-raised r.scope r.floor m.floors)
+floor-seen m n job_did.JobDone r run =
+    ap seen_of run.2 ∙ ap seen_of run.1.3 ∙ ap (λ (l : List ℕ). record (seen_of m) { floors = l }) (listed-raised r.scope r.floor m.floors)
 
 unchanged-seen : (m n : Machine Value) (what : JobDid) → n ≡ m → seen_of n ≡ done_seen (Ok what) None (seen_of m)
 unchanged-seen m n what run = ap seen_of run ∙ sym (same-seen (is_done (Ok what)) (seen_of m))
 
-work-seen : (m n : Machine Value) (what : JobDid) (work : JobWork) → Run IsValue m (floor_ends what (raising_by work)) n → seen_of n ≡ done_seen (Ok what) (raising_by work) (seen_of m)
+work-seen : (m n : Machine Value) (what : JobDid) (work : JobWork) → Run IsValue m (floor_ends what (raising_by work)) n → seen_of n
+    ≡ done_seen (Ok what) (raising_by work) (seen_of m)
 work-seen m n what (Archive run writer) ran = unchanged-seen m n what ran
 work-seen m n what (Reclaim anchors source written) ran = unchanged-seen m n what ran
 work-seen m n what (Floor scope floor floors) ran = floor-seen m n what (raising_to scope floor) ran
 work-seen m n what (Grow growth) ran = unchanged-seen m n what ran
 
-done-seen : (m n : Machine Value) (what : JobDid) (job : Option Job) → Run IsValue m (floor_ends what (raising_of job)) n → seen_of n ≡ done_seen (Ok what) (raising_of job) (seen_of m)
+done-seen : (m n : Machine Value) (what : JobDid) (job : Option Job) → Run IsValue m (floor_ends what (raising_of job)) n → seen_of n
+    ≡ done_seen (Ok what) (raising_of job) (seen_of m)
 done-seen m n what None ran = unchanged-seen m n what ran
 done-seen m n what (Some job) ran = work-seen m n what job.work ran
 
@@ -187,14 +220,16 @@ job_broken-seen m n (Due OfGroup) run = ap seen_of run.2 ∙ ap seen_of run.1.1
 job_broken-seen m n (Due OfFloor) run = ap seen_of run.2.2 ∙ ap seen_of run.2.1.1 ∙ ap (λ (x : Machine Value). record (seen_of x) { failed = true }) run.1.2
 job_broken-seen m n (MayBeOpen change) run = ap seen_of run.2 ∙ ap seen_of run.1.1
 
-pub job-seen : (m n : Machine Value) (job : Option Job) (r : Result JobDid PumpFault) → m.raising ≡ raising_of job → Run IsValue m (job_ends_in m r) n → seen_of n ≡ job_seen r (raising_of job) (seen_of m)
+pub job-seen : (m n : Machine Value) (job : Option Job) (r : Result JobDid PumpFault) → m.raising ≡ raising_of job → Run IsValue m (job_ends_in m r) n
+    → seen_of n ≡ job_seen r (raising_of job) (seen_of m)
 job-seen m n job (Ok what) is run = done-seen m n what job (subst (λ (o : Option Raising). Run IsValue m (floor_ends what o) n) is run)
 job-seen m n job (Err pump.Busy) is run = ap seen_of run
 job-seen m n job (Err pump.NoMemory) is run = ap seen_of run
 job-seen m n job (Err pump.Failed) is run = job_broken-seen m n m.gate run
 
 -- floors alone are raised
-raised-later : (s n : Seen) (b : Bool) (o : Option Raising) → n ≡ cond b (raised_seen o s) s → ((relation : ℕ) → floor_in s.floors relation ≤ floor_in n.floors relation) → IsLater s n
+raised-later : (s n : Seen) (b : Bool) (o : Option Raising) → n ≡ cond b (raised_seen o s) s
+    → ((relation : ℕ) → floor_in s.floors relation ≤ floor_in n.floors relation) → IsLater s n
 raised-later s n true None is rise = subst (λ (x : Seen). IsLater s x) (sym is) (later-same s)
 raised-later s n true (Some r) is rise = record {
   published = subst (λ (h : History Value). IsFrontOf s.published h) (sym (ap (λ (x : Seen). x.published) is)) (front-same s.published);
@@ -205,10 +240,13 @@ raised-later s n true (Some r) is rise = record {
 raised-later s n false o is rise = subst (λ (x : Seen). IsLater s x) (sym is) (later-same s)
 
 -- so a job's step shows no less
-pub later-done : (m n : Machine Value) (job : Option Job) (r : Result JobDid PumpFault) → IsMachine IsValue m → m.raising ≡ raising_of job → Run IsValue m (job_ends_in m r) n → IsLater (seen_of m) (done_seen r (raising_of job) (seen_of m))
+pub later-done : (m n : Machine Value) (job : Option Job) (r : Result JobDid PumpFault) → IsMachine IsValue m → m.raising ≡ raising_of job
+    → Run IsValue m (job_ends_in m r) n → IsLater (seen_of m) (done_seen r (raising_of job) (seen_of m))
 later-done m n job (Ok what) legal is run =
     let seen = job-seen m n job (Ok what) is run in
-    let later = raised-later (seen_of m) (seen_of n) (is_done (Ok what)) (raising_of job) seen (listed-later m.floors n.floors (λ relation. run-floors IsValue m n (job_ends_in m (Ok what)) relation legal run)) in
+    let later =
+    raised-later (seen_of m) (seen_of n) (is_done (Ok what)) (raising_of job) seen
+    (listed-later m.floors n.floors (λ relation. run-floors IsValue m n (job_ends_in m (Ok what)) relation legal run)) in
     subst (λ (s : Seen). IsLater (seen_of m) s) seen later
 later-done m n job (Err why) legal is run = later-same (seen_of m)
 

@@ -55,10 +55,11 @@ pub record AreRefused (changes : List Change) (why : TxnFault) (seen : Seen) : T
   pub barred : AreBarred (state snapshot (last snapshot)) [] (map write_of changes) why
 
 -- a transaction with these changes was submitted, and that was answered so, at a moment that is seen now
-pub record AreSubmitted (start : Machine Value) (brand : ℕ) (changes : List Change) (label : ℕ) (result : Result Submitted SubmitFault) (seen : Seen) : Type 0 where
-  pub moment : Seen
-  pub asked : Asked start brand (map write_of changes) label result moment
-  pub later : IsLater moment seen
+pub record AreSubmitted (start : Machine Value) (brand : ℕ) (changes : List Change) (label : ℕ) (result : Result Submitted SubmitFault) (seen : Seen) : Type 0
+  where
+    pub moment : Seen
+    pub asked : Asked start brand (map write_of changes) label result moment
+    pub later : IsLater moment seen
 
 -- their commit was queued, and the store has failed before it was published
 pub record AreInDoubt (start : Machine Value) (brand : ℕ) (changes : List Change) (label : ℕ) (seen : Seen) : Type 0 where
@@ -67,7 +68,9 @@ pub record AreInDoubt (start : Machine Value) (brand : ℕ) (changes : List Chan
   pub early : last seen.published < ticket.time
   pub failed : seen.failed ≡ true
 
--- The changes are published as one commit, with the time that was answered, or they come to none. Or the store has failed or memory was refused; a change could not be made; the submit was refused, as the store refuses it; the store failed while the commit waited; or it is published, and its ticket was redeemed by another.
+-- The changes are published as one commit, with the time that was answered, or they come to none. Or the store has failed or memory was refused; a change could
+-- not be made; the submit was refused, as the store refuses it; the store failed while the commit waited; or it is published, and its ticket was redeemed by
+-- another.
 abbrev pub CommitHappens : Machine Value → ℕ → List Change → ℕ → Result Committed CommitFault → Seen → Type 0
 CommitHappens start brand changes label (Ok (committed.Done time)) seen = ArePublished changes label time seen
 CommitHappens start brand changes label (Ok (committed.ReadOnly time)) seen = AreNone changes time seen

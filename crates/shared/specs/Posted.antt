@@ -76,15 +76,16 @@ AreUncopied (w ∷ ws) why = IsUncopied w why ⊎ AreUncopied ws why
 -- ---- requests
 
 -- a transaction began on what was seen and made these changes, and its submit was answered so when this was seen
-pub record Asked (start : Machine Value) (brand : ℕ) (writes : List (KeyWrite Value)) (label : ℕ) (result : Result Submitted SubmitFault) (seen : Seen) : Type 0 where
-  pub first : Seen
-  pub begun : TxnValue
-  pub txn : TxnValue
-  pub now : ℕ
-  pub reads : Reads start brand begun first
-  pub made : txn.writes ≡ written (at_snapshot begun.state begun.snapshot) begun.writes writes
-  pub early : IsLater first seen
-  pub submits : SubmitHappens start brand txn label now result seen
+pub record Asked (start : Machine Value) (brand : ℕ) (writes : List (KeyWrite Value)) (label : ℕ) (result : Result Submitted SubmitFault) (seen : Seen) : Type 0
+  where
+    pub first : Seen
+    pub begun : TxnValue
+    pub txn : TxnValue
+    pub now : ℕ
+    pub reads : Reads start brand begun first
+    pub made : txn.writes ≡ written (at_snapshot begun.state begun.snapshot) begun.writes writes
+    pub early : IsLater first seen
+    pub submits : SubmitHappens start brand txn label now result seen
 
 -- a transaction began on what was seen, one of these changes could not be made, and the transaction was over when this was seen
 pub record GivenUp (start : Machine Value) (brand : ℕ) (writes : List (KeyWrite Value)) (why : TxnFault) (seen : Seen) : Type 0 where

@@ -37,7 +37,8 @@ seen_of m = record { published = m.published; queue = m.queue; floors = floors_l
 abbrev pub IsFrontOf : History Value → History Value → Type 0
 IsFrontOf front whole = (rest : History Value) × (whole ≡ front ++ rest)
 
--- Commits were published from the front of the queue and added at its end, floors were raised, the store may have failed, and nothing else. A store that has failed stays so.
+-- Commits were published from the front of the queue and added at its end, floors were raised, the store may have failed, and nothing else. A store that has
+-- failed stays so.
 pub record IsLater (old new : Seen) : Type 0 where
   pub published : IsFrontOf old.published new.published
   pub order : IsFrontOf (order_of old) (order_of new)

@@ -1,5 +1,6 @@
 -- What the value under the lock keeps, and what the calls of a shared store answer.
-use Rattle.std.specs.Prelude.{◌≡◌, ℕ, ◌+◌, ◌<◌, ◌≤◌, ◌++◌, ◌↔◌, ◌⊎◌, Bool, true, false, List, [], ◌∷◌, length, take, drop, IsSome, Contains, Option, None, Some, Result, Ok, Err, MatchBool, if◌then◌else◌}
+use Rattle.std.specs.Prelude.{◌≡◌, ℕ, ◌+◌, ◌<◌, ◌≤◌, ◌++◌, ◌↔◌, ◌⊎◌, Bool, true, false, List, [], ◌∷◌, length, take, drop, IsSome, Contains, Option, None, Some}
+use Rattle.std.specs.Prelude.{Result, Ok, Err, MatchBool, if◌then◌else◌}
 use Rattle.atomic_table.specs.Seated.{TableId}
 use Rattle.history.specs.declared.key.Key.{Key}
 use Rattle.history.specs.declared.key.KeyWrite.{KeyWrite}
@@ -43,8 +44,10 @@ use Rattle.shared.specs.Seen.{Seen, SightValue, floors_listed, floor_in, seen_of
 
 -- ---- the value under the lock
 
--- The store stands for a state that steps of the machine lead to. The commits for which Done was answered since opening are those in the shares, and none of them waits. The pass is the cell's writer, and has seen all commits and the floors; what it knows of the archive is there still.
-pub record IsShared (tells : Bool) (start : Machine Value) (brand : ℕ) (table : TableId) (store : StoreValue) (shares : ℕ) (at : TableId) (pass : SightValue) : Type 0 where
+-- The store stands for a state that steps of the machine lead to. The commits for which Done was answered since opening are those in the shares, and none of
+-- them waits. The pass is the cell's writer, and has seen all commits and the floors; what it knows of the archive is there still.
+pub record IsShared (tells : Bool) (start : Machine Value) (brand : ℕ) (table : TableId) (store : StoreValue) (shares : ℕ) (at : TableId) (pass : SightValue) :
+    Type 0 where
   pub state : Machine Value
   pub stands : Stands tells store state
   pub reached : Reached start state
@@ -186,7 +189,8 @@ SubmitHappens start brand txn label now result seen = Submits start brand txn la
 
 -- ---- steps of groups and jobs
 
--- From a state that steps lead to the machine does what a step of the group answers, and what follows was seen. While it works, nothing is to be done just where no commit waits.
+-- From a state that steps lead to the machine does what a step of the group answers, and what follows was seen. While it works, nothing is to be done just
+-- where no commit waits.
 pub record PumpHappens (start : Machine Value) (result : Result Did PumpFault) (seen : Seen) : Type 0 where
   pub before : Machine Value
   pub after : Machine Value
@@ -205,7 +209,8 @@ pub record JobHappens (start : Machine Value) (result : Result JobDid PumpFault)
 
 -- ---- floors
 
--- a floor begins, or it is refused as the machine says; or the store has no floors by relation, another job runs, the log has no slot for it or memory was refused
+-- a floor begins, or it is refused as the machine says; or the store has no floors by relation, another job runs, the log has no slot for it or memory was
+-- refused
 abbrev pub FloorSays : Machine Value → Raising → Result (Unit {0}) StartFault → Type 0
 FloorSays m r (Ok done) = Step IsValue m (FloorStarted r) (floor_started m r)
 FloorSays m r (Err start_fault.NothingToDo) = Step IsValue m (FloorRefused r floor_starts.NothingToDo) m
@@ -226,7 +231,8 @@ FloorHappens start scope floor result seen = OfSeen start seen (λ m. FloorSays 
 
 -- ---- archives and reclaims
 
--- an archive begins up to a time that is not later than the last commit; or the store has failed, another job runs, nothing more has ended by then, the time is later than the last commit, which is told, the log has no slot for it, or the run finds no room in the archive or no memory
+-- an archive begins up to a time that is not later than the last commit; or the store has failed, another job runs, nothing more has ended by then, the time is
+-- later than the last commit, which is told, the log has no slot for it, or the run finds no room in the archive or no memory
 abbrev pub ArchiveSays : Machine Value → ℕ → Result (Unit {0}) StartFault → Type 0
 ArchiveSays m upto (Ok done) = (m.failed ≡ false) × (upto ≤ last m.published)
 ArchiveSays m upto (Err start_fault.Failed) = m.failed ≡ true
@@ -245,13 +251,15 @@ ArchiveSays m upto (Err start_fault.NotGrowable) = ⊥
 abbrev pub ArchiveHappens : Machine Value → ℕ → Result (Unit {0}) StartFault → Seen → Type 0
 ArchiveHappens start upto result seen = OfSeen start seen (λ m. ArchiveSays m upto result)
 
--- a reclaim begins where the store works; or it has failed, another job runs, nothing was archived since the last one, a transaction reads what would go, the first of whose snapshots is told, the log has no slot for it, or its anchors find no extents or no memory
+-- a reclaim begins where the store works; or it has failed, another job runs, nothing was archived since the last one, a transaction reads what would go, the
+-- first of whose snapshots is told, the log has no slot for it, or its anchors find no extents or no memory
 abbrev pub ReclaimSays : Machine Value → Result (Unit {0}) StartFault → Type 0
 ReclaimSays m (Ok done) = m.failed ≡ false
 ReclaimSays m (Err start_fault.Failed) = m.failed ≡ true
 ReclaimSays m (Err start_fault.JobBusy) = m.failed ≡ false
 ReclaimSays m (Err start_fault.NothingToDo) = m.failed ≡ false
-ReclaimSays m (Err (start_fault.InUse snapshot)) = (m.failed ≡ false) × ((upto : ℕ) × (floor_starts.in_use_refusal (floor_starts.in_use_below m.snapshots upto) ≡ Some (floor_starts.InUse snapshot)))
+ReclaimSays m (Err (start_fault.InUse snapshot)) =
+    (m.failed ≡ false) × ((upto : ℕ) × (floor_starts.in_use_refusal (floor_starts.in_use_below m.snapshots upto) ≡ Some (floor_starts.InUse snapshot)))
 ReclaimSays m (Err start_fault.StatusFull) = m.failed ≡ false
 ReclaimSays m (Err start_fault.HeapFull) = m.failed ≡ false
 ReclaimSays m (Err start_fault.NoMemory) = m.failed ≡ false
@@ -294,7 +302,8 @@ done_in (redeemed.Waiting ticket) = 0
 done_in redeemed.InDoubt = 0
 done_in redeemed.Stranger = 0
 
--- The answer is about this ticket. After Done its commit was seen published; while it waits, and where the store has failed before, the last published commit is earlier. A stranger's is another store's, or of a commit that waits no longer.
+-- The answer is about this ticket. After Done its commit was seen published; while it waits, and where the store has failed before, the last published commit
+-- is earlier. A stranger's is another store's, or of a commit that waits no longer.
 abbrev pub RedeemSays : ℕ → TicketValue → Redeemed → Seen → Type 0
 RedeemSays brand ticket (redeemed.Done time) seen = (time ≡ ticket.time) × HasCommitAt seen.published time
 RedeemSays brand ticket (redeemed.Waiting back) seen = (back ≡ ticket) × (last seen.published < ticket.time) × (seen.failed ≡ false)

@@ -9,7 +9,8 @@ returns-in-Ok-open-clause-stands g c =
 pub returns-in-Ok-open-clause-fresh : goal.returns-in-Ok-open-clause-fresh
 returns-in-Ok-open-clause-fresh g c =
     let told = c.requires in
-    fresh-told _ _ _ _ c.in-Ok-open.ensures.ok (fresh-stands _ _ _ _ _ _ told (g.met.D.Disk.sound c.format.new.disk told) (c.in-Ok.ensures.formatted told) c.in-Ok-open.ensures.ok)
+    fresh-told _ _ _ _ c.in-Ok-open.ensures.ok
+    (fresh-stands _ _ _ _ _ _ told (g.met.D.Disk.sound c.format.new.disk told) (c.in-Ok.ensures.formatted told) c.in-Ok-open.ensures.ok)
 
 pub returns-in-Ok-open-clause-slots : goal.returns-in-Ok-open-clause-slots
 returns-in-Ok-open-clause-slots g c =

@@ -9,4 +9,5 @@ abbrev pub ghosts-frees_its_place-L-Ledger : goal.ghosts-frees_its_place-L-Ledge
 ghosts-frees_its_place-L-Ledger g a = record { name = a.opened.blank.name; parts = a.opened.blank.parts }
 
 abbrev pub ghosts-frees_its_place-L-Opening : goal.ghosts-frees_its_place-L-Opening
-ghosts-frees_its_place-L-Opening g a = record { start = opened [] (λ relation. 0); mark = a.opened.store.transactions.mark; table = a.opened.cell.table.shared.table_id }
+ghosts-frees_its_place-L-Opening g a =
+    record { start = opened [] (λ relation. 0); mark = a.opened.store.transactions.mark; table = a.opened.cell.table.shared.table_id }

@@ -9,4 +9,5 @@ abbrev pub ghosts-committer_goes_on-L-Ledger : goal.ghosts-committer_goes_on-L-L
 ghosts-committer_goes_on-L-Ledger g a = record { name = a.opened.blank.name; parts = a.opened.blank.parts }
 
 abbrev pub ghosts-committer_goes_on-L-Opening : goal.ghosts-committer_goes_on-L-Opening
-ghosts-committer_goes_on-L-Opening g a = record { start = opened [] (λ relation. 0); mark = a.opened.store.transactions.mark; table = a.opened.cell.table.shared.table_id }
+ghosts-committer_goes_on-L-Opening g a =
+    record { start = opened [] (λ relation. 0); mark = a.opened.store.transactions.mark; table = a.opened.cell.table.shared.table_id }

@@ -9,4 +9,5 @@ abbrev pub ghosts-refuses_commits-L-Ledger : goal.ghosts-refuses_commits-L-Ledge
 ghosts-refuses_commits-L-Ledger g a = record { name = a.opened.blank.name; parts = a.opened.blank.parts }
 
 abbrev pub ghosts-refuses_commits-L-Opening : goal.ghosts-refuses_commits-L-Opening
-ghosts-refuses_commits-L-Opening g a = record { start = opened [] (λ relation. 0); mark = a.opened.store.transactions.mark; table = a.opened.cell.table.shared.table_id }
+ghosts-refuses_commits-L-Opening g a =
+    record { start = opened [] (λ relation. 0); mark = a.opened.store.transactions.mark; table = a.opened.cell.table.shared.table_id }

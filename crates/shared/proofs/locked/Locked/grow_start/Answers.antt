@@ -10,4 +10,6 @@ invariant_of-self g c =
     (growth-begins _ _ _ _ _ _ _ _ _ _ (repass _ _ _ _ _ _ _ _ _ _ c.self.invariant w.0 w.1 w.2 w.3) c.grow_start.ensures).0
 
 pub returns-clause-happens : goal.returns-clause-happens
-returns-clause-happens g c = subst (λ (s : Seen). GrowthHappens g.L.Opening.start c.grow_start.result s) (sym c.meet.ensures.seen) (growth-begins _ _ _ _ _ _ _ _ _ _ c.self.invariant c.grow_start.ensures).1
+returns-clause-happens g c =
+    subst (λ (s : Seen). GrowthHappens g.L.Opening.start c.grow_start.result s) (sym c.meet.ensures.seen)
+    (growth-begins _ _ _ _ _ _ _ _ _ _ c.self.invariant c.grow_start.ensures).1

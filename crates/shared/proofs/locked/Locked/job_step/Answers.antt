@@ -34,7 +34,9 @@ meet-requires-clause-legal g c =
     let h = c.self.invariant in
     let seen = (cell_view c.self.inside.writer).seen in
     let noted = (cell_view c.note_job.new.writer).seen in
-    let same = ap order_of c.note_failed.ensures.seen ∙ failed-order c.has_failed.result noted ∙ ap order_of c.note_job.ensures.seen ∙ done-order c.job_pump-did.result g.raising seen ∙ ap order_of h.seen in
+    let same =
+    ap order_of c.note_failed.ensures.seen ∙ failed-order c.has_failed.result noted ∙ ap order_of c.note_job.ensures.seen
+    ∙ done-order c.job_pump-did.result g.raising seen ∙ ap order_of h.seen in
     subst (λ (l : History Value). IsHistory IsValue l) (sym same) h.stands.machine.history
 
 pub invariant_of-self : goal.invariant_of-self
@@ -55,11 +57,15 @@ returns-clause-happens g c =
     let p = job-pumped _ _ _ _ _ _ h.reached h.stands c.job_pump-did.ensures.sound c.job_pump-did.ensures.is in
     let r = c.job_pump-did.result in
     let raising = ap (λ (v : StoreValue). raising_of v.job) c.self.view_is ∙ c.requires.1.1.1.1 in
-    let seen = c.note_failed.ensures.seen ∙ ap (λ (b : Bool). failed_seen b (cell_view c.note_job.new.writer).seen) c.has_failed.ensures ∙ ap (failed_seen (has_failed r)) c.note_job.ensures.seen in
+    let seen =
+    c.note_failed.ensures.seen ∙ ap (λ (b : Bool). failed_seen b (cell_view c.note_job.new.writer).seen) c.has_failed.ensures
+    ∙ ap (failed_seen (has_failed r)) c.note_job.ensures.seen in
     record {
       before = h.state;
       after = p.after;
       reached = h.reached;
       run = p.run;
-      seen_is = c.meet.ensures.seen ∙ seen ∙ ap (job_seen r g.raising) h.seen ∙ ap (λ (o : Option Raising). job_seen r o (seen_of h.state)) (sym raising) ∙ sym p.seen;
+      seen_is =
+          c.meet.ensures.seen ∙ seen ∙ ap (job_seen r g.raising) h.seen ∙ ap (λ (o : Option Raising). job_seen r o (seen_of h.state)) (sym raising)
+          ∙ sym p.seen;
     }

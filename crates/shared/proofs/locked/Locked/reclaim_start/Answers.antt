@@ -10,4 +10,6 @@ invariant_of-self g c =
     (reclaim-begins _ _ _ _ _ _ _ _ _ _ (repass _ _ _ _ _ _ _ _ _ _ c.self.invariant w.0 w.1 w.2 w.3) c.reclaim_start.ensures).0
 
 pub returns-clause-happens : goal.returns-clause-happens
-returns-clause-happens g c = subst (λ (s : Seen). ReclaimHappens g.L.Opening.start c.reclaim_start.result s) (sym c.meet.ensures.seen) (reclaim-begins _ _ _ _ _ _ _ _ _ _ c.self.invariant c.reclaim_start.ensures).1
+returns-clause-happens g c =
+    subst (λ (s : Seen). ReclaimHappens g.L.Opening.start c.reclaim_start.result s) (sym c.meet.ensures.seen)
+    (reclaim-begins _ _ _ _ _ _ _ _ _ _ c.self.invariant c.reclaim_start.ensures).1
