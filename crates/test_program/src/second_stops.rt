@@ -402,15 +402,24 @@ fn left_open((synced, written): (usize, usize), fill: u8) -> usize {
     if fill == OPEN { written } else { synced }
 }
 
-/// What each filling leaves of a second stop shows all of the last commit or nothing of it.
-fn shows_left_again(machine: &Machine, front: &Front, gates: (usize, usize)) -> bool {
+/// Whether what a second stop leaves with this filling shows all of the last commit or nothing of it. Where
+/// it does not, what was said there was said last; so it is of those below.
+fn shows_again(machine: &mut Machine, front: &Front, fill: u8, gates: (usize, usize)) -> bool {
+    let is_later = left_open(gates, fill) == front.gates;
+    let Some(mut left) = machine.left((fill, 0)) else {
+        return false;
+    };
+    let shown = shows(&mut left, front, is_later);
+    if !shown {
+        *machine = left;
+    }
+    shown
+}
+
+/// The same with each filling.
+fn shows_left_again(machine: &mut Machine, front: &Front, gates: (usize, usize)) -> bool {
     for fill in fills(machine) {
-        let is_later = left_open(gates, *fill) == front.gates;
-        let shown = match machine.left((*fill, 0)) {
-            Some(mut left) => shows(&mut left, front, is_later),
-            None => false,
-        };
-        if !shown {
+        if !shows_again(machine, front, *fill, gates) {
             return false;
         }
     }
@@ -419,39 +428,59 @@ fn shows_left_again(machine: &Machine, front: &Front, gates: (usize, usize)) -> 
 
 /// Whether the commit is all there, and has its slot.
 fn is_whole_again(machine: &mut Machine, front: &Front) -> bool {
-    let (alloc, profile, (place, bytes)) = (machine.alloc, machine.profile, front.slot);
-    has_bytes(
-        alloc,
-        &mut machine.disk,
-        (Area::Status, place, bytes),
-        profile,
-    ) && shows(machine, front, true)
+    let Some(mut left) = machine.left((OPEN, 0)) else {
+        return false;
+    };
+    let (place, bytes) = front.slot;
+    let slot = (Area::Status, place, bytes);
+    let goes = has_bytes(machine.alloc, &mut left.disk, slot, machine.profile)
+        && shows(&mut left, front, true);
+    if !goes {
+        *machine = left;
+    }
+    goes
+}
+
+/// Whether what came of the second script leaves what it must.
+fn leaves_again(machine: &mut Machine, front: &Front, dialogue: &Dialogue, came: Came) -> bool {
+    match came {
+        Came::Unopened => true,
+        Came::Failed => {
+            let gates = gates_at_stop(machine, dialogue);
+            shows_left_again(machine, front, gates)
+        }
+        Came::Whole => is_whole_again(machine, front),
+        Came::Wrong => false,
+    }
 }
 
 /// What came of a stop at the call of this number, and whether it leaves what it must.
-fn goes_again(machine: &Machine, front: &Front, dialogue: &Dialogue, call: u64) -> (Came, bool) {
+fn goes_again(
+    machine: &mut Machine,
+    front: &Front,
+    dialogue: &Dialogue,
+    call: u64,
+) -> (Came, bool) {
     let Some(mut again) = machine.left((OPEN, 0)) else {
         return (Came::Wrong, false);
     };
     let came = stops_at(&mut again, dialogue, call);
-    let goes = match came {
-        Came::Unopened => true,
-        Came::Failed => {
-            let gates = gates_at_stop(&again, dialogue);
-            shows_left_again(&again, front, gates)
-        }
-        Came::Whole => is_whole_again(&mut again, front),
-        Came::Wrong => false,
-    };
+    let goes = leaves_again(&mut again, front, dialogue, came);
+    if !goes {
+        *machine = again;
+    }
     (came, goes)
+}
+
+/// A front's reclaim and commit.
+fn next_dialogue(alloc: Global, front: &Front) -> Result<Dialogue, AllocError> {
+    let lines = numbered(alloc, front.then, front.last)?;
+    dialogue_of(alloc, &[(lines.as_str(), 1)])
 }
 
 /// Whether a front goes on with its reclaim and its commit, with a stop at each call of that.
 fn goes_on(machine: &mut Machine, front: &Front) -> bool {
-    let Ok(lines) = numbered(machine.alloc, front.then, front.last) else {
-        return false;
-    };
-    let Ok(dialogue) = dialogue_of(machine.alloc, &[(lines.as_str(), 1)]) else {
+    let Ok(dialogue) = next_dialogue(machine.alloc, front) else {
         return false;
     };
     for call in 0..200 {
@@ -465,16 +494,22 @@ fn goes_on(machine: &mut Machine, front: &Front) -> bool {
 }
 
 /// Whether what a stop leaves shows its front, and goes on.
-fn goes_left(machine: &Machine, fill: u8, gates: (usize, usize)) -> bool {
-    match (machine.left((fill, 0)), FRONTS.get(left_open(gates, fill))) {
-        (Some(mut left), Some(front)) => shows(&mut left, front, false)
-            && goes_on(&mut left, front),
-        _ => false,
+fn goes_left(machine: &mut Machine, fill: u8, gates: (usize, usize)) -> bool {
+    let Some(front) = FRONTS.get(left_open(gates, fill)) else {
+        return false;
+    };
+    let Some(mut left) = machine.left((fill, 0)) else {
+        return false;
+    };
+    let goes = shows(&mut left, front, false) && goes_on(&mut left, front);
+    if !goes {
+        *machine = left;
     }
+    goes
 }
 
 /// Each filling of what is torn.
-fn each_left_goes(machine: &Machine, gates: (usize, usize)) -> bool {
+fn each_left_goes(machine: &mut Machine, gates: (usize, usize)) -> bool {
     for fill in fills(machine) {
         if !goes_left(machine, *fill, gates) {
             return false;
