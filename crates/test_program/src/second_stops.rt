@@ -1,9 +1,9 @@
 //! Six commits beside an archive, stopped before, within and after each call of the disk; and what is left
-//! then goes on with a reclaim and a commit, and is stopped again at each call of that.
+//! then goes on, in the newest profile, with a reclaim and a commit, and is stopped again at each call of that.
 use crate::bytes::has_bytes;
 use crate::examples::{Example, FOUR_COMMITS, each_goes};
 use crate::machine::Profiles::Each;
-use crate::machine::{Machine, PROFILES, SCRIPT};
+use crate::machine::{Machine, NEWEST, PROFILES, SCRIPT};
 use crate::steps::Step;
 use crate::steps::Step::{Dumps, New, Says};
 use crate::sweeps::{Came, Dialogue, OPEN, answered, dialogue_of, gates, is_settled, what_came};
@@ -478,12 +478,29 @@ fn next_dialogue(alloc: Global, front: &Front) -> Result<Dialogue, AllocError> {
     dialogue_of(alloc, &[(lines.as_str(), 1)])
 }
 
+/// A call of the disk before those that a script makes once the store is opened, at most 16 before them.
+fn first_call(machine: &Machine, dialogue: &Dialogue) -> u64 {
+    let mut first: u64 = 0;
+    for _ in 0..12 {
+        let Some(mut again) = machine.left((OPEN, 0)) else {
+            return first;
+        };
+        let next = first.saturating_add(16);
+        if !matches!(stops_at(&mut again, dialogue, next), Came::Unopened) {
+            return first;
+        }
+        first = next;
+    }
+    first
+}
+
 /// Whether a front goes on with its reclaim and its commit, with a stop at each call of that.
 fn goes_on(machine: &mut Machine, front: &Front) -> bool {
     let Ok(dialogue) = next_dialogue(machine.alloc, front) else {
         return false;
     };
-    for call in 0..200 {
+    let first = first_call(machine, &dialogue);
+    for call in first..first.saturating_add(60) {
         match goes_again(machine, front, &dialogue, call) {
             (Came::Whole, goes) => return goes,
             (_, true) => {}
@@ -493,7 +510,7 @@ fn goes_on(machine: &mut Machine, front: &Front) -> bool {
     false
 }
 
-/// Whether what a stop leaves shows its front, and goes on.
+/// Whether what a stop leaves shows its front, and in the newest profile goes on.
 fn goes_left(machine: &mut Machine, fill: u8, gates: (usize, usize)) -> bool {
     let Some(front) = FRONTS.get(left_open(gates, fill)) else {
         return false;
@@ -501,7 +518,8 @@ fn goes_left(machine: &mut Machine, fill: u8, gates: (usize, usize)) -> bool {
     let Some(mut left) = machine.left((fill, 0)) else {
         return false;
     };
-    let goes = shows(&mut left, front, false) && goes_on(&mut left, front);
+    let is_newest = left.profile == NEWEST;
+    let goes = shows(&mut left, front, false) && (!is_newest || goes_on(&mut left, front));
     if !goes {
         *machine = left;
     }
