@@ -510,16 +510,15 @@ fn goes_on(machine: &mut Machine, front: &Front) -> bool {
     false
 }
 
-/// Whether what a stop leaves shows its front, and in the newest profile goes on.
-fn goes_left(machine: &mut Machine, fill: u8, gates: (usize, usize)) -> bool {
+/// Whether what a stop leaves shows its front and, if it is stopped again, goes on.
+fn goes_left(machine: &mut Machine, fill: u8, gates: (usize, usize), again: bool) -> bool {
     let Some(front) = FRONTS.get(left_open(gates, fill)) else {
         return false;
     };
     let Some(mut left) = machine.left((fill, 0)) else {
         return false;
     };
-    let is_newest = left.profile == NEWEST;
-    let goes = shows(&mut left, front, false) && (!is_newest || goes_on(&mut left, front));
+    let goes = shows(&mut left, front, false) && (!again || goes_on(&mut left, front));
     if !goes {
         *machine = left;
     }
@@ -527,9 +526,9 @@ fn goes_left(machine: &mut Machine, fill: u8, gates: (usize, usize)) -> bool {
 }
 
 /// Each filling of what is torn.
-fn each_left_goes(machine: &mut Machine, gates: (usize, usize)) -> bool {
+fn each_left_goes(machine: &mut Machine, gates: (usize, usize), again: bool) -> bool {
     for fill in fills(machine) {
-        if !goes_left(machine, *fill, gates) {
+        if !goes_left(machine, *fill, gates, again) {
             return false;
         }
     }
@@ -543,9 +542,10 @@ fn stops_within(machine: &mut Machine, dialogue: &Dialogue, call: u64) -> (Came,
     }
     let came = stops_at(machine, dialogue, call);
     let gates = gates_at_stop(machine, dialogue);
+    let again = machine.profile == NEWEST;
     let goes = match came {
         Came::Unopened => true,
-        Came::Failed | Came::Whole => each_left_goes(machine, gates),
+        Came::Failed | Came::Whole => each_left_goes(machine, gates, again),
         Came::Wrong => false,
     };
     (came, goes)
@@ -566,13 +566,18 @@ fn stops_within_each(alloc: Global, dialogue: &Dialogue, profile: u8) -> Result<
     Err(Fail::from("the calls do not end"))
 }
 
-/// The same with a stop behind so many lines.
+/// The same with a stop behind so many lines. Where a range is torn, the stop within a call leaves the same,
+/// and is followed by another one there.
 fn stops_behind(machine: &mut Machine, dialogue: &Dialogue, lines: usize) -> bool {
     let Ok(script) = script_of(machine.alloc, dialogue.lines.as_str(), lines) else {
         return false;
     };
     let gates = gates(dialogue.lines.as_str(), (lines, lines), GATE);
-    machine.goes(BEFORE) && machine.ends(script.as_str()) && each_left_goes(machine, gates)
+    if !(machine.goes(BEFORE) && machine.ends(script.as_str())) {
+        return false;
+    }
+    let again = machine.profile == NEWEST && is_settled(machine);
+    each_left_goes(machine, gates, again)
 }
 
 /// Whether a line makes a call of the disk.
