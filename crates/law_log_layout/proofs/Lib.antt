@@ -7,3 +7,4 @@ pub mod GroupJoins
 pub mod GroupGoes
 pub mod ReclaimGoes
 pub mod BaseJoins
+pub mod EntryJoins

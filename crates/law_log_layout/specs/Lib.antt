@@ -3,3 +3,4 @@ pub mod Roots
 pub mod HeapLog
 pub mod Laws
 pub mod Reclaims
+pub mod Entries

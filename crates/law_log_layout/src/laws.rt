@@ -1,6 +1,7 @@
 //! Laws of the log that lies in the heap, as bytes.
 ghost use Rattle.law_log_layout.specs.Laws.{ChainGoes, EntryGoes, GroupEnds, GroupGoes, ReclaimGoes, RootGoes};
 ghost use Rattle.law_log_layout.specs.Reclaims.{BaseIsLog};
+ghost use Rattle.law_log_layout.specs.Entries.{FloorIsLog, RunIsLog};
 
 /// A chain's way behind the log, at every moment: a stop leaves the log without it, or, from the write
 /// of its gate on, with it or without; and once that is synced with it.
@@ -36,4 +37,11 @@ pub fn reclaim_goes()
 /// A base in the place of the log's front is a log that stands for the same history.
 pub fn base_is_log()
     ensures { BaseIsLog }
+{}
+
+/// The entry of a floor behind the log raises that floor alone, and that of an archive, whose run may take
+/// the place of the last ones, changes neither history nor floors.
+pub fn entry_is_log()
+    ensures floor { FloorIsLog }
+    ensures run { RunIsLog }
 {}
