@@ -416,9 +416,9 @@ fn shows_again(machine: &mut Machine, front: &Front, fill: u8, gates: (usize, us
     shown
 }
 
-/// The same with each filling.
+/// The same with an open gate and a closed one.
 fn shows_left_again(machine: &mut Machine, front: &Front, gates: (usize, usize)) -> bool {
-    for fill in fills(machine) {
+    for fill in fills(machine).iter().take(2) {
         if !shows_again(machine, front, *fill, gates) {
             return false;
         }
@@ -525,10 +525,10 @@ fn goes_left(machine: &mut Machine, fill: u8, gates: (usize, usize), again: bool
     goes
 }
 
-/// Each filling of what is torn.
+/// Each filling of what is torn; there are second stops where a torn gate is all open or all closed.
 fn each_left_goes(machine: &mut Machine, gates: (usize, usize), again: bool) -> bool {
     for fill in fills(machine) {
-        if !goes_left(machine, *fill, gates, again) {
+        if !goes_left(machine, *fill, gates, again && *fill != 0xFF) {
             return false;
         }
     }
