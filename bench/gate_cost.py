@@ -2,27 +2,39 @@
 """Runs a command and prints what processor time each crate took in it: its proof, its tests, the first of its must-fail edits and the others;
 the dearest edits; and the most memory that one check of the crate held. It only reads /proc, twice a second. Its exit status is the command's.
 
-usage: bench/gate_cost.py [--limit MINUTES] [--edits FILE] [--table FILE] [COMMAND ..]
+usage: bench/gate_cost.py [--limit MINUTES] [--edits FILE] [--table FILE] [--proofs FILE] [COMMAND ..]
 
-With no command it runs rt ci. With --limit the status is 1 too where the sum is above so many processor minutes. --edits adds a line for each
-edit that was tried to the file: its seconds, its crate and its name. --table writes the table to the file, too, with the day and the state.
+With no command it runs rt ci. What a machine makes of a number is told by the proofs of three crates, UNIT below: the column `units` is a time as a
+multiple of what these three took in the same run. With --limit the status is 1 too where the sum is above so many processor minutes of the
+reference machine. Where one of the three was not proved in this run, since an earlier one had proved it, there is no such limit. --edits adds a line
+for each edit that was tried to the file: its seconds, its crate and its name. --table writes the table to the file, too, with the day and the state.
+--proofs writes the seconds of each crate's proof to the file, as JSON.
 """
 import collections
 import contextlib
 import dataclasses
 import io
+import json
 import os
 import pathlib
 import re
 import signal
 import subprocess
 import sys
+import threading
 import time
 
+# The crates whose proofs tell a machine's speed, and the seconds of processor time that each takes on the reference machine.
+UNIT = {"history": 37, "disk": 42, "wire": 78}
 TICKS_A_SECOND = os.sysconf("SC_CLK_TCK")
 SECONDS_BETWEEN_LOOKS = 0.5
 PHASES = ("proof", "tests", "code", "edits", "edit alone")
 DEAREST_SHOWN = 12
+
+
+def is_check(words):
+    """Whether the words of a process are those of a check by the prover."""
+    return os.path.basename(words[0]) == "rattle" and "--crate-name" in words
 
 
 @dataclasses.dataclass
@@ -31,9 +43,10 @@ class Process:
     began: int
     seconds: float  # of the processor, with those of children that ended
     words: list
+    folder: str  # that it works in, where it is a check
 
     def is_check(self):
-        return os.path.basename(self.words[0]) == "rattle" and "--crate-name" in self.words
+        return is_check(self.words)
 
     def crate(self):
         return self.words[self.words.index("--crate-name") + 1]
@@ -45,7 +58,7 @@ class Process:
             return "edits"
         if "--crate-checked" in self.words:
             return "code"
-        return "proof" if "-o" in self.words else "edit alone"
+        return "edit alone" if "/rt-edit-" in self.folder else "proof"
 
     def edit(self):
         """The edit's number among those of its crate, where the check is a try of one over what the crate's own check left."""
@@ -72,9 +85,10 @@ def processes():
                 stat = it.read().rpartition(")")[2].split()
             with open(f"/proc/{pid}/cmdline", "rb") as it:
                 words = it.read().decode(errors="replace").split("\0")
+            folder = os.readlink(f"/proc/{pid}/cwd") if is_check(words) else ""
         except OSError:
             continue
-        found[int(pid)] = Process(int(stat[1]), int(stat[19]), sum(map(int, stat[11:15])) / TICKS_A_SECOND, words)
+        found[int(pid)] = Process(int(stat[1]), int(stat[19]), sum(map(int, stat[11:15])) / TICKS_A_SECOND, words, folder)
     return found
 
 
@@ -152,8 +166,27 @@ def edits_by_cost(checks):
     return sorted(found, reverse=True)
 
 
+def proof_seconds(checks):
+    """The seconds of each crate's proof, of those that were proved."""
+    seconds = collections.Counter()
+    for check in checks.values():
+        if check.phase == "proof":
+            seconds[check.crate] += check.seconds
+    return dict(seconds)
+
+
+def unit_of(proofs):
+    """The seconds that the three crates of the unit took, or None where one of them was not proved in this run."""
+    return sum(proofs[it] for it in UNIT) if all(proofs.get(it) for it in UNIT) else None
+
+
+def in_units(seconds, unit):
+    return f"{seconds / unit:.1f}" if unit else "-"
+
+
 def table(checks, wall):
     """Prints the table and returns the processor minutes."""
+    unit = unit_of(proof_seconds(checks))
     seconds, first, others = collections.defaultdict(collections.Counter), {}, collections.defaultdict(list)
     peaks = collections.Counter()
     for _, check in sorted(checks.items(), key=lambda it: it[0]):
@@ -163,19 +196,23 @@ def table(checks, wall):
             first[check.crate] = check.seconds
         elif check.phase in ("edits", "edit alone"):
             others[check.crate].append(check.seconds)
-    print(f"{'crate':18}{'total s':>9}{'proof':>8}{'tests':>8}{'code':>7}{'edit 1':>8}{'runs':>6}{'s a run':>9}{'peak MB':>9}")
+    print(f"{'crate':18}{'total s':>9}{'units':>7}{'proof':>8}{'tests':>8}{'code':>7}{'edit 1':>8}{'runs':>6}{'s a run':>9}{'peak MB':>9}")
     for crate in sorted(seconds, key=lambda it: -sum(seconds[it].values())):
         mine, rest = seconds[crate], others[crate]
         mean = sum(rest) / len(rest) if rest else 0
-        print(f"{crate:18}{sum(mine.values()):9.0f}{mine['proof']:8.0f}{mine['tests']:8.0f}{mine['code']:7.0f}{first.get(crate, 0):8.0f}{len(rest):6}{mean:9.1f}{peaks[crate] / 1024:9.0f}")
+        print(f"{crate:18}{sum(mine.values()):9.0f}{in_units(sum(mine.values()), unit):>7}{mine['proof']:8.0f}{mine['tests']:8.0f}{mine['code']:7.0f}{first.get(crate, 0):8.0f}{len(rest):6}{mean:9.1f}{peaks[crate] / 1024:9.0f}")
     for cost, crate, name in edits_by_cost(checks)[:DEAREST_SHOWN]:
         print(f"edit {crate}/{name}: {cost:.0f} s")
     length, names = longest_chain(seconds)
-    print(f"longest chain: {length / 60:.0f} processor minutes: {' '.join(names)}")
+    print(f"longest chain: {length / 60:.0f} processor minutes, {in_units(length, unit)} units: {' '.join(names)}")
     sums = {it: sum(mine[it] for mine in seconds.values()) / 60 for it in PHASES}
     total, firsts = sum(sums.values()), sum(first.values()) / 60
     rest = sums["edits"] + sums["edit alone"] - firsts
     print(f"gate cost: {total:.0f} processor minutes, {wall:.0f} seconds on {os.cpu_count()} cores; of it proofs {sums['proof']:.0f}, tests {sums['tests']:.0f}, code {sums['code']:.0f}, first edits {firsts:.0f}, other edits {rest:.0f}; most memory of one check {max(peaks.values(), default=0) / 1024:.0f} MB")
+    if unit is None:
+        print(f"gate cost: not told in units, since not all of {', '.join(UNIT)} were proved in this run")
+    else:
+        print(f"gate cost: {in_units(total * 60, unit)} units; one unit, the proofs of {', '.join(UNIT)}, took {unit:.0f} seconds here, {unit / sum(UNIT.values()):.2f} of what it takes on the reference machine")
     return total
 
 
@@ -189,20 +226,39 @@ def keep_table(file, text):
         print(f"gate cost: the table is not kept: {fault}", file=sys.stderr)
 
 
-def main(words):
-    limit = listed = kept = None
-    if words[:1] in (["-h"], ["--help"]):
-        print(__doc__, end="")
-        return 0
-    if words[:1] == ["--limit"]:
-        limit, words = float(words[1]), words[2:]
-    if words[:1] == ["--edits"]:
-        listed, words = words[1], words[2:]
-    if words[:1] == ["--table"]:
-        kept, words = words[1], words[2:]
-    signal.signal(signal.SIGTERM, lambda *_: sys.exit(128 + signal.SIGTERM))
-    started, checks = time.time(), {}
-    ran = subprocess.Popen(words or ["rt", "ci"])
+def passed_on(stream, lines):
+    """Writes each line of a stream to standard output as it comes, and notes those that tell how much of a gate was done in this run."""
+    for line in stream:
+        sys.stdout.buffer.write(line)
+        sys.stdout.buffer.flush()
+        if line.startswith(b"rt: ok"):
+            lines.append(line.decode(errors="replace"))
+
+
+def share_done(line):
+    """What rt ci says of how much it did itself, in one plain line."""
+    found = re.search(r"done in this run: (\d+) of the (\d+) proofs[^;]*?(?: and (\d+) of the (\d+) must-fail edits)?;", line)
+    if not found:
+        return "proved in this run: every proof, and every must-fail edit was tried in it"
+    edits = f", and {found[3]} of {found[4]} must-fail edits were tried in it" if found[3] else ""
+    return f"proved in this run: {found[1]} of {found[2]} proofs{edits}; the others were kept from earlier runs on this machine"
+
+
+def is_above(limit, total, unit):
+    """Says what became of the limit, in processor minutes of the reference machine, and returns whether the total is above it."""
+    if unit is None:
+        print("gate cost: no limit is applied, since what tells the machine's speed was not proved in this run")
+        return False
+    here = limit * unit / sum(UNIT.values())
+    print(f"gate cost: the limit is {limit:.0f} processor minutes of the reference machine, {here:.0f} of this one: {total:.0f} is {'above it' if total > here else 'within it'}")
+    return total > here
+
+
+def run(words, checks, lines):
+    """Runs the command, looks at its checks until it ends, and returns its status."""
+    ran = subprocess.Popen(words, stdout=subprocess.PIPE)
+    reader = threading.Thread(target=passed_on, args=(ran.stdout, lines), daemon=True)
+    reader.start()
     try:
         while ran.poll() is None:
             look(ran.pid, checks)
@@ -211,21 +267,41 @@ def main(words):
         if ran.poll() is None:
             ran.terminate()
             ran.wait()
+    reader.join(timeout=10)
+    return ran.returncode if ran.returncode >= 0 else 128 - ran.returncode
+
+
+def options(words):
+    """The options that stand before the command, each with its value, and the command."""
+    found = {}
+    while words[:1] and words[0] in ("--limit", "--edits", "--table", "--proofs"):
+        found[words[0][2:]], words = words[1], words[2:]
+    return found, words
+
+
+def main(words):
+    if words[:1] in (["-h"], ["--help"]):
+        print(__doc__, end="")
+        return 0
+    given, words = options(words)
+    signal.signal(signal.SIGTERM, lambda *_: sys.exit(128 + signal.SIGTERM))
+    started, checks, lines = time.time(), {}, []
+    status = run(words or ["rt", "ci"], checks, lines)
     number_edits(checks)
     with contextlib.redirect_stdout(io.StringIO()) as text:
         total = table(checks, time.time() - started)
     print(text.getvalue(), end="", flush=True)
-    if kept is not None:
-        keep_table(kept, text.getvalue())
-    if listed is not None:
-        with open(listed, "a", encoding="utf-8") as it:
+    if "table" in given:
+        keep_table(given["table"], text.getvalue())
+    if "edits" in given:
+        with open(given["edits"], "a", encoding="utf-8") as it:
             it.writelines(f"{cost:.1f} {crate} {name}\n" for cost, crate, name in edits_by_cost(checks))
-    if ran.returncode:
-        return ran.returncode if ran.returncode > 0 else 128 - ran.returncode
-    if limit is not None and total > limit:
-        print(f"gate cost: above the limit of {limit:.0f} processor minutes", file=sys.stderr)
-        return 1
-    return 0
+    proofs = proof_seconds(checks)
+    if "proofs" in given:
+        pathlib.Path(given["proofs"]).write_text(json.dumps(proofs), encoding="utf-8")
+    above = "limit" in given and is_above(float(given["limit"]), total, unit_of(proofs))
+    print("".join(share_done(it) + "\n" for it in lines[-1:]), end="", flush=True)
+    return status or int(above)
 
 
 if __name__ == "__main__":

@@ -1,6 +1,6 @@
 #!/usr/bin/env python3
-"""Prints each wrong body of the crates, the function that it changes and that function's clauses: those that the gate tries
-(crates/NAME/must-fail), and those that it leaves out (crates/NAME/more-edits).
+"""Prints each wrong body of the crates, the function that it changes and that function's clauses: those that `rt ci` tries
+(crates/NAME/must-fail), and the others (crates/NAME/more-edits).
 
 usage: docs/wrong_bodies.py [NAME ..]      (no name: all crates)
 """
@@ -75,7 +75,7 @@ def edits(crate, folder):
 
 
 for crate in sys.argv[1:] or sorted(os.listdir(os.path.join(root, "crates"))):
-    for folder, title in (("must-fail", crate), ("more-edits", f"{crate}, not in the gate")):
+    for folder, title in (("must-fail", crate), ("more-edits", f"{crate}, more edits")):
         found = edits(crate, folder)
         if found:
             print(f"## {title}: {len(found)}\n")

@@ -17,7 +17,8 @@ def main(kit: str, folder: str) -> int:
     import rtlib
 
     crate = rtlib.Crate(str(crate_folder), str(crate_folder.parents[1]), {})
-    missing = [it.name for it in crate.below() if not os.path.isdir(it.rlib)]
+    # (a gate that was ended leaves folders with nothing in them)
+    missing = [it.name for it in crate.below() if not os.path.isfile(f"{it.rlib}/format")]
     if missing:
         print(f"the gate left no library of {', '.join(missing)}", file=sys.stderr)
         return 1

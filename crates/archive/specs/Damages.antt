@@ -61,7 +61,8 @@ abbrev pub before_of : List ℕ → RunEntry → ℕ → Option Placed
 before_of area run zero = None
 before_of area run (suc n) = Some (placed_at area run n)
 
--- nothing of the run breaks a rule
+-- Nothing of the run breaks a rule.
+-- Then the area holds a run (the law unbroken_runs_are_held).
 pub record IsUnbroken (area : List ℕ) (run : RunEntry) : Type 0 where
   pub within : run_end run ≤ length area
   pub heads : (n : ℕ) → n < run.slot.records → IsHeadSound area run (before_of area run n) n

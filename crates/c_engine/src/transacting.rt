@@ -101,6 +101,8 @@ impl Engine {
     }
 
     /// Queues the transaction's writes; the ticket's number is told. After a refused call it is given up.
+    /// The ticket takes the transaction's place, so a commit that was queued always has a number: want of
+    /// memory would be taken for a refusal, and the commit made twice.
     pub fn submit(&mut self, transaction: u64, label: u64, now: u64, info: &mut Info) -> Code
         ensures { SubmitsEngine transaction label now self.old result info.new self.new }
     {

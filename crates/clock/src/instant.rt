@@ -81,7 +81,8 @@ fn parts(bytes: &[u8]) -> Option<Moment>
     })
 }
 
-/// The microseconds from 1970 to the moment, where there is such a moment.
+/// The microseconds from 1970 to the moment, where there is such a moment. By the day number of a civil date,
+/// since jiff's `Timestamp` ends before the last instant of the year 9999.
 fn instant(moment: Moment) -> Option<u64>
     requires { FitsText moment }
     ensures real { IsSome result ↔ IsMoment moment }

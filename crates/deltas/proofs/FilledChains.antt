@@ -3,7 +3,7 @@ use Rattle.std.proofs.Common.{◌≡◌, ◌≢◌, ℕ, ◌+◌, ◌≤◌, ◌
 use Rattle.std.specs.Prelude.{slice_get}
 use Rattle.std.proofs.lemmas.Bool.{cases_lt}
 use Rattle.std.proofs.lemmas.Bool.Decides.{nat_tests}
-use Rattle.std.proofs.lemmas.List.{append-nil, length-replicate}
+use Rattle.std.proofs.lemmas.List.{length-replicate}
 use Rattle.deltas.specs.declared.«record».Record.{Record}
 use Rattle.deltas.specs.declared.filled_extent.FilledExtent.{FilledExtent}
 use Rattle.deltas.specs.Records.{spelling}
@@ -32,35 +32,6 @@ filled_is_packed (n ∷ ns) records (image ∷ images) are =
     let count = rest.0 in
     let more = one_body n (first_number ns) records are.1 image are.0 are.2 are.3 in
     (omega (arith, count, more), ap (λ (l : List (List ℕ)). image ∷ l) rest.1 ∙ sym (one_image n ns records are.1 image are.0 are.2 are.3))
-
--- ---- one image after the other
-
-pub record IsFillingChain (numbers rest : List ℕ) (before left : List Record) (images : List (List ℕ)) : Type 0 where
-  pub so_far : images ++ images_of rest (bodies (map spelling left)) ≡ images_of numbers (bodies (map spelling before))
-  pub as_many : length rest ≡ length (bodies (map spelling left))
-
-some_bodies : (body : List ℕ) (pieces : List (List ℕ)) → 0 < length (bodies_from body pieces)
-some_bodies body [] = omega arith
-some_bodies body (piece ∷ pieces) = elim (cases_lt 8176 (length body + length piece)) [
-  | inl over ↦ let no : nat_le (length body + length piece) 8176 ≡ false = grind (arith, nat_tests) in rw no (omega arith)
-  | inr fits ↦ let yes : nat_le (length body + length piece) 8176 ≡ true = grind (arith, nat_tests) in rw yes (some_bodies (body ++ piece) pieces)
-]
-
-no_body : (records : List Record) → length (bodies (map spelling records)) ≡ 0 → records ≡ []
-no_body [] none = refl
-no_body (r ∷ rs) none = absurd (let some = some_bodies (spelling r) (map spelling rs) in omega (arith, some, none))
-
-no_number : (rest : List ℕ) → length rest < 1 → rest ≡ []
-no_number [] none = refl
-no_number (n ∷ ns) none = absurd (omega (arith, none))
-
-pub chain_filled : (numbers rest : List ℕ) (before left : List Record) (images : List (List ℕ)) → length rest < 1 → IsFillingChain numbers rest before left images
-    → (images ≡ images_of numbers (bodies (map spelling before))) × (left ≡ [])
-chain_filled numbers rest before left images end so_far =
-    let as_many = so_far.as_many in
-    let none : left ≡ [] = no_body left (omega (arith, as_many, end)) in
-    let whole : images_of rest (bodies (map spelling left)) ≡ [] = ap (λ (l : List ℕ). images_of l (bodies (map spelling left))) (no_number rest end) in
-    (sym (append-nil images) ∙ ap (λ (l : List (List ℕ)). images ++ l) (sym whole) ∙ so_far.so_far, none)
 
 -- ---- counts
 

@@ -30,7 +30,8 @@ pub record IsFilled (number next : ℕ) (before : List Record) (image : List ℕ
   pub first : IsFirstBody before body filled after
   pub image_is : image ≡ extent_bytes (record { number = number; next = next; body = body })
 
--- these images, in the extents of these numbers, were filled one after the other, until no record was left
+-- These images, in the extents of these numbers, were filled one after the other, until no record was left.
+-- They are the extents of the packed list (the law filled_is_packed).
 abbrev pub AreFilled : List ℕ → List Record → List (List ℕ) → Type 0
 AreFilled [] records [] = records ≡ []
 AreFilled [] records (image ∷ images) = ⊥

@@ -1,4 +1,5 @@
--- What a stop may leave of a machine: what is published, and once the gate of what is being written may be open, that or what is published with the whole of it.
+-- What a stop may leave of a machine: what is published, and once the gate of what is being written may be open, that or what is published with the whole of
+-- it.
 use Rattle.std.specs.Prelude.{ℕ, ◌⊎◌, ◌++◌, take, Option, None, Some}
 use Rattle.history.specs.Floors.{Raising, raised}
 use Rattle.history.specs.Histories.{History}
@@ -20,6 +21,7 @@ OnOpened P m (Due change) = ⊥
 OnOpened P m (MayBeOpen OfGroup) = P (with_group m) m.floors
 OnOpened P m (MayBeOpen OfFloor) = OnRaised P m m.raising
 
--- P holds of a front: of the published history with the floors, or of what stands where the gate that may be open is
+-- P holds of a front: of the published history with the floors, or of what stands where the gate that may be open is.
+-- Part of a group is no front, nor is a commit that no group has. A front always has all that is published, so all that is acknowledged.
 abbrev pub OnFront : {V : Type 0} → (History V → (ℕ → ℕ) → Type 0) → Machine V → Type 0
 OnFront P m = P m.published m.floors ⊎ OnOpened P m m.gate

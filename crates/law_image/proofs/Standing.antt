@@ -11,7 +11,8 @@ use Rattle.law_image.specs.Reading.{Reading}
 use Rattle.law_image.specs.Log.{last_time_after, last_time, AreRisingAfter}
 use Rattle.law_image.specs.Facts.{heap_commits, heap_facts}
 use Rattle.law_image.specs.StandsFor.{StandsFor, head_of, reclaimed_upto, archived_upto}
-use Rattle.law_image.proofs.Logs.{AreMarked, marked-all, marked-none}
+use Rattle.law_image.proofs.Logs.{AreMarked}
+use Rattle.law_image.proofs.Forms.{marked-form}
 use Rattle.law_image.proofs.FactsOf.{old_writes-rising}
 
 pub last_time-heads : (t : ℕ) (h : History Value) → last_time_after t (map head_of h) ≡ last_after t h
@@ -37,7 +38,7 @@ rising-commits_after t mark (c ∷ cs) up =
 
 module _ (reading : Reading) (h : History Value) (floors : ℕ → ℕ) (stands : StandsFor reading h floors) where
   pub marked : AreMarked reading.log
-  marked = marked-all reading.profile [] reading.log marked-none stands.opens.reads.log
+  marked = marked-form reading stands.opens.reads.form
 
   pub rises : HasRisingTimes 0 h
   rises = rising-from_following IsValue [] h stands.opens.history

@@ -1,5 +1,5 @@
 -- What the jobs and a group add to an image: one slot each, and what it names.
-use Rattle.std.specs.Prelude.{ℕ, ◌≡◌, ◌<◌, ◌≤◌, ◌+◌, length, nat_lt, max, List, [], ◌∷◌, ◌++◌, map, filter}
+use Rattle.std.specs.Prelude.{ℕ, ◌≡◌, ◌<◌, ◌≤◌, ◌+◌, length, nat_lt, max, false, MatchBool, if◌then◌else◌, List, [], ◌∷◌, ◌++◌, map, filter}
 use Rattle.std.specs.List.{AllByRecursion}
 use Rattle.std.specs.List.Sorted.{IsStrictlySortedBy}
 use Rattle.history.specs.declared.key.Key.{Key}
@@ -10,7 +10,7 @@ use Rattle.history.specs.Queries.{values_after}
 use Rattle.history.specs.Versions.{ends_after, ends_by, stands_at, as_write}
 use Rattle.law_image.specs.Values.{Value, IsValue}
 use Rattle.law_image.specs.Reading.{HeapRecord, Member, OldRecord, ArchiveRecord, Reading, Commits, Archived, Reclaimed, Floor, slot_count}
-use Rattle.law_image.specs.Log.{floor_of}
+use Rattle.law_image.specs.Log.{floor_of, is_in_heap}
 use Rattle.law_image.specs.Facts.{commits_from, stored, AreStored, values_now, heap_versions, old_writes, run_versions}
 use Rattle.law_image.specs.StandsFor.{head_of, archived_upto, IsChain, IsRun, IsAnchorUpto}
 use Rattle.std.specs.Prelude.{Option}
@@ -19,16 +19,24 @@ use Rattle.std.specs.Prelude.{Option}
 abbrev pub empty_reading : ℕ → ℕ → ℕ → Reading
 empty_reading profile slots pieces = record { profile = profile; slots = slots; pieces = pieces; log = []; members = []; anchors = []; runs = [] }
 
--- there is room for one more slot
+-- there is room for one more slot; a log in the heap has no slots
 abbrev pub HasRoom : Reading → Type 0
-HasRoom reading = length reading.log < slot_count reading
+HasRoom reading = MatchBool (is_in_heap reading.profile) (Unit {0}) (length reading.log < slot_count reading)
+
+-- the log is one of slots
+abbrev pub HasSlots : Reading → Type 0
+HasSlots reading = is_in_heap reading.profile ≡ false
+
+-- how many commits a group has at the most
+abbrev pub most_members : ℕ → ℕ
+most_members profile = if is_in_heap profile then 1024 else 16
 
 -- the members of a group are these commits, which may follow the history
 pub record IsGroupOf (reading : Reading) (h next : History Value) (group : List Member) : Type 0 where
   pub may : MayAllFollow IsValue h next
   pub facts : commits_from (values_now reading) group ≡ next
   pub some : 0 < length group
-  pub few : length group ≤ 16
+  pub few : length group ≤ most_members reading.profile
   pub chains : AllByRecursion IsChain group
   pub stored : AreStored (values_now reading) group
 
@@ -38,7 +46,8 @@ with_group reading group = record reading { log = reading.log ++ Commits (map (�
 
 -- The plan of an archive: the versions with max (A, F) < to ≤ upto, in order.
 pub record IsArchivePlan (reading : Reading) (upto : ℕ) (run : List ArchiveRecord) : Type 0 where
-  pub each : (key : Key) → run_versions key run ≡ filter (ends_by upto) (filter (ends_after (max (archived_upto reading) (floor_of reading.log key.relation))) (heap_versions reading key))
+  pub each : (key : Key) → run_versions key run
+      ≡ filter (ends_by upto) (filter (ends_after (max (archived_upto reading) (floor_of reading.log key.relation))) (heap_versions reading key))
   pub is_run : IsRun (archived_upto reading) (floor_of reading.log) upto run
 
 -- the image with an archive's slot and its run

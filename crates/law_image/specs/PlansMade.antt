@@ -42,7 +42,8 @@ heap_keys reading = sorted_keys (map (λ old. old.key) reading.anchors ++ member
 
 -- the versions of a key with max (A, F) < to ≤ upto
 abbrev pub to_archive : Reading → ℕ → Key → List (Version Value)
-to_archive reading upto key = filter (ends_by upto) (filter (ends_after (max (archived_upto reading) (floor_of reading.log key.relation))) (heap_versions reading key))
+to_archive reading upto key =
+    filter (ends_by upto) (filter (ends_after (max (archived_upto reading) (floor_of reading.log key.relation))) (heap_versions reading key))
 
 -- the record of a run that has this version of a key
 abbrev pub archive_record : Key → Version Value → ArchiveRecord
@@ -52,7 +53,8 @@ archive_record key v = record { key = key; version = v }
 abbrev pub archive_records : (Key → List (Version Value)) → List Key → List ArchiveRecord
 archive_records versions keys = flat_map (λ key. map (archive_record key) (versions key)) keys
 
--- the records of the run that an archive up to this time makes
+-- The records of the run that an archive up to this time makes.
+-- It is a plan of every image that stands for a history (the law plans_are), also once groups are published (the law plans_stay).
 abbrev pub archive_plan : Reading → ℕ → List ArchiveRecord
 archive_plan reading upto = archive_records (to_archive reading upto) (heap_keys reading)
 
@@ -70,7 +72,8 @@ old_record key v = record { key = key; from = v.from; value = v.value }
 abbrev pub old_records : (Key → List (Version Value)) → List Key → List OldRecord
 old_records versions keys = flat_map (λ key. map (old_record key) (versions key)) keys
 
--- the records of the anchor chain that a reclaim makes
+-- The records of the anchor chain that a reclaim makes.
+-- It is a plan in the same sense (the laws plans_are and plans_stay).
 abbrev pub reclaim_plan : Reading → List OldRecord
 reclaim_plan reading = old_records (to_keep reading) (heap_keys reading)
 

@@ -1,5 +1,5 @@
 -- What it means that an image stands for a history with its floors.
-use Rattle.std.specs.Prelude.{ℕ, ◌≡◌, ◌<◌, ◌≤◌, ◌+◌, ◌*◌, ◌⊎◌, ◌↔◌, ◌++◌, List, [], ◌∷◌, map, filter, length, nat_lt, Contains}
+use Rattle.std.specs.Prelude.{ℕ, ◌≡◌, ◌<◌, ◌≤◌, ◌+◌, ◌*◌, ◌%◌, ◌⊎◌, ◌↔◌, ◌++◌, MatchBool, List, [], ◌∷◌, map, filter, length, nat_lt, Contains}
 use Rattle.std.specs.List.{AllByRecursion}
 use Rattle.std.specs.List.Sorted.{IsStrictlySortedBy}
 use Rattle.std.specs.declared.cmp.Ordering.TheVariants.{Less}
@@ -10,7 +10,7 @@ use Rattle.history.specs.Histories.{Commit, History, IsVersion, IsHistory, commi
 use Rattle.history.specs.Homes.{AreAtHome, kept_of}
 use Rattle.law_image.specs.Values.{Value, IsValue}
 use Rattle.law_image.specs.Reading.{Head, Slot, Archived, Member, OldRecord, ArchiveRecord, Reading, slot_count}
-use Rattle.law_image.specs.Log.{heads_of, archive_mark, reclaim_mark, floor_of, KeepsLogRules}
+use Rattle.law_image.specs.Log.{heads_of, archive_mark, reclaim_mark, floor_of, KeepsLogRules, KeepsHeapRules, is_in_heap}
 use Rattle.law_image.specs.Facts.{heap_commits, heap_versions, archived_versions, values_at_mark, AreStored}
 
 -- the archive mark of an image, A
@@ -61,13 +61,22 @@ pub record IsRun (mark : ℕ) (floors : ℕ → ℕ) (upto : ℕ) (run : List Ar
   pub each : AllByRecursion (IsArchived mark floors upto) run
   pub in_order : AreInOrder run
 
+-- there is one run for each archived slot, by the mark before it and by these floors of the slots before it
+abbrev pub AreRunsBy : (List Slot → ℕ → ℕ) → List Slot → List Slot → List (List ArchiveRecord) → Type 0
+AreRunsBy floors before [] [] = Unit {0}
+AreRunsBy floors before [] (run ∷ runs) = ⊥
+AreRunsBy floors before (Archived upto ∷ slots) [] = ⊥
+AreRunsBy floors before (Archived upto ∷ slots) (run ∷ runs) =
+    IsRun (archive_mark before) (floors before) upto run × AreRunsBy floors (before ++ Archived upto ∷ []) slots runs
+AreRunsBy floors before (slot ∷ slots) runs = AreRunsBy floors (before ++ slot ∷ []) slots runs
+
 -- there is one run for each archived slot, by the mark and the floors before it
 abbrev pub AreRunsOf : List Slot → List Slot → List (List ArchiveRecord) → Type 0
-AreRunsOf before [] [] = Unit {0}
-AreRunsOf before [] (run ∷ runs) = ⊥
-AreRunsOf before (Archived upto ∷ slots) [] = ⊥
-AreRunsOf before (Archived upto ∷ slots) (run ∷ runs) = IsRun (archive_mark before) (floor_of before) upto run × AreRunsOf (before ++ Archived upto ∷ []) slots runs
-AreRunsOf before (slot ∷ slots) runs = AreRunsOf (before ++ slot ∷ []) slots runs
+AreRunsOf before slots runs = AreRunsBy floor_of before slots runs
+
+-- In a log in the heap a run may have records that ended by a floor: it may have been made of others that are older than the floor.
+abbrev pub no_floors : List Slot → ℕ → ℕ
+no_floors before relation = 0
 
 -- the numbers of a header with these pieces open
 pub record IsHeader (profile slots pieces : ℕ) : Type 0 where
@@ -78,17 +87,34 @@ pub record IsHeader (profile slots pieces : ℕ) : Type 0 where
   pub whole : profile ≡ 1 → pieces ≡ 0
   pub total : slots + 256 * pieces ≤ 65536
 
--- The image reads: its header and its log keep their rules, and its chains and runs are those that the log names.
-pub record Reads (reading : Reading) : Type 0 where
+-- the number of extents of a heap that has the log: its halves, quarters and sixteenths are whole
+pub record IsHeapOf (extents pieces : ℕ) : Type 0 where
+  pub some : 64 ≤ extents
+  pub most : extents ≤ 1048576
+  pub whole : extents % 16 ≡ 0
+  pub no_pieces : pieces ≡ 0
+
+-- the header and the slots of an image of the first three profiles keep their rules, and its runs are those that the slots name
+pub record IsSlotLog (reading : Reading) : Type 0 where
   pub header : IsHeader reading.profile reading.slots reading.pieces
   pub log : KeepsLogRules reading.profile reading.log
   pub fits : length reading.log ≤ slot_count reading
+  pub runs : AreRunsOf [] reading.log reading.runs
+
+-- so it is of an image whose log lies in the heap
+pub record IsHeapLog (reading : Reading) : Type 0 where
+  pub header : IsHeapOf reading.slots reading.pieces
+  pub log : KeepsHeapRules reading.log
+  pub runs : AreRunsBy no_floors [] reading.log reading.runs
+
+-- The image reads: its header and its log keep the rules of its profile, and its chains and runs are those that the log names.
+pub record Reads (reading : Reading) : Type 0 where
+  pub form : MatchBool (is_in_heap reading.profile) (IsHeapLog reading) (IsSlotLog reading)
   pub members : map (λ m. m.head) reading.members ≡ filter (λ head. nat_lt (reclaim_mark reading.log) head.time) (heads_of reading.log)
   pub chains : AllByRecursion IsChain reading.members
   pub stored : AreStored (values_at_mark reading) reading.members
   pub anchors : IsStrictlySortedBy key_cmp (map (λ old. old.key) reading.anchors)
   pub anchor_times : AllByRecursion (IsAnchorUpto (reclaim_mark reading.log)) reading.anchors
-  pub runs : AreRunsOf [] reading.log reading.runs
 
 -- the time and label of a commit
 abbrev pub head_of : Commit Value → Head
@@ -119,8 +145,10 @@ IsKept reading key v = (Contains (heap_versions reading key) v ⊎ Contains (arc
 pub record KeepsAsSets (reading : Reading) (h : History Value) (floors : ℕ → ℕ) : Type 0 where
   pub marks : reclaimed_upto reading ≤ archived_upto reading
   pub kept : (key : Key) (v : Version Value) → IsKept reading key v ↔ IsVersion h key v × (floors key.relation < v.to)
-  pub heap : (key : Key) (v : Version Value) → IsVersion h key v → floors key.relation < v.to → Contains (heap_versions reading key) v ↔ (reclaimed_upto reading < v.to)
-  pub archive : (key : Key) (v : Version Value) → IsVersion h key v → floors key.relation < v.to → Contains (archived_versions reading key) v ↔ (v.to ≤ archived_upto reading)
+  pub heap : (key : Key) (v : Version Value) → IsVersion h key v → floors key.relation < v.to → Contains (heap_versions reading key) v
+      ↔ (reclaimed_upto reading < v.to)
+  pub archive : (key : Key) (v : Version Value) → IsVersion h key v → floors key.relation < v.to → Contains (archived_versions reading key) v
+      ↔ (v.to ≤ archived_upto reading)
 
 -- the image stands for this history with these floors, by sets: the law SetsAreLists says that it is the same
 pub record StandsForBySets (reading : Reading) (h : History Value) (floors : ℕ → ℕ) : Type 0 where

@@ -1,5 +1,5 @@
 -- An image that stands for a history opens.
-use Rattle.std.proofs.Common.{◌+◌, ◌≤◌, ℕ, List, [], ◌∷◌, map, length, refl, sym, subst, arith}
+use Rattle.std.proofs.Common.{◌+◌, ◌≤◌, ℕ, List, [], ◌∷◌, map, length, refl, ap, sym, subst, ◌∙◌, arith}
 use Rattle.std.specs.List.{AllByRecursion}
 use Rattle.disk.specs.Areas.{Image}
 use Rattle.wire.specs.declared.slot.Run.{Run}
@@ -8,8 +8,10 @@ use Rattle.status.specs.Rules.{log_of}
 use Rattle.history.specs.Histories.{History}
 use Rattle.law_image.specs.Values.{Value}
 use Rattle.law_image.specs.Reading.{Reading}
-use Rattle.law_image.specs.Log.{KeepsLogRules}
-use Rattle.law_image.specs.StandsFor.{StandsFor, Reads}
+use Rattle.law_image.specs.Log.{KeepsLogRules, is_in_heap}
+use Rattle.law_image.specs.StandsFor.{StandsFor, Reads, IsSlotLog}
+use Rattle.law_image.specs.Plans.{HasSlots}
+use Rattle.law_image.proofs.Forms.{in-slots, slots-profile}
 use Rattle.law_layout.specs.Runs.{StoredRun, IsStoredRun, HoldsRun, run_bytes}
 use Rattle.law_layout.specs.Layouts.{Layout, IsLayoutOf, HoldsLayout}
 use Rattle.law_layout.specs.Opening.{unread, unread_layout, EndsWithin, Opens, AreBuilt}
@@ -26,10 +28,17 @@ pub held_opens : (header : Header) (image : Image) (layout : Layout) (reading : 
     → Opens header image (unread_layout layout) (unread reading)
 held_opens header image layout reading h floors laid held stands built =
     let reads : Reads reading = stands.opens.reads in
-    let log : KeepsLogRules header.profile (log_of layout.slots) = subst (λ (n : ℕ). KeepsLogRules n (log_of layout.slots)) laid.heap.profile_is (subst (KeepsLogRules reading.profile) (sym laid.heap.log_is) reads.log) in
+    let slots : HasSlots reading =
+    ap is_in_heap laid.heap.profile_is ∙ slots-profile header.profile header.slots header.pieces held.log.header_is.front.numbers in
+    let form : IsSlotLog reading = in-slots reading slots reads.form in
+    let log : KeepsLogRules header.profile (log_of layout.slots) =
+    subst (λ (n : ℕ). KeepsLogRules n (log_of layout.slots)) laid.heap.profile_is (subst (KeepsLogRules reading.profile) (sym laid.heap.log_is) form.log) in
     let ends : AllByRecursion (λ (s : StoredRun). EndsWithin (length image.archive) s.entry) layout.runs =
     both IsStoredRun (HoldsRun image.archive) (λ (s : StoredRun). EndsWithin (length image.archive) s.entry) layout.runs
-    (λ s stored is. let inside : s.entry.start + length (run_bytes s.records) ≤ length image.archive = is.inside in omega (arith, stored.length_is)) laid.runs.each_run held.runs in
+    (λ s stored is. let inside : s.entry.start + length (run_bytes s.records) ≤ length image.archive = is.inside in omega (
+      arith,
+      stored.length_is,
+    )) laid.runs.each_run held.runs in
     record {
       log = record {
         header_is = held.log.header_is;
@@ -50,9 +59,9 @@ held_opens header image layout reading h floors laid held stands built =
         in_row = laid.heap.in_row;
       };
       reads = record {
-        header = reads.header;
-        log = reads.log;
-        fits = reads.fits;
+        header = form.header;
+        log = form.log;
+        fits = form.fits;
         members = reads.members;
         each_member = reads.chains;
         stored = reads.stored;
@@ -60,7 +69,8 @@ held_opens header image layout reading h floors laid held stands built =
         anchor_times = reads.anchor_times;
       };
       extents = held.extents;
-      runs_end = subst (AllByRecursion (EndsWithin (length image.archive))) laid.runs.entries_are (of_entries (EndsWithin (length image.archive)) layout.runs ends);
+      runs_end =
+          subst (AllByRecursion (EndsWithin (length image.archive))) laid.runs.entries_are (of_entries (EndsWithin (length image.archive)) layout.runs ends);
       no_runs = refl;
       no_run_records = refl;
     }

@@ -1,5 +1,7 @@
 -- A store that is opened on an image that stands for a history.
 use Rattle.std.proofs.Common.{◌≡◌, ◌≢◌, ℕ, ◌≤◌, ◌==◌, Bool, false, IsTrue, List, [], ◌∷◌, ◌++◌, length, map, Option, Some, None, MatchBool, refl, arith, ap, sym, subst, ◌∙◌, inl}
+use Rattle.law_refinement.proofs.Jobs.{built-slots}
+use Rattle.law_image.proofs.Forms.{in-slots}
 use Rattle.std.specs.Prelude.{Contains, IsSome, IsNone}
 use Rattle.std.proofs.lemmas.Bool.Decides.{nat_tests}
 use Rattle.std.specs.List.{AllByRecursion}
@@ -20,10 +22,10 @@ use Rattle.history.proofs.Members.{Contains-nil}
 use Rattle.law_image.specs.Values.{Value, IsValue}
 use Rattle.law_image.specs.Reading.{Head, Slot, Commits, Archived, Reclaimed, Floor, Reading, ArchiveRecord}
 use Rattle.law_image.specs.Reading as readings
-use Rattle.law_image.specs.Log.{archive_mark, floor_of, floors_after, AreRisingAfter, last_time_after, IsScopeOf, MayAllCome}
+use Rattle.law_image.specs.Log.{is_in_heap, archive_mark, floor_of, floors_after, AreRisingAfter, last_time_after, IsScopeOf, MayAllCome}
 use Rattle.history.specs.Floors.{raised}
 use Rattle.law_image.specs.Facts.{old_writes, heap_facts}
-use Rattle.law_image.specs.StandsFor.{head_of, archived_upto, reclaimed_upto, AreRunsOf}
+use Rattle.law_image.specs.StandsFor.{head_of, archived_upto, reclaimed_upto, AreRunsOf, IsSlotLog}
 use Rattle.law_image.proofs.Standing.{last_time-heads, heads-rising, rises, facts-rise, archived-range, floor-range}
 use Rattle.chains.specs.KeyWrites.{IsOrdered, writes_of}
 use Rattle.chains.specs.Writes.{last_time, kept_after}
@@ -273,9 +275,13 @@ module _ (old : DiskState) (mark : ℕ) (disk : DiskState) (r : Recovered) (arch
     works = λ works_on. works;
   }
 
+  -- its log is one of slots
+  form : IsSlotLog image.reading
+  form = in-slots image.reading (ap is_in_heap image.laid.heap.profile_is ∙ built-slots header.profile image.profile_built) image.stands.opens.reads.form
+
   -- the floors are of the header's profile
   of_profile : AreOfProfile image.reading.profile floors
-  of_profile = λ other relation. sym (image.stands.opens.floors_given relation) ∙ alike image.reading.profile other image.reading.log [] image.stands.opens.reads.log relation ∙ image.stands.opens.floors_given 0
+  of_profile = λ other relation. sym (image.stands.opens.floors_given relation) ∙ alike image.reading.profile other image.reading.log [] (form).log relation ∙ image.stands.opens.floors_given 0
 
   -- ---- the runs
 
@@ -286,7 +292,7 @@ module _ (old : DiskState) (mark : ℕ) (disk : DiskState) (r : Recovered) (arch
       let area : archive_of disk ≡ old.areas.archive.bytes = ap (λ (areas : Areas). areas.archive.bytes) settled in
       let lists : map (λ (s : StoredRun). s.records) image.layout.runs ≡ image.reading.runs = laid.runs.runs_are in
       let ruled : AreRunsOf [] (log_of image.layout.slots) (map (λ (s : StoredRun). s.records) image.layout.runs) =
-      (let a = sym laid.heap.log_is in let b = sym lists in subst (λ (p : List readings.Slot × List (List ArchiveRecord)). AreRunsOf [] p.0 p.1) (λ i. (a i, b i)) image.stands.opens.reads.runs) in
+      (let a = sym laid.heap.log_is in let b = sym lists in subst (λ (p : List readings.Slot × List (List ArchiveRecord)). AreRunsOf [] p.0 p.1) (λ i. (a i, b i)) (form).runs) in
       let archived_is : r.archived ≡ archived_upto image.reading = is.archived in
       record {
         lists = image.reading.runs;

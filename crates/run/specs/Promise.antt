@@ -37,6 +37,7 @@ pub record IsKeptWith (tells : Bool) (image : Image) (done : List ℕ) (h : Hist
   pub acknowledged : AllByRecursion (HasCommitAt h) done
 
 -- It survives: it is kept as what is published at this moment or, once the gate of the group may be open, as that with the whole group.
+-- It has every commit that was acknowledged.
 abbrev pub Survives : Bool → Moment → Image → Type 0
 Survives tells at image = OnFront (IsKeptWith tells image at.done) at.world.machine
 

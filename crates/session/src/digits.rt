@@ -8,7 +8,8 @@ ghost use Rattle.session.specs.Texts.{hex_text};
 use std::alloc::AllocError;
 
 /// So many bytes are spelled at once: of a number of bytes that is known beforehand the machine makes
-/// the digits side by side, in fewer steps than a table of digits takes.
+/// the digits side by side, in fewer steps than a table of digits takes. The kit's `hex` makes a new
+/// text for each field.
 const BLOCK: usize = 16;
 
 /// The lower-case digit of a number below 16.

@@ -25,7 +25,8 @@ use wire::Value;
 
 impl<D: Disk, L: Opening> SharedStore<D, L> {
     /// Commits these changes, and waits until they are published. With Done the caller has seen the
-    /// commit published, and it counts once in the caller's share.
+    /// commit published, and it counts once in the caller's share. A value of no field, of more than 16 or
+    /// of one too long is refused before a transaction begins.
     pub fn commit<R: Wait>(
         &self,
         rt: &R,

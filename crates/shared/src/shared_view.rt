@@ -20,7 +20,8 @@ use store::{QueryFault, View};
 
 /// What was published at one moment, with the commits and the floors that its caller had seen then.
 /// Later commits do not change it, nor does a vacuum or a floor that is raised, and it may go to
-/// another thread. It is to be given back to its store.
+/// another thread. It is to be given back to its store: a closure that it moves into holds it in a type
+/// that spends it when it is dropped.
 pub struct SharedView<L: Opening> {
     view: View,
     moment: Moment<L>,

@@ -245,7 +245,8 @@ fn refuse_reply<W: Write>(output: &mut Answers<W>, refusal: &Reply) -> u8
     REFUSED
 }
 
-/// Says what was archived, and that the reclaim was refused.
+/// Says what was archived, and then that the reclaim was refused: both are true. Where the log can't be
+/// read, the refusal alone.
 fn tell_archived<D: Disk, W: Write>(
     alloc: Global,
     disk: &mut D,
@@ -276,7 +277,8 @@ fn tell_both<D: Disk, W: Write>(
     }
 }
 
-/// Says what a vacuum did, by the log of the store that was closed after it.
+/// Says what a vacuum did, by the log of the store that was closed after it. A time that the archive has
+/// reached is refused as nothing to do, even where the reclaim of before is due.
 fn tell_vacuum<D: Disk, W: Write>(
     alloc: Global,
     disk: &mut D,
@@ -388,7 +390,7 @@ fn grow<D: Disk, W: Write>(alloc: Global, disk: D, output: &mut Answers<W>) -> (
     (status, disk)
 }
 
-/// The text of a log.
+/// The text of a log. It is made whole before any of it is said, so that no refusal follows a part of it.
 fn dump_text(alloc: Global, header: &Header, slots: &[Slot]) -> Result<Vec<u8>, DumpFault>
     ensures { IfOk result (λ text. IsDump header.now slots.now text.items) }
 {

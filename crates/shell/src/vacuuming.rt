@@ -116,8 +116,8 @@ fn records_of(job: Job, upto: u64, body: &Body) -> Option<u64>
     }
 }
 
-/// The records that a log names for a job up to a time, of which it has one slot at most. It is 0
-/// where it has none.
+/// The records that a log names for a job up to a time. Times of slots of one kind rise, so it has one
+/// such slot at most. It is 0 where it has none.
 pub fn records_in(job: Job, upto: u64, slots: &[Slot]) -> u64
     ensures { result ≡ told.records_in job upto slots.now }
 {

@@ -21,7 +21,7 @@ const RECLAIMED: u8 = 3;
 const FLOOR: u8 = 4;
 
 /// Whether slots of a kind are built in a profile. A store of a profile is read once its commits
-/// are built.
+/// are built; an open slot of a kind that is not is damaged.
 pub fn is_built(profile: u32, kind: u8) -> bool
     ensures { result ≡ is_built profile kind }
 {

@@ -1,9 +1,9 @@
-//! Keys, histories and conflicts, as plain programs over lists tell them.
-use crate::published::SEVEN;
-use history::{
-    CommitRef, ENDLESS, Key, KeyWrite, Version, first_conflict, is_written_after, rows, value_at,
-    versions, writes_of,
-};
+//! Keys, and the rows, values and conflicts of a few commits.
+use crate::answers::{Row, are_rows};
+use crate::published::{SEVEN, is_text, published};
+use chains::{Frozen, SharedValue};
+use group::first_conflict;
+use history::{ENDLESS, Key, KeyWrite};
 use std::alloc::{AllocError, Global};
 use std::test::Fail;
 
@@ -28,113 +28,65 @@ const Y: Key = Key {
     record: 2,
 };
 
-const SEVEN_IS_A: &[KeyWrite<u8>] = &[KeyWrite {
-    key: SEVEN,
-    write: Some(b'a'),
-}];
-
-const SEVEN_IS_B: &[KeyWrite<u8>] = &[KeyWrite {
-    key: SEVEN,
-    write: Some(b'b'),
-}];
-
-const SEVEN_IS_C: &[KeyWrite<u8>] = &[KeyWrite {
-    key: SEVEN,
-    write: Some(b'c'),
-}];
-
-const SEVEN_IS_D: &[KeyWrite<u8>] = &[KeyWrite {
-    key: SEVEN,
-    write: Some(b'd'),
-}];
-
-const SEVEN_IS_E: &[KeyWrite<u8>] = &[KeyWrite {
-    key: SEVEN,
-    write: Some(b'e'),
-}];
-
-const SEVEN_IS_GONE: &[KeyWrite<u8>] = &[KeyWrite {
-    key: SEVEN,
-    write: None,
-}];
-
-const THREE_IS_X: &[KeyWrite<u8>] = &[KeyWrite {
-    key: THREE,
-    write: Some(b'x'),
-}];
-
-const NINE_IS_D: &[KeyWrite<u8>] = &[KeyWrite {
-    key: NINE,
-    write: Some(b'd'),
-}];
-
-const X_IS_A: &[KeyWrite<u8>] = &[KeyWrite {
-    key: X,
-    write: Some(b'a'),
-}];
-
-const Y_IS_B: &[KeyWrite<u8>] = &[KeyWrite {
-    key: Y,
-    write: Some(b'b'),
-}];
-
-const Y_IS_C: &[KeyWrite<u8>] = &[KeyWrite {
-    key: Y,
-    write: Some(b'c'),
-}];
-
-/// Commits, each with its time and its writes.
-type Commits = &'static [(u64, &'static [KeyWrite<u8>])];
+/// Commits of one record of relation 1 each: the time, the record, and the text that is its one field,
+/// none where it is gone.
+type Commits = &'static [(u64, u64, Option<&'static str>)];
 
 /// Record 7 is a, b, gone and c.
 const FOUR: Commits = &[
-    (100, SEVEN_IS_A),
-    (110, SEVEN_IS_B),
-    (120, SEVEN_IS_GONE),
-    (130, SEVEN_IS_C),
+    (100, 7, Some("a")),
+    (110, 7, Some("b")),
+    (120, 7, None),
+    (130, 7, Some("c")),
 ];
 
 /// The same, and record 3 is x.
 const FIVE: Commits = &[
-    (100, SEVEN_IS_A),
-    (110, SEVEN_IS_B),
-    (115, THREE_IS_X),
-    (120, SEVEN_IS_GONE),
-    (130, SEVEN_IS_C),
+    (100, 7, Some("a")),
+    (110, 7, Some("b")),
+    (115, 3, Some("x")),
+    (120, 7, None),
+    (130, 7, Some("c")),
 ];
 
-const TWO: Commits = &[(130, SEVEN_IS_C), (140, SEVEN_IS_D)];
+const TWO: Commits = &[(130, 7, Some("c")), (140, 7, Some("d"))];
 
-const NINE_BETWEEN: Commits = &[(130, SEVEN_IS_C), (140, NINE_IS_D), (150, SEVEN_IS_E)];
+const NINE_BETWEEN: Commits = &[
+    (130, 7, Some("c")),
+    (140, 9, Some("d")),
+    (150, 7, Some("e")),
+];
 
 /// The first transaction wrote y after the second's snapshot, at 101, which read y and writes x.
-const SKEW: Commits = &[(100, X_IS_A), (101, Y_IS_B), (102, Y_IS_C)];
+const SKEW: Commits = &[
+    (100, 1, Some("a")),
+    (101, 2, Some("b")),
+    (102, 2, Some("c")),
+];
 
-/// From when and up to when each version of a key stands, with its byte.
-type Parts = &'static [(u64, u64, u8)];
-
-/// What a history tells.
+/// What commits tell.
 #[derive(Clone, Copy)]
 enum Told {
-    Versions(Key, Parts),
     /// The rows of a key from one time up to another.
-    Rows(Key, u64, u64, Parts),
-    /// The value of a key at a time.
-    Value(Key, u64, Option<u8>),
+    Rows(Key, u64, u64, &'static [Row]),
+    /// The text of a key's one field at a time.
+    Value(Key, u64, Option<&'static str>),
     /// Whether a key is written after a time.
     Written(Key, u64, bool),
     /// The least key of these that is written after a time.
     Conflict(u64, &'static [Key], Option<Key>),
 }
 
-/// What each row shows, its history, and what that tells.
+/// What each row shows, its commits, and what they tell.
 const TOLD: &[(&str, Commits, Told)] = &[
     (
         "versions",
         FOUR,
-        Told::Versions(
+        Told::Rows(
             SEVEN,
-            &[(100, 110, b'a'), (110, 120, b'b'), (130, ENDLESS, b'c')],
+            0,
+            ENDLESS,
+            &[(100, 110, "a"), (110, 120, "b"), (130, ENDLESS, "c")],
         ),
     ),
     (
@@ -144,38 +96,38 @@ const TOLD: &[(&str, Commits, Told)] = &[
             SEVEN,
             100,
             131,
-            &[(100, 110, b'a'), (110, 120, b'b'), (130, 131, b'c')],
+            &[(100, 110, "a"), (110, 120, "b"), (130, 131, "c")],
         ),
     ),
     (
         "parts of rows",
         FOUR,
-        Told::Rows(SEVEN, 105, 115, &[(105, 110, b'a'), (110, 115, b'b')]),
+        Told::Rows(SEVEN, 105, 115, &[(105, 110, "a"), (110, 115, "b")]),
     ),
     ("no row", FOUR, Told::Rows(SEVEN, 120, 130, &[])),
-    ("3 at 115", FIVE, Told::Value(THREE, 115, Some(b'x'))),
-    ("7 at 115", FIVE, Told::Value(SEVEN, 115, Some(b'b'))),
-    ("3 at 125", FIVE, Told::Value(THREE, 125, Some(b'x'))),
+    ("3 at 115", FIVE, Told::Value(THREE, 115, Some("x"))),
+    ("7 at 115", FIVE, Told::Value(SEVEN, 115, Some("b"))),
+    ("3 at 125", FIVE, Told::Value(THREE, 125, Some("x"))),
     ("7 at 125", FIVE, Told::Value(SEVEN, 125, None)),
     (
         "rows of 3",
         FIVE,
-        Told::Rows(THREE, 112, 131, &[(115, 131, b'x')]),
+        Told::Rows(THREE, 112, 131, &[(115, 131, "x")]),
     ),
     (
         "rows of 7",
         FIVE,
-        Told::Rows(SEVEN, 112, 131, &[(112, 120, b'b'), (130, 131, b'c')]),
+        Told::Rows(SEVEN, 112, 131, &[(112, 120, "b"), (130, 131, "c")]),
     ),
     (
         "from its commit on",
         TWO,
-        Told::Value(SEVEN, 130, Some(b'c')),
+        Told::Value(SEVEN, 130, Some("c")),
     ),
     (
         "from the next one on",
         TWO,
-        Told::Value(SEVEN, 140, Some(b'd')),
+        Told::Value(SEVEN, 140, Some("d")),
     ),
     (
         "7 is written later",
@@ -205,61 +157,34 @@ const TOLD: &[(&str, Commits, Told)] = &[
     ("another write is", SKEW, Told::Conflict(101, &[Y], Some(Y))),
 ];
 
-/// The history of these commits.
-fn history_of(alloc: Global, commits: Commits) -> Result<Vec<CommitRef<'static, u8>>, AllocError> {
-    let mut history = Vec::new(alloc);
-    for (time, writes) in commits {
-        history.push(CommitRef {
-            time: *time,
-            label: 0,
-            writes: *writes,
+/// Writes that these keys are gone.
+fn gone(alloc: Global, keys: &[Key]) -> Result<Vec<KeyWrite<SharedValue>>, AllocError> {
+    let mut writes = Vec::new(alloc);
+    for key in keys {
+        writes.push(KeyWrite {
+            key: *key,
+            write: None,
         })?;
     }
-    Ok(history)
+    Ok(writes)
 }
 
-fn are(rows: &[Version<u8>], parts: Parts) -> bool {
-    for (row, (from, to, byte)) in rows.iter().zip(parts.iter()) {
-        if row.from != *from || row.to != *to || row.value != *byte {
-            return false;
-        }
-    }
-    rows.len() == parts.len()
-}
-
-/// Whether a history has these versions of a key, or these rows of an interval.
-fn has(
-    alloc: Global,
-    history: &[CommitRef<u8>],
-    key: Key,
-    interval: Option<(u64, u64)>,
-    parts: Parts,
-) -> Result<bool, AllocError> {
-    let writes = writes_of(alloc, history, key)?;
-    let versions = versions(alloc, &writes)?;
-    match interval {
-        None => Ok(are(&versions, parts)),
-        Some((a, b)) => Ok(are(&rows(alloc, &versions, a, b)?, parts)),
-    }
-}
-
-fn is_told(alloc: Global, history: &[CommitRef<u8>], told: &Told) -> Result<bool, AllocError> {
+fn is_told(alloc: Global, frozen: &Frozen, told: &Told) -> Result<bool, AllocError> {
     match *told {
-        Told::Versions(key, parts) => has(alloc, history, key, None, parts),
-        Told::Rows(key, a, b, parts) => has(alloc, history, key, Some((a, b)), parts),
-        Told::Value(key, time, byte) => Ok(
-            value_at(&writes_of(alloc, history, key)?, time) == byte,
-        ),
-        Told::Written(key, time, later) => Ok(is_written_after(history, time, key) == later),
-        Told::Conflict(time, keys, key) => Ok(first_conflict(history, time, keys) == key),
+        Told::Rows(key, a, b, rows) => Ok(are_rows(&frozen.rows(alloc, key, a, b)?, rows)),
+        Told::Value(key, time, text) => Ok(is_text(frozen.at(key, time), text)),
+        Told::Written(key, time, later) => Ok((time < frozen.last_write(key)) == later),
+        Told::Conflict(time, keys, key) => {
+            Ok(first_conflict(frozen, time, &gone(alloc, keys)?) == key)
+        }
     }
 }
 
 #[test]
-fn histories_tell_versions_rows_and_conflicts(rt: HostRuntime) -> Result<(), Fail> {
+fn commits_tell_rows_values_and_conflicts(rt: HostRuntime) -> Result<(), Fail> {
     for (what, commits, told) in TOLD {
-        let history = history_of(rt.alloc(), commits)?;
-        assert!(rt; is_told(rt.alloc(), &history, told) == Ok(true), "{what}");
+        let frozen = published(rt.alloc(), commits)?;
+        assert!(rt; is_told(rt.alloc(), &frozen, told) == Ok(true), "{what}");
     }
     Ok(())
 }

@@ -4,7 +4,7 @@ ghost use Rattle.std.specs.Prelude.{◌<◌, ◌≤◌, IfOk};
 ghost use Rattle.chains.specs.KeyWrites.{latest};
 
 use crate::published::{SEVEN, is_text, is_value, put, value};
-use chains::{Bound, ChainMap, Cursor, Frozen, Pending};
+use chains::{Bound, Cursor, Frozen};
 use history::KeyWrite;
 use std::alloc::{AllocError, Global};
 use std::test::Fail;
@@ -22,23 +22,15 @@ fn two_records(alloc: Global) -> Result<Frozen, Fail> {
     Ok(frozen.with_commit(alloc, 120, &[gone])?)
 }
 
-/// Whether a map has a value of this one field for record 7 at a time.
-fn is_mapped(map: &ChainMap, time: u64, text: &str) -> bool {
-    is_text(map.at(SEVEN, time), Some(text))
-}
-
 #[test]
-fn what_is_put_in_place_is_not_in_an_earlier_frozen_view(rt: HostRuntime) -> Result<(), Fail> {
-    let mut map = ChainMap::new();
+fn a_commit_is_not_in_an_earlier_frozen_view(rt: HostRuntime) -> Result<(), Fail> {
+    let before = Frozen::new();
     let write = [put(rt.alloc(), 7, b"a")?];
-    let pending = map.prepare(rt.alloc(), 100, &write)?;
-    let before = map.freeze()?;
-    map.put_in_place(pending);
-    assert!(rt; before.at(SEVEN, 100).is_none() && is_mapped(&map, 100, "a"));
-    assert!(rt; map.last_write(SEVEN) == 100);
-    let forgotten = map.prepare_forget(rt.alloc(), 100)?;
-    map.put_in_place(forgotten);
-    assert!(rt; is_mapped(&map, 100, "a"));
+    let after = before.with_commit(rt.alloc(), 100, &write)?;
+    assert!(rt; before.at(SEVEN, 100).is_none() && is_text(after.at(SEVEN, 100), Some("a")));
+    assert!(rt; after.last_write(SEVEN) == 100);
+    let forgotten = after.forget(rt.alloc(), 100)?;
+    assert!(rt; is_text(forgotten.at(SEVEN, 100), Some("a")));
     Ok(())
 }
 
@@ -330,13 +322,12 @@ const STAYS: &[Look] = &[
 
 #[test]
 fn a_frozen_view_of_many_keys_stays(rt: HostRuntime) -> Result<(), Fail> {
-    let mut map = ChainMap::new();
-    map.put_in_place(Pending::new(many_keys(rt.alloc(), 1024)?));
-    let frozen = map.freeze()?;
+    let frozen = many_keys(rt.alloc(), 1024)?;
     let writes = [put(rt.alloc(), 7, b"z")?];
-    let pending = map.prepare(rt.alloc(), 2000, &writes)?;
-    map.put_in_place(pending);
+    let next = frozen.with_commit(rt.alloc(), 2000, &writes)?;
     assert!(rt; first_unseen(rt.alloc(), &frozen, STAYS).is_none());
-    assert!(rt; is_mapped(&map, 2000, "z") && is_mapped(&map, 1999, "a"));
+    assert!(rt;
+        is_text(next.at(SEVEN, 2000), Some("z")) && is_text(next.at(SEVEN, 1999), Some("a"))
+    );
     Ok(())
 }

@@ -23,7 +23,7 @@ enum Ask {
 }
 
 fn counts(alloc: Global, view: &View, a: u64, b: u64, count: usize) -> bool {
-    let told = matches!(view.between(alloc, SEVEN, a, b), Ok(rows) if rows.len() == count);
+    let told = matches!(view.recent_between(alloc, SEVEN, a, b), Ok(rows) if rows.len() == count);
     match view.recent_rows(SEVEN, a, b) {
         Ok(walk) => told && goes_over(walk, count),
         Err(_) => false,
@@ -41,7 +41,7 @@ fn lends(view: &View, a: u64, b: u64, want: Rows) -> bool {
 
 /// Whether the rows of a relation are these, all of record 7.
 fn scans_rows(alloc: Global, view: &View, (relation, a, b): (u16, u64, u64), want: Rows) -> bool {
-    let answer = view.scan_between(alloc, relation, a, b);
+    let answer = view.recent_scan_between(alloc, relation, a, b);
     match (&answer, want) {
         (Ok(rows), Ok(parts)) => {
             for (row, part) in rows.iter().zip(parts.iter()) {
@@ -63,7 +63,7 @@ fn scans(
     time: u64,
     want: Result<&[u64], QueryFault>,
 ) -> bool {
-    let answer = view.scan_at(alloc, relation, time);
+    let answer = view.recent_scan(alloc, relation, time);
     match (&answer, want) {
         (Ok(found), Ok(records)) => {
             for (one, record) in found.iter().zip(records.iter()) {
@@ -85,10 +85,10 @@ fn is_told(alloc: Global, view: &View, ask: &Ask) -> bool {
                 relation,
                 record: 7,
             };
-            is_answer(view.at(key, time), want)
+            is_answer(view.recent(key, time), want)
         }
         Ask::Between(a, b, want) => {
-            are_answer(&view.between(alloc, SEVEN, a, b), want) && lends(view, a, b, want)
+            are_answer(&view.recent_between(alloc, SEVEN, a, b), want) && lends(view, a, b, want)
         }
         Ask::Count(a, b, count) => counts(alloc, view, a, b, count),
         Ask::ScanBetween(relation, a, b, want) => scans_rows(alloc, view, (relation, a, b), want),

@@ -136,7 +136,7 @@ fn keeps_its_moment(alloc: Global, store: &mut Opened) -> bool {
     let keeps = view.mark() == OWN_MARK
         && matches!(store.at(&view, KEY, 99), Ok(None))
         && matches!(store.at(&view, KEY, 100), Ok(Some(_)))
-        && matches!(view.at(KEY, 110), Err(QueryFault::NotYet(100)));
+        && matches!(view.recent(KEY, 110), Err(QueryFault::NotYet(100)));
     store.end(view);
     is_first && is_second && keeps && shows(store, 110, b"a")
 }

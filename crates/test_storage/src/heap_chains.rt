@@ -2,8 +2,8 @@
 use crate::area_bytes::{begin_with, put};
 use crate::worked_bytes::{ANCHOR, EXTENT_FRONT};
 use deltas::{
-    ChainName, Content, EXTENT_LEN, ExtentBody, Image, Kinds, Record, RecordList, RecordSource,
-    count_extents, fill_chain, fill_extent, laws, pack, seal, unpack,
+    ChainName, Content, EXTENT_LEN, ExtentBody, ExtentCount, Image, Kinds, Record, RecordList,
+    RecordSource, count_extents, fill_extent, laws, pack, seal, unpack,
 };
 use history::Key;
 use std::alloc::Global;
@@ -285,32 +285,22 @@ fn a_changed_extent_is_no_chain(rt: HostRuntime) {
     assert!(rt; is_another(rt.alloc(), 30, 1));
 }
 
-/// The chain of these records in the extents of these numbers; none where it needs another number
-/// of extents.
-fn filled_chain(alloc: Global, records: &[Record], numbers: &[u32]) -> Option<Vec<Image>> {
-    match count_extents(&mut RecordList::new(records)) {
-        Some(count) if count.extents as usize == numbers.len() => {
-            fill_chain(alloc, &mut RecordList::new(records), numbers).ok()
-        }
-        _ => None,
-    }
-}
-
-/// Whether a chain of 1,024 records is filled in extents 3 and 4, not in one, and holds them.
-fn holds_what_is_filled(alloc: Global, records: &[Record]) -> bool {
-    match (
-        filled_chain(alloc, records, &[3]),
-        filled_chain(alloc, records, &[3, 4]),
-    ) {
-        (None, Some(images)) => { holds(alloc, TWO_EXTENTS, Kinds::OfCommit, &images, Some(1024)) }
-        _ => false,
-    }
+/// How many extents a chain of these records needs.
+fn count_of(alloc: Global, records: Records) -> Option<ExtentCount> {
+    let records = list_of(alloc, records)?;
+    count_extents(&mut RecordList::new(&records))
 }
 
 #[test]
-fn a_filled_chain_is_held(rt: HostRuntime) {
-    let Some(records) = list_of(rt.alloc(), short(1024)) else {
-        panic!(rt; "no memory");
-    };
-    assert!(rt; holds_what_is_filled(rt.alloc(), &records));
+fn a_count_says_how_many_extents_a_chain_needs(rt: HostRuntime) {
+    let long = Some(ExtentCount {
+        extents: 2,
+        records: 1024,
+    });
+    assert!(rt; count_of(rt.alloc(), short(1024)) == long);
+    let one = Some(ExtentCount {
+        extents: 1,
+        records: 1,
+    });
+    assert!(rt; count_of(rt.alloc(), SEVEN) == one);
 }

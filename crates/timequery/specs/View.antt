@@ -61,11 +61,6 @@ pub record AnswersAt {V : Type 0} (v : ViewValue) (relation time : ℕ) (answer 
 abbrev pub NeedsRuns : ViewValue → ℕ → QueryFault → Type 0
 NeedsRuns v time fault = (fault ≡ NeedsDisk) × (time < v.reclaimed)
 
--- or memory gave out, where the time lies within the view's bounds
-abbrev pub RefusesScan : ViewValue → ℕ → ℕ → QueryFault → Type 0
-RefusesScan v relation time NoMemory = (floor_at v.floors relation ≤ time) × (time ≤ v.last)
-RefusesScan v relation time fault = RefusesTime v relation time fault
-
 -- a time that is kept is refused where memory lacks versions
 abbrev pub RefusesRecent : ViewValue → ℕ → ℕ → QueryFault → Type 0
 RefusesRecent v relation time NeedsDisk = (floor_at v.floors relation ≤ time) × (time ≤ v.last) × (time < v.reclaimed)
@@ -94,11 +89,6 @@ RefusesBounds v relation a b NoMemory = ⊥
 RefusesBounds v relation a b (Damaged start) = ⊥
 RefusesBounds v relation a b NeedsDisk = ⊥
 RefusesBounds v relation a b Stranger = ⊥
-
--- or memory gave out where nothing of this is
-abbrev pub RefusesInterval : ViewValue → ℕ → ℕ → ℕ → QueryFault → Type 0
-RefusesInterval v relation a b NoMemory = IsInView v relation a b
-RefusesInterval v relation a b fault = RefusesBounds v relation a b fault
 
 -- what stood in the interval is answered
 pub record AnswersBetween {V : Type 0} (v : ViewValue) (relation a b : ℕ) (answer expected : V) : Type 0 where

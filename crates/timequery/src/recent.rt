@@ -1,5 +1,5 @@
 //! What a view answers from memory alone, over a store that may have given up versions.
-ghost use Rattle.std.specs.Prelude.{◌≡◌, ◌≤◌, MatchResult};
+ghost use Rattle.std.specs.Prelude.{◌≤◌, MatchResult};
 ghost use Rattle.std.specs.Option.{option_copied};
 ghost use Rattle.history.specs.Time.{value_at};
 ghost use Rattle.chains.specs.KeyWrites.{writes_of};
@@ -8,36 +8,12 @@ ghost use Rattle.chains.specs.Scans.{scanned};
 ghost use Rattle.timequery.specs.View.{RefusesRecent, RefusesRecentScan, RefusesRecentRows, RefusesRecentWalk, NeedsRuns, AnswersAt, AnswersBetween};
 
 use crate::fault::QueryFault;
-use crate::runs::Runs;
 use crate::view::View;
 use chains::{RowWalk, SharedValue};
 use history::{Key, Version};
 use std::alloc::Global;
 
 impl View {
-    /// The same over these runs of the archive, where memory has given up the versions that ended by the
-    /// reclaim mark, in microseconds since 1970.
-    pub fn with_archive(self, reclaimed: u64, runs: Runs) -> Self
-        ensures { result ≡ record self { reclaimed = reclaimed; runs = runs } }
-    {
-        let View {
-            mark,
-            last,
-            floors,
-            reclaimed: _,
-            runs: _,
-            state,
-        } = self;
-        View {
-            mark,
-            last,
-            floors,
-            reclaimed,
-            runs,
-            state,
-        }
-    }
-
     /// Whether memory has every version that stands at this time or later.
     fn check_memory(&self, time: u64) -> Result<(), QueryFault>
         ensures { MatchResult result (λ _. self.now.reclaimed ≤ time) (NeedsRuns self.now time) }

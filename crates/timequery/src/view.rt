@@ -1,20 +1,14 @@
 //! Views.
 ghost use Rattle.std.specs.Prelude.{◌≡◌, ◌≤◌, [], IfOk, MatchResult};
-ghost use Rattle.std.specs.Option.{option_copied};
 ghost use Rattle.floors.specs.Floors.{floor_at};
-ghost use Rattle.history.specs.Time.{value_at};
-ghost use Rattle.chains.specs.KeyWrites.{writes_of};
-ghost use Rattle.chains.specs.Rows.{rows_in, scanned_rows};
-ghost use Rattle.chains.specs.Scans.{scanned};
-ghost use Rattle.timequery.specs.View.{RefusesTime, RefusesScan, RefusesInterval, RefusesBounds, IsInView, AnswersAt, AnswersBetween};
+ghost use Rattle.timequery.specs.View.{RefusesTime, RefusesBounds, IsInView};
 
 use crate::fault::QueryFault;
 use crate::runs::Runs;
 use archive::RunEntry;
-use chains::{Frozen, SharedValue};
+use chains::Frozen;
 use floors::Floors;
-use history::{Key, Version};
-use std::alloc::{AllocError, Global};
+use std::alloc::AllocError;
 use std::marker::Model;
 
 /// What is published at one moment, which later commits do not change. It is to be given back to
@@ -54,6 +48,29 @@ impl View {
             floors,
             reclaimed: 0,
             runs: Runs::new(),
+            state,
+        }
+    }
+
+    /// The same over these runs of the archive, where memory has given up the versions that ended by the
+    /// reclaim mark, in microseconds since 1970.
+    pub fn with_archive(self, reclaimed: u64, runs: Runs) -> Self
+        ensures { result ≡ record self { reclaimed = reclaimed; runs = runs } }
+    {
+        let View {
+            mark,
+            last,
+            floors,
+            reclaimed: _,
+            runs: _,
+            state,
+        } = self;
+        View {
+            mark,
+            last,
+            floors,
+            reclaimed,
+            runs,
             state,
         }
     }
@@ -139,66 +156,5 @@ impl View {
             return Err(QueryFault::EmptyInterval);
         }
         Ok(())
-    }
-
-    /// The value of a key at a time in microseconds since 1970, from the floor of its relation up to the last
-    /// commit.
-    pub fn at(&self, key: Key, time: u64) -> Result<Option<&SharedValue>, QueryFault>
-        ensures { MatchResult result (λ o. AnswersAt self.now key.relation time (option_copied o) (value_at (writes_of self.now.state key) time)) (RefusesTime self.now key.relation time) }
-    {
-        self.check_time(key.relation, time)?;
-        Ok(self.state.at(key, time))
-    }
-
-    /// The records of a relation that have a value at a time, in rising order, with their values.
-    pub fn scan_at(
-        &self,
-        alloc: Global,
-        relation: u16,
-        time: u64,
-    ) -> Result<Vec<(u64, SharedValue)>, QueryFault>
-        ensures { MatchResult result (λ found. AnswersAt self.now relation time found.items (scanned relation time self.now.state)) (RefusesScan self.now relation time) }
-    {
-        self.check_time(relation, time)?;
-        match self.state.scan(alloc, relation, time) {
-            Ok(found) => Ok(found),
-            Err(_) => Err(QueryFault::NoMemory),
-        }
-    }
-
-    /// The rows of a key from `a` up to `b` in microseconds since 1970, by rising time: the part of
-    /// each version that lies in the interval, with its value.
-    pub fn between(
-        &self,
-        alloc: Global,
-        key: Key,
-        a: u64,
-        b: u64,
-    ) -> Result<Vec<Version<SharedValue>>, QueryFault>
-        ensures { MatchResult result (λ rows. AnswersBetween self.now key.relation a b rows.items (rows_in self.now.state a b key)) (RefusesInterval self.now key.relation a b) }
-    {
-        self.check_interval(key.relation, a, b)?;
-        match self.state.rows(alloc, key, a, b) {
-            Ok(rows) => Ok(rows),
-            Err(_) => Err(QueryFault::NoMemory),
-        }
-    }
-
-    /// The rows of a relation's records from `a` up to `b`, by record and then by time, each with its
-    /// record.
-    pub fn scan_between(
-        &self,
-        alloc: Global,
-        relation: u16,
-        a: u64,
-        b: u64,
-    ) -> Result<Vec<(u64, Version<SharedValue>)>, QueryFault>
-        ensures { MatchResult result (λ rows. AnswersBetween self.now relation a b rows.items (scanned_rows relation a b self.now.state)) (RefusesInterval self.now relation a b) }
-    {
-        self.check_interval(relation, a, b)?;
-        match self.state.scan_rows(alloc, relation, a, b) {
-            Ok(rows) => Ok(rows),
-            Err(_) => Err(QueryFault::NoMemory),
-        }
     }
 }

@@ -11,7 +11,8 @@ use wire::Run;
 
 /// The run of the versions that ended after the archive mark and the floor of their relation and by
 /// `upto`, all in microseconds since 1970, from the place `start` of the archive on: what its slot names,
-/// and what writes it. None where it would end past 2^63 - 1.
+/// and what writes it. The records are walked once to count their bytes, so that the slot can name the run
+/// before its first byte is written. None where it would end past 2^63 - 1.
 pub fn archive_run(
     frozen: Frozen,
     since: Since,

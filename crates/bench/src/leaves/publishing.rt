@@ -6,7 +6,7 @@ ghost use Rattle.history.specs.Key.{key_cmp};
 ghost use Rattle.chains.specs.KeyWrites.{latest};
 
 use crate::leaves::table::{Scale, nanoseconds, print_time};
-use chains::{ChainMap, Frozen, Pending, SharedValue};
+use chains::{Frozen, SharedValue};
 use history::{Key, KeyWrite, LAST_TIME};
 use snapshot::Txn;
 use std::alloc::{AllocError, Global};
@@ -31,10 +31,10 @@ const FIELDS: [&[u8]; 4] = [
     b"cdefghijklmnopqr",
 ];
 
-/// A map of versions, and the time of its last commit.
+/// The versions of a map, and the time of its last commit.
 #[derive(Drop)]
 pub(crate) struct Published {
-    map: ChainMap,
+    current: Frozen,
     last: u64,
 }
 
@@ -44,16 +44,16 @@ impl Model for Published {
 
     ghost Value = { List KeyWrites };
 
-    ghost view = { λ p. p.map };
+    ghost view = { λ p. p.current };
 
-    ghost invariant = { λ p. latest p.map ≤ p.last };
+    ghost invariant = { λ p. latest p.current ≤ p.last };
 }
 
 impl Published {
     /// Nothing was published yet.
     fn new() -> Published {
         Published {
-            map: ChainMap::new(),
+            current: Frozen::new(),
             last: 0,
         }
     }
@@ -66,8 +66,7 @@ impl Published {
             return Err(AllocError);
         }
         let time = self.last + 1;
-        let next = self.map.freeze()?.with_commit(alloc, time, writes)?;
-        self.map.put_in_place(Pending::new(next));
+        self.current = self.current.with_commit(alloc, time, writes)?;
         self.last = time;
         Ok(())
     }
@@ -89,7 +88,7 @@ impl Published {
 
     /// The map as it is now.
     pub(crate) fn freeze(&self) -> Result<Frozen, AllocError> {
-        self.map.freeze()
+        self.current.share()
     }
 
     /// The time of the last commit, in microseconds since 1970.
@@ -100,7 +99,7 @@ impl Published {
     /// Freezes the map this often.
     fn freeze_often(&self, rounds: u64) -> Result<(), AllocError> {
         for _ in 0..rounds {
-            let _frozen = self.map.freeze()?;
+            let _frozen = self.current.share()?;
         }
         Ok(())
     }

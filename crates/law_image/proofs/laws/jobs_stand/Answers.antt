@@ -8,15 +8,15 @@ use Rattle.law_image.proofs.PieceStep.{piece-stands_for}
 use Rattle.law_image.proofs.laws.jobs_stand.Goals as goal
 
 pub returns-clause-archive : goal.returns-clause-archive
-returns-clause-archive c = λ reading h floors upto run stands plan after within room.
+returns-clause-archive c = λ reading h floors upto run stands plan after within slots room.
     let may : upto ≤ last_time reading.log = omega (arith, last-is reading h floors stands) in
-    archive-stands_for reading h floors stands upto run plan (after, may) room
+    archive-stands_for reading h floors stands upto run plan (after, may) slots room
 
 pub returns-clause-reclaim : goal.returns-clause-reclaim
-returns-clause-reclaim c = λ reading h floors olds stands plan advances room. reclaim-stands_for reading h floors stands olds plan advances room
+returns-clause-reclaim c = λ reading h floors olds stands plan advances slots room. reclaim-stands_for reading h floors stands olds plan advances slots room
 
 pub returns-clause-floor : goal.returns-clause-floor
-returns-clause-floor c = λ reading h floors scope floor stands may room. floor-stands_for reading h floors stands scope floor may room
+returns-clause-floor c = λ reading h floors scope floor stands may slots room. floor-stands_for reading h floors stands scope floor may slots room
 
 pub returns-clause-piece : goal.returns-clause-piece
-returns-clause-piece c = λ reading h floors stands later room. piece-stands_for reading h floors stands later room
+returns-clause-piece c = λ reading h floors stands later slots room. piece-stands_for reading h floors stands later slots room

@@ -1,6 +1,0 @@
-use Rattle.std.proofs.Common.{arith}
-use Rattle.std.proofs.lemmas.Grind.{common_steps}
-use Rattle.history.proofs.commits.writes_of.Goals as goal
-
-pub loop-c-preserved : goal.loop-c-preserved
-loop-c-preserved g c = grind (arith, common_steps)

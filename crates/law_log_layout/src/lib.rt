@@ -1,0 +1,5 @@
+//! From the bytes of an image whose log lies in the heap to what it stands for: laws, each as a function
+//! with nothing to do.
+#![tactic(auto)]
+
+pub mod laws;
