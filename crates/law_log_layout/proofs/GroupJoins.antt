@@ -24,19 +24,20 @@ use Rattle.log_entries.specs.declared.entry.AnchorName.{AnchorName}
 use Rattle.law_log_layout.specs.HeapLog.{PlacedChain, HeapLog, live_numbers, IsPlaced, AreChained, member_told, chain_told, chains_told}
 use Rattle.law_log_layout.specs.HeapLog.{runs_behind, runs_from, rolls_in, anchors_in, AreNamed, IsLogOf, with_chain, placed_group, MayJoin}
 
-chained-more : (root next : ℕ) (chains : List PlacedChain) (c : PlacedChain) → AreChained root chains next → first_or 0 c.numbers ≡ next
+pub chained-more : (root next : ℕ) (chains : List PlacedChain) (c : PlacedChain) → AreChained root chains next → first_or 0 c.numbers ≡ next
     → AreChained root (chains ++ c ∷ []) c.link
 chained-more root next [] c chained head = (head ∙ sym chained, refl)
 chained-more root next (d ∷ chains) c chained head = (chained.0, chained-more d.link next chains c chained.1 head)
 
-runs-split : (before : List Run) (chains more : List PlacedChain) → runs_from before (chains ++ more) ≡ runs_from (runs_from before chains) more
+pub runs-split : (before : List Run) (chains more : List PlacedChain) → runs_from before (chains ++ more) ≡ runs_from (runs_from before chains) more
 runs-split before [] more = refl
 runs-split before (c ∷ chains) more = runs-split (runs_behind before c.entry) chains more
 
-none-more : {X : Type 0} (f : PlacedChain → List X) (chains : List PlacedChain) (c : PlacedChain) → f c ≡ [] → flat_map f (chains ++ c ∷ []) ≡ flat_map f chains
+pub none-more : {X : Type 0} (f : PlacedChain → List X) (chains : List PlacedChain) (c : PlacedChain) → f c ≡ [] → flat_map f (chains ++ c ∷ [])
+    ≡ flat_map f chains
 none-more f chains c none = flat_map-append f chains (c ∷ []) ∙ ap (λ l. flat_map f chains ++ l) (append-nil (f c) ∙ none) ∙ append-nil (flat_map f chains)
 
-live-more : (l : HeapLog) (c : PlacedChain) → live_numbers (with_chain l c) ≡ live_numbers l ++ c.numbers
+pub live-more : (l : HeapLog) (c : PlacedChain) → live_numbers (with_chain l c) ≡ live_numbers l ++ c.numbers
 live-more l c =
     ap (λ ns. l.anchors.numbers ++ ns) (flat_map-append (λ (d : PlacedChain). d.numbers) l.chains (c ∷ [])
     ∙ ap (λ ns. flat_map (λ (d : PlacedChain). d.numbers) l.chains ++ ns) (append-nil c.numbers))

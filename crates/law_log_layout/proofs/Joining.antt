@@ -12,12 +12,13 @@ use Rattle.log_extents.specs.Extents.{LinkedExtent, linked_bytes}
 use Rattle.log_extents.specs.Chains.{first_or, chain_to, chain_of, IsNumberOf, IsNew, AreDistinct}
 use Rattle.log_entries.specs.Spelling.{entry_bytes}
 use Rattle.law_log_layout.specs.Turns.{HoldsAll, gate_part, IsClosed, ArePartsApart, AreApartFrom, IsFree, HoldsNew}
-use Rattle.law_log_layout.specs.HeapLog.{PlacedChain, HeapLog, extent_part, extents_of, anchor_extents, heap_parts, live_numbers, IsPlaced}
-use Rattle.law_log_layout.specs.HeapLog.{ArePlaced, written_parts, with_chain, turn_of, MayJoin}
+use Rattle.law_log_layout.specs.HeapLog.{PlacedChain, HeapLog, extents_of, anchor_extents, heap_parts, live_numbers, IsPlaced}
+use Rattle.law_log_layout.specs.HeapLog.{ArePlaced, with_chain, turn_of, MayJoin}
 use Rattle.law_layout.specs.Records.{old_bytes}
 use Rattle.law_log_layout.proofs.Places.{new-front, new-back, none-new, within-apart, AreWithin, within-append, one-apart, apart-one, all-apart}
 use Rattle.law_log_layout.proofs.Places.{distinct-parts, in-turn, chain-within, written-within, gate-within, head-apart}
 use Rattle.log_writer.specs.Turns.{open_gate, Part}
+use Rattle.log_writer.specs.Turns.{extent_part, written_parts}
 
 -- ---- a byte and what follows it
 

@@ -10,8 +10,8 @@ use Rattle.law_layout.proofs.Lists.{numbers_apart}
 use Rattle.log_extents.specs.Extents.{LinkedExtent, linked_bytes}
 use Rattle.log_extents.specs.Chains.{first_or, chain_to, chain_of, IsNumberOf, IsNew, AreDistinct}
 use Rattle.law_log_layout.specs.Turns.{gate_part, ArePartsApart, AreApartFrom, AreInTurn}
-use Rattle.law_log_layout.specs.HeapLog.{extent_part, head_part, written_parts}
 use Rattle.log_writer.specs.Turns.{Part}
+use Rattle.log_writer.specs.Turns.{extent_part, head_part, written_parts}
 
 -- an extent whose body fits has 8,192 bytes
 linked-length : (e : LinkedExtent) → length e.body ≤ 8168 → length (linked_bytes e) ≡ 8192

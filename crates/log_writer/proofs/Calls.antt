@@ -57,8 +57,10 @@ next-of (p ∷ ps) (suc k) lt =
 pub next-part : (w : WriterState) (written : ℕ) → written < length w.numbers → IsNext (turn w).parts written
 next-part w written lt = next-of (turn w).parts written (omega (arith, parts-many w.link w.numbers w.content, lt))
 
-pub call-more : (w : WriterState) (written : ℕ) (next : IsNext (turn w).parts written) (answer : Result (Unit {0}) DeviceFault) (old new : Areas) → stage_of (turn w).parts (step.Writing written) ≡ w.stage
-    → ((p : Part) (rest : List Part) → drop written (turn w).parts ≡ p ∷ rest → Writes Heap p.place p.bytes answer old new) → IsCallOf (turn w) w.stage answer old new
+pub call-more : (w : WriterState) (written : ℕ) (next : IsNext (turn w).parts written) (answer : Result (Unit {0}) DeviceFault) (old new : Areas)
+    → stage_of (turn w).parts (step.Writing written) ≡ w.stage
+    → ((p : Part) (rest : List Part) → drop written (turn w).parts ≡ p ∷ rest → Writes Heap p.place p.bytes answer old new)
+    → IsCallOf (turn w) w.stage answer old new
 call-more w written next answer old new at call =
     subst (λ (s : Stage). IsCallOf (turn w) s answer old new) at
     (subst (λ (l : List Part). IsCallOf (turn w) (Writing (take written (turn w).parts) l) answer old new) (sym next.are) (call next.part next.rest next.are))
@@ -73,16 +75,20 @@ leads-more w written next at =
 
 -- ---- all parts are written
 
-all-written : (w : WriterState) (written : ℕ) → length w.numbers ≤ written → stage_of (turn w).parts (step.Writing written) ≡ w.stage → Writing (take written (turn w).parts) [] ≡ w.stage
+all-written : (w : WriterState) (written : ℕ) → length w.numbers ≤ written → stage_of (turn w).parts (step.Writing written) ≡ w.stage
+    → Writing (take written (turn w).parts) [] ≡ w.stage
 all-written w written le at =
-    let none : drop written (turn w).parts ≡ [] = nil_from_length (drop written (turn w).parts) (omega (arith, length-drop written (turn w).parts, parts-many w.link w.numbers w.content, le)) in
+    let none : drop written (turn w).parts ≡ [] =
+    nil_from_length (drop written (turn w).parts) (omega (arith, length-drop written (turn w).parts, parts-many w.link w.numbers w.content, le)) in
     ap (Writing (take written (turn w).parts)) (sym none) ∙ at
 
-pub call-last : (v w : WriterState) (written : ℕ) (answer : Result (Unit {0}) DeviceFault) (old new : Areas) → length w.numbers ≤ written → stage_of (turn w).parts (step.Writing written) ≡ w.stage
+pub call-last : (v w : WriterState) (written : ℕ) (answer : Result (Unit {0}) DeviceFault) (old new : Areas) → length w.numbers ≤ written
+    → stage_of (turn w).parts (step.Writing written) ≡ w.stage
     → v ≡ w → Writes Heap (extent_start v.link) (0 ∷ []) answer old new → IsCallOf (turn w) w.stage answer old new
 call-last v w written answer old new le at same call =
     subst (λ (s : Stage). IsCallOf (turn w) s answer old new) (all-written w written le at)
     (subst (λ (x : WriterState). Writes Heap (extent_start x.link) (0 ∷ []) answer old new) same call)
 
-pub leads-last : (w : WriterState) (written : ℕ) → length w.numbers ≤ written → stage_of (turn w).parts (step.Writing written) ≡ w.stage → (Syncing ≡ stage_after w.stage) × (wrote.ClosedGate ≡ did w.stage)
+pub leads-last : (w : WriterState) (written : ℕ) → length w.numbers ≤ written → stage_of (turn w).parts (step.Writing written) ≡ w.stage
+    → (Syncing ≡ stage_after w.stage) × (wrote.ClosedGate ≡ did w.stage)
 leads-last w written le at = (ap stage_after (all-written w written le at), ap did (all-written w written le at))

@@ -1,5 +1,6 @@
 -- The parts of a chain, one after the other.
-use Rattle.std.proofs.Common.{◌≡◌, ⊎_elim, get_or, replicate, length-append, ℕ, ◌+◌, ◌-◌, ◌*◌, ◌<◌, ◌≤◌, min, zero, suc, List, [], ◌∷◌, map, length, take, drop, refl, sym, ap, ◌∙◌, arith}
+use Rattle.std.proofs.Common.{◌≡◌, ⊎_elim, get_or, replicate, length-append, ℕ, ◌+◌, ◌-◌, ◌*◌, ◌<◌, ◌≤◌, min, zero, suc, List, [], ◌∷◌, map, length, take, drop}
+use Rattle.std.proofs.Common.{refl, sym, ap, ◌∙◌, arith}
 use Rattle.std.proofs.lemmas.List.{drop-drop, take-take, take_all, length-drop, length-take, length-replicate}
 use Rattle.std.proofs.lemmas.Bool.Decides.{nat_tests}
 use Rattle.std.proofs.lemmas.Bool.{cases_lt}
@@ -28,12 +29,15 @@ body-part from m n xs is =
     take-take m len ys (least-low m n len is)
     ∙ ⊎_elim
     (λ (more : n < len). ap (λ (k : ℕ). take k ys) (least-some m n len is more))
-    (λ (all : len ≤ n). ap (λ (k : ℕ). take k ys) (least-all m n len is all) ∙ take_all len ys (omega (arith, long)) ∙ sym (take_all n ys (omega (arith, long, all))))
+    (λ (all : len ≤ n). ap (λ (k : ℕ). take k ys) (least-all m n len is all) ∙ take_all len ys (omega (arith, long))
+    ∙ sym (take_all n ys (omega (arith, long, all))))
     (cases_lt n len)
 
-pub slice-part : (from m n : ℕ) (xs : List ℕ) → m ≡ min (length (take (length xs - from) (drop from xs))) n → take m (take (length xs - from) (drop from xs)) ≡ take n (drop from xs)
+pub slice-part : (from m n : ℕ) (xs : List ℕ) → m ≡ min (length (take (length xs - from) (drop from xs))) n → take m (take (length xs - from) (drop from xs))
+    ≡ take n (drop from xs)
 slice-part from m n xs is =
-    let long : length (take (length xs - from) (drop from xs)) ≡ length xs - from = omega (arith, length-take (length xs - from) (drop from xs), length-drop from xs) in
+    let long : length (take (length xs - from) (drop from xs)) ≡ length xs - from =
+    omega (arith, length-take (length xs - from) (drop from xs), length-drop from xs) in
     body-part from m n xs (is ∙ ap (λ (k : ℕ). min k n) long)
 
 -- ---- the extents of a chain from one of them on
@@ -54,7 +58,8 @@ drop-map f (suc k) (x ∷ xs) = drop-map f k xs
 -- the extent at a place of a chain, as it is written
 abbrev pub part_at : ℕ → ℕ → ℕ → List ℕ → List ℕ → Part
 part_at zero link n ns content = head_part (record { gate = open_gate; number = n; next = first_or 0 ns; link = link; body = take 8168 content })
-part_at (suc k) link n ns content = extent_part (record { gate = 0; number = n; next = first_or 0 ns; link = 0; body = take 8168 (drop (8168 * suc k) content) })
+part_at (suc k) link n ns content =
+    extent_part (record { gate = 0; number = n; next = first_or 0 ns; link = 0; body = take 8168 (drop (8168 * suc k) content) })
 
 -- what is left to be written from there on
 pub parts-from : (k link : ℕ) (numbers content : List ℕ) (n : ℕ) (ns : List ℕ) → drop k numbers ≡ n ∷ ns
@@ -98,7 +103,8 @@ pub record IsPart (place : ℕ) (bytes : List ℕ) (p : Part) : Type 0 where
   pub place_is : place ≡ p.place
   pub bytes_are : bytes ≡ p.bytes
 
-pub head-is : (numbers : List ℕ) (link : ℕ) (content : List ℕ) (n next : ℕ) (body image : List ℕ) (place : ℕ) → 0 < length numbers → n ≡ get_or numbers 0 n → next ≡ first_or 0 (drop 1 numbers)
+pub head-is : (numbers : List ℕ) (link : ℕ) (content : List ℕ) (n next : ℕ) (body image : List ℕ) (place : ℕ) → 0 < length numbers → n ≡ get_or numbers 0 n
+    → next ≡ first_or 0 (drop 1 numbers)
     → body ≡ take 8168 content → image ≡ linked_bytes (record { gate = 0; number = n; next = next; link = link; body = body }) → place ≡ extent_start n
     → (p : Part) (rest : List Part) → written_parts (chain_of open_gate link numbers content) ≡ p ∷ rest → IsPart (place + 1) (take 8191 (drop 1 image)) p
 head-is [] link content n next body image place some here behind part whole at p rest is = absurd (omega (arith, some))
@@ -115,9 +121,12 @@ head-is (m ∷ ms) link content n next body image place some here behind part wh
       bytes_are = ap (take 8191) tail ∙ take_all 8191 (drop 1 (linked_bytes e)) long ∙ ap (λ (q : Part). q.bytes) same;
     }
 
-pub other-is : (numbers : List ℕ) (link : ℕ) (content : List ℕ) (index n next : ℕ) (body image : List ℕ) (place : ℕ) → 0 < index → index < length numbers → n ≡ get_or numbers index n
-    → next ≡ first_or 0 (drop (index + 1) numbers) → body ≡ take 8168 (drop (8168 * index) content) → image ≡ linked_bytes (record { gate = 0; number = n; next = next; link = 0; body = body })
-    → place ≡ extent_start n → (p : Part) (rest : List Part) → drop index (written_parts (chain_of open_gate link numbers content)) ≡ p ∷ rest → IsPart place image p
+pub other-is : (numbers : List ℕ) (link : ℕ) (content : List ℕ) (index n next : ℕ) (body image : List ℕ) (place : ℕ) → 0 < index → index < length numbers → n
+    ≡ get_or numbers index n
+    → next ≡ first_or 0 (drop (index + 1) numbers) → body ≡ take 8168 (drop (8168 * index) content) → image
+    ≡ linked_bytes (record { gate = 0; number = n; next = next; link = 0; body = body })
+    → place ≡ extent_start n → (p : Part) (rest : List Part) → drop index (written_parts (chain_of open_gate link numbers content)) ≡ p ∷ rest
+    → IsPart place image p
 other-is numbers link content zero n next body image place other within here behind part whole at p rest is = absurd (omega (arith, other))
 other-is numbers link content (suc k) n next body image place other within here behind part whole at p rest is =
     let ns = drop (suc k + 1) numbers in

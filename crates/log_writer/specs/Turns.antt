@@ -41,7 +41,8 @@ abbrev pub chain_turn : List ℕ → ℕ → List ℕ → Turn
 chain_turn numbers link content =
     record { gate = extent_start (first_or 0 numbers); parts = written_parts (chain_of open_gate link numbers content); closes = extent_start link }
 
--- Where the chain is: some parts are written and others not yet, and behind the last one the gate where the log then ends is closed; all is to be synced; its gate is
+-- Where the chain is: some parts are written and others not yet, and behind the last one the gate where the log then ends is closed; all is to be synced; its
+-- gate is
 -- to be opened; that is to be synced; the chain is the log's.
 pub data Stage : Type 0 where
   Writing : List Part → List Part → Stage

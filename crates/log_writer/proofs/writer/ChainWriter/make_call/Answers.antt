@@ -37,7 +37,12 @@ returns-in_ok-write_gate-in-Writing-2-clause-call g c = λ told.
     let w = c.args.self.now in
     let written = c.in-Writing-2.field-0 in
     let at = stage-is _ w (step.Writing written) (ap (stage_of _) c.in-Writing-2.is) c.self.view_is in
-    call-last _ w written _ _ _ (grind (arith, nat_tests, c.if-written-len.false, c.len.ensures)) at c.self.view_is (c.in_ok-write_gate-in-Writing-2.ensures.call told)
+    call-last _ w written _ _ _ (grind (
+      arith,
+      nat_tests,
+      c.if-written-len.false,
+      c.len.ensures,
+    )) at c.self.view_is (c.in_ok-write_gate-in-Writing-2.ensures.call told)
 
 pub returns-in_err-write_gate-in-Writing-2-clause-call : goal.returns-in_err-write_gate-in-Writing-2-clause-call
 returns-in_err-write_gate-in-Writing-2-clause-call g c = λ told.
@@ -45,7 +50,12 @@ returns-in_err-write_gate-in-Writing-2-clause-call g c = λ told.
     let written = c.in-Writing-2.field-0 in
     let at = stage-is _ w (step.Writing written) (ap (stage_of _) c.in-Writing-2.is) c.self.view_is in
     let e = err_from_is_err_and c.from_residual-in_err-write_gate-in-Writing-2.result c.from_residual-in_err-write_gate-in-Writing-2.ensures.1 in
-    rw (e.1, e.2) (call-last _ w written _ _ _ (grind (arith, nat_tests, c.if-written-len.false, c.len.ensures)) at c.self.view_is (c.in_err-write_gate-in-Writing-2.ensures.call told))
+    rw (e.1, e.2) (call-last _ w written _ _ _ (grind (
+      arith,
+      nat_tests,
+      c.if-written-len.false,
+      c.len.ensures,
+    )) at c.self.view_is (c.in_err-write_gate-in-Writing-2.ensures.call told))
 
 pub returns-in_ok-write_gate-in-Writing-2-clause-leads : goal.returns-in_ok-write_gate-in-Writing-2-clause-leads
 returns-in_ok-write_gate-in-Writing-2-clause-leads g c =

@@ -15,6 +15,8 @@ returns-clause-call g c = λ p rest is told.
     let n = c.index-number.result.now in
     let here : n ≡ get_or c.args.self.now.numbers index n = c.index-number.ensures ∙ ap (λ (w : WriterState). get_or w.numbers index n) c.self.view_is in
     let part : IsPart c.extent_place.result _ p =
-    other-is c.args.self.now.numbers c.args.self.now.link c.args.self.now.content index n c.number_behind.result c.body.result.now c.fill_extent.new.image c.extent_place.result c.requires.other c.requires.within here
+    other-is c.args.self.now.numbers c.args.self.now.link c.args.self.now.content index n c.number_behind.result c.body.result.now c.fill_extent.new.image
+    c.extent_place.result c.requires.other c.requires.within here
     c.number_behind.ensures c.body.ensures c.fill_extent.ensures c.extent_place.ensures p rest is in
-    subst (λ (q : ℕ × List ℕ). Writes Heap q.0 q.1 c.write_at.result (g.D.Disk.state c.args.disk.now).areas (g.D.Disk.state c.write_at.new.self).areas) (λ i. (part.place_is i, part.bytes_are i)) (c.write_at.ensures.areas told)
+    subst (λ (q : ℕ × List ℕ). Writes Heap q.0 q.1 c.write_at.result (g.D.Disk.state c.args.disk.now).areas (g.D.Disk.state c.write_at.new.self).areas)
+    (λ i. (part.place_is i, part.bytes_are i)) (c.write_at.ensures.areas told)
