@@ -47,8 +47,8 @@ use store::{
 
 /// A store that stands for a state that steps of the machine lead to from the opening one, the book
 /// of the commits that callers were told of, and the pass that writes the published time. To a
-/// contract it is the store. Each method makes one call of the store at most, and no more than that
-/// changes, as its first clause says.
+/// contract it is the store. Each method makes one call of the store at most. Of all but the queries the
+/// first clause says that no more than that changes.
 pub struct Locked<D: Disk, L: Opening> {
     store: Store<D>,
     book: Book<L>,
