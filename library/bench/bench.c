@@ -77,14 +77,14 @@ static void groups(ts_file *file, uint64_t count) {
 /* The device calls are told and confirmed, and not made: what the library alone costs. */
 static void unmade(ts *h, uint64_t count) {
     static uint8_t bytes[TS_WRITE_MOST];
-    ts_info info;
+    ts_info info, told;
     ts_device call;
     double start = seconds();
     for (uint64_t n = 0; n < count; n++) {
         submit_text(h, n, "abcdefgh", 0, 0);
         do {
             CHECK(TS_OK, ts_pump(h, &info));
-            if (ts_call(h, &call, bytes, sizeof bytes) == TS_OK) CHECK(TS_OK, ts_called(h, true));
+            if (ts_call(h, &call, bytes, sizeof bytes) == TS_OK) CHECK(TS_OK, ts_called(h, true, &told));
         } while (info.a != TS_IDLE);
     }
     row("a commit with its device calls not made", 1e9 * (seconds() - start) / (double)count, "ns");

@@ -1,13 +1,13 @@
 /* timestore: a store of records that keeps every version, in the process of its user.
  *
  * The library opens no file, starts no thread and holds no lock. Where the store is to write or sync, its
- * user, the host, makes that device call: after ts_pump and ts_job_pump it asks ts_call, makes what is told,
- * and says so by ts_called. Until then every call answers TS_PENDING but ts_call, ts_called, ts_close, the
- * reads and writes of open transactions, the queries of views, ts_abort, ts_end and ts_give_up. If the device
- * refused it, the host says ts_called(h, false): from then on the store answers what was published before that
- * call, tickets of commits that were not are in doubt, nothing is written any more, and the store is to be
- * opened again. So it is too where there was no memory to tell the device call: the step then answers
- * TS_FAILED, and no call stands out.
+ * user, the host, makes that device call: where ts_pump or ts_job_pump tells TS_CALL_DUE it asks ts_call, makes
+ * what is told, and says so by ts_called, which tells what the step did. Until then every call answers TS_PENDING
+ * but ts_call, ts_called, ts_close, the reads and writes of open transactions, the queries of views, ts_abort,
+ * ts_end and ts_give_up. If the device refused it, the host says so by ts_called: from then on the store answers
+ * what was published before that call, tickets of commits that were not are in doubt, nothing is written any
+ * more, and the store is to be opened again. So it is too where there was no memory to tell the device call: the
+ * step then answers TS_FAILED, and no call is due.
  * timestore_file.h has a host for files, which does all this.
  *
  * What the host must uphold, which nothing checks:
@@ -16,13 +16,15 @@
  *      of the archive that a query is lent: all that was written to that area so far, from its first byte on.
  *   2. A write goes to that area and place whole, and a gap before it reads as zeros. A sync returns once
  *      what was written to that area outlasts a stop (fdatasync). They are made in the order told, each
- *      before ts_called(h, true). Of a write that was refused any part may have been made.
+ *      before ts_called says that it was. Of a write that was refused any part may have been made.
  *   3. A handle begins as TS_EMPTY, is not copied, and stays on the thread that opened it, which makes one
  *      call at a time. Several threads have one of them own it and serve the others by a queue (owner.c
  *      of the examples).
  *   4. No pointer is null, also where the length beside it is 0; memory that is written to lies apart from
  *      all else that the call is given, and lengths are those of the memory.
- *   5. malloc, realloc and free are one allocator, of blocks aligned to 16 bytes. No call is made from a
+ *   5. Stores that are open in one process have marks whose lowest 15 bits differ. Then a number of one names
+ *      nothing in another.
+ *   6. malloc, realloc and free are one allocator, of blocks aligned to 16 bytes. No call is made from a
  *      signal handler, nor in the child of a fork.
  *
  * Times are microseconds since 1970. A call gives a code: 0 and more for an answer, less for a refusal,
@@ -50,7 +52,7 @@ typedef struct ts_info {
     uint64_t a, b;
 } ts_info;
 
-/* A device call that stands out: of a write the place and the length of its bytes. */
+/* A device call that is due: of a write the place and the length of its bytes; a sync has 0 in both. */
 typedef struct ts_device {
     uint32_t kind, area;
     uint64_t at, len;
@@ -72,7 +74,7 @@ typedef struct ts_row {
 /* Codes. What info has beside one stands behind it. */
 enum {
     TS_OK = 0,
-    TS_NONE = 1,            /* there is no value; no device call stands out */
+    TS_NONE = 1,            /* there is no value; no device call is due */
     TS_WAITING = 2,         /* the commit waits; a: the ticket's new number */
     TS_READ_ONLY = 3,       /* nothing was written, the transaction is over; a: the time of its snapshot */
     TS_IN_DOUBT = 4,        /* the device failed before the commit was published: opened again, the store
@@ -109,7 +111,7 @@ enum {
     TS_NOT_GROWABLE = -28   /* it would have more than 65,536 slots, or the first timestore made it */
 };
 
-/* What a step did: ts_pump and ts_job_pump tell it in a; of TS_PUBLISHED, b has the commits of the group. */
+/* What a step did: ts_called tells it in a; of TS_PUBLISHED, b has the commits of the group. */
 enum {
     TS_IDLE = 0,
     TS_WROTE = 1,
@@ -123,14 +125,16 @@ enum {
     TS_ZEROS_WRITTEN = 9, /* of a growth: zeros are written behind the slots */
     TS_ZEROS_SYNCED = 10
 };
+/* What ts_pump and ts_job_pump tell in a, where it is not TS_IDLE: the device call of the step is to be made. */
+enum { TS_CALL_DUE = 11 };
 
 /* The status area of a new store; a: its length, 512 + 512 slots. The host writes it from byte 512 on,
    syncs it, writes the first 512 bytes, and syncs it. The other two areas begin empty. */
 int32_t ts_format(uint32_t slots, uint8_t *out, size_t len, ts_info *info);
 
 /* Opens the store of these bytes; a: the time of the last commit, b: the floor of all relations. TS_NOT_A_STORE and
-   TS_DAMAGED by the first rule of the format that they break. The mark is a number of the host's own, which
-   numbers of this store carry in the library. */
+   TS_DAMAGED by the first rule of the format that they break. The mark is a number of the host's own, whose lowest
+   15 bits each number of this store has. */
 int32_t ts_open(ts *h, const uint8_t *status, size_t status_len, const uint8_t *heap, size_t heap_len,
                 const uint8_t *archive, size_t archive_len, uint64_t mark, ts_info *info);
 
@@ -140,11 +144,12 @@ int32_t ts_close(ts *h);
 /* a: the time of the last commit, b: the floor of all relations, 0 where each has one of its own. */
 int32_t ts_last(ts *h, ts_info *info);
 
-/* The device call that stands out, with the bytes of a write, as often as it is asked; TS_NONE where none does. */
+/* The device call that is due, with the bytes of a write, as often as it is asked; TS_NONE where none is. */
 int32_t ts_call(ts *h, ts_device *call, uint8_t *out, size_t len);
 
-/* The device call was made, or was refused, which gives TS_FAILED. TS_NONE where none stands out. */
-int32_t ts_called(ts *h, bool made);
+/* The device call was made; a and b: what its step did. Only then are the commits of a group published. Or it was
+   refused, which gives TS_FAILED. TS_NONE where none is due. */
+int32_t ts_called(ts *h, bool made, ts_info *info);
 
 /* A transaction on what is published; a: its number, b: the time of its snapshot. */
 int32_t ts_begin(ts *h, ts_info *info);
@@ -164,7 +169,7 @@ int32_t ts_scan(ts *h, uint64_t txn, uint16_t relation, ts_row *rows, size_t row
 int32_t ts_submit(ts *h, uint64_t txn, uint64_t label, uint64_t now, ts_info *info);
 int32_t ts_abort(ts *h, uint64_t txn);
 
-/* The next step of the group of commits that is being written; a: what it did. */
+/* The next step of the group of commits that is being written; a: TS_CALL_DUE, or TS_IDLE where there is none. */
 int32_t ts_pump(ts *h, ts_info *info);
 
 /* Whether the ticket's commit is published, TS_OK; a: its time. The ticket is spent. */
@@ -226,7 +231,7 @@ int32_t ts_floor(ts *h, uint64_t time, ts_info *info);
    slots more. It takes no slot and holds up no commit. */
 int32_t ts_grow(ts *h, ts_info *info);
 
-/* The next step of the archive, the reclaim, the floor or the growth that is being made; a: what it did. */
+/* The next step of the archive, the reclaim, the floor or the growth that is being made, as ts_pump. */
 int32_t ts_job_pump(ts *h, ts_info *info);
 
 #ifdef __cplusplus

@@ -28,7 +28,7 @@ int32_t ts_file_open(const char *folder, ts_file **file, ts_info *info);
 /* The store, for all calls but ts_open, ts_close, ts_call, ts_called, ts_pump and ts_job_pump. */
 ts *ts_file_store(ts_file *file);
 
-/* ts_pump and ts_job_pump with their device call, made or refused. */
+/* ts_pump and ts_job_pump with their device call, made or refused; a: what the step did. */
 int32_t ts_file_pump(ts_file *file, ts_info *info);
 int32_t ts_file_job_pump(ts_file *file, ts_info *info);
 

@@ -3,6 +3,7 @@
 #include "timestore_file.h"
 #include <errno.h>
 #include <fcntl.h>
+#include <stdatomic.h>
 #include <stdlib.h>
 #include <sys/file.h>
 #include <sys/mman.h>
@@ -99,6 +100,12 @@ int32_t ts_file_format(const char *folder, uint32_t slots) {
     return code;
 }
 
+/* A mark for each store that is opened: two that are open at once have other ones, unless 32,768 are. */
+static uint64_t next_mark(void) {
+    static atomic_uint_fast32_t marks;
+    return atomic_fetch_add(&marks, 1);
+}
+
 /* Syncs the files and opens the store on them, mapped. */
 static int32_t open_mapped(ts_file *file, ts_info *info) {
     const uint8_t *bytes[AREAS] = {none, none, none};
@@ -117,7 +124,7 @@ static int32_t open_mapped(ts_file *file, ts_info *info) {
         }
     }
     if (code == TS_OK)
-        code = ts_open(&file->store, bytes[0], len[0], bytes[1], len[1], bytes[2], len[2], 1, info);
+        code = ts_open(&file->store, bytes[0], len[0], bytes[1], len[1], bytes[2], len[2], next_mark(), info);
     for (int area = 0; area < AREAS; area++)
         if (len[area] > 0) munmap((void *)(uintptr_t)bytes[area], len[area]);
     return code;
@@ -177,8 +184,8 @@ void ts_file_close(ts_file *file) {
     free(file);
 }
 
-/* Makes the device call that stands out, if one does. */
-static int32_t make_call(ts_file *file) {
+/* Makes the device call that is due, if one is; what its step did is told. */
+static int32_t make_call(ts_file *file, ts_info *info) {
     ts_device call;
     int32_t code = ts_call(&file->store, &call, file->bytes, sizeof file->bytes);
     if (code != TS_OK) return code == TS_NONE ? TS_OK : code;
@@ -187,7 +194,7 @@ static int32_t make_call(ts_file *file) {
     if (made && call.kind == TS_WRITE)
         made = write_all(file->fd[call.area], file->bytes, call.len, (off_t)call.at) == 0;
     else if (made) made = fdatasync(file->fd[call.area]) == 0;
-    return ts_called(&file->store, made);
+    return ts_called(&file->store, made, info);
 }
 
 typedef int32_t step(ts *store, ts_info *info);
@@ -195,7 +202,7 @@ typedef int32_t step(ts *store, ts_info *info);
 /* A step with its device call. */
 static int32_t take(ts_file *file, step *next, ts_info *info) {
     int32_t code = next(&file->store, info);
-    int32_t made = make_call(file);
+    int32_t made = make_call(file, info);
     return made < 0 ? made : code;
 }
 

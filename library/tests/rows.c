@@ -28,7 +28,7 @@ static void test_closed(void) {
     uint8_t none[1] = {0};
     CHECK(TS_CLOSED, ts_begin(&h, &info));
     CHECK(TS_CLOSED, ts_call(&h, &call, none, 0));
-    CHECK(TS_CLOSED, ts_called(&h, true));
+    CHECK(TS_CLOSED, ts_called(&h, true, &info));
     CHECK(TS_CLOSED, ts_close(&h));
     CHECK(TS_NOT_A_STORE, ts_open(&h, none, 0, none, 0, none, 0, 1, &info));
     CHECK(TS_CLOSED, ts_last(&h, &info));
@@ -77,9 +77,9 @@ static void test_pending(ts_file *file) {
     put_text(h, open, 7, "later");
     uint64_t ticket = submit_text(h, 8, "b", 10, 200);
     CHECK(TS_NONE, ts_call(h, &call, bytes, sizeof bytes));
-    CHECK(TS_NONE, ts_called(h, true));
+    CHECK(TS_NONE, ts_called(h, true, &info));
     CHECK(TS_OK, ts_pump(h, &info));
-    HOLDS(info.a == TS_WROTE);
+    HOLDS(info.a == TS_CALL_DUE && info.b == 0);
     CHECK(TS_PENDING, ts_pump(h, &info));
     CHECK(TS_PENDING, ts_begin(h, &info));
     CHECK(TS_PENDING, ts_redeem(h, ticket, &info));
@@ -100,8 +100,9 @@ static void test_pending(ts_file *file) {
     CHECK(TS_OK, ts_abort(h, open));
     CHECK(TS_UNKNOWN, ts_abort(h, open));
     CHECK(TS_OK, ts_call(h, &call, bytes, sizeof bytes));
-    /* The host's pump makes the call that stands out, and only then goes on. */
+    /* The host's pump makes the call that is due, and only then goes on. */
     CHECK(TS_PENDING, ts_file_pump(file, &info));
+    HOLDS(info.a == TS_WROTE);
     CHECK(TS_OK, ts_file_flush(file));
     CHECK(TS_OK, ts_redeem(h, ticket, &info));
     HOLDS(info.a == 200);
@@ -313,6 +314,99 @@ static void test_reopened(ts_file *file) {
     CHECK(TS_OK, ts_end(h, view.a));
 }
 
+/* What a step did is told once its device call was made, and not before. */
+static void test_told(ts_file *file) {
+    static const uint64_t steps[] = {TS_WROTE, TS_SYNCED, TS_BODY_WRITTEN, TS_BODY_SYNCED, TS_GATE_WRITTEN, TS_PUBLISHED};
+    ts *h = ts_file_store(file);
+    ts_info info;
+    ts_device call;
+    uint8_t bytes[TS_WRITE_MOST];
+    uint64_t ticket = submit_text(h, 9, "told", 11, 0);
+    for (size_t n = 0; n < sizeof steps / sizeof *steps; n++) {
+        CHECK(TS_OK, ts_pump(h, &info));
+        HOLDS(info.a == TS_CALL_DUE && info.b == 0);
+        CHECK(TS_PENDING, ts_redeem(h, ticket, &info));
+        CHECK(TS_OK, ts_call(h, &call, bytes, sizeof bytes));
+        HOLDS(call.kind == (n % 2 ? TS_SYNC : TS_WRITE) && call.area == (n < 2 ? TS_HEAP : TS_STATUS));
+        HOLDS(n % 2 == 0 || (call.at == 0 && call.len == 0));
+        CHECK(TS_PENDING, ts_file_pump(file, &info));
+        HOLDS(info.a == steps[n] && info.b == (steps[n] == TS_PUBLISHED));
+        CHECK(TS_NONE, ts_call(h, &call, bytes, sizeof bytes));
+    }
+    CHECK(TS_OK, ts_pump(h, &info));
+    HOLDS(info.a == TS_IDLE && info.b == 0);
+    CHECK(TS_OK, ts_redeem(h, ticket, &info));
+}
+
+/* Each number of one store names nothing in another. */
+static void test_two_stores(ts_file *file, const char *folder) {
+    ts *h = ts_file_store(file);
+    ts_file *other;
+    ts_info info, view;
+    uint8_t out[64];
+    char path[4096];
+    snprintf(path, sizeof path, "%s/other", folder);
+    HOLDS(mkdir(path, 0777) == 0);
+    CHECK(TS_OK, ts_file_format(path, 16));
+    CHECK(TS_OK, ts_file_open(path, &other, &info));
+    test_told(other);
+    ts *h2 = ts_file_store(other);
+    uint64_t txn = begun(h), second = begun(h2);
+    HOLDS(txn != second);
+    CHECK(TS_UNKNOWN, ts_put(h2, txn, 1, 7, out, 0));
+    CHECK(TS_UNKNOWN, ts_delete(h2, txn, 1, 7));
+    CHECK(TS_UNKNOWN, ts_get(h2, txn, 1, 7, out, sizeof out, &info));
+    CHECK(TS_UNKNOWN, ts_submit(h2, txn, 9, 0, &info));
+    CHECK(TS_UNKNOWN, ts_abort(h2, txn));
+    CHECK(TS_OK, ts_abort(h, txn));
+    CHECK(TS_OK, ts_abort(h2, second));
+    CHECK(TS_OK, ts_view(h, &view));
+    CHECK(TS_UNKNOWN, ts_recent(h2, view.a, 1, 7, 0, out, sizeof out, &info));
+    CHECK(TS_UNKNOWN, ts_end(h2, view.a));
+    CHECK(TS_OK, ts_end(h, view.a));
+    uint64_t ticket = submit_text(h2, 7, "other", 9, 0);
+    CHECK(TS_UNKNOWN, ts_redeem(h, ticket, &info));
+    CHECK(TS_UNKNOWN, ts_give_up(h, ticket));
+    CHECK(TS_OK, ts_give_up(h2, ticket));
+    /* The view of what was published before a refused call is of its own store too. */
+    ts_file_refuse(other, 1);
+    CHECK(TS_FAILED, ts_file_flush(other));
+    CHECK(TS_OK, ts_view(h2, &view));
+    CHECK(TS_NOT_YET, ts_recent(h2, view.a, 1, 7, 2, out, sizeof out, &info));
+    CHECK(TS_UNKNOWN, ts_recent(h, view.a, 1, 7, 2, out, sizeof out, &info));
+    ts_file_close(other);
+}
+
+/* A place that is used again has another number. */
+static void test_numbers(ts *h) {
+    uint64_t before[8];
+    for (int n = 0; n < 8; n++) {
+        before[n] = begun(h);
+        CHECK(TS_OK, ts_abort(h, before[n]));
+        for (int m = 0; m < n; m++) HOLDS(before[m] != before[n]);
+        for (int m = 0; m <= n; m++) CHECK(TS_UNKNOWN, ts_abort(h, before[m]));
+    }
+}
+
+/* Places that became free are used again: so many may be out at a time, again and again. */
+static void test_places(ts *h) {
+    enum { MOST = 65536 };
+    static uint64_t views[MOST];
+    ts_info info;
+    for (int round = 0; round < 2; round++) {
+        for (int n = 0; n < MOST; n++) {
+            CHECK(TS_OK, ts_view(h, &info));
+            views[n] = info.a;
+        }
+        CHECK(TS_NO_MEMORY, ts_view(h, &info));
+        CHECK(TS_NO_MEMORY, ts_begin(h, &info));
+        CHECK(TS_OK, ts_end(h, views[round]));
+        CHECK(TS_OK, ts_view(h, &info));
+        views[round] = info.a;
+        for (int n = 0; n < MOST; n++) CHECK(TS_OK, ts_end(h, views[n]));
+    }
+}
+
 /* A new store of an earlier profile, the number in byte 8 of its header, with a commit; it has one floor for all. */
 static ts_file *earlier(const char *folder, uint8_t profile) {
     ts_file *file;
@@ -381,6 +475,9 @@ int main(int argc, char **argv) {
     CHECK(TS_LOCKED, ts_file_open(argv[1], &second, &info));
     test_tour(file);
     test_pending(file);
+    test_two_stores(file, argv[1]);
+    test_numbers(ts_file_store(file));
+    test_places(ts_file_store(file));
     test_conflict(file);
     test_refusals(file);
     test_rows(file);

@@ -1,6 +1,7 @@
 -- What the calls of an engine do to its store.
-use Rattle.std.specs.Prelude.{◌≡◌, ◌≤◌, ◌⊎◌, ◌==◌, ◌&&◌, ℕ, Bool, true, false, IsTrue, ℤ, List, [], filter, length, take, nat_le, Result, Ok, Err, Option, Some, None, MatchBool, MatchOption, IfSome}
-use Rattle.disk.specs.Areas.{Areas}
+use Rattle.std.specs.Prelude.{◌≡◌, ◌≢◌, ◌⊎◌, ◌==◌, ◌&&◌, ◌%◌, ℕ, Bool, true, false, ℤ, List, [], filter, length, take, nat_le, Result, Ok, Err, Option, Some}
+use Rattle.std.specs.Prelude.{None, MatchBool, MatchOption}
+use Rattle.disk.specs.Areas.{Areas, AreSound}
 use Rattle.disk.specs.Calls.{fresh_on}
 use Rattle.group.specs.Tickets.{TicketValue}
 use Rattle.group.specs.declared.answers.BeginFault.{BeginFault}
@@ -13,10 +14,8 @@ use Rattle.group.specs.declared.answers.Submitted.TheVariants.{ReadOnly, Queued}
 use Rattle.group.specs.declared.answers.SubmitFault.{SubmitFault}
 use Rattle.recovery.specs.Faults.{IsImageFault}
 use Rattle.recovery.specs.declared.fault.OpenFault.{OpenFault}
-use Rattle.c_engine.specs.RelayCalls.{LeadsTo}
-use Rattle.c_engine.specs.declared.device_call.DeviceCall.{DeviceCall}
-use Rattle.c_engine.specs.declared.device_call.DeviceCall.TheVariants.{Write, Sync}
-use Rattle.snapshot.specs.Txn.{TxnValue}
+use Rattle.recovery.specs.declared.fault.OpenFault.TheVariants.{Device}
+use Rattle.snapshot.specs.Txn.{TxnValue, AreTxnWrites}
 use Rattle.snapshot.specs.declared.txn.TxnFault.{TxnFault}
 use Rattle.store.specs.Archives.{StartsArchive}
 use Rattle.store.specs.Calls.{Begins, Aborts, Submits, Redeems, IsTimesOf, IsViewOf, last, floors}
@@ -30,9 +29,11 @@ use Rattle.store.specs.Values.{StoreValue}
 use Rattle.store.specs.declared.job.JobDid.{JobDid}
 use Rattle.store.specs.declared.job.StartFault.{StartFault}
 use Rattle.timequery.specs.View.{ViewValue}
-use Rattle.c_engine.specs.Areas.{area_number}
-use Rattle.c_engine.specs.Codes.{IsOpenCode, begin_code, txn_code, IsSubmitCode, pump_code, IsStartCode, told_did, job_number, code_number}
-use Rattle.c_engine.specs.Held.{transaction_under, ticket_under, view_in, named, SameNumbers, IsKept, IsTaken, IsWritten}
+use Rattle.c_engine.specs.Codes.{IsOpenCode, begin_code, txn_code, IsSubmitCode, pump_code, IsStartCode, code_number}
+use Rattle.c_engine.specs.FreePlaces.{AllTaken}
+use Rattle.c_engine.specs.Held.{transaction_under, ticket_under, view_in, named, last_number, SameNumbers, IsKept, IsTaken, IsWritten}
+use Rattle.c_engine.specs.HostCalls.{HostCall, call_in, Tells}
+use Rattle.c_engine.specs.Steps.{call_of, told_step, told_due, of_group, of_job}
 use Rattle.c_engine.specs.declared.code.Call.{Call}
 use Rattle.c_engine.specs.declared.code.Code.{Code}
 use Rattle.c_engine.specs.declared.code.Code.TheVariants as code
@@ -41,15 +42,17 @@ use Rattle.c_engine.specs.declared.engine.Engine.{Engine}
 use Rattle.c_engine.specs.declared.engine.Published.{Published}
 use Rattle.c_engine.specs.declared.engine.EngineState.{EngineState}
 use Rattle.c_engine.specs.declared.engine.EngineState.TheVariants.{Settled, Asks, Failed}
+use Rattle.c_engine.specs.declared.device_call.DeviceCall.{DeviceCall}
 use Rattle.c_engine.specs.declared.places.Held.TheVariants.{Transaction, Ticket, View}
 use Rattle.c_engine.specs.declared.places.Places.{Places}
+use Rattle.c_engine.specs.declared.step.Step.{Step}
 
 -- ---- how an engine stands
 
 -- why nothing is asked of the store now: a device call stands out, or one was refused
 abbrev pub stopped_by : EngineState → Option Code
 stopped_by Settled = None
-stopped_by Asks = Some code.Pending
+stopped_by (Asks step) = Some code.Pending
 stopped_by Failed = Some code.Failed
 
 -- the store is what it was, and so is whether it is asked
@@ -61,8 +64,12 @@ abbrev pub KeepsNumbers : Engine → Engine → Type 0
 KeepsNumbers old new = (new.places ≡ old.places) × (new.state ≡ old.state) × (new.before ≡ old.before)
 
 -- there was no memory, and nothing has changed that a call can tell
+abbrev pub LacksMemory : Engine → Code → Engine → Type 0
+LacksMemory old said new = (said ≡ code.NoMemory) × KeepsStore old new × SameNumbers old.places new.places
+
+-- all places are taken, and there is no room for one more
 abbrev pub IsOutOfNumbers : Engine → Code → Engine → Type 0
-IsOutOfNumbers old said new = (said ≡ code.NoMemory) × KeepsStore old new × SameNumbers old.places new.places
+IsOutOfNumbers old said new = AllTaken old.places.places.items × LacksMemory old said new
 
 -- what is done while no device call stands out and none was refused; else the code says why, and nothing changes
 abbrev pub WhileSettled : Engine → Code → Engine → Type 0 → Type 0
@@ -71,14 +78,20 @@ WhileSettled old said new Does = MatchOption (stopped_by old.state) Does (λ why
 -- a device call stands out
 abbrev pub asks : EngineState → Bool
 asks Settled = false
-asks Asks = true
+asks (Asks step) = true
 asks Failed = false
 
 -- a device call was refused
 abbrev pub is_failed : EngineState → Bool
 is_failed Settled = false
-is_failed Asks = false
+is_failed (Asks step) = false
 is_failed Failed = true
+
+-- the step whose device call stands out
+abbrev pub step_in : EngineState → Option Step
+step_in Settled = None
+step_in (Asks step) = Some step
+step_in Failed = None
 
 -- what is done while no device call stands out
 abbrev pub UnlessAsked : Engine → Code → Engine → Type 0 → Type 0
@@ -88,19 +101,29 @@ UnlessAsked old said new Does = MatchBool (asks old.state) ((said ≡ code.Pendi
 abbrev pub OfNumber : {T : Type 0} → Option T → Engine → Code → Engine → (T → Type 0) → Type 0
 OfNumber found old said new Does = MatchOption found ((said ≡ code.Unknown) × (new ≡ old)) Does
 
+-- nothing was asked of it yet: no number names anything, and each that it gives will have the lowest 15 bits of the mark
+pub record IsNew (mark : ℕ) (e : Engine) : Type 0 where
+  pub state : e.state ≡ Settled
+  pub before : e.before ≡ None
+  pub places : e.places.places.items ≡ []
+  pub tag : e.places.tag ≡ mark % 32768
+
 -- a store that is opened from these bytes, with nothing made yet; the times of its last commit and of its floor are told
 abbrev pub OpensEngine : List ℕ → List ℕ → List ℕ → ℕ → Info → Engine → Type 0
-OpensEngine status heap archive mark info e = (opened : StoreValue) × Opens true (fresh_on (record { status = status; heap = heap; archive = archive })) mark opened
-    × (e.store ≡ record opened { disk = record { areas = opened.disk.areas; made = 0; refused = 0 } }) × (e.state ≡ Settled) × (info.a ≡ last e.store) × (info.b ≡ (floors e.store).every)
+OpensEngine status heap archive mark info e =
+    (opened : StoreValue) × Opens true (fresh_on (record { status = status; heap = heap; archive = archive })) mark opened
+    × (e.store ≡ record opened { disk = record { areas = opened.disk.areas; made = 0; refused = 0 } }) × IsNew mark e × (info.a ≡ last e.store)
+    × (info.b ≡ (floors e.store).every)
 
--- no store is opened from these bytes, and why is told
+-- no store is opened from these bytes, and why is told: bytes that are lent refuse no read
 abbrev pub RefusesEngine : List ℕ → List ℕ → List ℕ → Code → Info → Type 0
-RefusesEngine status heap archive said info = (why : OpenFault) × IsImageFault (record { status = status; heap = heap; archive = archive }) why × IsOpenCode why said info
+RefusesEngine status heap archive said info =
+    (why : OpenFault) × (why ≢ Device) × IsImageFault (record { status = status; heap = heap; archive = archive }) why × IsOpenCode why said info
 
 -- the times of the last commit and of the floor; after a refused call those of before it
 abbrev pub TellsTimes : EngineState → Engine → Code → Info → Type 0
 TellsTimes Settled e result info = (result ≡ code.Ok) × (info.a ≡ last e.store) × (info.b ≡ (floors e.store).every)
-TellsTimes Asks e result info = result ≡ code.Pending
+TellsTimes (Asks step) e result info = result ≡ code.Pending
 TellsTimes Failed e result info = MatchOption e.before (result ≡ code.Failed) (λ p. (result ≡ code.Ok) × (info.a ≡ p.last) × (info.b ≡ p.floor))
 
 -- ---- device calls
@@ -109,45 +132,54 @@ TellsTimes Failed e result info = MatchOption e.before (result ≡ code.Failed) 
 abbrev pub WasPublished : StoreValue → Published → Type 0
 WasPublished v p = IsViewOf v p.view × (p.last ≡ last v) × (p.floor ≡ (floors v).every)
 
--- how an engine stands once its store has made a device call, by whether the disk has noted it for the host
-abbrev pub after_call : Bool → EngineState
-after_call true = Asks
-after_call false = Failed
+-- nothing stands out that did not, and nothing was refused since
+abbrev pub KeepsState : Engine → Engine → Type 0
+KeepsState old new = (new.state ≡ old.state) × (new.before ≡ old.before)
 
--- the device call that the store made, if it made one, stands out, or was refused at once; what was published before it is kept
-abbrev pub StandsOut : ℕ → ℕ → Published → Engine → Engine → Type 0
-StandsOut made refused published old new = (new.store ≡ old.store) × (new.places ≡ old.places)
-    × MatchBool (old.store.disk.made == made) (new ≡ old) ((new.state ≡ after_call (old.store.disk.refused == refused)) × (new.before ≡ Some published))
+-- the step's device call stands out, if it has one, and what was published before it is kept; that it is due is told
+abbrev pub StandsOut : Step → Published → Engine → Code → Info → Engine → Type 0
+StandsOut step published old said info new = (new.store ≡ old.store) × (new.places ≡ old.places) × (said ≡ code.Ok) × (info ≡ told_due (call_of step))
+    × MatchOption (call_of step) (KeepsState old new) (λ due. (new.state ≡ Asks step) × (new.before ≡ Some published))
 
--- a call that stands out, or was refused at once, has what was published before it beside it
+-- a step was refused: where its device call was, which is counted, the store goes on no more
+abbrev pub IsRefused : PumpFault → ℕ → Published → Engine → Code → Engine → Type 0
+IsRefused why made published old said new = (new.store ≡ old.store) × (new.places ≡ old.places) × (said ≡ pump_code why)
+    × MatchBool (old.store.disk.made == made) (KeepsState old new) ((new.state ≡ Failed) × (new.before ≡ Some published))
+
+-- what was published when the store was so is kept
 abbrev pub KeepsPublished : Engine → Engine → Type 0
-KeepsPublished old new = (new.places ≡ old.places) × MatchBool (new.store.disk.made == old.store.disk.made) ((new.state ≡ old.state) × (new.before ≡ old.before))
-    ((new.state ≡ after_call (new.store.disk.refused == old.store.disk.refused)) × MatchOption new.before ⊥ (WasPublished old.store))
+KeepsPublished old new = MatchOption new.before ⊥ (WasPublished old.store)
 
--- the device call as it is told, of a write its place and how many bytes it has
-abbrev pub IsTold : Call → DeviceCall → List ℕ → Type 0
-IsTold told (Write area at) bytes = (told.kind ≡ 1) × (told.area ≡ area_number area) × (told.at ≡ at) × (told.len ≡ length bytes)
-IsTold told (Sync area) bytes = (told.kind ≡ 2) × (told.area ≡ area_number area) × (told.len ≡ 0)
+-- A step was taken: its device call stands out, if it has one, and is told to be due. It was refused: where its device call was, which is counted, the store
+-- goes on no more.
+abbrev pub AfterStep : Result Step PumpFault → Engine → Code → Info → Engine → Type 0
+AfterStep (Ok step) old said info new =
+    (said ≡ code.Ok) × (info ≡ told_due (call_of step))
+    × MatchOption (call_of step) (KeepsState old new) (λ due. (new.state ≡ Asks step) × KeepsPublished old new)
+AfterStep (Err why) old said info new =
+    (said ≡ pump_code why) × MatchBool (new.store.disk.made == old.store.disk.made) (KeepsState old new) ((new.state ≡ Failed) × KeepsPublished old new)
 
--- no device call is told
-abbrev pub TellsNoCall : Code → Call → Type 0
-TellsNoCall said told = (said ≡ code.None) × (told ≡ record { kind = 0; area = 0; at = 0; len = 0 })
+-- the device call that stands out, by its step
+abbrev pub due_in : EngineState → Option DeviceCall
+due_in Settled = None
+due_in (Asks step) = call_of step
+due_in Failed = None
 
--- a device call is told that has made of some areas those of the store's disk: it is the last one that the store made. Its bytes stand in front, where there is room for them
-abbrev pub TellsLastCall : Engine → Code → Call → List ℕ → Type 0
-TellsLastCall e said told out = (call : DeviceCall) × (bytes : List ℕ) × (before : Areas) × IsTold told call bytes × LeadsTo call bytes before e.store.disk.areas
-    × MatchBool (nat_le told.len (length out)) ((said ≡ code.Ok) × (take told.len out ≡ bytes)) (said ≡ code.Small)
+-- which call that is, where these are the areas after it
+abbrev pub due_call : Option DeviceCall → Areas → Option HostCall
+due_call None areas = None
+due_call (Some due) areas = call_in due areas
 
 -- the device call that stands out is told, and none where none does
 abbrev pub TellsCall : Engine → Code → Call → List ℕ → Type 0
-TellsCall e said told out = MatchBool (asks e.state) (TellsNoCall said told ⊎ ∥ TellsLastCall e said told out ∥₁) (TellsNoCall said told)
+TellsCall e said told out = Tells (due_call (due_in e.state) e.store.disk.areas) said told out
 
--- a call that stands out was made, and the store goes on, or it was refused, and it goes on no more
-abbrev pub HasCalled : Bool → Engine → Code → Engine → Type 0
-HasCalled made old said new = MatchBool (asks old.state)
-    ((new.store ≡ old.store) × (new.places ≡ old.places)
-    × MatchBool made ((said ≡ code.Ok) × (new.state ≡ Settled) × (new.before ≡ None)) ((said ≡ code.Failed) × (new.state ≡ Failed) × (new.before ≡ old.before)))
-    ((said ≡ code.None) × (new ≡ old))
+-- a call that stands out was made: what its step did is told, and the store goes on. Or it was refused, and it goes on no more.
+abbrev pub HasCalled : Bool → Engine → Code → Info → Engine → Type 0
+HasCalled made old said info new = MatchOption (step_in old.state) ((said ≡ code.None) × (new ≡ old))
+    (λ step. (new.store ≡ old.store) × (new.places ≡ old.places)
+    × MatchBool made ((said ≡ code.Ok) × (info ≡ told_step step) × (new.state ≡ Settled) × (new.before ≡ None)) ((said ≡ code.Failed) × (new.state ≡ Failed)
+    × (new.before ≡ old.before)))
 
 -- ---- transactions
 
@@ -156,10 +188,11 @@ abbrev pub TellsBegin : Result TxnValue BeginFault → Places → Code → Info 
 TellsBegin (Ok txn) old said info new = (said ≡ code.Ok) × (info.b ≡ txn.snapshot) × IsKept (Transaction txn) info.a old new
 TellsBegin (Err why) old said info new = (said ≡ begin_code why) × SameNumbers old new
 
--- there was no memory for one more number, or a transaction begins
+-- there is no number for it, or a transaction begins
 abbrev pub TakesTransaction : Engine → Code → Info → Engine → Type 0
 TakesTransaction old said info new = IsOutOfNumbers old said new
-    ⊎ ((new.state ≡ old.state) × (new.before ≡ old.before) × ((answer : Result TxnValue BeginFault) × Begins old.store answer new.store × TellsBegin answer old.places said info new.places))
+    ⊎ ((new.state ≡ old.state) × (new.before ≡ old.before)
+    × ((answer : Result TxnValue BeginFault) × Begins old.store answer new.store × TellsBegin answer old.places said info new.places))
 
 -- begin: a transaction is kept under the number that is told, or the code says why not
 abbrev pub BeginsEngine : Engine → Code → Info → Engine → Type 0
@@ -178,7 +211,7 @@ TellsSubmit (Err why) old said info new = IsSubmitCode why said info × (new ≡
 
 -- the writes of a transaction that was taken out are queued; after a refused call it is given up
 abbrev pub SubmitsTaken : TxnValue → ℕ → ℕ → Engine → Code → Info → Engine → Type 0
-SubmitsTaken txn label now old said info new = (new.state ≡ old.state) × (new.before ≡ old.before)
+SubmitsTaken txn label now old said info new = AreTxnWrites txn.state txn.snapshot txn.writes × (new.state ≡ old.state) × (new.before ≡ old.before)
     × MatchBool (is_failed old.state) ((said ≡ code.Failed) × (new.places ≡ old.places) × Aborts old.store txn new.store)
     ((answer : Result Submitted SubmitFault) × Submits old.store txn label now answer new.store × TellsSubmit answer old.places said info new.places)
 
@@ -189,7 +222,7 @@ SubmitsEngine number label now old said info new = UnlessAsked old said new (OfN
 
 -- a transaction that was taken out is given up
 abbrev pub AbortsTaken : TxnValue → Engine → Engine → Type 0
-AbortsTaken txn old new = KeepsNumbers old new × Aborts old.store txn new.store
+AbortsTaken txn old new = AreTxnWrites txn.state txn.snapshot txn.writes × KeepsNumbers old new × Aborts old.store txn new.store
 
 -- abort: the transaction's number is spent, and its snapshot is given up
 abbrev pub AbortsEngine : ℕ → Engine → Code → Engine → Type 0
@@ -198,27 +231,24 @@ AbortsEngine number old said new = OfNumber (transaction_under old number) old s
 
 -- ---- groups and tickets
 
--- what a step of a group did is told
-abbrev pub TellsStep : Result Did PumpFault → Code → Info → Type 0
-TellsStep (Ok done) said info = (said ≡ code.Ok) × (info ≡ told_did done)
-TellsStep (Err why) said info = said ≡ pump_code why
-
--- the store takes a step of its group, and the device call that it makes stands out; or there was no memory to keep what is published, and nothing changes
+-- the store takes a step of its group; or there was no memory to keep what is published, and nothing changes
 abbrev pub PumpsEngine : Engine → Code → Info → Engine → Type 0
 PumpsEngine old said info new = WhileSettled old said new (((said ≡ code.NoMemory) × (new ≡ old))
-    ⊎ ((answer : Result Did PumpFault) × Pumps true old.store answer new.store × KeepsPublished old new × TellsStep answer said info))
+    ⊎ ((answer : Result Did PumpFault) × Pumps true old.store answer new.store × AreSound new.store.disk.areas × (new.places ≡ old.places)
+    × AfterStep (of_group answer) old said info new))
 
 -- a commit of this time was published, also where a call was refused since
 abbrev pub was_published : EngineState → Option Published → ℕ → Bool
 was_published Settled before time = true
-was_published Asks None time = false
-was_published Asks (Some p) time = nat_le time p.last
+was_published (Asks step) None time = false
+was_published (Asks step) (Some p) time = nat_le time p.last
 was_published Failed None time = false
 was_published Failed (Some p) time = nat_le time p.last
 
 -- a ticket that waits is kept again; after a refused call it is in doubt
 abbrev pub TellsWaiting : TicketValue → Engine → Code → Info → Places → Type 0
-TellsWaiting ticket old said info new = MatchBool (is_failed old.state) ((said ≡ code.InDoubt) × (new ≡ old.places)) ((said ≡ code.Waiting) × IsKept (Ticket ticket) info.a old.places new)
+TellsWaiting ticket old said info new =
+    MatchBool (is_failed old.state) ((said ≡ code.InDoubt) × (new ≡ old.places)) ((said ≡ code.Waiting) × IsKept (Ticket ticket) info.a old.places new)
 
 -- a ticket that waits is kept again or is in doubt, and the store is what it was
 abbrev pub KeepsTicket : TicketValue → Engine → Code → Info → Engine → Type 0
@@ -226,7 +256,8 @@ KeepsTicket ticket old said info new = KeepsStore old new × TellsWaiting ticket
 
 -- what became of a ticket that was taken out is told
 abbrev pub TellsRedeemed : Redeemed → Engine → Code → Info → Places → Type 0
-TellsRedeemed (redeemed.Done time) old said info new = (new ≡ old.places) × MatchBool (was_published old.state old.before time) ((said ≡ code.Ok) × (info.a ≡ time)) (said ≡ code.InDoubt)
+TellsRedeemed (redeemed.Done time) old said info new =
+    (new ≡ old.places) × MatchBool (was_published old.state old.before time) ((said ≡ code.Ok) × (info.a ≡ time)) (said ≡ code.InDoubt)
 TellsRedeemed (redeemed.Waiting ticket) old said info new = TellsWaiting ticket old said info new
 TellsRedeemed redeemed.InDoubt old said info new = (new ≡ old.places) × (said ≡ code.InDoubt)
 TellsRedeemed redeemed.Stranger old said info new = (new ≡ old.places) × (said ≡ code.Stranger)
@@ -243,18 +274,20 @@ RedeemsEngine number old said info new = UnlessAsked old said new (OfNumber (tic
 
 -- a ticket is spent, and the store is what it was
 abbrev pub GivesUp : ℕ → Engine → Code → Engine → Type 0
-GivesUp number old said new = OfNumber (ticket_under old number) old said new (λ _. (said ≡ code.Ok) × KeepsStore old new × IsTaken number old.places new.places)
+GivesUp number old said new =
+    OfNumber (ticket_under old number) old said new (λ _. (said ≡ code.Ok) × KeepsStore old new × IsTaken number old.places new.places)
 
 -- of these times those that were published, also where a call was refused since
 abbrev pub published_of : EngineState → Option Published → List ℕ → List ℕ
 published_of Settled before times = times
-published_of Asks before times = times
+published_of (Asks step) before times = times
 published_of Failed None times = []
 published_of Failed (Some p) times = filter (λ time. nat_le time p.last) times
 
 -- so many times are told, and they stand in front, where there is room for all
 abbrev pub AreTimesTold : List ℕ → Code → Info → List ℕ → Type 0
-AreTimesTold found said info times = (info.a ≡ length found) × MatchBool (nat_le (length found) (length times)) ((said ≡ code.Ok) × (take info.a times ≡ found)) (said ≡ code.Small)
+AreTimesTold found said info times =
+    (info.a ≡ length found) × MatchBool (nat_le (length found) (length times)) ((said ≡ code.Ok) × (take info.a times ≡ found)) (said ≡ code.Small)
 
 -- the times of the commits with a label; after a refused call of those that were published before it
 abbrev pub TellsLabels : ℕ → Engine → Code → Info → List ℕ → Type 0
@@ -263,20 +296,23 @@ TellsLabels label e said info times = MatchBool (asks e.state) (said ≡ code.Pe
 
 -- ---- views
 
--- there was no memory for one, or its number is told
+-- there is no number or no memory for one, or its number is told
 abbrev pub TakesView : Engine → Code → Info → Engine → Type 0
-TakesView old said info new = IsOutOfNumbers old said new ⊎ ((said ≡ code.Ok) × KeepsStore old new × ((view : ViewValue) × IsViewOf old.store view × IsKept (View view) info.a old.places new.places))
+TakesView old said info new =
+    IsOutOfNumbers old said new ⊎ LacksMemory old said new
+    ⊎ ((said ≡ code.Ok) × KeepsStore old new × ((view : ViewValue) × IsViewOf old.store view × IsKept (View view) info.a old.places new.places))
 
 -- the number that is told names a view of what is published or, after a refused call, of what was before it
 abbrev pub GivesView : Engine → Code → Info → Engine → Type 0
 GivesView old said info new = UnlessAsked old said new (MatchBool (is_failed old.state)
-    ((said ≡ code.Ok) × (new ≡ old) × (info.a ≡ 18446744073709551615))
+    ((said ≡ code.Ok) × (new ≡ old) × (info.a ≡ last_number old.places))
     (TakesView old said info new))
 
 -- a view is given back; that of before a refused call stays
 abbrev pub EndsView : ℕ → Engine → Code → Engine → Type 0
-EndsView number old said new = MatchBool ((number == 18446744073709551615) && is_failed old.state) ((said ≡ code.Ok) × (new ≡ old))
-    (MatchOption (view_in (named old.places number)) ((said ≡ code.Unknown) × (new ≡ old)) (λ _. (said ≡ code.Ok) × KeepsStore old new × IsTaken number old.places new.places))
+EndsView number old said new = MatchBool ((number == last_number old.places) && is_failed old.state) ((said ≡ code.Ok) × (new ≡ old))
+    (MatchOption (view_in (named old.places number)) ((said ≡ code.Unknown) × (new ≡ old)) (λ _. (said ≡ code.Ok) × KeepsStore old new
+    × IsTaken number old.places new.places))
 
 -- ---- jobs
 
@@ -287,7 +323,9 @@ TellsStart (Err why) said info = IsStartCode why said info
 
 -- a job begins so
 abbrev pub StartsEngine : (StoreValue → Result (Unit {0}) StartFault → StoreValue → Type 0) → Engine → Code → Info → Engine → Type 0
-StartsEngine Starts old said info new = WhileSettled old said new (KeepsNumbers old new × ((answer : Result (Unit {0}) StartFault) × Starts old.store answer new.store × TellsStart answer said info))
+StartsEngine Starts old said info new =
+    WhileSettled old said new (KeepsNumbers old new
+    × ((answer : Result (Unit {0}) StartFault) × Starts old.store answer new.store × TellsStart answer said info))
 
 -- an archive up to a time begins, or the code says why not
 abbrev pub ArchivesEngine : ℕ → Engine → Code → Info → Engine → Type 0
@@ -309,15 +347,11 @@ RaisesEngine time = StartsEngine (λ old answer new. StartsFloor old None time a
 abbrev pub RaisesFloorOf : ℕ → ℕ → Engine → Code → Info → Engine → Type 0
 RaisesFloorOf relation time = StartsEngine (λ old answer new. StartsFloor old (Some relation) time answer new)
 
--- what a step of a job did is told
-abbrev pub TellsJobStep : Result JobDid PumpFault → Code → Info → Type 0
-TellsJobStep (Ok done) said info = (said ≡ code.Ok) × (info.a ≡ job_number done)
-TellsJobStep (Err why) said info = said ≡ pump_code why
-
 -- the store takes a step of its job, as it takes one of its group
 abbrev pub PumpsJobOf : Engine → Code → Info → Engine → Type 0
 PumpsJobOf old said info new = WhileSettled old said new (((said ≡ code.NoMemory) × (new ≡ old))
-    ⊎ ((answer : Result JobDid PumpFault) × PumpsJob true old.store answer new.store × KeepsPublished old new × TellsJobStep answer said info))
+    ⊎ ((answer : Result JobDid PumpFault) × PumpsJob true old.store answer new.store × AreSound new.store.disk.areas × (new.places ≡ old.places)
+    × AfterStep (of_job answer) old said info new))
 
 -- ---- handles
 

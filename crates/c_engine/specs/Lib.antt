@@ -8,9 +8,14 @@ pub mod Owned
 pub mod Queries
 pub mod Rows
 pub mod Writes
-pub mod RelayCalls
 pub mod RelayCodes
 pub mod RelayFacts
 pub mod RelayNoted
 pub mod RelaySound
 pub mod RelayState
+pub mod LastWrites
+pub mod Steps
+pub mod HostCalls
+pub mod Numbers
+pub mod FreePlaces
+pub mod Laws

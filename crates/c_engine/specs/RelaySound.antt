@@ -7,7 +7,7 @@ use Rattle.c_engine.specs.declared.slice_disk.SliceDisk.{SliceDisk}
 use Rattle.c_engine.specs.RelayState.{slices_state}
 
 -- an area of bytes, all of them synced, is sound
-settled_is_sound : (bytes : List ℕ) → AreBytes bytes → IsSound (settled_area bytes)
+pub settled_is_sound : (bytes : List ℕ) → AreBytes bytes → IsSound (settled_area bytes)
 settled_is_sound bytes are_bytes = record { firm = omega arith; settled = λ none. refl; are_bytes = are_bytes }
 
 -- so the three areas of a disk of slices are

@@ -1,9 +1,9 @@
 use disk::Area;
 
-/// A write or a sync of a disk.
+/// What a host is to do to its areas.
 #[derive(Clone, Copy, Debug, PartialEq, Eq)]
 pub enum DeviceCall {
-    /// Bytes are written at a place of the area.
-    Write { area: Area, at: u64 },
-    Sync { area: Area },
+    /// The area is written to.
+    Write(Area),
+    Sync(Area),
 }

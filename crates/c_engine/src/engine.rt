@@ -4,10 +4,12 @@ ghost use Rattle.std.specs.Prelude.{◌≡◌, IfSome};
 use crate::DeviceCall;
 use crate::asking::{self, Kept};
 use crate::code::{Call, Code, Info};
-use crate::codes::area_number;
+use crate::codes::{area_number, pump_code};
 use crate::places::Places;
+use crate::step::Step;
 use crate::values::copy_bytes;
-use disk::Disk;
+use disk::{Area, Disk};
+use group::PumpFault;
 use std::alloc::Global;
 use std::mem;
 use timequery::View;
@@ -16,8 +18,8 @@ use timequery::View;
 #[derive(Clone, Copy, Debug, PartialEq, Eq)]
 pub enum EngineState {
     Settled,
-    /// The host has not made the last device call.
-    Asks,
+    /// The host has not made the device call of this step.
+    Asks(Step),
     /// The host was refused a device call.
     Failed,
 }
@@ -69,6 +71,16 @@ impl Drop for Engine {
     }
 }
 
+// What a step tells whose device call the host is to make.
+const CALL_DUE: u64 = 11;
+
+const NO_CALL: Call = Call {
+    kind: 0,
+    area: 0,
+    at: 0,
+    len: 0,
+};
+
 fn put_published(place: &mut Option<Published>, published: Option<Published>)
     ensures { place.new ≡ published }
 {
@@ -78,16 +90,19 @@ fn put_published(place: &mut Option<Published>, published: Option<Published>)
 }
 
 impl Engine {
-    ghost use Rattle.c_engine.specs.Engines.{stopped_by, TellsTimes, HasCalled, StandsOut, WasPublished, TellsCall};
+    ghost use Rattle.disk.specs.Areas.{area_of};
+    ghost use Rattle.c_engine.specs.Engines.{stopped_by, asks, is_failed, due_in, IsNew, TellsTimes, HasCalled, StandsOut, IsRefused, WasPublished, TellsCall};
+    ghost use Rattle.c_engine.specs.HostCalls.{Tells, write_in};
+    ghost use Rattle.c_engine.specs.LastWrites.{last_write};
 
-    pub(crate) fn new(alloc: Global, store: Kept) -> Engine
+    pub(crate) fn new(alloc: Global, store: Kept, mark: u64) -> Engine
         ensures store { result.store ≡ store }
-        ensures settled { result.state ≡ EngineState.Settled }
+        ensures is_new { IsNew mark result }
     {
         Engine {
             alloc,
             store,
-            places: Places::new(alloc),
+            places: Places::new(alloc, mark),
             state: EngineState::Settled,
             before: None,
         }
@@ -99,9 +114,23 @@ impl Engine {
     {
         match self.state {
             EngineState::Settled => None,
-            EngineState::Asks => Some(Code::Pending),
+            EngineState::Asks(_) => Some(Code::Pending),
             EngineState::Failed => Some(Code::Failed),
         }
+    }
+
+    /// Whether a device call stands out.
+    pub(crate) fn asks(&self) -> bool
+        ensures { result ≡ asks self.now.state }
+    {
+        matches!(self.state, EngineState::Asks(_))
+    }
+
+    /// Whether a device call was refused.
+    pub(crate) fn has_failed(&self) -> bool
+        ensures { result ≡ is_failed self.now.state }
+    {
+        matches!(self.state, EngineState::Failed)
     }
 
     /// The time of the last commit, and the floor of the relations that have none of their own.
@@ -114,7 +143,7 @@ impl Engine {
                 info.b = self.store.floors().every();
                 Code::Ok
             }
-            EngineState::Asks => Code::Pending,
+            EngineState::Asks(_) => Code::Pending,
             EngineState::Failed => match &self.before {
                 None => Code::Failed,
                 Some(published) => {
@@ -126,23 +155,26 @@ impl Engine {
         }
     }
 
+    // The device call of the step that the store has taken, and the host has not.
+    fn due(&self) -> Option<DeviceCall>
+        ensures { result ≡ due_in self.now.state }
+    {
+        match self.state {
+            EngineState::Asks(step) => step.call(),
+            EngineState::Settled | EngineState::Failed => None,
+        }
+    }
+
     /// The device call that the host is to make, and the bytes that it writes.
     pub fn call(&self, call: &mut Call, out: &mut [u8]) -> Code
         ensures { TellsCall self.now result call.new out.new }
     {
-        *call = Call {
-            kind: 0,
-            area: 0,
-            at: 0,
-            len: 0,
-        };
-        if self.state != EngineState::Asks {
-            return Code::None;
-        }
-        let disk = self.store.disk();
-        match disk.last() {
-            None => Code::None,
-            Some(DeviceCall::Sync { area }) => {
+        match self.due() {
+            None => {
+                *call = NO_CALL;
+                Code::None
+            }
+            Some(DeviceCall::Sync(area)) => {
                 *call = Call {
                     kind: 2,
                     area: area_number(area),
@@ -151,39 +183,48 @@ impl Engine {
                 };
                 Code::Ok
             }
-            Some(DeviceCall::Write { area, at }) => {
-                let bytes = disk.bytes();
-                *call = Call {
-                    kind: 1,
-                    area: area_number(area),
-                    at,
-                    len: bytes.len() as u64,
-                };
-                if copy_bytes(bytes, out) {
-                    Code::Ok
-                } else {
-                    Code::Small
-                }
-            }
+            Some(DeviceCall::Write(area)) => self.tell_write(area, call, out),
         }
     }
 
-    /// The host has made the device call, or it was refused.
-    pub fn called(&mut self, made: bool) -> Code
-        ensures { HasCalled made self.old result self.new }
+    // The last write of an area is told.
+    fn tell_write(&self, area: Area, call: &mut Call, out: &mut [u8]) -> Code
+        ensures { Tells (write_in area (last_write (area_of self.now.store.disk.areas area))) result call.new out.new }
     {
-        match self.state {
-            EngineState::Settled | EngineState::Failed => Code::None,
-            EngineState::Asks => {
-                if !made {
-                    self.state = EngineState::Failed;
-                    return Code::Failed;
-                }
-                self.state = EngineState::Settled;
-                put_published(&mut self.before, None);
-                Code::Ok
-            }
+        let write = self.store.disk().last_write(area);
+        let Some(at) = write.at else {
+            *call = NO_CALL;
+            return Code::None;
+        };
+        let bytes = &write.bytes[..];
+        *call = Call {
+            kind: 1,
+            area: area_number(area),
+            at,
+            len: bytes.len() as u64,
+        };
+        if copy_bytes(bytes, out) {
+            Code::Ok
+        } else {
+            Code::Small
         }
+    }
+
+    /// The host has made the device call, and what its step did is told; or it was refused.
+    pub fn called(&mut self, made: bool, info: &mut Info) -> Code
+        ensures { HasCalled made self.old result info.new self.new }
+    {
+        let EngineState::Asks(step) = self.state else {
+            return Code::None;
+        };
+        if !made {
+            self.state = EngineState::Failed;
+            return Code::Failed;
+        }
+        step.tell(info);
+        self.state = EngineState::Settled;
+        put_published(&mut self.before, None);
+        Code::Ok
     }
 
     /// What is published now.
@@ -200,32 +241,42 @@ impl Engine {
         })
     }
 
-    /// Notes whether a call of the store made a device call, of so many made and refused before, and what was
-    /// published before it. One that the disk has not noted was refused.
-    pub(crate) fn note_call(&mut self, made: u64, refused: u64, published: Published)
-        ensures { StandsOut made refused published self.old self.new }
+    /// The step's device call stands out, if it has one: that it is due is told, and what was published before it
+    /// is kept.
+    pub(crate) fn stand_out(&mut self, step: Step, published: Published, info: &mut Info) -> Code
+        ensures { StandsOut step published self.old result info.new self.new }
+    {
+        match step.call() {
+            None => {
+                *info = Info { a: 0, b: 0 };
+                published.spend();
+            }
+            Some(_) => {
+                *info = Info { a: CALL_DUE, b: 0 };
+                self.state = EngineState::Asks(step);
+                put_published(&mut self.before, Some(published));
+            }
+        }
+        Code::Ok
+    }
+
+    /// A step was refused, when so many device calls were counted before: where its own was, the store goes on no
+    /// more.
+    pub(crate) fn refuse_step(&mut self, fault: PumpFault, made: u64, published: Published) -> Code
+        ensures { IsRefused fault made published self.old result self.new }
     {
         if self.calls() == made {
             published.spend();
-            return;
-        }
-        self.state = if self.refusals() == refused {
-            EngineState::Asks
         } else {
-            EngineState::Failed
-        };
-        put_published(&mut self.before, Some(published));
+            self.state = EngineState::Failed;
+            put_published(&mut self.before, Some(published));
+        }
+        pump_code(fault)
     }
 
     pub(crate) fn calls(&self) -> u64
         ensures { result ≡ self.now.store.disk.made }
     {
         self.store.disk().made()
-    }
-
-    pub(crate) fn refusals(&self) -> u64
-        ensures { result ≡ self.now.store.disk.refused }
-    {
-        self.store.disk().refused()
     }
 }

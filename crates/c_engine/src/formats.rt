@@ -10,7 +10,7 @@ use crate::{RelayDisk, SliceDisk};
 use disk::{Area, Disk, MemDisk};
 use recovery::FormatFault;
 use std::alloc::Global;
-use store::Store;
+use store::{OpenFault, Store};
 
 /// The bytes of the status area of a new store. The host writes them from 512 on, syncs, writes the
 /// first 512, and syncs; the other areas are empty.
@@ -50,13 +50,15 @@ pub fn open(
     ensures refused { IfErr result (λ code. RefusesEngine status.now heap.now archive.now code info.new) }
 {
     match Store::open(alloc, SliceDisk::new(status, heap, archive), mark) {
+        // Bytes that are lent refuse no read, and an opening makes too few calls to come to the greatest count.
+        Err((OpenFault::Device, _)) => Err(Code::NoMemory),
         Err((fault, _)) => Err(open_code(fault, info)),
         Ok(store) => {
             info.a = store.last();
             info.b = store.floors().every();
             let relay = RelayDisk::new(alloc, store.disk());
             let (store, _) = store.over(relay);
-            match Box::new(alloc, Engine::new(alloc, store)) {
+            match Box::new(alloc, Engine::new(alloc, store, mark)) {
                 Ok(engine) => Ok(engine),
                 Err(_) => Err(Code::NoMemory),
             }

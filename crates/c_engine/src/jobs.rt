@@ -1,7 +1,8 @@
 //! Archives, reclaims, floors and growths.
 use crate::code::{Code, Info};
-use crate::codes::{job_number, pump_code, start_code};
+use crate::codes::start_code;
 use crate::engine::Engine;
+use crate::step::Step;
 
 impl Engine {
     ghost use Rattle.c_engine.specs.Engines.{ArchivesEngine, ReclaimsEngine, RaisesEngine, RaisesFloorOf, GrowsEngine, PumpsJobOf};
@@ -71,7 +72,7 @@ impl Engine {
         }
     }
 
-    /// One step of the job that runs: its number is told.
+    /// One step of the job that runs; whether a device call is due for it is told.
     pub fn job_pump(&mut self, info: &mut Info) -> Code
         ensures { PumpsJobOf self.old result info.new self.new }
     {
@@ -81,15 +82,10 @@ impl Engine {
         let Some(published) = self.published() else {
             return Code::NoMemory;
         };
-        let (made, refused) = (self.calls(), self.refusals());
-        let outcome = self.store.job_pump();
-        self.note_call(made, refused, published);
-        match outcome {
-            Ok(did) => {
-                info.a = job_number(did);
-                Code::Ok
-            }
-            Err(fault) => pump_code(fault),
+        let made = self.calls();
+        match self.store.job_pump() {
+            Ok(did) => self.stand_out(Step::Job(did), published, info),
+            Err(fault) => self.refuse_step(fault, made, published),
         }
     }
 }

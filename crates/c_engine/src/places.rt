@@ -1,8 +1,7 @@
 //! What a store gave out, by number.
-ghost use Rattle.std.specs.Prelude.{◌≡◌, ◌≢◌, ◌<◌, ◌/◌, ◌%◌, ◌^◌, [], false, IsTrue, None, Some, option_copied, MatchOption};
-ghost use Rattle.c_engine.specs.declared.places.Held.TheVariants.{Nothing};
-ghost use Rattle.c_engine.specs.Held.{named, transaction_in, ticket_in, view_in, has_free, SameNumbers, IsKept, IsTaken, IsWritten};
-ghost use Rattle.c_engine.specs.Writes.{Puts, Deletes};
+ghost use Rattle.std.specs.Prelude.{◌≡◌, ◌<◌, ◌^◌, []};
+ghost use Rattle.c_engine.specs.FreePlaces.{AreChained};
+ghost use Rattle.c_engine.specs.Numbers.{place_in, stamp_in, tag_in};
 
 use crate::values;
 use group::Ticket;
@@ -15,8 +14,17 @@ use timequery::View;
 /// So many values are held at a time.
 const MAX_PLACES: usize = 65_536;
 
-// What a place's number grows by where its stamp grows by one: the number has its place in the lower 16 bits.
+// A number has its place in the lowest 16 bits, the stamp of the place in the 32 bits above, and the tag of its
+// store in the 15 bits above those. What it grows by where the stamp grows by one:
 const STAMP_UNIT: u64 = MAX_PLACES as u64;
+
+// So many stamps a place has, and so many tags there are.
+const STAMPS: u64 = 4_294_967_296;
+
+const TAGS: u64 = 32_768;
+
+// The greatest bit of a number: of that which no place has.
+const NO_PLACE: u64 = 9_223_372_036_854_775_808;
 
 /// What a place holds.
 pub enum Held {
@@ -40,7 +48,7 @@ impl Held {
     }
 }
 
-/// A place is used again under another stamp.
+/// A place is used again under the next stamp.
 pub struct Place {
     stamp: u32,
     held: Held,
@@ -48,34 +56,57 @@ pub struct Place {
     next: usize,
 }
 
-/// Places of values; a number names a place and its stamp.
+/// Places of values; a number names a place, its stamp and its store.
 pub struct Places {
     places: Vec<Place>,
-    // The place that became free last, if that holds nothing.
+    // The place that became free last, if one is free.
     free: usize,
+    // What the numbers of this store begin with.
+    tag: u64,
+    pub ghost low: { tag < 32768 },
+    pub ghost chained: { ∥ AreChained places.items free ∥₁ },
 }
 
-fn number_of(at: usize, stamp: u32) -> u64
-    requires { at < 65536 }
-    ensures place { result % 65536 ≡ at }
-    ensures stamp { result / 65536 ≡ stamp }
+fn number_of(tag: u64, at: usize, stamp: u32) -> u64
+    requires at { at < 65536 }
+    requires low_tag { tag < 32768 }
+    ensures place { place_in result ≡ at }
+    ensures stamp { stamp_in result ≡ stamp }
+    ensures tag { tag_in result ≡ tag }
     ensures low { result < 2 ^ 63 }
 {
-    stamp as u64 * STAMP_UNIT + at as u64
+    (tag * STAMPS + stamp as u64) * STAMP_UNIT + at as u64
 }
 
 impl Places {
-    /// Nothing is held.
-    pub fn new(alloc: Global) -> Places {
+    ghost use Rattle.std.specs.Prelude.{◌≢◌, ◌%◌, false, IsTrue, None, Some, option_copied, MatchOption};
+    ghost use Rattle.c_engine.specs.declared.places.Held.TheVariants.{Nothing};
+    ghost use Rattle.c_engine.specs.FreePlaces.{is_nothing, has_free, AllTaken};
+    ghost use Rattle.c_engine.specs.Held.{named, last_number, transaction_in, ticket_in, view_in, SameNumbers, IsKept, IsTaken, IsWritten};
+    ghost use Rattle.c_engine.specs.Writes.{Puts, Deletes};
+
+    /// Nothing is held. Numbers have the lowest 15 bits of the mark.
+    pub fn new(alloc: Global, mark: u64) -> Places
+        ensures none { result.places.items ≡ [] }
+        ensures tag { result.tag ≡ mark % 32768 }
+    {
         Places {
             places: Vec::new(alloc),
             free: MAX_PLACES,
+            tag: mark % TAGS,
         }
+    }
+
+    /// A number of this store that names no place.
+    pub fn last_number(&self) -> u64
+        ensures { result ≡ last_number self.now }
+    {
+        NO_PLACE + self.tag * (STAMPS * STAMP_UNIT)
     }
 
     // Whether the place that became free last holds nothing.
     fn has_free(&self) -> bool
-        ensures { result ≡ has_free self.now }
+        ensures { result ≡ has_free self.now.places.items self.now.free }
     {
         if self.free >= MAX_PLACES {
             return false;
@@ -86,11 +117,12 @@ impl Places {
         }
     }
 
-    /// Makes a place free where none is; whether one is free then. None is where all are taken or there is no
-    /// memory for one.
+    /// Makes a place free where none is; whether one is free then. None is where all are taken, and there are so
+    /// many or there is no memory for one more.
     pub fn make_free(&mut self) -> bool
-        ensures free { result ≡ has_free self.new }
+        ensures free { result ≡ has_free self.new.places.items self.new.free }
         ensures same { SameNumbers self.old self.new }
+        ensures taken { result ≡ false → AllTaken self.old.places.items }
     {
         if self.has_free() {
             return true;
@@ -100,8 +132,8 @@ impl Places {
 
     // One behind all others.
     fn add_free(&mut self) -> bool
-        requires { has_free self.old ≡ false }
-        ensures free { result ≡ has_free self.new }
+        requires { has_free self.old.places.items self.old.free ≡ false }
+        ensures free { result ≡ has_free self.new.places.items self.new.free }
         ensures same { SameNumbers self.old self.new }
     {
         let at = self.places.len();
@@ -122,7 +154,8 @@ impl Places {
 
     /// Keeps a value in the place that became free last.
     pub fn keep_free(&mut self, held: Held) -> u64
-        requires { IsTrue (has_free self.old) }
+        requires free { IsTrue (has_free self.old.places.items self.old.free) }
+        requires some { is_nothing held ≡ false }
         ensures { IsKept held result self.old self.new }
     {
         let at = self.free;
@@ -131,7 +164,7 @@ impl Places {
         let next = place.next;
         mem::replace(&mut place.held, held).discard();
         self.free = next;
-        number_of(at, stamp)
+        number_of(self.tag, at, stamp)
     }
 
     // Takes out what stands under a number, which names nothing from then on.
@@ -153,8 +186,11 @@ impl Places {
     fn held(&self, number: u64) -> Option<&Held>
         ensures { MatchOption result (named self.now number ≡ Nothing) (λ held. named self.now number ≡ held.now) }
     {
+        if number / STAMP_UNIT / STAMPS != self.tag {
+            return None;
+        }
         let place = self.places.get((number % STAMP_UNIT) as usize)?;
-        if place.stamp as u64 == number / STAMP_UNIT {
+        if place.stamp as u64 == number / STAMP_UNIT % STAMPS {
             Some(&place.held)
         } else {
             None
@@ -268,6 +304,7 @@ impl Places {
         let Places {
             mut places,
             free: _,
+            tag: _,
         } = self;
         give_up_all(&mut places);
         places.destroy_empty();

@@ -17,14 +17,11 @@ use history::{Key, Version};
 use std::alloc::Global;
 use timequery::{QueryFault, View};
 
-/// The number of the view of what was published before a device call that was refused.
-const LAST_VIEW: u64 = u64::MAX;
-
-// The view of a number.
+// The view of a number; the last one names that of what was published before a device call.
 fn view_of<'a>(places: &'a Places, before: &'a Option<Published>, number: u64) -> Option<&'a View>
     ensures { option_copied result ≡ view_of places.now before.now number }
 {
-    if number != LAST_VIEW {
+    if number != places.last_number() {
         return places.view(number);
     }
     match before {
@@ -149,9 +146,9 @@ impl Engine {
         ensures { GivesView self.old result info.new self.new }
     {
         match self.state {
-            EngineState::Asks => Code::Pending,
+            EngineState::Asks(_) => Code::Pending,
             EngineState::Failed => {
-                info.a = LAST_VIEW;
+                info.a = self.places.last_number();
                 Code::Ok
             }
             EngineState::Settled => self.new_view(info),
@@ -178,7 +175,7 @@ impl Engine {
     pub fn end(&mut self, view: u64) -> Code
         ensures { EndsView view self.old result self.new }
     {
-        if view == LAST_VIEW && self.state == EngineState::Failed {
+        if view == self.places.last_number() && self.has_failed() {
             return Code::Ok;
         }
         match self.places.take_view(view) {
@@ -299,7 +296,7 @@ impl Engine {
     fn keep_published(&self, times: &mut Vec<u64>)
         ensures { times.new.items ≡ published_of self.now.state self.now.before times.old.items }
     {
-        if self.state != EngineState::Failed {
+        if !self.has_failed() {
             return;
         }
         match &self.before {
@@ -315,7 +312,7 @@ impl Engine {
     pub fn times_of(&self, label: u64, times: &mut [u64], info: &mut Info) -> Code
         ensures { TellsLabels label self.now result info.new times.new }
     {
-        if self.state == EngineState::Asks {
+        if self.asks() {
             return Code::Pending;
         }
         let Ok(mut found) = self.store.times_of(label) else {

@@ -1,12 +1,13 @@
 //! Transactions and groups.
 ghost use Rattle.std.specs.Prelude.{◌≡◌, IsTrue};
-ghost use Rattle.c_engine.specs.Held.{has_free};
+ghost use Rattle.c_engine.specs.FreePlaces.{has_free};
 
 use crate::code::{Code, Info, Row};
-use crate::codes::{begin_code, did_number, pump_code, submit_code, txn_code};
+use crate::codes::{begin_code, submit_code, txn_code};
 use crate::engine::{Engine, EngineState};
 use crate::places::Held;
 use crate::rows::{records_out, value_out};
+use crate::step::Step;
 use group::{Redeemed, Submitted, Ticket};
 use history::Key;
 use snapshot::Txn;
@@ -106,7 +107,7 @@ impl Engine {
     pub fn submit(&mut self, transaction: u64, label: u64, now: u64, info: &mut Info) -> Code
         ensures { SubmitsEngine transaction label now self.old result info.new self.new }
     {
-        if self.state == EngineState::Asks {
+        if self.asks() {
             return Code::Pending;
         }
         match self.places.take_transaction(transaction) {
@@ -117,10 +118,10 @@ impl Engine {
 
     // Its place is free for the ticket.
     fn submit_taken(&mut self, txn: Txn, label: u64, now: u64, info: &mut Info) -> Code
-        requires { IsTrue (has_free self.old.places) }
+        requires { IsTrue (has_free self.old.places.places.items self.old.places.free) }
         ensures { SubmitsTaken txn label now self.old result info.new self.new }
     {
-        if self.state == EngineState::Failed {
+        if self.has_failed() {
             self.end_transaction(txn);
             return Code::Failed;
         }
@@ -151,7 +152,7 @@ impl Engine {
         }
     }
 
-    /// One step of the group that stands: its number is told, and how many commits are published.
+    /// One step of the group that stands; whether a device call is due for it is told.
     pub fn pump(&mut self, info: &mut Info) -> Code
         ensures { PumpsEngine self.old result info.new self.new }
     {
@@ -161,15 +162,10 @@ impl Engine {
         let Some(published) = self.published() else {
             return Code::NoMemory;
         };
-        let (made, refused) = (self.calls(), self.refusals());
-        let outcome = self.store.pump();
-        self.note_call(made, refused, published);
-        match outcome {
-            Ok(did) => {
-                did_number(did, info);
-                Code::Ok
-            }
-            Err(fault) => pump_code(fault),
+        let made = self.calls();
+        match self.store.pump() {
+            Ok(did) => self.stand_out(Step::Group(did), published, info),
+            Err(fault) => self.refuse_step(fault, made, published),
         }
     }
 
@@ -177,7 +173,7 @@ impl Engine {
     pub fn redeem(&mut self, ticket: u64, info: &mut Info) -> Code
         ensures { RedeemsEngine ticket self.old result info.new self.new }
     {
-        if self.state == EngineState::Asks {
+        if self.asks() {
             return Code::Pending;
         }
         match self.places.take_ticket(ticket) {
@@ -188,7 +184,7 @@ impl Engine {
 
     // Its place is free for it where it waits.
     fn redeem_taken(&mut self, ticket: Ticket, info: &mut Info) -> Code
-        requires { IsTrue (has_free self.old.places) }
+        requires { IsTrue (has_free self.old.places.places.items self.old.places.free) }
         ensures { RedeemsTaken ticket self.old result info.new self.new }
     {
         match self.store.redeem(ticket) {
@@ -207,10 +203,10 @@ impl Engine {
 
     // The new number of a ticket that waits is told.
     fn keep_ticket(&mut self, ticket: Ticket, info: &mut Info) -> Code
-        requires { IsTrue (has_free self.old.places) }
+        requires { IsTrue (has_free self.old.places.places.items self.old.places.free) }
         ensures { KeepsTicket ticket self.old result info.new self.new }
     {
-        if self.state == EngineState::Failed {
+        if self.has_failed() {
             ticket.give_up();
             return Code::InDoubt;
         }
@@ -222,7 +218,7 @@ impl Engine {
     fn was_published(&self, time: u64) -> bool
         ensures { result ≡ was_published self.now.state self.now.before time }
     {
-        if self.state == EngineState::Settled {
+        if matches!(self.state, EngineState::Settled) {
             return true;
         }
         match &self.before {

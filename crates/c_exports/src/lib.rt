@@ -95,15 +95,15 @@ pub extern "C" fn ts_call(
     put_back(handle, engine, code)
 }
 
-/// The device call was made, or it was refused.
+/// The device call was made, and what its step did is told; or it was refused.
 #[unsafe(no_mangle)]
-pub extern "C" fn ts_called(alloc: Global, handle: &mut Handle, made: bool) -> i32
-    ensures { OnHandle (HasCalled made) handle.old.engine result handle.new.engine }
+pub extern "C" fn ts_called(alloc: Global, handle: &mut Handle, made: bool, info: &mut Info) -> i32
+    ensures { OnHandle (λ old said new. HasCalled made old said info.new new) handle.old.engine result handle.new.engine }
 {
     let Some(mut engine) = handle.take(alloc) else {
         return Code::Closed.number();
     };
-    let code = engine.called(made);
+    let code = engine.called(made, info);
     put_back(handle, engine, code)
 }
 

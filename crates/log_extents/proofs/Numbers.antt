@@ -62,7 +62,8 @@ pub new_above : (greatest x : ℕ) (xs : List ℕ) → AllByRecursion (λ n. n �
 new_above greatest x [] upto above = tt
 new_above greatest x (y ∷ ys) upto above = (λ same. let most = upto.0 in omega (arith, most, above, same), new_above greatest x ys upto.1 above)
 
-upto_push : (before greatest x : ℕ) (xs : List ℕ) → AllByRecursion (λ n. n ≤ before) xs → before ≤ greatest → x ≤ greatest → AllByRecursion (λ n. n ≤ greatest) (xs ++ x ∷ [])
+upto_push : (before greatest x : ℕ) (xs : List ℕ) → AllByRecursion (λ n. n ≤ before) xs → before ≤ greatest → x ≤ greatest
+    → AllByRecursion (λ n. n ≤ greatest) (xs ++ x ∷ [])
 upto_push before greatest x [] upto more own = (own, tt)
 upto_push before greatest x (y ∷ ys) upto more own = (let most = upto.0 in omega (arith, most, more), upto_push before greatest x ys upto.1 more own)
 
@@ -70,5 +71,6 @@ others_after : (numbers : List ℕ) (greatest x : ℕ) → AreOthersUpto greates
 others_after [] greatest x upto = tt
 others_after (n ∷ ns) greatest x upto = upto_push greatest (max greatest x) x ns upto (le-max_left greatest x) (le-max_right greatest x)
 
-pub others_made : (numbers new : List ℕ) (greatest x result : ℕ) → AreOthersUpto greatest numbers → new ≡ numbers ++ x ∷ [] → result ≡ greatest_after numbers greatest x → AreOthersUpto result new
+pub others_made : (numbers new : List ℕ) (greatest x result : ℕ) → AreOthersUpto greatest numbers → new ≡ numbers ++ x ∷ [] → result
+    ≡ greatest_after numbers greatest x → AreOthersUpto result new
 others_made numbers new greatest x result upto new_is result_is = rw (new_is, result_is) (others_after numbers greatest x upto)

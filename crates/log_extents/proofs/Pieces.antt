@@ -30,5 +30,6 @@ bodies_by : (end gate link : ℕ) (numbers content : List ℕ) → map (λ e. e.
 bodies_by end gate link [] content = refl
 bodies_by end gate link (n ∷ ns) content = ap (λ (l : List (List ℕ)). take 8168 content ∷ l) (bodies_by end 0 0 ns (drop 8168 content))
 
-pub chain_holds : (gate link : ℕ) (numbers content : List ℕ) → length numbers ≡ count_of (length content) → map (λ e. e.body) (chain_to 0 gate link numbers content) ≡ pieces content
+pub chain_holds : (gate link : ℕ) (numbers content : List ℕ) → length numbers ≡ count_of (length content)
+    → map (λ e. e.body) (chain_to 0 gate link numbers content) ≡ pieces content
 chain_holds gate link numbers content count = bodies_by 0 gate link numbers content ∙ ap (λ n. pieces_by n content) count

@@ -25,7 +25,8 @@ first_or end (n ∷ ns) = n
 -- and the last names `end`.
 abbrev pub chain_to : ℕ → ℕ → ℕ → List ℕ → List ℕ → List LinkedExtent
 chain_to end gate link [] content = []
-chain_to end gate link (n ∷ ns) content = record { gate = gate; number = n; next = first_or end ns; link = link; body = take 8168 content } ∷ chain_to end 0 0 ns (drop 8168 content)
+chain_to end gate link (n ∷ ns) content =
+    record { gate = gate; number = n; next = first_or end ns; link = link; body = take 8168 content } ∷ chain_to end 0 0 ns (drop 8168 content)
 
 -- the whole chain of a content: its last extent names none
 abbrev pub chain_of : ℕ → ℕ → List ℕ → List ℕ → List LinkedExtent

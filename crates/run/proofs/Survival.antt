@@ -11,8 +11,10 @@ use Rattle.law_image.specs.Values.{Value}
 use Rattle.status.specs.declared.header.Header.{Header}
 use Rattle.store.specs.Values.{StoreValue}
 use Rattle.law_refinement.specs.OnDisk.{IsImageOf}
-use Rattle.law_opening.proofs.Opened.{open-stands}
-use Rattle.law_opening.proofs.Reopened.{open-refuses}
+use Rattle.law_opening.specs.Laws.{IsHeaderLeftBy}
+use Rattle.law_opening.proofs.Fronts.{front-is}
+use Rattle.law_opening.proofs.Opened.{image-header, open-stands}
+use Rattle.law_opening.proofs.Reopened.{left-by, open-refuses}
 use Rattle.law_opening.proofs.Answering.{stands-answers}
 use Rattle.run.specs.declared.held.Held.{Held}
 use Rattle.run.specs.Moments.{Moment, HasCommitAt, IsAtMoment}
@@ -20,7 +22,8 @@ use Rattle.run.specs.Promise.{IsKeptAs, IsKeptWith, Leaves}
 use Rattle.run.proofs.Acknowledging.{more-have}
 
 -- an image that stands for a history is kept as it
-pub kept-as : (tells : Bool) (header : Header) (image : Image) (h : History Value) (floors : ℕ → ℕ) → IsTrue tells → IsImageOf header image h floors → IsKeptAs tells image h floors
+pub kept-as : (tells : Bool) (header : Header) (image : Image) (h : History Value) (floors : ℕ → ℕ) → IsTrue tells → IsImageOf header image h floors
+    → IsKeptAs tells image h floors
 kept-as tells header image h floors told is = record {
   header = header;
   stands = is;
@@ -34,7 +37,8 @@ kept-as tells header image h floors told is = record {
 
 -- ---- fronts
 
-module _ (tells : Bool) (header : Header) (image : Image) (m : Machine Value) (done : List ℕ) (told : IsTrue tells) (published : AllByRecursion (HasCommitAt m.published) done) where
+module _ (tells : Bool) (header : Header) (image : Image) (m : Machine Value) (done : List ℕ) (told : IsTrue tells)
+    (published : AllByRecursion (HasCommitAt m.published) done) where
   on-raised : (o : Option Raising) → OnRaised (IsImageOf header image) m o → OnRaised (IsKeptWith tells image done) m o
   on-raised None on = on
   on-raised (Some r) on = record { kept = kept-as tells header image _ _ told on; acknowledged = published }
@@ -42,7 +46,8 @@ module _ (tells : Bool) (header : Header) (image : Image) (m : Machine Value) (d
   on-opened : (gate : Gate) → OnOpened (IsImageOf header image) m gate → OnOpened (IsKeptWith tells image done) m gate
   on-opened Shut on = on
   on-opened (Due change) on = on
-  on-opened (MayBeOpen OfGroup) on = record { kept = kept-as tells header image _ _ told on; acknowledged = more-have m.published (take m.group m.queue) done published }
+  on-opened (MayBeOpen OfGroup) on =
+      record { kept = kept-as tells header image _ _ told on; acknowledged = more-have m.published (take m.group m.queue) done published }
   on-opened (MayBeOpen OfFloor) on = on-raised m.raising on
 
   on-front : OnFront (IsImageOf header image) m → OnFront (IsKeptWith tells image done) m
@@ -52,5 +57,11 @@ module _ (tells : Bool) (header : Header) (image : Image) (m : Machine Value) (d
 -- whatever a stop may leave at a moment of a store survives
 pub moment-leaves : (tells : Bool) (v : StoreValue) (held : List Held) (at : Moment) → IsAtMoment tells v held at → Leaves tells at
 moment-leaves tells v held at is told image left =
-    let l = (is.world.stands.disk told).leaves image (subst (λ (x : StoreValue). LeavesImage x.disk.areas image) is.store left) in
-    on-front tells l.found image at.world.machine at.done told is.published l.front
+    let on = is.world.stands.disk told in
+    let l = on.leaves image (subst (λ (x : StoreValue). LeavesImage x.disk.areas image) is.store left) in
+    record {
+      header = l.found;
+      left = subst (λ (x : StoreValue). IsHeaderLeftBy x l.found) (sym is.store) (left-by v at.world.machine on l.found l.is_found);
+      has = front-is (IsImageOf l.found image) at.world.machine (λ h floors stands. image-header tells l.found image h floors told stands) l.front;
+      front = on-front tells l.found image at.world.machine at.done told is.published l.front;
+    }

@@ -1,5 +1,6 @@
 -- What each call answers and does, and lists of calls.
-use Rattle.std.specs.Prelude.{ℕ, ◌≡◌, ◌≢◌, ◌<◌, ◌≤◌, ◌⊎◌, ◌+◌, ◌↔◌, ◌++◌, Bool, true, false, List, [], map, is_some, IsSome, Option, None, Some, Contains, Result, Ok, Err, IfOk, IfErr, OnOk, OnErr, MatchBool, Vec, if◌then◌else◌}
+use Rattle.std.specs.Prelude.{ℕ, ◌≡◌, ◌≢◌, ◌<◌, ◌≤◌, ◌⊎◌, ◌+◌, ◌↔◌, ◌++◌, Bool, true, false, List, [], map, is_some, IsSome, Option, None, Some, Contains}
+use Rattle.std.specs.Prelude.{Result, Ok, Err, IfOk, IfErr, OnOk, OnErr, MatchBool, Vec, if◌then◌else◌}
 use Rattle.std.specs.declared.alloc.Global.{Global}
 use Rattle.std.specs.declared.alloc.AllocError.{AllocError}
 use Rattle.history.specs.declared.key.Key.{Key}
@@ -28,6 +29,7 @@ use Rattle.group.specs.declared.answers.PumpFault.TheVariants as pump
 use Rattle.group.specs.declared.answers.SubmitFault.{SubmitFault}
 use Rattle.group.specs.declared.answers.SubmitFault.TheVariants as refused
 use Rattle.timequery.specs.declared.fault.QueryFault.{QueryFault}
+use Rattle.timequery.specs.declared.fault.QueryFault.TheVariants as query
 use Rattle.store.specs.Values.{StoreValue}
 use Rattle.store.specs.declared.job.JobDid.{JobDid}
 use Rattle.store.specs.declared.job.StartFault.{StartFault}
@@ -46,29 +48,34 @@ use Rattle.run.specs.declared.calls.RedeemOutcome.TheVariants as told
 use Rattle.run.specs.declared.held.Held.{Held}
 use Rattle.run.specs.Places.{Place, Free, Running, Waits, Views, place_at, IsNoTransaction, IsNoTicket, IsNoView}
 use Rattle.run.specs.Worlds.{World, IsWorld, leaves, put, moved, same, spent}
+use Rattle.run.specs.Makes.{Makes}
 
 -- ---- transactions
 
 -- a transaction reads what is published now, or the store has failed, or there is no memory
 abbrev pub Begins : World → Result (Unit {0}) BeginFault → World → Type 0
-Begins w (Ok u) next = Step IsValue w.machine (Began (last w.machine.published)) (begun w.machine) × (next ≡ leaves (moved w (begun w.machine)) (Running (last w.machine.published) []))
+Begins w (Ok u) next =
+    Step IsValue w.machine (Began (last w.machine.published)) (begun w.machine)
+    × (next ≡ leaves (moved w (begun w.machine)) (Running (last w.machine.published) []))
 Begins w (Err begin.NoMemory) next = Step IsValue w.machine (BeginRefused steps.NoMemory) w.machine × (next ≡ same w)
 Begins w (Err begin.Failed) next = Step IsValue w.machine (BeginRefused steps.Failed) w.machine × (next ≡ same w)
 
 -- a put of a value: the writes after it, and which refusals come when
-pub record PutSays (writes : List (KeyWrite Value)) (key : Key) (value : Value) (said : Result (Unit {0}) TxnFault) (after : List (KeyWrite Value)) : Type 0 where
-  pub ok : OnOk said (after ≡ with_write writes (record { key = key; write = Some value }))
-  pub missing : said ≢ Err txn.Missing
-  pub too_many : (said ≡ Err txn.TooManyKeys) ↔ IsFullFor writes key
-  pub bad : (said ≡ Err txn.BadValue) ↔ ((¬ IsFullFor writes key) × (¬ HasSizes value))
-  pub err : OnErr said (after ≡ writes)
+pub record PutSays (writes : List (KeyWrite Value)) (key : Key) (value : Value) (said : Result (Unit {0}) TxnFault) (after : List (KeyWrite Value)) : Type 0
+  where
+    pub ok : OnOk said (after ≡ with_write writes (record { key = key; write = Some value }))
+    pub missing : said ≢ Err txn.Missing
+    pub too_many : (said ≡ Err txn.TooManyKeys) ↔ IsFullFor writes key
+    pub bad : (said ≡ Err txn.BadValue) ↔ ((¬ IsFullFor writes key) × (¬ HasSizes value))
+    pub err : OnErr said (after ≡ writes)
 
 -- the writes after a delete: a key that has no value at the snapshot needs no write
 abbrev pub deleted : Option Value → List (KeyWrite Value) → Key → List (KeyWrite Value)
 deleted at_snapshot writes key = if is_some at_snapshot then with_write writes (record { key = key; write = None }) else without writes key
 
 -- a delete, by the key's value at the snapshot and what the transaction sees of it
-pub record DeleteSays (at_snapshot sees : Option Value) (writes : List (KeyWrite Value)) (key : Key) (said : Result (Unit {0}) TxnFault) (after : List (KeyWrite Value)) : Type 0 where
+pub record DeleteSays (at_snapshot sees : Option Value) (writes : List (KeyWrite Value)) (key : Key) (said : Result (Unit {0}) TxnFault)
+    (after : List (KeyWrite Value)) : Type 0 where
   pub ok : OnOk said (after ≡ deleted at_snapshot writes key)
   pub missing : (said ≡ Err txn.Missing) ↔ (sees ≡ None)
   pub too_many : (said ≡ Err txn.TooManyKeys) ↔ (IsSome sees × IsFullFor writes key)
@@ -77,13 +84,15 @@ pub record DeleteSays (at_snapshot sees : Option Value) (writes : List (KeyWrite
 
 -- a put to the transaction of a place changes its writes alone
 abbrev pub Puts : World → ℕ → Key → Value → Place → Result (Unit {0}) TxnFault → World → Type 0
-Puts w i key value (Running snapshot writes) said next = (after : List (KeyWrite Value)) × PutSays writes key value said after × (next ≡ same (put w i (Running snapshot after)))
+Puts w i key value (Running snapshot writes) said next =
+    (after : List (KeyWrite Value)) × PutSays writes key value said after × (next ≡ same (put w i (Running snapshot after)))
 Puts w i key value place said next = ⊥
 
 -- a delete in the transaction of a place changes its writes alone
 abbrev pub Deletes : World → ℕ → Key → Place → Result (Unit {0}) TxnFault → World → Type 0
 Deletes w i key (Running snapshot writes) said next =
-    (after : List (KeyWrite Value)) × DeleteSays (state w.machine.published snapshot key) (seen w.machine.published snapshot writes key) writes key said after × (next ≡ same (put w i (Running snapshot after)))
+    (after : List (KeyWrite Value)) × DeleteSays (state w.machine.published snapshot key) (seen w.machine.published snapshot writes key) writes key said after
+    × (next ≡ same (put w i (Running snapshot after)))
 Deletes w i key place said next = ⊥
 
 -- what is published at the snapshot, with the transaction's own writes over it
@@ -93,7 +102,8 @@ Gets w key place said next = ⊥
 
 -- so is what a transaction sees of a relation
 abbrev pub Scans : World → ℕ → Place → Result (Vec (ℕ × Value) Global) AllocError → World → Type 0
-Scans w relation (Running snapshot writes) said next = IfOk said (λ found. IsScanSeen w.machine.published snapshot writes relation found.items) × (next ≡ same w)
+Scans w relation (Running snapshot writes) said next =
+    IfOk said (λ found. IsScanSeen w.machine.published snapshot writes relation found.items) × (next ≡ same w)
 Scans w relation place said next = ⊥
 
 -- what a running transaction submits
@@ -115,7 +125,8 @@ Submitted m s (Err refused.Stranger) event place = ⊥
 -- a submit is the machine's, and the transaction is over
 abbrev pub Submits : World → ℕ → ℕ → ℕ → Place → Result SubmitOutcome SubmitFault → World → Type 0
 Submits w i label now (Running snapshot writes) said next =
-    (event : Event Value) × (after : Machine Value) × (place : Place) × Submitted w.machine (submission snapshot writes label now) said event place × Step IsValue w.machine event after × (next ≡ leaves (put (moved w after) i Free) place)
+    (event : Event Value) × (after : Machine Value) × (place : Place) × Submitted w.machine (submission snapshot writes label now) said event place
+    × Step IsValue w.machine event after × (next ≡ leaves (put (moved w after) i Free) place)
 Submits w i label now place said next = ⊥
 
 -- the transaction is over, and its snapshot given up
@@ -132,7 +143,8 @@ IsStepFault why = (why ≡ pump.Failed) ⊎ (why ≡ pump.Busy) ⊎ (why ≡ pum
 -- a step of a group is a run of the machine, and nothing where the store has failed
 abbrev pub Pumps : World → Result Did PumpFault → World → Type 0
 Pumps w said next = MatchBool w.machine.failed ((said ≡ Err pump.Failed) × (next ≡ same w))
-    ((after : Machine Value) × IfErr said IsStepFault × steps.Run IsValue w.machine (begins_in w.machine ++ ends_in w.machine.gate said) after × (next ≡ same (moved w after)))
+    ((after : Machine Value) × IfErr said IsStepFault × steps.Run IsValue w.machine (begins_in w.machine ++ ends_in w.machine.gate said) after
+    × (next ≡ same (moved w after)))
 
 -- a ticket is spent but by Waiting
 abbrev pub Redeems : World → ℕ → Place → RedeemOutcome → World → Type 0
@@ -155,12 +167,14 @@ Shows w (Err why) next = next ≡ same w
 
 -- it answers by the history of its moment: for sure where the disk tells its bytes, and else from the reclaim mark of its moment on
 abbrev pub Asks : Bool → World → Key → ℕ → Place → Result (Option Value) QueryFault → World → Type 0
-Asks tells w key time (Views history floors reclaimed) said next = SaysAt (IsSure tells reclaimed time) (answers.at_answer history floors key time) said × (next ≡ same w)
+Asks tells w key time (Views history floors reclaimed) said next =
+    SaysAt (IsSure tells reclaimed time) (answers.at_answer history floors key time) said × (next ≡ same w)
 Asks tells w key time place said next = ⊥
 
 -- so does a scan, an interval of a key and one of a relation
 abbrev pub AsksScan : Bool → World → ℕ → ℕ → Place → Result (Vec (ℕ × Value) Global) QueryFault → World → Type 0
-AsksScan tells w relation time (Views history floors reclaimed) said next = SaysScanAt (IsSure tells reclaimed time) history floors relation time said × (next ≡ same w)
+AsksScan tells w relation time (Views history floors reclaimed) said next =
+    SaysScanAt (IsSure tells reclaimed time) history floors relation time said × (next ≡ same w)
 AsksScan tells w relation time place said next = ⊥
 
 -- a view answers a query of a key from a to b by the history of its moment
@@ -170,8 +184,27 @@ AsksBetween tells w key a b place said next = ⊥
 
 -- a view answers a scan of a relation from a to b by the history of its moment
 abbrev pub AsksScanBetween : Bool → World → ℕ → ℕ → ℕ → Place → Result (Vec (ℕ × Version Value) Global) QueryFault → World → Type 0
-AsksScanBetween tells w relation a b (Views history floors reclaimed) said next = SaysScanBetween (IsSure tells reclaimed a) history floors relation a b said × (next ≡ same w)
+AsksScanBetween tells w relation a b (Views history floors reclaimed) said next =
+    SaysScanBetween (IsSure tells reclaimed a) history floors relation a b said × (next ≡ same w)
 AsksScanBetween tells w relation a b place said next = ⊥
+
+-- a view that is asked of memory alone answers by the history of its moment from its reclaim mark on; an earlier time that is kept needs the disk, and a value
+-- that is found may lack memory for one more holder
+abbrev pub SaysRecent : ℕ → ℕ → Result (Option Value) answers.QueryRefusal → Result (Option Value) QueryFault → Type 0
+SaysRecent reclaimed time said (Ok value) = (reclaimed ≤ time) × (said ≡ Ok value)
+SaysRecent reclaimed time said (Err (query.BeforeKept floor)) = said ≡ Err (answers.BeforeKept floor)
+SaysRecent reclaimed time said (Err (query.NotYet late)) = said ≡ Err (answers.NotYet late)
+SaysRecent reclaimed time said (Err query.NeedsDisk) = (time < reclaimed) × ((value : Option Value) × (said ≡ Ok value))
+SaysRecent reclaimed time said (Err query.NoMemory) = (reclaimed ≤ time) × ((value : Value) × (said ≡ Ok (Some value)))
+SaysRecent reclaimed time said (Err query.EmptyInterval) = ⊥
+SaysRecent reclaimed time said (Err query.Device) = ⊥
+SaysRecent reclaimed time said (Err (query.Damaged start)) = ⊥
+SaysRecent reclaimed time said (Err query.Stranger) = ⊥
+
+-- so does the view of a place
+abbrev pub AsksRecent : World → Key → ℕ → Place → Result (Option Value) QueryFault → World → Type 0
+AsksRecent w key time (Views history floors reclaimed) said next = SaysRecent reclaimed time (answers.at_answer history floors key time) said × (next ≡ same w)
+AsksRecent w key time place said next = ⊥
 
 -- a view is ended, and its place is free
 abbrev pub Closes : World → ℕ → Place → World → Type 0
@@ -214,12 +247,18 @@ Reclaims w (Err (start.NotYet time)) next = ⊥
 Reclaims w (Err start.ArchiveFull) next = ⊥
 Reclaims w (Err start.NotGrowable) next = ⊥
 
--- A floor begins where the machine may raise it, or is refused as the machine says; which slots there are, what job runs and the store's profile the machine does not know. One of one relation may want for memory.
+-- A floor begins where the machine may raise it, or is refused as the machine says; which slots there are, what job runs and the store's profile the machine
+-- does not know. One of one relation may want for memory.
 abbrev pub Raises : World → Option ℕ → ℕ → Result (Unit {0}) StartFault → World → Type 0
-Raises w scope floor (Ok u) next = steps.Step IsValue w.machine (steps.FloorStarted (raising_to scope floor)) (steps.floor_started w.machine (raising_to scope floor)) × (next ≡ same (moved w (steps.floor_started w.machine (raising_to scope floor))))
-Raises w scope floor (Err start.NothingToDo) next = steps.Step IsValue w.machine (steps.FloorRefused (raising_to scope floor) floors.NothingToDo) w.machine × (next ≡ same w)
-Raises w scope floor (Err (start.NotYet time)) next = steps.Step IsValue w.machine (steps.FloorRefused (raising_to scope floor) (floors.NotYet time)) w.machine × (next ≡ same w)
-Raises w scope floor (Err (start.InUse snapshot)) next = steps.Step IsValue w.machine (steps.FloorRefused (raising_to scope floor) (floors.InUse snapshot)) w.machine × (next ≡ same w)
+Raises w scope floor (Ok u) next =
+    steps.Step IsValue w.machine (steps.FloorStarted (raising_to scope floor)) (steps.floor_started w.machine (raising_to scope floor))
+    × (next ≡ same (moved w (steps.floor_started w.machine (raising_to scope floor))))
+Raises w scope floor (Err start.NothingToDo) next =
+    steps.Step IsValue w.machine (steps.FloorRefused (raising_to scope floor) floors.NothingToDo) w.machine × (next ≡ same w)
+Raises w scope floor (Err (start.NotYet time)) next =
+    steps.Step IsValue w.machine (steps.FloorRefused (raising_to scope floor) (floors.NotYet time)) w.machine × (next ≡ same w)
+Raises w scope floor (Err (start.InUse snapshot)) next =
+    steps.Step IsValue w.machine (steps.FloorRefused (raising_to scope floor) (floors.InUse snapshot)) w.machine × (next ≡ same w)
 Raises w scope floor (Err start.Failed) next = (w.machine.failed ≡ true) × (next ≡ same w)
 Raises w scope floor (Err start.WrongProfile) next = next ≡ same w
 Raises w scope floor (Err start.JobBusy) next = next ≡ same w
@@ -268,6 +307,7 @@ NamesNone w (call.At i key time) = IsNoView (place_at w.places i)
 NamesNone w (call.ScanAt i relation time) = IsNoView (place_at w.places i)
 NamesNone w (call.Between i key a b) = IsNoView (place_at w.places i)
 NamesNone w (call.ScanBetween i relation a b) = IsNoView (place_at w.places i)
+NamesNone w (call.Recent i key time) = IsNoView (place_at w.places i)
 NamesNone w (call.End i) = IsNoView (place_at w.places i)
 NamesNone w (call.TimesOf label) = ⊥
 NamesNone w (call.Archive upto) = ⊥
@@ -294,6 +334,7 @@ Does tells w (call.At i key time) (answer.At said) next = Asks tells w key time 
 Does tells w (call.ScanAt i relation time) (answer.ScanAt said) next = AsksScan tells w relation time (place_at w.places i) said next
 Does tells w (call.Between i key a b) (answer.Between said) next = AsksBetween tells w key a b (place_at w.places i) said next
 Does tells w (call.ScanBetween i relation a b) (answer.ScanBetween said) next = AsksScanBetween tells w relation a b (place_at w.places i) said next
+Does tells w (call.Recent i key time) (answer.Recent said) next = AsksRecent w key time (place_at w.places i) said next
 Does tells w (call.End i) answer.End next = Closes w i (place_at w.places i) next
 Does tells w (call.TimesOf label) (answer.TimesOf said) next = ListsTimes w label said next
 Does tells w (call.Archive upto) (answer.Archive said) next = Archives w upto said next
@@ -308,8 +349,14 @@ abbrev pub Follows : Machine Value → Machine Value → Type 0
 Follows m after = (events : List (Event Value)) × steps.Run IsValue m events after
 
 -- from each world of the store and the places the call leads by this answer to one of theirs after it
-abbrev pub Goes : Bool → StoreValue → List Held → Call → Answer → StoreValue → List Held → Type 0
-Goes tells old before c a new after = (w : World) → IsWorld tells old before w → (next : World) × Does tells w c a next × Follows w.machine next.machine × IsWorld tells new after next
+abbrev pub Leads : Bool → StoreValue → List Held → Call → Answer → StoreValue → List Held → Type 0
+Leads tells old before c a new after =
+    (w : World) → IsWorld tells old before w → (next : World) × Does tells w c a next × Follows w.machine next.machine × IsWorld tells new after next
+
+-- The call is made of the store and the places as the store's own clauses say, and so it leads from each of their worlds to one of theirs after it.
+pub record Goes (tells : Bool) (old : StoreValue) (before : List Held) (c : Call) (a : Answer) (new : StoreValue) (after : List Held) : Type 0 where
+  pub makes : Makes tells old before c a new after
+  pub leads : Leads tells old before c a new after
 
 -- at most one device call is made
 abbrev pub MakesFew : StoreValue → StoreValue → Type 0

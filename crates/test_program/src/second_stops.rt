@@ -1,9 +1,9 @@
 //! Six commits beside an archive, stopped before, within and after each call of the disk; and what is left
-//! then goes on with a reclaim and a commit, and is stopped again at each call of that.
+//! then goes on, in the newest profile, with a reclaim and a commit, and is stopped again at each call of that.
 use crate::bytes::has_bytes;
 use crate::examples::{Example, FOUR_COMMITS, each_goes};
 use crate::machine::Profiles::Each;
-use crate::machine::{Machine, PROFILES, SCRIPT};
+use crate::machine::{Machine, NEWEST, PROFILES, SCRIPT};
 use crate::steps::Step;
 use crate::steps::Step::{Dumps, New, Says};
 use crate::sweeps::{Came, Dialogue, OPEN, answered, dialogue_of, gates, is_settled, what_came};
@@ -402,15 +402,24 @@ fn left_open((synced, written): (usize, usize), fill: u8) -> usize {
     if fill == OPEN { written } else { synced }
 }
 
-/// What each filling leaves of a second stop shows all of the last commit or nothing of it.
-fn shows_left_again(machine: &Machine, front: &Front, gates: (usize, usize)) -> bool {
-    for fill in fills(machine) {
-        let is_later = left_open(gates, *fill) == front.gates;
-        let shown = match machine.left((*fill, 0)) {
-            Some(mut left) => shows(&mut left, front, is_later),
-            None => false,
-        };
-        if !shown {
+/// Whether what a second stop leaves with this filling shows all of the last commit or nothing of it. Where
+/// it does not, what was said there was said last; so it is of those below.
+fn shows_again(machine: &mut Machine, front: &Front, fill: u8, gates: (usize, usize)) -> bool {
+    let is_later = left_open(gates, fill) == front.gates;
+    let Some(mut left) = machine.left((fill, 0)) else {
+        return false;
+    };
+    let shown = shows(&mut left, front, is_later);
+    if !shown {
+        *machine = left;
+    }
+    shown
+}
+
+/// The same with an open gate and a closed one.
+fn shows_left_again(machine: &mut Machine, front: &Front, gates: (usize, usize)) -> bool {
+    for fill in fills(machine).iter().take(2) {
+        if !shows_again(machine, front, *fill, gates) {
             return false;
         }
     }
@@ -419,42 +428,79 @@ fn shows_left_again(machine: &Machine, front: &Front, gates: (usize, usize)) -> 
 
 /// Whether the commit is all there, and has its slot.
 fn is_whole_again(machine: &mut Machine, front: &Front) -> bool {
-    let (alloc, profile, (place, bytes)) = (machine.alloc, machine.profile, front.slot);
-    has_bytes(
-        alloc,
-        &mut machine.disk,
-        (Area::Status, place, bytes),
-        profile,
-    ) && shows(machine, front, true)
+    let Some(mut left) = machine.left((OPEN, 0)) else {
+        return false;
+    };
+    let (place, bytes) = front.slot;
+    let slot = (Area::Status, place, bytes);
+    let goes = has_bytes(machine.alloc, &mut left.disk, slot, machine.profile)
+        && shows(&mut left, front, true);
+    if !goes {
+        *machine = left;
+    }
+    goes
+}
+
+/// Whether what came of the second script leaves what it must.
+fn leaves_again(machine: &mut Machine, front: &Front, dialogue: &Dialogue, came: Came) -> bool {
+    match came {
+        Came::Unopened => true,
+        Came::Failed => {
+            let gates = gates_at_stop(machine, dialogue);
+            shows_left_again(machine, front, gates)
+        }
+        Came::Whole => is_whole_again(machine, front),
+        Came::Wrong => false,
+    }
 }
 
 /// What came of a stop at the call of this number, and whether it leaves what it must.
-fn goes_again(machine: &Machine, front: &Front, dialogue: &Dialogue, call: u64) -> (Came, bool) {
+fn goes_again(
+    machine: &mut Machine,
+    front: &Front,
+    dialogue: &Dialogue,
+    call: u64,
+) -> (Came, bool) {
     let Some(mut again) = machine.left((OPEN, 0)) else {
         return (Came::Wrong, false);
     };
     let came = stops_at(&mut again, dialogue, call);
-    let goes = match came {
-        Came::Unopened => true,
-        Came::Failed => {
-            let gates = gates_at_stop(&again, dialogue);
-            shows_left_again(&again, front, gates)
-        }
-        Came::Whole => is_whole_again(&mut again, front),
-        Came::Wrong => false,
-    };
+    let goes = leaves_again(&mut again, front, dialogue, came);
+    if !goes {
+        *machine = again;
+    }
     (came, goes)
+}
+
+/// A front's reclaim and commit.
+fn next_dialogue(alloc: Global, front: &Front) -> Result<Dialogue, AllocError> {
+    let lines = numbered(alloc, front.then, front.last)?;
+    dialogue_of(alloc, &[(lines.as_str(), 1)])
+}
+
+/// A call of the disk before those that a script makes once the store is opened, at most 16 before them.
+fn first_call(machine: &Machine, dialogue: &Dialogue) -> u64 {
+    let mut first: u64 = 0;
+    for _ in 0..12 {
+        let Some(mut again) = machine.left((OPEN, 0)) else {
+            return first;
+        };
+        let next = first.saturating_add(16);
+        if !matches!(stops_at(&mut again, dialogue, next), Came::Unopened) {
+            return first;
+        }
+        first = next;
+    }
+    first
 }
 
 /// Whether a front goes on with its reclaim and its commit, with a stop at each call of that.
 fn goes_on(machine: &mut Machine, front: &Front) -> bool {
-    let Ok(lines) = numbered(machine.alloc, front.then, front.last) else {
+    let Ok(dialogue) = next_dialogue(machine.alloc, front) else {
         return false;
     };
-    let Ok(dialogue) = dialogue_of(machine.alloc, &[(lines.as_str(), 1)]) else {
-        return false;
-    };
-    for call in 0..200 {
+    let first = first_call(machine, &dialogue);
+    for call in first..first.saturating_add(60) {
         match goes_again(machine, front, &dialogue, call) {
             (Came::Whole, goes) => return goes,
             (_, true) => {}
@@ -464,19 +510,25 @@ fn goes_on(machine: &mut Machine, front: &Front) -> bool {
     false
 }
 
-/// Whether what a stop leaves shows its front, and goes on.
-fn goes_left(machine: &Machine, fill: u8, gates: (usize, usize)) -> bool {
-    match (machine.left((fill, 0)), FRONTS.get(left_open(gates, fill))) {
-        (Some(mut left), Some(front)) => shows(&mut left, front, false)
-            && goes_on(&mut left, front),
-        _ => false,
+/// Whether what a stop leaves shows its front and, if it is stopped again, goes on.
+fn goes_left(machine: &mut Machine, fill: u8, gates: (usize, usize), again: bool) -> bool {
+    let Some(front) = FRONTS.get(left_open(gates, fill)) else {
+        return false;
+    };
+    let Some(mut left) = machine.left((fill, 0)) else {
+        return false;
+    };
+    let goes = shows(&mut left, front, false) && (!again || goes_on(&mut left, front));
+    if !goes {
+        *machine = left;
     }
+    goes
 }
 
-/// Each filling of what is torn.
-fn each_left_goes(machine: &Machine, gates: (usize, usize)) -> bool {
+/// Each filling of what is torn; there are second stops where a torn gate is all open or all closed.
+fn each_left_goes(machine: &mut Machine, gates: (usize, usize), again: bool) -> bool {
     for fill in fills(machine) {
-        if !goes_left(machine, *fill, gates) {
+        if !goes_left(machine, *fill, gates, again && *fill != 0xFF) {
             return false;
         }
     }
@@ -490,9 +542,10 @@ fn stops_within(machine: &mut Machine, dialogue: &Dialogue, call: u64) -> (Came,
     }
     let came = stops_at(machine, dialogue, call);
     let gates = gates_at_stop(machine, dialogue);
+    let again = machine.profile == NEWEST;
     let goes = match came {
         Came::Unopened => true,
-        Came::Failed | Came::Whole => each_left_goes(machine, gates),
+        Came::Failed | Came::Whole => each_left_goes(machine, gates, again),
         Came::Wrong => false,
     };
     (came, goes)
@@ -513,13 +566,18 @@ fn stops_within_each(alloc: Global, dialogue: &Dialogue, profile: u8) -> Result<
     Err(Fail::from("the calls do not end"))
 }
 
-/// The same with a stop behind so many lines.
+/// The same with a stop behind so many lines. Where a range is torn, the stop within a call leaves the same,
+/// and is followed by another one there.
 fn stops_behind(machine: &mut Machine, dialogue: &Dialogue, lines: usize) -> bool {
     let Ok(script) = script_of(machine.alloc, dialogue.lines.as_str(), lines) else {
         return false;
     };
     let gates = gates(dialogue.lines.as_str(), (lines, lines), GATE);
-    machine.goes(BEFORE) && machine.ends(script.as_str()) && each_left_goes(machine, gates)
+    if !(machine.goes(BEFORE) && machine.ends(script.as_str())) {
+        return false;
+    }
+    let again = machine.profile == NEWEST && is_settled(machine);
+    each_left_goes(machine, gates, again)
 }
 
 /// Whether a line makes a call of the disk.

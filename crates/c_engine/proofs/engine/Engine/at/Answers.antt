@@ -1,5 +1,4 @@
-use Rattle.std.proofs.Common.{◌≡◌, ◌∙◌, sym, false, true, Some, Option}
-use Rattle.timequery.specs.View.{ViewValue}
+use Rattle.std.proofs.Common.{◌≡◌, ◌∙◌, sym, false, Some}
 use Rattle.c_engine.specs.Held.{view_under}
 use Rattle.c_engine.specs.Queries.{is_none}
 use Rattle.c_engine.proofs.engine.Engine.at.Goals as goal

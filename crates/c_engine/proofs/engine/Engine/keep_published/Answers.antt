@@ -1,4 +1,4 @@
-use Rattle.std.proofs.Common.{◌≡◌, Some, nat_le, rules}
+use Rattle.std.proofs.Common.{◌≡◌, nat_le, rules}
 use Rattle.std.proofs.lemmas.Fn.{filter_same}
 use Rattle.c_engine.specs.declared.engine.EngineState.TheVariants.{Failed}
 use Rattle.c_engine.proofs.engine.Engine.keep_published.Goals as goal

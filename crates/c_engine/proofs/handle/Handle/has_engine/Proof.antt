@@ -1,6 +1,5 @@
 -- `has_engine` reads a field.
-use Rattle.std.specs.Prelude.{is_some}
-use Rattle.std.proofs.Common.{◌≡◌, List, [], ◌∷◌, refl, sym}
+use Rattle.std.proofs.Common.{List, [], ◌∷◌, refl, sym}
 use mir.Syntax.{named}
 use mir.Val.{Val, vbool}
 use base.Fraction.{full_share}

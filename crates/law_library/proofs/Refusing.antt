@@ -1,0 +1,131 @@
+-- A step that was refused, and whose device call was not counted, leaves the areas as they were.
+use Rattle.std.proofs.Common.{◌≡◌, ℕ, ◌==◌, Bool, true, false, List, [], ◌∷◌, Option, Some, None, Result, Ok, Err, MatchBool, MatchOption, refl, sym, ◌∙◌, ap}
+use Rattle.std.proofs.Common.{subst, inl, inr, arith}
+use Rattle.std.specs.Prelude.{is_some, slice_get}
+use Rattle.std.proofs.lemmas.Bool.{eqb-true}
+use Rattle.disk.specs.Calls.{DiskState, Counts, counted, top, refused_answer}
+use Rattle.disk.specs.declared.area.DeviceFault.{DeviceFault}
+use Rattle.group.specs.declared.answers.Did.{Did}
+use Rattle.group.specs.declared.answers.PumpFault.{PumpFault}
+use Rattle.group.specs.declared.answers.PumpFault.TheVariants as fault
+use Rattle.group.specs.declared.queued.StoredExtent.{StoredExtent}
+use Rattle.group.specs.declared.stage.NextStep.{NextStep}
+use Rattle.group.specs.declared.stage.NextStep.TheVariants as step
+use Rattle.group.specs.Steps.{next_step, next_extent}
+use Rattle.archive.specs.Pieces.{InWriting}
+use Rattle.vacuum.specs.Anchors.{Sourced}
+use Rattle.wire.specs.declared.slot.Anchors.{Anchors}
+use Rattle.wire.specs.declared.slot.Run.{Run}
+use Rattle.status.specs.TurnState.{TurnState}
+use Rattle.store.specs.Jobs.{PumpsJob, TakesJobStep, Stores, WritesOrSyncs, AnchorsOrSync, BeginsJobSlot, made_ready}
+use Rattle.store.specs.Pumps.{Pumps, TakesStep, WritesExtent, MayBeginSlot, TurnsSlot, started}
+use Rattle.store.specs.Values.{StoreValue, turn_of}
+use Rattle.store.specs.declared.job.Job.{Job}
+use Rattle.store.specs.declared.job.JobDid.{JobDid}
+use Rattle.store.specs.declared.job.JobDid.TheVariants as job
+use Rattle.store.specs.declared.job.JobStage.{JobStage}
+use Rattle.store.specs.declared.job.JobStage.TheVariants as stages
+use Rattle.store.specs.declared.job.JobWork.{JobWork}
+use Rattle.store.specs.declared.job.JobWork.TheVariants as works
+
+at-top : (n : ℕ) → counted n ≡ n → n ≡ top
+at-top n same = omega (arith, same)
+
+-- a call that was not counted changed nothing
+abbrev IfUncounted : StoreValue → StoreValue → Type 0
+IfUncounted old new = (new.disk.made == old.disk.made) ≡ true → new.disk.areas ≡ old.disk.areas
+
+uncounted : (r : Result (Unit {0}) DeviceFault) (old new : StoreValue) → Counts r old.disk new.disk → IfUncounted old new
+uncounted r old new counts same = (counts.full (at-top old.disk.made (sym counts.made ∙ eqb-true new.disk.made old.disk.made same))).1
+
+nothing : (old new : StoreValue) → new ≡ old → IfUncounted old new
+nothing old new same is = ap (λ (v : StoreValue). v.disk.areas) same
+
+-- ---- a group
+
+abbrev pump_said : PumpFault → Result Did PumpFault
+pump_said why = Err why
+
+abbrev job_said : PumpFault → Result JobDid PumpFault
+job_said why = Err why
+
+step-same : (next : NextStep) (old new : StoreValue) (why : PumpFault) → TakesStep true next old (Err why) new → IfUncounted old new
+step-same step.Idle old new why takes = nothing old new takes.1
+step-same step.WriteExtent old new why takes = by-extent (next_extent old.transactions) takes
+  where
+    by-extent : (o : Option StoredExtent) → MatchOption o ⊥ (λ stored. WritesExtent true stored old (Err why) new) → IfUncounted old new
+    by-extent None never = absurd never
+    by-extent (Some stored) writes = uncounted _ old new writes.call.counts
+step-same step.SyncHeap old new why takes = uncounted _ old new takes.call.counts
+step-same step.BeginSlot old new why takes = by-job (is_some (turn_of old.job)) takes
+  where
+    by-job : (b : Bool) → MatchBool b ((pump_said why ≡ pump_said fault.Busy) × (new ≡ old)) (MayBeginSlot true old (Err why) new) → IfUncounted old new
+    by-job true busy = nothing old new busy.1
+    by-job false (inl none) = nothing old new none.2
+    by-job false (inr begins) = uncounted _ old new begins.turns.call.counts
+step-same step.AdvanceSlot old new why takes = by-turn old.turn takes
+  where
+    by-turn : (o : Option TurnState) → MatchOption o ⊥ (λ turn. TurnsSlot true turn old (Err why) new) → IfUncounted old new
+    by-turn None never = absurd never
+    by-turn (Some turn) turns = uncounted _ old new turns.call.counts
+
+pub pump-same : (old new : StoreValue) (why : PumpFault) → Pumps true old (Err why) new → IfUncounted old new
+pump-same old new why pumps = by-failed old.transactions.failed pumps
+  where
+    by-failed : (b : Bool) → MatchBool b ((pump_said why ≡ pump_said fault.Failed) × (new ≡ old))
+        (TakesStep true (next_step old.transactions) (started old) (Err why) new) → IfUncounted old new
+    by-failed true fails = nothing old new fails.1
+    by-failed false takes = step-same (next_step old.transactions) (started old) new why takes
+
+-- ---- a job
+
+run-same : (left : List ℕ) (run : Run) (writer : InWriting) (j : Job) (old new : StoreValue) (why : PumpFault)
+    → WritesOrSyncs true left run writer j old (Err why) new → IfUncounted old new
+run-same [] run writer j old new why syncs = uncounted _ old new syncs.call.counts
+run-same (b ∷ bs) run writer j old new why writes = uncounted _ old new writes.call.counts
+
+anchors-same : (next : Option ℕ) (anchors : Anchors) (source : Sourced) (count : ℕ) (j : Job) (old new : StoreValue) (why : PumpFault)
+    → AnchorsOrSync true next anchors source count j old (Err why) new → IfUncounted old new
+anchors-same None anchors source count j old new why syncs = uncounted _ old new syncs.call.counts
+anchors-same (Some number) anchors source count j old new why writes = uncounted _ old new writes.call.counts
+
+work-same : (work : JobWork) (j : Job) (old new : StoreValue) (why : PumpFault) → Stores true work j old (Err why) new → IfUncounted old new
+work-same (works.Archive run writer) j old new why stores = run-same writer.left run writer j old new why stores
+work-same (works.Reclaim anchors source count) j old new why stores =
+    anchors-same (slice_get old.transactions.reserved count) anchors source count j old new why stores
+work-same (works.Floor scope floor floors) j old new why stores = absurd stores
+work-same (works.Grow g) j old new why grows = uncounted _ old new grows.call.counts
+
+disk-ready : (work : JobWork) (v : StoreValue) → (made_ready work v).disk ≡ v.disk
+disk-ready (works.Archive run writer) v = refl
+disk-ready (works.Reclaim anchors source count) v = refl
+disk-ready (works.Floor scope floor floors) v = refl
+disk-ready (works.Grow g) v = refl
+
+slot-same : (j : Job) (old new : StoreValue) (why : PumpFault) → BeginsJobSlot true j old (Err why) new → IfUncounted old new
+slot-same j old new why (inl none) = nothing old new none.2
+slot-same j old new why (inr turns) =
+    uncounted refused_answer old new (subst (λ (d : DiskState). Counts {T = Unit {0}} {E = DeviceFault} refused_answer d new.disk) (disk-ready j.work old)
+    turns.call.counts)
+
+stage-same : (stage : JobStage) (j : Job) (old new : StoreValue) (why : PumpFault) → TakesJobStep true stage j old (Err why) new → IfUncounted old new
+stage-same stages.Writing j old new why takes = work-same j.work j old new why takes
+stage-same stages.Stored j old new why takes = by-turn (is_some old.turn) takes
+  where
+    by-turn : (b : Bool) → MatchBool b ((job_said why ≡ job_said fault.Busy) × (new ≡ old)) (BeginsJobSlot true j old (Err why) new) → IfUncounted old new
+    by-turn true busy = nothing old new busy.1
+    by-turn false begins = slot-same j old new why begins
+stage-same (stages.Turning turn) j old new why takes = uncounted _ old new takes.call.counts
+
+pub job-same : (old new : StoreValue) (why : PumpFault) → PumpsJob true old (Err why) new → IfUncounted old new
+job-same old new why pumps = by-failed old.transactions.failed pumps
+  where
+    by-job : (o : Option Job) → MatchOption o ((job_said why ≡ Ok job.Idle) × (new ≡ old)) (λ j. TakesJobStep true j.stage j old (Err why) new)
+        → IfUncounted old new
+    by-job None idle = nothing old new idle.1
+    by-job (Some j) takes = stage-same j.stage j old new why takes
+
+    by-failed : (b : Bool) → MatchBool b ((job_said why ≡ job_said fault.Failed) × (new ≡ old))
+        (MatchOption old.job ((job_said why ≡ Ok job.Idle) × (new ≡ old)) (λ j. TakesJobStep true j.stage j old (Err why) new)) → IfUncounted old new
+    by-failed true fails = nothing old new fails.1
+    by-failed false takes = by-job old.job takes
