@@ -136,6 +136,8 @@ base-is_log most root l reading h floors front back n is stands may plan =
             ∙ sym (append-nil (n.base).rolls) ∙ ap (λ (rs : List Roll). (n.base).rolls ++ rs) (sym (no-rolls is.names back place.no_base));
         runs_named = is.runs_named ∙ ap (runs_from []) may.split ∙ runs-split [] front back ∙ ap (λ (rs : List Run). runs_from rs back) (sym may.runs_named);
         each_run = is.each_run;
+        each_roll = may.each_roll;
+        archive_apart = may.archive_apart;
         names = n.names;
         are_names = may.are_names;
         rules = subst (λ (cs : List LogChain). KeepsChainRules (OfBase b ∷ cs)) (sym same) so_placed.0;

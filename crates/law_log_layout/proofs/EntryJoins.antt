@@ -35,7 +35,7 @@ use Rattle.log_entries.specs.declared.entry.AnchorName.{AnchorName}
 use Rattle.log_entries.specs.Ranges.{run_of}
 use Rattle.law_log_layout.specs.HeapLog.{PlacedChain, HeapLog, IsPlaced, chain_told, chains_told, floor_told, runs_behind, runs_from, rolls_in, anchors_in}
 use Rattle.law_log_layout.specs.HeapLog.{AreNamed}
-use Rattle.law_log_layout.specs.HeapLog.{IsLogOf, with_chain, with_runs, MayJoin}
+use Rattle.law_log_layout.specs.HeapLog.{spans_of, AreSpansApart, IsLogOf, with_chain, with_runs, MayJoin}
 use Rattle.law_log_layout.specs.Entries.{placed_floor, placed_archive, runs_with}
 use Rattle.law_log_layout.proofs.GroupJoins.{chained-more, runs-split, none-more, live-more}
 
@@ -126,12 +126,12 @@ module _ (most root : ℕ) (l : HeapLog) (reading : Reading) (h : History Value)
 
   entry-is_log : (c : PlacedChain) (runs : List StoredRun) → MayJoin most l c → anchors_in c.entry ≡ [] → rolls_in c.entry ≡ []
       → IsWithEntry chains (chain_told is.names c.entry) → map (λ (s : StoredRun). s.entry) runs ≡ runs_behind (runs_from [] l.chains) c.entry
-      → AllByRecursion IsStoredRun runs
+      → AllByRecursion IsStoredRun runs → AreSpansApart (spans_of runs l.rolls)
       → IsLogOf most root (with_runs l c runs) (record reading {
         log = told_behind (reclaimed_by chains) (told chains) (chain_told is.names c.entry);
         runs = map (λ (s : StoredRun). s.records) runs;
       })
-  entry-is_log c runs joins no_anchors no_rolls with runs_are each =
+  entry-is_log c runs joins no_anchors no_rolls with runs_are each apart =
       let e = chain_told is.names c.entry in
       let same : chains_told is.names (l.chains ++ c ∷ []) ≡ chains ++ e ∷ [] =
       map-append (λ (d : PlacedChain). chain_told is.names d.entry) l.chains (c ∷ []) in
@@ -148,6 +148,8 @@ module _ (most root : ℕ) (l : HeapLog) (reading : Reading) (h : History Value)
         rolls_named = is.rolls_named ∙ sym (none-more (λ (d : PlacedChain). rolls_in d.entry) l.chains c no_rolls);
         runs_named = runs_are ∙ sym (runs-split [] l.chains (c ∷ []));
         each_run = each;
+        each_roll = is.each_roll;
+        archive_apart = apart;
         names = is.names;
         are_names = is.are_names;
         rules = subst KeepsChainRules (sym same) with.rules;
@@ -187,7 +189,7 @@ module _ (most root : ℕ) (l : HeapLog) (reading : Reading) (h : History Value)
       ap (λ (rs : List (List ArchiveRecord)). record reading { log = told chains ++ floor_slot (floor_told f) ∷ []; runs = rs }) runs_is
       ∙ ap (λ (log : List Slot). record reading { log = log ++ floor_slot (floor_told f) ∷ [] }) (sym log_is) in (
         subst (λ (r : Reading). IsLogOf most root (with_chain l c) r) reading_now
-            (entry-is_log c l.runs joins refl refl behind is.runs_named is.each_run),
+            (entry-is_log c l.runs joins refl refl behind is.runs_named is.each_run is.archive_apart),
         floor-in_heap reading h floors (Some f.relation) f.floor stands heap (
           refl,
           omega (arith, le, last-is reading h floors stands, told-is_last (last_time reading.log) (reclaim_mark reading.log) ((form).log).published),
@@ -196,11 +198,11 @@ module _ (most root : ℕ) (l : HeapLog) (reading : Reading) (h : History Value)
       )
 
   pub run-is_log : (numbers : List ℕ) (link : ℕ) (a : Archive) (s : StoredRun) → MayJoin most l (placed_archive numbers link a)
-      → a.runs ≤ length l.runs → s.entry ≡ run_of a → IsStoredRun s
+      → a.runs ≤ length l.runs → s.entry ≡ run_of a → IsStoredRun s → AreSpansApart (spans_of (runs_with l a s) l.rolls)
       → IsMergePlan reading (length l.runs - a.runs) a.upto s.records → archived_upto reading < a.upto → a.upto ≤ last h
       → IsLogOf most root (with_runs l (placed_archive numbers link a) (runs_with l a s)) (with_merged reading (length l.runs - a.runs) a.upto s.records)
       × StandsFor (with_merged reading (length l.runs - a.runs) a.upto s.records) h floors
-  run-is_log numbers link a s joins few entry_is each plan later le =
+  run-is_log numbers link a s joins few entry_is each apart plan later le =
       let c = placed_archive numbers link a in
       let kept = length l.runs - a.runs in
       let named = map (λ (r : StoredRun). r.entry) l.runs in
@@ -234,6 +236,6 @@ module _ (most root : ℕ) (l : HeapLog) (reading : Reading) (h : History Value)
         subst (λ (p : List Slot × List (List ArchiveRecord)). IsLogOf most root (with_runs l c (runs_with l a s)) (record reading { log = p.0; runs = p.1 }))
             (λ i. (logs i, runs i))
             (entry-is_log c (runs_with l a s) joins refl refl behind runs_are
-            (AllByRecursion-append IsStoredRun (take kept l.runs) (s ∷ []) (take-all IsStoredRun kept l.runs is.each_run) (each, tt))),
+            (AllByRecursion-append IsStoredRun (take kept l.runs) (s ∷ []) (take-all IsStoredRun kept l.runs is.each_run) (each, tt)) apart),
         merge-stands_for reading h floors stands heap kept a.upto s.records plan later le,
       )

@@ -82,6 +82,8 @@ group-is_log most root l reading h next floors numbers link members is stands gr
       rolls_named = is.rolls_named ∙ sym (none-more (λ (d : PlacedChain). rolls_in d.entry) l.chains c refl);
       runs_named = is.runs_named ∙ sym (runs-split [] l.chains (c ∷ []));
       each_run = is.each_run;
+      each_roll = is.each_roll;
+      archive_apart = is.archive_apart;
       names = is.names;
       are_names = is.are_names;
       rules = subst KeepsChainRules (sym same) with.rules;

@@ -13,7 +13,7 @@ use Rattle.log_entries.specs.declared.entry.Archive.{Archive}
 use Rattle.log_entries.specs.declared.entry.RelationFloor.{RelationFloor}
 use Rattle.log_entries.specs.declared.entry.Entry.TheVariants.{Archived, Floor}
 use Rattle.log_entries.specs.Ranges.{run_of}
-use Rattle.law_log_layout.specs.HeapLog.{PlacedChain, HeapLog, IsLogOf, MayJoin, with_chain, with_runs}
+use Rattle.law_log_layout.specs.HeapLog.{PlacedChain, HeapLog, spans_of, AreSpansApart, IsLogOf, MayJoin, with_chain, with_runs}
 
 -- a floor with its extent
 abbrev pub placed_floor : List ℕ → ℕ → RelationFloor → PlacedChain
@@ -39,7 +39,7 @@ runs_with l a s = take (length l.runs - a.runs) l.runs ++ s ∷ []
 abbrev pub RunIsLog : Type 0
 RunIsLog = (most root : ℕ) (l : HeapLog) (reading : Reading) (h : History Value) (floors : ℕ → ℕ) (numbers : List ℕ) (link : ℕ) (a : Archive) (s : StoredRun)
     → IsLogOf most root l reading → StandsFor reading h floors → MayJoin most l (placed_archive numbers link a)
-    → a.runs ≤ length l.runs → s.entry ≡ run_of a → IsStoredRun s
+    → a.runs ≤ length l.runs → s.entry ≡ run_of a → IsStoredRun s → AreSpansApart (spans_of (runs_with l a s) l.rolls)
     → IsMergePlan reading (length l.runs - a.runs) a.upto s.records → archived_upto reading < a.upto → a.upto ≤ last h
     → IsLogOf most root (with_runs l (placed_archive numbers link a) (runs_with l a s)) (with_merged reading (length l.runs - a.runs) a.upto s.records)
     × StandsFor (with_merged reading (length l.runs - a.runs) a.upto s.records) h floors

@@ -1,4 +1,5 @@
 -- The log in the heap where it lies, and what an image that has it reads as.
+use Rattle.std.specs.Prelude.{◌*◌, ◌^◌, ◌⊎◌}
 use Rattle.std.specs.Prelude.{ℕ, ◌≡◌, ◌<◌, ◌-◌, List, [], ◌∷◌, ◌++◌, length, map, take, flat_map, Contains, ◌↔◌}
 use Rattle.std.specs.List.{AllByRecursion}
 use Rattle.wire.specs.Numbers.{u64_bytes}
@@ -15,7 +16,7 @@ use Rattle.deltas.specs.Extents.{extent_start}
 use Rattle.deltas.specs.Records.{heap_record}
 use Rattle.law_layout.specs.Records.{old_bytes, IsOldRecord}
 use Rattle.law_layout.specs.Runs.{StoredRun, IsStoredRun, HoldsRun}
-use Rattle.disk.specs.Parts.{HoldsPart}
+use Rattle.disk.specs.Parts.{HoldsPart, AreApart}
 use Rattle.log_extents.specs.Extents.{LinkedExtent}
 use Rattle.log_extents.specs.Chains.{count_of, first_or, chain_of, IsNumberOf, AreDistinct}
 use Rattle.log_entries.specs.declared.entry.Member.{Member}
@@ -166,6 +167,40 @@ pub record AreNamesOf (rolls : List PlacedRoll) (names : List Head) : Type 0 whe
   pub same : (head : Head) → Contains names head ↔ Contains (flat_map (λ (r : PlacedRoll). r.names) rolls) head
   pub many : length names ≡ length (flat_map (λ (r : PlacedRoll). r.names) rolls)
 
+-- one name is before another by its label, and by its time where the labels are one
+abbrev pub IsNamedBefore : Head → Head → Type 0
+IsNamedBefore a b = (a.label < b.label) ⊎ ((a.label ≡ b.label) × (a.time < b.time))
+
+-- each name is before all behind it
+abbrev pub AreNamedInOrder : List Head → Type 0
+AreNamedInOrder [] = Unit {0}
+AreNamedInOrder (head ∷ heads) = AllByRecursion (IsNamedBefore head) heads × AreNamedInOrder heads
+
+-- a name in its ranges
+abbrev pub IsName : Head → Type 0
+IsName head = (head.label < 2 ^ 64) × (0 < head.time) × (head.time < 2 ^ 63)
+
+-- a roll has as many names as its length says, in order
+pub record IsStoredRoll (r : PlacedRoll) : Type 0 where
+  pub length_is : 16 * length r.names ≡ r.roll.len
+  pub in_order : AreNamedInOrder r.names
+  pub each : AllByRecursion IsName r.names
+
+-- a part of the archive
+pub record Span : Type 0 where
+  pub start : ℕ
+  pub len : ℕ
+
+-- the parts of the archive that the log names
+abbrev pub spans_of : List StoredRun → List PlacedRoll → List Span
+spans_of runs rolls = map (λ (s : StoredRun). record { start = s.entry.start; len = s.entry.len }) runs
+    ++ map (λ (r : PlacedRoll). record { start = r.roll.start; len = r.roll.len }) rolls
+
+-- no two of them have a byte in common
+abbrev pub AreSpansApart : List Span → Type 0
+AreSpansApart [] = Unit {0}
+AreSpansApart (s ∷ spans) = AllByRecursion (λ (t : Span). AreApart s.start s.len t.start t.len) spans × AreSpansApart spans
+
 -- ---- the image
 
 -- The log in a heap of this many extents, from this root on, tells this reading.
@@ -180,6 +215,8 @@ pub record IsLogOf (most root : ℕ) (l : HeapLog) (reading : Reading) : Type 0 
   pub rolls_named : map (λ (r : PlacedRoll). r.roll) l.rolls ≡ flat_map (λ (c : PlacedChain). rolls_in c.entry) l.chains
   pub runs_named : map (λ (s : StoredRun). s.entry) l.runs ≡ runs_from [] l.chains
   pub each_run : AllByRecursion IsStoredRun l.runs
+  pub each_roll : AllByRecursion IsStoredRoll l.rolls
+  pub archive_apart : AreSpansApart (spans_of l.runs l.rolls)
   pub names : List Head
   pub are_names : AreNamesOf l.rolls names
   pub rules : KeepsChainRules (chains_told names l.chains)

@@ -1,5 +1,6 @@
 -- A base in the place of the log's front, where it lies.
 use Rattle.std.specs.Prelude.{ℕ, ◌≡◌, List, [], ◌∷◌, ◌++◌, map, Result, Ok}
+use Rattle.std.specs.List.{AllByRecursion}
 use Rattle.disk.specs.Areas.{AreaState, Areas, Image, AreSound, LeavesImage}
 use Rattle.disk.specs.Calls.{Writes, Syncs}
 use Rattle.disk.specs.declared.area.Area.TheVariants.{Heap}
@@ -16,7 +17,7 @@ use Rattle.log_entries.specs.declared.entry.Base.{Base}
 use Rattle.log_entries.specs.declared.entry.Entry.TheVariants as entries
 use Rattle.log_entries.specs.Ranges.{run_of}
 use Rattle.law_log_layout.specs.HeapLog.{PlacedChain, PlacedAnchors, PlacedRoll, HeapLog, live_numbers, IsPlaced, ArePlaced, AreChained, base_told}
-use Rattle.law_log_layout.specs.HeapLog.{chains_told, runs_from, AreNamed, AreNamesOf, IsLogOf, HeapStandsFor, extents_of, anchor_extents}
+use Rattle.law_log_layout.specs.HeapLog.{chains_told, runs_from, AreNamed, AreNamesOf, IsStoredRoll, spans_of, AreSpansApart, IsLogOf, HeapStandsFor, extents_of, anchor_extents}
 use Rattle.law_log_layout.specs.Laws.{KeepsArchive, KeepsLog}
 use Rattle.law_log_layout.specs.Turns.{HoldsAll, KeepsAll}
 use Rattle.log_writer.specs.Turns.{extent_part, Part}
@@ -54,6 +55,8 @@ pub record MayTakePlace (most : ℕ) (l : HeapLog) (names : List Head) (front ba
   pub anchors_named : AreNamed ((n.base).anchors ∷ []) n.anchors
   pub rolls_named : map (λ (r : PlacedRoll). r.roll) n.rolls ≡ (n.base).rolls
   pub runs_named : map run_of (n.base).archives ≡ runs_from [] front
+  pub each_roll : AllByRecursion IsStoredRoll n.rolls
+  pub archive_apart : AreSpansApart (spans_of l.runs n.rolls)
   pub are_names : AreNamesOf n.rolls n.names
   pub place : TakesPlace (chains_told names front) (chains_told names back) (base_told n.names n.base)
 

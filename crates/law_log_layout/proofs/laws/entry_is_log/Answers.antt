@@ -6,5 +6,5 @@ returns-clause-floor c = λ most root l reading h floors numbers link f is stand
     floor-is_log most root l reading h floors is stands numbers link f joins above le
 
 pub returns-clause-run : goal.returns-clause-run
-returns-clause-run c = λ most root l reading h floors numbers link a s is stands joins few entry_is each plan later le.
-    run-is_log most root l reading h floors is stands numbers link a s joins few entry_is each plan later le
+returns-clause-run c = λ most root l reading h floors numbers link a s is stands joins few entry_is each apart plan later le.
+    run-is_log most root l reading h floors is stands numbers link a s joins few entry_is each apart plan later le
