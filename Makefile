@@ -5,12 +5,13 @@ PROGRAM = crates/timestore/out/timestore
 BENCH = crates/bench/out/bench
 # The most processor minutes that the gate may take, on the reference machine of bench/gate_cost.py. A machine that takes longer for the crates that
 # tell its speed is given as much longer for the gate.
-BUDGET = 140
+BUDGET = 200
 
 .PHONY: demo test more-edits build try examples bench trials torture torture-short soak hostile try-refused planted rates lib install library-test library-bench
 
 test:
 	@command -v rt >/dev/null || { echo "the Rattle kit's command rt is not on PATH" >&2; exit 1; }
+	@for it in crates/*/out/rlib; do [ -e "$$it/stamp" ] || rm -rf "$$it"; done # rt ci would put back what an earlier gate left
 	bench/gate_cost.py --limit $(BUDGET) $(if $(TABLE),--table $(TABLE)) $(if $(PROOFS),--proofs $(PROOFS)) rt ci
 	$(MAKE) torture-short
 
@@ -37,10 +38,10 @@ demo: build
 
 # The program as its users meet it: its words, fed line by line, two at once, and its calls of the system.
 trials: build
-	bench/command_line.py $(PROGRAM)
-	bench/answers_at_once.py $(PROGRAM)
-	bench/two_processes.py $(PROGRAM)
-	bench/system_calls.py $(PROGRAM)
+	tests/command_line.py $(PROGRAM)
+	tests/answers_at_once.py $(PROGRAM)
+	tests/two_processes.py $(PROGRAM)
+	tests/system_calls.py $(PROGRAM)
 
 # docs/TORTURE.md. Random scripts, stops at each device call, kills, full disks, forged files and refused calls, compared with a small machine
 # and a plain reader. `make torture MINUTES=10 SEED=1`
@@ -80,14 +81,14 @@ planted:
 # Lines a second; and, where valgrind is there, instructions a line, which do not depend on what else the machine does, and the growths of views.
 rates: build
 	bench/rates.py $(PROGRAM) $(if $(FOLDER),--folder $(FOLDER))
-	if command -v valgrind >/dev/null; then bench/rates.py $(PROGRAM) --instructions && bench/growths.py $(PROGRAM); fi
+	if command -v valgrind >/dev/null; then bench/rates.py $(PROGRAM) --instructions && tests/growths.py $(PROGRAM); fi
 
 # Every example of the documents, its answers compared; the small store of docs/FORMAT.md byte by byte; that each example of a page
 # crates/NAME/CALLING.md is a test; and that README and docs/USING.md are no longer than they may be.
 examples: build
-	bench/using_test.py $(PROGRAM) README.md docs/USING.md
-	bench/format_test.py $(PROGRAM) docs/FORMAT.md
-	bench/pages_test.py
+	tests/using_test.py $(PROGRAM) README.md docs/USING.md
+	tests/format_test.py $(PROGRAM) docs/FORMAT.md
+	tests/pages_test.py
 
 # All that is measured, in one command, for a machine at rest. FOLDER=DIR measures the disk of DIR.
 bench: build
@@ -96,6 +97,8 @@ bench: build
 	bench/shared_bench.py $(BENCH) $(if $(FOLDER),--folder $(FOLDER))
 	bench/bench.py $(PROGRAM) $(FOLDER)
 	bench/rates.py $(PROGRAM) $(if $(FOLDER),--folder $(FOLDER))
+	bench/status_growth.py $(PROGRAM) $(if $(FOLDER),--folder $(FOLDER))
+	bench/copies.py $(PROGRAM)
 	$(BENCH) leaves
 
 # The store in the process of its user, docs/LIBRARY.md: `make lib` proves and builds it, the others take it as it was built.

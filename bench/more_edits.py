@@ -2,7 +2,9 @@
 """Tries the edits that the gate leaves out, crates/NAME/more-edits/*.edit, over the libraries that `rt ci` or `rt lib` left in crates/*/out:
 the prover must refuse each of them too. Where there are none, and no --minutes, rt lib builds them.
 
-usage: bench/more_edits.py [--minutes N [--began SECONDS] [--proofs FILE]] [--write] [NAME ..]      (no name: all crates)
+usage: bench/more_edits.py [--minutes N [--began SECONDS] [--proofs FILE]] [--new] [--first-tells] [--write] [NAME ..]
+
+A NAME is a crate or CRATE/EDIT; with none all are meant. --new leaves out those that the table below tells to be refused as they are now.
 
 bench/edits_tried.tsv tells when each edit was last tried and refused, and by which text. First come the edits of which it tells nothing, or whose
 crate or own text has changed since then; after them those that were tried the longest ago. --write puts what is refused into that table.
@@ -16,7 +18,7 @@ each proof took. --began is when the whole run began, in seconds since 1970: it 
 machine is slow, with fewer edits or none.
 
 The status is 1 where an edit is proved, does not apply or compile any more, or is refused only because a proof names what it takes away; and where
-nothing could be tried. An edit whose check was killed or cut off has no verdict, and is left to be tried.
+nothing could be tried. With --first-tells an edit of which the table tells nothing is only told then. An edit whose check was killed or cut off has no verdict, and is left to be tried.
 """
 import argparse
 import collections
@@ -129,7 +131,7 @@ class Edit:
 class Turn:
     """One crate's edits, those to be tried first at the front: waiting, then its seed is made, then they are tried, then it is over."""
 
-    def __init__(self, crate, rows):
+    def __init__(self, crate, rows, names=(), only_new=False):
         self.crate, self.sources = crate, sources_of(crate)
         self.edits, self.state, self.seed, self.files, self.running = [], "waiting", None, {}, 0
         # (edit, kind, text) of each that was tried over the seed
@@ -137,6 +139,9 @@ class Turn:
         for path in sorted(pathlib.Path(crate.folder, "more-edits").glob("*.edit")):
             found = hashlib.sha256(self.sources + path.read_bytes()).hexdigest()[:12]
             self.edits.append(Edit(path, found, rows.get((crate.name, path.stem))))
+        if names and crate.name not in names:
+            self.edits = [it for it in self.edits if f"{crate.name}/{it.name}" in names]
+        self.edits = [it for it in self.edits if it.is_new or not only_new]
         self.edits.sort(key=lambda it: (not it.is_new, it.last_tried, it.name))
         self.count = len(self.edits)
 
@@ -161,8 +166,9 @@ class Clock:
     def told(self, slowness):
         """How many minutes there are, and why."""
         whole = f", and the run has taken {self.took:.0f} of its {self.whole:.0f} minutes" if self.took else ""
-        much = f"{self.minutes:.0f} minutes for them" if self.minutes >= 1 else "no time is left for them"
-        return f"more edits: {much}; a proof takes {slowness:.2f} of what it takes on the reference machine{whole}"
+        if self.minutes < 1:
+            return f"more edits: no time is left for them{whole}"
+        return f"more edits: {self.minutes:.0f} minutes for them; a proof takes {slowness:.2f} of what it takes on the reference machine{whole}"
 
     def has_time_for(self, seconds):
         return time.time() + seconds < self.last_begin
@@ -262,17 +268,16 @@ class Lanes:
 
     def end(self, turn):
         """Sees that the crate is still proved over its seed, so that what was refused was refused for the edit, and removes the seed."""
+        is_sound = False
         try:
-            is_same = self.rt.listing(f"{turn.seed}/seed") == turn.files
-            is_sound = is_same and sources_of(turn.crate) == turn.sources
-            if turn.tried and is_sound:
-                is_sound = not self.rt.checked(turn.crate, {}, ["--jobs", "1"], f"{turn.seed}/seed").returncode
+            is_same = self.rt.listing(f"{turn.seed}/seed") == turn.files and sources_of(turn.crate) == turn.sources
+            is_sound = is_same and not (turn.tried and self.rt.checked(turn.crate, {}, ["--jobs", "1"], f"{turn.seed}/seed").returncode)
+        finally:
             if not is_sound:
                 refused = (self.rt.REFUSED, self.rt.AT_LIMIT)
                 turn.tried = [(edit, self.rt.UNSURE, "") if kind in refused else (edit, kind, text) for edit, kind, text in turn.tried]
                 if not self.is_stopped:
                     self.seedless.append(f"{turn.crate.name}: it is not proved again over what its proof left, or its files were changed meanwhile")
-        finally:
             shutil.rmtree(turn.seed, ignore_errors=True)
             turn.state = "over"
 
@@ -362,8 +367,9 @@ def told_of(text):
 class Results:
     """What the edits of all crates came to, told as each crate ends."""
 
-    def __init__(self, rt, rows, writes):
-        self.rt, self.rows, self.writes, self.counts, self.failed = rt, rows, writes, collections.Counter(), []
+    def __init__(self, rt, rows, writes, first_tells):
+        self.rt, self.rows, self.writes, self.first_tells = rt, rows, writes, first_tells
+        self.counts, self.failed, self.to_mend = collections.Counter(), [], []
 
     def is_refused(self, kind, text):
         return kind in (self.rt.REFUSED, self.rt.AT_LIMIT) and BY_NAMES_ALONE not in text
@@ -380,7 +386,8 @@ class Results:
                 self.counts["no verdict"] += 1
                 print("".join(f"{told_of(line)}\n" for line in text.split("\n")[:1] if line), end="")
             else:
-                self.failed.append(f"{crate}/{edit.name}")
+                lacks_row = self.first_tells and edit.row is None
+                (self.to_mend if lacks_row else self.failed).append(f"{crate}/{edit.name}")
                 self.rows.pop((crate, edit.name), None)
                 print(told_of(text))
         if turn.tried:
@@ -396,6 +403,8 @@ class Results:
         left += [edit for turn in turns for edit, kind, _ in turn.tried if kind == self.rt.UNSURE]
         new, oldest = sum(it.is_new for it in left), min((it.last_tried for it in left if not it.is_new), default="")
         print(f"more edits: {self.counts['refused']} of {sum(it.count for it in turns)} tried and refused in {(time.time() - began) / 60:.0f} minutes" + (f", {self.counts['no verdict']} with no verdict" if self.counts["no verdict"] else "") + f"; left: {new} that are new or whose crate has changed since they were tried, and {len(left) - new} others" + (f", the oldest tried on {oldest}" if oldest else ""))
+        if self.to_mend:
+            print(f"more edits: to be mended, tried for the first time: {' '.join(self.to_mend)}")
         if self.failed:
             print(f"more edits: NOT REFUSED AS THEY MUST BE: {' '.join(self.failed)}")
 
@@ -411,11 +420,19 @@ def ordered(turns, estimate):
     return sorted(turns, key=lambda it: (not it.has_new, it.edits[0].last_tried if not it.has_new else "", estimate(it)))
 
 
+def unknown_of(names, crates):
+    """The names that are no crate with edits, and no edit."""
+    edits = {f"{it.name}/{edit.stem}" for it in crates for edit in pathlib.Path(it.folder, "more-edits").glob("*.edit")}
+    return [it for it in names if it not in edits and it not in {edit.partition("/")[0] for edit in edits}]
+
+
 def parsed(words):
     parser = argparse.ArgumentParser(description=__doc__, formatter_class=argparse.RawDescriptionHelpFormatter)
     parser.add_argument("--minutes", type=float)
     parser.add_argument("--began", type=float)
     parser.add_argument("--proofs")
+    parser.add_argument("--new", action="store_true")
+    parser.add_argument("--first-tells", action="store_true")
     parser.add_argument("--write", action="store_true")
     parser.add_argument("names", nargs="*")
     return parser.parse_args(words)
@@ -429,24 +446,23 @@ def main(words):
         tempfile.tempdir = room
         rt, crates = kit()
         rows = read_table()
-        turns = [turn for turn in (Turn(it, rows) for it in crates) if turn.edits]
-        unknown = [it for it in given.names if it not in [turn.crate.name for turn in turns]]
+        turns = [turn for turn in (Turn(it, rows, given.names, given.new) for it in crates) if turn.edits]
+        unknown = unknown_of(given.names, crates)
         if unknown:
-            print(f"no edits in more-edits of: {' '.join(unknown)}; there are some of: {' '.join(it.crate.name for it in turns)}", file=sys.stderr)
+            print(f"no such edits in more-edits: {' '.join(unknown)}", file=sys.stderr)
             return 2
-        turns = [it for it in turns if not given.names or it.crate.name in given.names]
         are_own, lack = libraries([it.crate for it in turns], given.minutes is None)
         if lack:
             print(f"more edits: none tried: {lack}", file=sys.stderr)
             return 1
         proofs = json.loads(pathlib.Path(given.proofs).read_text(encoding="utf-8")) if given.proofs else {}
-        slowness = slowness_of(proofs, rt, crates) if given.minutes is not None else 1.0
+        slowness = slowness_of(proofs, rt, crates) if given.minutes else 1.0
         clock = Clock(given.minutes, given.began, slowness)
         if given.minutes is not None:
             print(clock.told(slowness), flush=True)
         lanes = Lanes(rt, turns, clock, proofs, slowness, are_own and given.minutes is None)
         lanes.turns = turns = ordered(turns, lanes.seed_estimate)
-        results = Results(rt, rows, given.write)
+        results = Results(rt, rows, given.write, given.first_tells)
         lanes.run(lanes_here(rt), results.take)
         results.sum_up(turns, began)
         for it in lanes.seedless:

@@ -8,7 +8,8 @@ use Rattle.archive.specs.Parts.{IsRight, EndBy}
 use Rattle.archive.specs.Runs.{HoldsRun, run_bytes, run_end}
 
 -- areas that agree up to a place hold the same parts up to it
-pub same_part : (old new : List ℕ) (limit from to : ℕ) → from ≤ to → to ≤ limit → take limit new ≡ take limit old → slice_range new from to ≡ slice_range old from to
+pub same_part : (old new : List ℕ) (limit from to : ℕ) → from ≤ to → to ≤ limit → take limit new ≡ take limit old → slice_range new from to
+    ≡ slice_range old from to
 same_part old new limit from to order within same =
     sym (shown new) ∙ ap (λ (xs : List ℕ). take (to - from) (drop from xs)) same ∙ shown old
   where

@@ -12,13 +12,15 @@ use Rattle.archive.specs.Pieces.{run_chunks, index_chunks}
 take_min : (k : ℕ) (xs : List ℕ) → take (min k (length xs)) xs ≡ take k xs
 take_min k xs = elim (cases_lt k (length xs)) [
   | inl fits ↦ (let is : min k (length xs) ≡ k = omega arith in ap (λ (n : ℕ). take n xs) is)
-  | inr past ↦ (let is : min k (length xs) ≡ length xs = omega arith in ap (λ (n : ℕ). take n xs) is ∙ take_all (length xs) xs (omega arith) ∙ sym (take_all k xs past))
+  | inr past ↦ (let is : min k (length xs) ≡ length xs = omega arith in ap (λ (n : ℕ). take n xs) is ∙ take_all (length xs) xs (omega arith)
+      ∙ sym (take_all k xs past))
 ]
 
 drop_min : (k : ℕ) (xs : List ℕ) → drop (min k (length xs)) xs ≡ drop k xs
 drop_min k xs = elim (cases_lt k (length xs)) [
   | inl fits ↦ (let is : min k (length xs) ≡ k = omega arith in ap (λ (n : ℕ). drop n xs) is)
-  | inr past ↦ (let is : min k (length xs) ≡ length xs = omega arith in ap (λ (n : ℕ). drop n xs) is ∙ drop_all (length xs) xs (omega arith) ∙ sym (drop_all k xs past))
+  | inr past ↦ (let is : min k (length xs) ≡ length xs = omega arith in ap (λ (n : ℕ). drop n xs) is ∙ drop_all (length xs) xs (omega arith)
+      ∙ sym (drop_all k xs past))
 ]
 
 -- the front that a piece takes, and what is left

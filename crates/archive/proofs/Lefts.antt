@@ -25,14 +25,16 @@ pub run_size : (rs : List ArchiveRecord) → size_of rs ≡ length (run_bytes rs
 run_size rs = omega (arith, records_size rs, length-append (records_bytes rs) (index_bytes 0 rs), length-index_bytes 0 rs)
 
 -- the next entry of the index, and the next record
-pub one_entry : (at : ℕ) (r : ArchiveRecord) (left : List ArchiveRecord) (chunk : List ℕ) → Some r ≡ slice_get left 0 → chunk ≡ u64_bytes at → index_chunks at left ≡ chunk ∷ drop 1 (index_chunks at left)
+pub one_entry : (at : ℕ) (r : ArchiveRecord) (left : List ArchiveRecord) (chunk : List ℕ) → Some r ≡ slice_get left 0 → chunk ≡ u64_bytes at
+    → index_chunks at left ≡ chunk ∷ drop 1 (index_chunks at left)
 one_entry at r left chunk is bytes =
     let split = ap (λ (xs : List ArchiveRecord). index_chunks at xs) (first_left left r is) in
     split
     ∙ ap (λ (xs : List ℕ). xs ∷ index_chunks (at + length (record_bytes r)) (drop 1 left)) (sym bytes)
     ∙ ap (λ (xss : List (List ℕ)). chunk ∷ drop 1 xss) (sym split)
 
-pub one_record : (r : ArchiveRecord) (left : List ArchiveRecord) (chunk : List ℕ) → Some r ≡ slice_get left 0 → chunk ≡ record_bytes r → map record_bytes left ≡ chunk ∷ drop 1 (map record_bytes left)
+pub one_record : (r : ArchiveRecord) (left : List ArchiveRecord) (chunk : List ℕ) → Some r ≡ slice_get left 0 → chunk ≡ record_bytes r → map record_bytes left
+    ≡ chunk ∷ drop 1 (map record_bytes left)
 one_record r left chunk is bytes =
     let split = ap (λ (xs : List ArchiveRecord). map record_bytes xs) (first_left left r is) in
     split
@@ -40,13 +42,15 @@ one_record r left chunk is bytes =
     ∙ ap (λ (xss : List (List ℕ)). chunk ∷ drop 1 xss) (sym split)
 
 -- those behind them
-pub entries_behind : (at len : ℕ) (r : ArchiveRecord) (left after : List ArchiveRecord) → Some r ≡ slice_get left 0 → after ≡ drop 1 left → len ≡ length (record_bytes r) → index_chunks (at + len) after ≡ drop 1 (index_chunks at left)
+pub entries_behind : (at len : ℕ) (r : ArchiveRecord) (left after : List ArchiveRecord) → Some r ≡ slice_get left 0 → after ≡ drop 1 left → len
+    ≡ length (record_bytes r) → index_chunks (at + len) after ≡ drop 1 (index_chunks at left)
 entries_behind at len r left after is next size =
     ap (λ (xs : List ArchiveRecord). index_chunks (at + len) xs) next
     ∙ ap (λ (n : ℕ). index_chunks (at + n) (drop 1 left)) size
     ∙ ap (λ (xs : List ArchiveRecord). drop 1 (index_chunks at xs)) (sym (first_left left r is))
 
-pub records_behind : (r : ArchiveRecord) (left after : List ArchiveRecord) → Some r ≡ slice_get left 0 → after ≡ drop 1 left → map record_bytes after ≡ drop 1 (map record_bytes left)
+pub records_behind : (r : ArchiveRecord) (left after : List ArchiveRecord) → Some r ≡ slice_get left 0 → after ≡ drop 1 left → map record_bytes after
+    ≡ drop 1 (map record_bytes left)
 records_behind r left after is next =
     ap (λ (xs : List ArchiveRecord). map record_bytes xs) next
     ∙ ap (λ (xs : List ArchiveRecord). drop 1 (map record_bytes xs)) (sym (first_left left r is))

@@ -1,5 +1,6 @@
 -- The rows of a scan, told record by record.
-use Rattle.std.proofs.Common.{◌≡◌, ℕ, suc, ◌^◌, ◌<◌, Bool, true, false, cond, ◌==◌, ◌&&◌, nat_lt, List, [], ◌∷◌, ◌++◌, map, Some, None, refl, ap, sym, ◌∙◌, arith}
+use Rattle.std.proofs.Common.{◌≡◌, ℕ, suc, ◌^◌, ◌<◌, Bool, true, false, cond, ◌==◌, ◌&&◌, nat_lt, List, [], ◌∷◌, ◌++◌, map, Some, None, refl, ap, sym, ◌∙◌}
+use Rattle.std.proofs.Common.{arith}
 use Rattle.std.specs.Prelude.{not, filter}
 use Rattle.std.specs.List.{slice_get, flat_map, cons_option}
 use Rattle.std.specs.List.Sorted.{ties}
@@ -27,19 +28,23 @@ rows_of-append number (x ∷ xs) ys =
     let rest = rows_of-append number xs ys in
     let value : Row → Version Value = λ p. p.1 in
     let here : Row → Bool = λ p. p.0 == number in
-    let Goal : Bool → Type 0 = λ b. map value (cond b (x ∷ filter here (xs ++ ys)) (filter here (xs ++ ys))) ≡ map value (cond b (x ∷ filter here xs) (filter here xs)) ++ rows_of number ys in
+    let Goal : Bool → Type 0 =
+    λ b. map value (cond b (x ∷ filter here (xs ++ ys)) (filter here (xs ++ ys))) ≡ map value (cond b (x ∷ filter here xs) (filter here xs))
+    ++ rows_of number ys in
     elim (x.0 == number) as Goal [ true ↦ ap (λ (vs : List (Version Value)). x.1 ∷ vs) rest | false ↦ rest ]
 
 -- one record shows the same in a scan and under its own key
 module _ (relation number a b : ℕ) where
-  of_this_relation : (r : ArchiveRecord) → r.key.record < 2 ^ 64 → lasts (cut a b r.version) ≡ true → is_wanted (of_relation relation a b) (head_of r) ≡ (r.key.relation == relation)
+  of_this_relation : (r : ArchiveRecord) → r.key.record < 2 ^ 64 → lasts (cut a b r.version) ≡ true → is_wanted (of_relation relation a b) (head_of r)
+      ≡ (r.key.relation == relation)
   of_this_relation r few long =
       let begins : r.version.from < b = grind (arith, nat_tests) in
       let ends : a < r.version.to = grind (arith, nat_tests) in
       grind (arith, nat_tests)
 
   row_alone : (r : ArchiveRecord) (rest : List ArchiveRecord) → r.key.record < 2 ^ 64
-      → rows_of number (row_of with_record (of_relation relation a b) r) ++ rows (run_versions (key_of relation number) rest) a b ≡ rows (run_versions (key_of relation number) (r ∷ rest)) a b
+      → rows_of number (row_of with_record (of_relation relation a b) r) ++ rows (run_versions (key_of relation number) rest) a b
+      ≡ rows (run_versions (key_of relation number) (r ∷ rest)) a b
   row_alone r rest few =
       let part = cut a b r.version in
       let pair : Row = (r.key.record, part) in
@@ -54,7 +59,8 @@ module _ (relation number a b : ℕ) where
       let kept : Kept (own && lasts part) = elim (own && lasts part) as Kept [ true ↦ refl | false ↦ refl ] in
       let Shown : Bool → Type 0 = λ t. rows (cons_option (cond t (Some r.version) None) later) a b ≡ cond t (cond (lasts part) (part ∷ behind) behind) behind in
       let shown : Shown (own && same) = elim (own && same) as Shown [ true ↦ refl | false ↦ refl ] in
-      let Goal : Bool → Bool → Bool → Type 0 = λ s t u. map value (cond (s && t) (cond u (pair ∷ []) []) []) ++ behind ≡ cond (s && u) (cond t (part ∷ behind) behind) behind in
+      let Goal : Bool → Bool → Bool → Type 0 =
+      λ s t u. map value (cond (s && t) (cond u (pair ∷ []) []) []) ++ behind ≡ cond (s && u) (cond t (part ∷ behind) behind) behind in
       let all : (s t u : Bool) → Goal s t u = λ s t u. elim s as (λ s. Goal s t u) [
         | true ↦ elim t as (λ t. Goal true t u) [
           | true ↦ elim u as (λ u. Goal true true u) [ true ↦ refl | false ↦ refl ]
@@ -80,7 +86,8 @@ module _ (relation number a b : ℕ) where
   scan_alone area (x ∷ xs) (records ∷ lists) hold =
       let laid = laid_run area x records hold.0 in
       rows_of-append number (rows_in with_record (of_relation relation a b) records) (flat_map (rows_in with_record (of_relation relation a b)) lists)
-      ∙ ap (λ (vs : List (Version Value)). vs ++ rows_of number (flat_map (rows_in with_record (of_relation relation a b)) lists)) (run_alone records (λ i r at. (laid.each i r at).number))
+      ∙ ap (λ (vs : List (Version Value)). vs
+      ++ rows_of number (flat_map (rows_in with_record (of_relation relation a b)) lists)) (run_alone records (λ i r at. (laid.each i r at).number))
       ∙ ap (λ (vs : List (Version Value)). rows (run_versions (key_of relation number) records) a b ++ vs) (scan_alone area xs lists hold.1)
       ∙ sym (rows-append (run_versions (key_of relation number) records) (versions_in (key_of relation number) lists) a b)
 
@@ -100,7 +107,8 @@ tie_is x y =
     tested : (m n : ℕ) → (not (nat_lt m n) && not (nat_lt n m)) ≡ (n == m)
     tested m n = grind (arith, nat_tests)
 
-pub ties_alone : (number : ℕ) (old new : List Row) → ((x : Row) → filter (ties before x) new ≡ filter (ties before x) old) → rows_of number new ≡ rows_of number old
+pub ties_alone : (number : ℕ) (old new : List Row) → ((x : Row) → filter (ties before x) new ≡ filter (ties before x) old) → rows_of number new
+    ≡ rows_of number old
 ties_alone number old new same =
     let here : Row → Bool = λ p. p.0 == number in
     let value : Row → Version Value = λ p. p.1 in

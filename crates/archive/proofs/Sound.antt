@@ -21,7 +21,9 @@ module _ (area : List ℕ) (run : RunEntry) (records : List ArchiveRecord) (hold
   entry_read : (n : ℕ) → n ≤ run.slot.records → entry_at area run n ≡ place_of records n
   entry_read n few = by_test (n == run.slot.records) refl where
     by_test : (b : Bool) → (n == run.slot.records) ≡ b
-        → cond b (index_start run) (little_number 8 (slice_range area (run.slot.start + (index_start run + 8 * n)) (run.slot.start + (index_start run + 8 * n) + 8))) ≡ place_of records n
+        → cond b (index_start run)
+        (little_number 8 (slice_range area (run.slot.start + (index_start run + 8 * n)) (run.slot.start + (index_start run + 8 * n) + 8)))
+        ≡ place_of records n
     by_test true test =
         let last : run.slot.records ≡ n = grind (arith, nat_tests) in
         end_place area run records holds ∙ ap (place_of records) last
@@ -63,14 +65,17 @@ module _ (area : List ℕ) (run : RunEntry) (records : List ArchiveRecord) (hold
       let here = entry_read n (omega (arith, within n r at)) in
       let next = entry_read (n + 1) (omega (arith, within n r at)) in
       let room = next_room area run records holds n r (entry_at area run n) (entry_at area run (n + 1)) at here next in
-      let to : run.slot.start + entry_at area run (n + 1) ≡ run.slot.start + (entry_at area run n + 26) + (entry_at area run (n + 1) - entry_at area run n - 26) = omega (arith, room.0) in
+      let to : run.slot.start + entry_at area run (n + 1) ≡ run.slot.start + (entry_at area run n + 26) + (entry_at area run (n + 1) - entry_at area run n - 26)
+      = omega (arith, room.0) in
       record {
         there = entry_there (n + 1);
         end = subst (IsPlace run (n + 1)) (sym next) (is_placed area run records holds (n + 1) (omega (arith, within n r at)));
         least = room.0;
         most = room.1;
         is = (holds.each n r at).value;
-        spelled = value_is_read area run records holds n r (entry_at area run n) (entry_at area run (n + 1)) _ at here next (ap (λ (k : ℕ). slice_range area (run.slot.start + (entry_at area run n + 26)) k) to);
+        spelled =
+            value_is_read area run records holds n r (entry_at area run n) (entry_at area run (n + 1)) _ at here next
+            (ap (λ (k : ℕ). slice_range area (run.slot.start + (entry_at area run n + 26)) k) to);
       }
 
 -- the same of a run by its own definition

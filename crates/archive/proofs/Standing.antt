@@ -18,7 +18,9 @@ standing_is key time (r ∷ rs) =
     let value_of : ArchiveRecord → Value = λ s. s.version.value in
     let value_in : Version Value → Value = λ v. v.value in
     let rest = standing_is key time rs in
-    let ByTime : Bool → Type 0 = λ c. option_map value_of (cond c (Some r) (find (stands_for key time) rs)) ≡ option_map value_in (cond c (Some r.version) (find (stands_at time) (run_versions key rs))) in
+    let ByTime : Bool → Type 0 =
+    λ c. option_map value_of (cond c (Some r) (find (stands_for key time) rs))
+    ≡ option_map value_in (cond c (Some r.version) (find (stands_at time) (run_versions key rs))) in
     let ByKey : Bool → Type 0 = λ b. option_map value_of (cond (b && stands_at time r.version) (Some r) (find (stands_for key time) rs))
     ≡ standing_at (cons_option (cond b (Some r.version) None) (run_versions key rs)) time in
     let here : ByTime (stands_at time r.version) = elim (stands_at time r.version) as ByTime [ true ↦ refl | false ↦ rest ] in

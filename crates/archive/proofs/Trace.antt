@@ -1,5 +1,6 @@
 -- What queries read, one look after another.
-use Rattle.std.proofs.Common.{◌≡◌, inl, inr, ℕ, ◌+◌, ◌≤◌, ◌<◌, Bool, true, false, IsTrue, cond, List, [], ◌∷◌, ◌++◌, length, Option, Some, None, refl, sym, ◌∙◌, ap, subst, arith, append_assoc}
+use Rattle.std.proofs.Common.{◌≡◌, inl, inr, ℕ, ◌+◌, ◌≤◌, ◌<◌, Bool, true, false, IsTrue, cond, List, [], ◌∷◌, ◌++◌, length, Option, Some, None, refl, sym, ◌∙◌}
+use Rattle.std.proofs.Common.{ap, subst, arith, append_assoc}
 use Rattle.std.specs.Prelude.{Result, Ok, Err, MatchResult}
 use Rattle.std.specs.List.{slice_get}
 use Rattle.std.proofs.lemmas.List.{append-nil}
@@ -18,7 +19,9 @@ use Rattle.archive.specs.declared.fault.ArchiveFault.TheVariants.{Device, NoMemo
 use Rattle.archive.specs.Answers.{precedes, follows, is_wanted, skip_to}
 use Rattle.archive.specs.Searches.{Answers, is_before, may_follow, may_follow_last, IsFaultOf}
 use Rattle.archive.specs.Damages.{placed_at, IsHeadSound, IsHeadBroken, IsValueBroken, IfDamaged}
-use Rattle.archive.specs.Traces.{nth_head, last_of, high_of, IsSearched, IsFoundIn, IsFindBroken, NoneBefore, IsFindDamaged, HasPart, GivesRow, GoesOn, Beside, Skips, IsSkipBroken, StandsAt, IsWalk, joined, IsWalkedTo, IsWalked, IsWalkBroken, AtNext, AtItsValue, BehindIt, AreWalked, IsOfRuns, IsDamagedRun}
+use Rattle.archive.specs.Traces.{nth_head, last_of, high_of, IsSearched, IsFoundIn, IsFindBroken, NoneBefore, IsFindDamaged, HasPart, GivesRow, GoesOn, Beside}
+use Rattle.archive.specs.Traces.{Skips, IsSkipBroken, StandsAt, IsWalk, joined, IsWalkedTo, IsWalked, IsWalkBroken, AtNext, AtItsValue, BehindIt, AreWalked}
+use Rattle.archive.specs.Traces.{IsOfRuns, IsDamagedRun}
 use Rattle.archive.proofs.Walking.{out_behind, skip_cases}
 
 -- what a fault tells of a run that is damaged
@@ -48,7 +51,8 @@ pub broken_there : (area later : List ℕ) (run : RunEntry) (last other : Option
 broken_there area later run last other n same same_last is =
     subst (λ (xs : List ℕ). IsHeadBroken xs run other n) same (subst (λ (o : Option Placed). IsHeadBroken later run o n) same_last is)
 
-pub placed_again : (area later : List ℕ) (run : RunEntry) (n : ℕ) (placed : Placed) → later ≡ area → placed ≡ placed_at area run n → placed ≡ placed_at later run placed.number
+pub placed_again : (area later : List ℕ) (run : RunEntry) (n : ℕ) (placed : Placed) → later ≡ area → placed ≡ placed_at area run n → placed
+    ≡ placed_at later run placed.number
 placed_again area later run n placed same is =
     let number : placed.number ≡ n = ap (λ (p : Placed). p.number) is in
     subst (λ (k : ℕ). placed ≡ placed_at later run k) (sym number) (subst (λ (xs : List ℕ). placed ≡ placed_at xs run n) (sym same) is)
@@ -59,10 +63,13 @@ placed_again area later run n placed same is =
 first_fails : (area : List ℕ) (run : RunEntry) (key : Key) (time : ℕ) (read : List ℕ) (n : ℕ) → n ≡ high_of area run key time read → n < run.slot.records
     → precedes key time (nth_head area run n) ≡ false
 first_fails area run key time [] n is less = absurd (omega arith)
-first_fails area run key time (m ∷ read) n is less = by_test (λ before. first_fails area run key time read n before less) (precedes key time (nth_head area run m)) refl where
-  by_test : (n ≡ high_of area run key time read → precedes key time (nth_head area run n) ≡ false) → (b : Bool) → precedes key time (nth_head area run m) ≡ b → precedes key time (nth_head area run n) ≡ false
-  by_test rest true test = rest (is ∙ ap (λ (b : Bool). cond b (high_of area run key time read) m) test)
-  by_test rest false test = let same : n ≡ m = is ∙ ap (λ (b : Bool). cond b (high_of area run key time read) m) test in ap (λ (k : ℕ). precedes key time (nth_head area run k)) same ∙ test
+first_fails area run key time (m ∷ read) n is less =
+    by_test (λ before. first_fails area run key time read n before less) (precedes key time (nth_head area run m)) refl where
+      by_test : (n ≡ high_of area run key time read → precedes key time (nth_head area run n) ≡ false) → (b : Bool) → precedes key time (nth_head area run m) ≡ b
+          → precedes key time (nth_head area run n) ≡ false
+      by_test rest true test = rest (is ∙ ap (λ (b : Bool). cond b (high_of area run key time read) m) test)
+      by_test rest false test = let same : n ≡ m =
+          is ∙ ap (λ (b : Bool). cond b (high_of area run key time read) m) test in ap (λ (k : ℕ). precedes key time (nth_head area run k)) same ∙ test
 
 not_over : (key : Key) (time : ℕ) (head : Head) → precedes key time head ≡ false → head.key ≡ key → time < head.to
 not_over key time head fails same =
@@ -72,9 +79,11 @@ not_over key time head fails same =
 
 pub not_ended : {area : List ℕ} {run : RunEntry} {key : Key} {time : ℕ} {read : List ℕ} {n : ℕ} → IsSearched area run key time read n → n < run.slot.records
     → (nth_head area run n).key ≡ key → time < (nth_head area run n).to
-not_ended {area} {run} {key} {time} {read} {n} searched less same = not_over key time (nth_head area run n) (first_fails area run key time read n searched.high less) same
+not_ended {area} {run} {key} {time} {read} {n} searched less same =
+    not_over key time (nth_head area run n) (first_fails area run key time read n searched.high less) same
 
-module _ (area : List ℕ) (runs : List RunEntry) (key : Key) (time i : ℕ) (run : RunEntry) (at : slice_get runs i ≡ Some run) (before : NoneBefore area runs key time i) where
+module _ (area : List ℕ) (runs : List RunEntry) (key : Key) (time i : ℕ) (run : RunEntry) (at : slice_get runs i
+    ≡ Some run) (before : NoneBefore area runs key time i) where
   pub none_more : (time < run.slot.upto → IsFoundIn area run key time None) → NoneBefore area runs key time (i + 1)
   none_more here n other less at_n beyond = elim (cases_lt n i) [
     | inl lower ↦ before n other lower at_n beyond
@@ -85,7 +94,8 @@ module _ (area : List ℕ) (runs : List RunEntry) (key : Key) (time i : ℕ) (ru
         subst (λ (r : RunEntry). IsFoundIn area r key time None) one (here (subst (λ (r : RunEntry). time < r.slot.upto) (sym one) beyond))
   ]
 
-  pub find_damaged : (fault : ArchiveFault) → time < run.slot.upto → IsFaultOf run fault → IfDamaged (λ _. IsFindBroken area run key time) fault → IfDamaged (IsFindDamaged area runs key time) fault
+  pub find_damaged : (fault : ArchiveFault) → time < run.slot.upto → IsFaultOf run fault → IfDamaged (λ _. IsFindBroken area run key time) fault
+      → IfDamaged (IsFindDamaged area runs key time) fault
   find_damaged Device beyond of is = tt
   find_damaged NoMemory beyond of is = tt
   find_damaged (Damaged start) beyond of is = record { number = i; run = run; before = before; at = at; beyond = beyond; here = of; broken = is }
@@ -96,14 +106,16 @@ begun : (area : List ℕ) (run : RunEntry) (n : ℕ) {last : Option Placed} → 
 begun area run n sound = let range = sound.in_range in grind (arith, nat_tests)
 
 -- the next of one that is wanted doesn't precede
-next_not_before : (w : Wanted) (p q : Placed) → q.number ≡ p.number + 1 → q.head.from < q.head.to → IsTrue (may_follow p q) → IsTrue (is_wanted w p.head) → precedes w.first w.a q.head ≡ false
+next_not_before : (w : Wanted) (p q : Placed) → q.number ≡ p.number + 1 → q.head.from < q.head.to → IsTrue (may_follow p q) → IsTrue (is_wanted w p.head)
+    → precedes w.first w.a q.head ≡ false
 next_not_before w p q next stands behind wanted =
     let before : is_before p.head q.head ≡ true = grind (arith, nat_tests) in
     let not_before : precedes w.first w.a p.head ≡ false = grind (arith, nat_tests) in
     grind (arith, nat_tests)
 
 -- nor does the first that it doesn't skip
-skip_not_before : (w : Wanted) (p q : Head) (key : Key) → skip_to w p ≡ Some key → IsTrue (is_wanted w p) → precedes key w.a q ≡ false → precedes w.first w.a q ≡ false
+skip_not_before : (w : Wanted) (p q : Head) (key : Key) → skip_to w p ≡ Some key → IsTrue (is_wanted w p) → precedes key w.a q ≡ false → precedes w.first w.a q
+    ≡ false
 skip_not_before w p q key skips wanted behind =
     let not_before : precedes w.first w.a p ≡ false = grind (arith, nat_tests) in
     elim (skip_cases w p key skips) [
@@ -127,12 +139,15 @@ module _ {R : Type 0} where
     walk_behind : (n : ℕ) (last : Option Placed) (rows : List R) → IsWalkedTo shown area w run n last rows → IsHeadSound area run last n
         → is_wanted w (nth_head area run n) ≡ false → IsTrue (follows w.last w.b (nth_head area run n))
     walk_behind n last rows way sound out = out_behind w (nth_head area run n) (not_before way.met way.stands way.walk) out where
-      not_before : (met : List (ℕ × List R)) → StandsAt area w run way.read way.first met n last → IsWalk shown area w run way.read way.first met → precedes w.first w.a (nth_head area run n) ≡ false
+      not_before : (met : List (ℕ × List R)) → StandsAt area w run way.read way.first met n last → IsWalk shown area w run way.read way.first met
+          → precedes w.first w.a (nth_head area run n) ≡ false
       not_before [] stands walk = first_fails area run w.first w.a way.read n (stands.0 ∙ way.searched.high) sound.few
       not_before (m ∷ before) (Beside none next is) walk =
-          next_not_before w (placed_at area run m.0) (placed_at area run n) next (begun area run n sound) (subst (λ (o : Option Placed). IsTrue (may_follow_last o (placed_at area run n))) is sound.follows) walk.1
+          next_not_before w (placed_at area run m.0) (placed_at area run n) next (begun area run n sound)
+          (subst (λ (o : Option Placed). IsTrue (may_follow_last o (placed_at area run n))) is sound.follows) walk.1
       not_before (m ∷ before) (Skips key read skips searched is) walk =
-          skip_not_before w (nth_head area run m.0) (nth_head area run n) key skips walk.1 (first_fails area run key w.a (read ++ m.0 ∷ []) n searched.high sound.few)
+          skip_not_before w (nth_head area run m.0) (nth_head area run n) key skips walk.1 (first_fails area run key w.a (read ++ m.0
+          ∷ []) n searched.high sound.few)
 
     -- rows that a walk has given so far, behind those of before it
     pub record IsWalking (last : Option Placed) (number : ℕ) (rows : List R) : Type 0 where
@@ -140,7 +155,8 @@ module _ {R : Type 0} where
       pub walked : IsWalkedTo shown area w run number last found
       pub are : rows ≡ old ++ found
 
-    pub walking_first : (last : Option Placed) (number : ℕ) → (read : List ℕ) × IsSearched area run w.first w.a read number × (last ≡ last_of area run read) → IsWalking last number old
+    pub walking_first : (last : Option Placed) (number : ℕ) → (read : List ℕ) × IsSearched area run w.first w.a read number × (last ≡ last_of area run read)
+        → IsWalking last number old
     walking_first last number bound = record {
       found = [];
       walked = record { read = bound.0; first = number; searched = bound.1; met = []; walk = tt; stands = (refl, bound.2); are = refl };
@@ -153,7 +169,8 @@ module _ {R : Type 0} where
 
       pub walking_head : (later : List ℕ) (fault : ArchiveFault) → later ≡ area → n < run.slot.records → IfDamaged (λ _. IsHeadBroken later run last n) fault
           → IfDamaged (λ _. IsWalkBroken shown area w run) fault
-      walking_head later fault same less = map_damaged fault (λ start is. AtNext n last way.found way.walked less (broken_there area later run last last n same refl is))
+      walking_head later fault same less =
+          map_damaged fault (λ start is. AtNext n last way.found way.walked less (broken_there area later run last last n same refl is))
 
       -- the next head is there
       module _ (later : List ℕ) (placed : Placed) (same : later ≡ area) (is : (placed ≡ placed_at later run n) × IsHeadSound later run last n) where
@@ -190,14 +207,17 @@ module _ {R : Type 0} where
             (subst (λ (k : ℕ). IsValueBroken area run k) number_is (subst (λ (xs : List ℕ). IsValueBroken xs run placed.number) same_then broken.1)))
 
         -- and its row
-        module _ (then : List ℕ) (row : List R) (same_then : then ≡ area) (wanted : IsTrue (is_wanted w placed.head)) (gives : GivesRow shown then w run placed.number row) where
+        module _ (then : List ℕ) (row : List R) (same_then : then
+            ≡ area) (wanted : IsTrue (is_wanted w placed.head)) (gives : GivesRow shown then w run placed.number row) where
           wanted_there : IsTrue (is_wanted w (nth_head area run n))
           wanted_there = subst (λ (p : Placed). IsTrue (is_wanted w p.head)) in_area.0 wanted
 
           gives_there : GivesRow shown area w run n row
-          gives_there = subst (λ (k : ℕ). GivesRow shown area w run k row) number_is (subst (λ (xs : List ℕ). GivesRow shown xs w run placed.number row) same_then gives)
+          gives_there =
+              subst (λ (k : ℕ). GivesRow shown area w run k row) number_is (subst (λ (xs : List ℕ). GivesRow shown xs w run placed.number row) same_then gives)
 
-          pub walking_more : (after : List ℕ) (next : ℕ) (behind : Option Placed) (new : List R) → after ≡ area → GoesOn after w run placed.number next behind → new ≡ rows ++ row → IsWalking behind next new
+          pub walking_more : (after : List ℕ) (next : ℕ) (behind : Option Placed) (new : List R) → after ≡ area → GoesOn after w run placed.number next behind
+              → new ≡ rows ++ row → IsWalking behind next new
           walking_more after next behind new same_after goes grown = record {
             found = way.found ++ row;
             walked = record {
@@ -206,13 +226,15 @@ module _ {R : Type 0} where
               searched = way.walked.searched;
               met = (n, row) ∷ way.walked.met;
               walk = ((last, way.walked.stands, in_area.1), wanted_there, gives_there, way.walked.walk);
-              stands = subst (λ (k : ℕ). GoesOn area w run k next behind) number_is (subst (λ (xs : List ℕ). GoesOn xs w run placed.number next behind) same_after goes);
+              stands = subst (λ (k : ℕ). GoesOn area w run k next behind) number_is
+                  (subst (λ (xs : List ℕ). GoesOn xs w run placed.number next behind) same_after goes);
               are = ap (λ (xs : List R). xs ++ row) way.walked.are;
             };
             are = grown ∙ ap (λ (xs : List R). xs ++ row) way.are ∙ append_assoc old way.found row;
           }
 
-          pub walking_skip : (after : List ℕ) (fault : ArchiveFault) → after ≡ area → IfDamaged (λ _. IsSkipBroken after w run placed.number) fault → IfDamaged (λ _. IsWalkBroken shown area w run) fault
+          pub walking_skip : (after : List ℕ) (fault : ArchiveFault) → after ≡ area → IfDamaged (λ _. IsSkipBroken after w run placed.number) fault
+              → IfDamaged (λ _. IsWalkBroken shown area w run) fault
           walking_skip after fault same_after = map_damaged fault (λ start broken.
               BehindIt n last way.found row way.walked in_area.1 wanted_there gives_there
               (subst (λ (k : ℕ). IsSkipBroken area w run k) number_is (subst (λ (xs : List ℕ). IsSkipBroken xs w run placed.number) same_after broken)))
@@ -226,7 +248,8 @@ module _ {R : Type 0} where
     pub count : length parts ≡ i
     pub are : rows ≡ joined parts
 
-  few_parts : (Gives : RunEntry → List R → Type 0) (time : ℕ) (runs : List RunEntry) (parts : List (List R)) → AreWalked Gives time runs parts → length parts ≤ length runs
+  few_parts : (Gives : RunEntry → List R → Type 0) (time : ℕ) (runs : List RunEntry) (parts : List (List R)) → AreWalked Gives time runs parts
+      → length parts ≤ length runs
   few_parts Gives time runs [] each = omega arith
   few_parts Gives time runs (part ∷ parts) each = omega (arith, slice_get_within runs (length parts) each.0.0 each.0.1)
 
@@ -263,4 +286,5 @@ module _ {R : Type 0} where
           → IfDamaged (IsDamagedRun Gives Breaks time runs) fault
       through_broken Breaks Device beyond of is = tt
       through_broken Breaks NoMemory beyond of is = tt
-      through_broken Breaks (Damaged start) beyond of is = record { parts = way.parts; each = way.each; run = run; at = there; beyond = beyond; here = of; broken = is }
+      through_broken Breaks (Damaged start) beyond of is =
+          record { parts = way.parts; each = way.each; run = run; at = there; beyond = beyond; here = of; broken = is }

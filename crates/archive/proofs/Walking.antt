@@ -1,5 +1,6 @@
 -- What a walk over the records of a run has shown.
-use Rattle.std.proofs.Common.{◌≡◌, ◌⊎◌, inl, inr, nat_le, nat_lt, ◌||◌, ℕ, zero, suc, ◌+◌, ◌<◌, ◌≤◌, Bool, true, false, IsTrue, not, cond, ◌&&◌, max, min, List, [], ◌∷◌, ◌++◌, take, map, filter, Some, None, refl, sym, ◌∙◌, ap, subst, arith, append_assoc}
+use Rattle.std.proofs.Common.{◌≡◌, ◌⊎◌, inl, inr, nat_le, nat_lt, ◌||◌, ℕ, zero, suc, ◌+◌, ◌<◌, ◌≤◌, Bool, true, false, IsTrue, not, cond, ◌&&◌, max, min, List}
+use Rattle.std.proofs.Common.{[], ◌∷◌, ◌++◌, take, map, filter, Some, None, refl, sym, ◌∙◌, ap, subst, arith, append_assoc}
 use Rattle.std.specs.List.{slice_get, flat_map, cons_option}
 use Rattle.std.proofs.lemmas.List.{append-nil, map-append}
 use Rattle.std.proofs.lemmas.List.Elements.{filter-append}
@@ -42,7 +43,8 @@ module _ {X Y : Type 0} (f : X → List Y) where
       ap (λ (zs : List Y). zs ++ flat_map f (take n ys)) (none zero y (omega arith) refl)
       ∙ none_before ys n (λ i x less at. none (suc i) x (omega arith) at)
 
-  pub none_within : (xs : List X) (m k : ℕ) → m ≤ k → ((i : ℕ) (x : X) → m ≤ i → i < k → slice_get xs i ≡ Some x → f x ≡ []) → flat_map f (take k xs) ≡ flat_map f (take m xs)
+  pub none_within : (xs : List X) (m k : ℕ) → m ≤ k → ((i : ℕ) (x : X) → m ≤ i → i < k → slice_get xs i ≡ Some x → f x ≡ []) → flat_map f (take k xs)
+      ≡ flat_map f (take m xs)
   none_within [] zero zero order none = refl
   none_within [] zero (suc k) order none = refl
   none_within [] (suc m) zero order none = absurd (omega arith)
@@ -57,7 +59,8 @@ module _ {X Y : Type 0} (f : X → List Y) where
   none_after [] zero none = refl
   none_after [] (suc n) none = refl
   none_after (y ∷ ys) zero none =
-      sym (ap (λ (zs : List Y). zs ++ flat_map f ys) (none zero y (omega arith) refl) ∙ sym (none_after ys zero (λ i x from at. none (suc i) x (omega arith) at)))
+      sym (ap (λ (zs : List Y). zs ++ flat_map f ys) (none zero y (omega arith) refl)
+      ∙ sym (none_after ys zero (λ i x from at. none (suc i) x (omega arith) at)))
   none_after (y ∷ ys) (suc n) none = ap (λ (zs : List Y). f y ++ zs) (none_after ys n (λ i x from at. none (suc i) x (omega arith) at))
 
 -- ---- the rows of a key
@@ -67,10 +70,12 @@ rows-append vs ws a b = ap (filter lasts) (map-append (cut a b) vs ws) ∙ filte
 
 -- tests that agree of what lasts
 pub where_lasting : (x y last : Bool) → (last ≡ true → x ≡ y) → (x && last) ≡ (y && last)
-where_lasting x y last same = elim last as (λ t. (t ≡ true → x ≡ y) → (x && t) ≡ (y && t)) [ true ↦ (λ same. ap (λ (z : Bool). z && true) (same refl)) | false ↦ (λ same. by_false x ∙ sym (by_false y)) ] same where
-  by_false : (z : Bool) → (z && false) ≡ false
-  by_false true = refl
-  by_false false = refl
+where_lasting x y last same =
+    elim last as (λ t. (t ≡ true → x ≡ y) → (x && t)
+    ≡ (y && t)) [ true ↦ (λ same. ap (λ (z : Bool). z && true) (same refl)) | false ↦ (λ same. by_false x ∙ sym (by_false y)) ] same where
+      by_false : (z : Bool) → (z && false) ≡ false
+      by_false true = refl
+      by_false false = refl
 
 module _ (key : Key) (a b : ℕ) where
   of_this_key : (r : ArchiveRecord) → lasts (cut a b r.version) ≡ true → is_wanted (of_key key a b) (head_of r) ≡ same_key r.key key
@@ -79,7 +84,8 @@ module _ (key : Key) (a b : ℕ) where
       let ends : a < r.version.to = grind (arith, nat_tests) in
       grind (arith, nat_tests)
 
-  row_alone : (r : ArchiveRecord) (rest : List ArchiveRecord) → row_of alone (of_key key a b) r ++ rows (run_versions key rest) a b ≡ rows (run_versions key (r ∷ rest)) a b
+  row_alone : (r : ArchiveRecord) (rest : List ArchiveRecord) → row_of alone (of_key key a b) r ++ rows (run_versions key rest) a b
+      ≡ rows (run_versions key (r ∷ rest)) a b
   row_alone r rest =
       let part = cut a b r.version in
       let later = run_versions key rest in
@@ -88,7 +94,8 @@ module _ (key : Key) (a b : ℕ) where
       let Shown : Bool → Type 0 = λ t. rows (cons_option (cond t (Some r.version) None) later) a b ≡ cond t (cond (lasts part) (part ∷ behind) behind) behind in
       let shown : Shown own = elim own as Shown [ true ↦ refl | false ↦ refl ] in
       let Goal : Bool → Bool → Type 0 = λ s t. cond (s && t) (part ∷ []) [] ++ behind ≡ cond s (cond t (part ∷ behind) behind) behind in
-      let all : (s t : Bool) → Goal s t = λ s t. elim s as (λ s. Goal s t) [ true ↦ elim t as (λ t. Goal true t) [ true ↦ refl | false ↦ refl ] | false ↦ refl ] in
+      let all : (s t : Bool) → Goal s t =
+      λ s t. elim s as (λ s. Goal s t) [ true ↦ elim t as (λ t. Goal true t) [ true ↦ refl | false ↦ refl ] | false ↦ refl ] in
       ap (λ (c : Bool). cond {A = List (Version Value)} c (part ∷ []) [] ++ behind) (where_lasting _ own (lasts part) (of_this_key r))
       ∙ all own (lasts part)
       ∙ sym shown
@@ -155,7 +162,8 @@ skipped_short w r s key skips before precedes_key = elim (skip_cases w (head_of 
 -- ---- the records of a run
 
 -- what is behind one that follows does too
-follows_later : (key : Key) (time : ℕ) (r s : ArchiveRecord) → IsBefore r s → r.version.from < r.version.to → follows key time (head_of r) ≡ true → follows key time (head_of s) ≡ true
+follows_later : (key : Key) (time : ℕ) (r s : ArchiveRecord) → IsBefore r s → r.version.from < r.version.to → follows key time (head_of r) ≡ true
+    → follows key time (head_of s) ≡ true
 follows_later key time r s before stands holds = grind (arith, nat_tests)
 
 pub out_behind : (w : Wanted) (head : Head) → precedes w.first w.a head ≡ false → is_wanted w head ≡ false → follows w.last w.b head ≡ true
@@ -198,7 +206,8 @@ module _ {R : Type 0} (shown : ℕ → Version Value → R) (w : Wanted) (r : Ar
       by_both true y is same = same
       by_both false y is same = is
 
-module _ {R : Type 0} (shown : ℕ → Version Value → R) (w : Wanted) (area : List ℕ) (run : RunEntry) (records : List ArchiveRecord) (laid : IsLaidRun area run records) where
+module _ {R : Type 0} (shown : ℕ → Version Value
+    → R) (w : Wanted) (area : List ℕ) (run : RunEntry) (records : List ArchiveRecord) (laid : IsLaidRun area run records) where
   lasting : (n : ℕ) (r : ArchiveRecord) → slice_get records n ≡ Some r → r.version.from < r.version.to
   lasting n r at = (laid.each n r at).lasts
 
@@ -207,8 +216,10 @@ module _ {R : Type 0} (shown : ℕ → Version Value → R) (w : Wanted) (area :
   past_rows past = sym (none_after (row_of shown w) records 0 (λ i r from at. let by = (laid.each i r at).by_upto in row_short shown w r (omega arith)))
 
   -- what is skipped adds no row
-  pub rows_skip : (n next : ℕ) → n < next → AreSkipped records w n next → flat_map (row_of shown w) (take next records) ≡ flat_map (row_of shown w) (take (n + 1) records)
-  rows_skip n next less skipped = none_within (row_of shown w) records (n + 1) next (omega arith) (λ i r from to at. row_short shown w r (skipped i r (omega arith) to at))
+  pub rows_skip : (n next : ℕ) → n < next → AreSkipped records w n next → flat_map (row_of shown w) (take next records)
+      ≡ flat_map (row_of shown w) (take (n + 1) records)
+  rows_skip n next less skipped =
+      none_within (row_of shown w) records (n + 1) next (omega arith) (λ i r from to at. row_short shown w r (skipped i r (omega arith) to at))
 
   module _ (n : ℕ) where
     -- where the walk begins
@@ -238,7 +249,8 @@ module _ {R : Type 0} (shown : ℕ → Version Value → R) (w : Wanted) (area :
       ]
 
 -- what a search for where to go on passes is skipped
-pub are_skipped : (w : Wanted) (area : List ℕ) (run : RunEntry) (records : List ArchiveRecord) → IsLaidRun area run records → (n next : ℕ) (r : ArchiveRecord) (key : Key) → slice_get records n ≡ Some r
+pub are_skipped : (w : Wanted) (area : List ℕ) (run : RunEntry) (records : List ArchiveRecord) → IsLaidRun area run records
+    → (n next : ℕ) (r : ArchiveRecord) (key : Key) → slice_get records n ≡ Some r
     → skip_to w (head_of r) ≡ Some key → IsBound records key w.a next → AreSkipped records w n next
 are_skipped w area run records laid n next r key at skips bound i s from to at_s =
     skipped_short w r s key skips (places_before records laid.in_order (λ m t at_t. (laid.each m t at_t).lasts) n i r s from at at_s) (bound.before i s to at_s)

@@ -1,5 +1,6 @@
 -- A run of which nothing breaks a rule is one that the area holds.
-use Rattle.std.proofs.Common.{◌≡◌, ◌⊎◌, inl, inr, ℕ, zero, suc, ◌+◌, ◌-◌, ◌*◌, ◌^◌, ◌≤◌, ◌<◌, Bool, true, false, cond, ◌==◌, List, [], ◌∷◌, ◌++◌, length, get_or, take, drop, refl, sym, ◌∙◌, ap, arith, length-take, length-drop}
+use Rattle.std.proofs.Common.{◌≡◌, ◌⊎◌, inl, inr, ℕ, zero, suc, ◌+◌, ◌-◌, ◌*◌, ◌^◌, ◌≤◌, ◌<◌, Bool, true, false, cond, ◌==◌, List, [], ◌∷◌, ◌++◌, length}
+use Rattle.std.proofs.Common.{get_or, take, drop, refl, sym, ◌∙◌, ap, arith, length-take, length-drop}
 use Rattle.std.specs.List.{slice_range, AllByRecursion}
 use Rattle.std.specs.Int.{w16, w64, from_le_bytes}
 use Rattle.std.proofs.lemmas.List.{append-nil, drop-drop, take-append-drop, get_or-take, get_or-drop, get_or_past}
@@ -52,7 +53,8 @@ small_drop n bytes are i = rw get_or-drop (are (n + i))
 back_2 : (bytes : List ℕ) → AreSmall bytes → 2 ≤ length bytes → u16_bytes (little_number 2 bytes) ≡ take 2 bytes
 unfolding u16_bytes
 back_2 bytes are long =
-    let number : little_number 2 bytes ≡ from_le_bytes w16 (take 2 bytes) = rw (get_or-take 2 bytes 0 0 (omega arith), get_or-take 2 bytes 1 0 (omega arith)) (omega arith) in
+    let number : little_number 2 bytes ≡ from_le_bytes w16 (take 2 bytes) =
+    rw (get_or-take 2 bytes 0 0 (omega arith), get_or-take 2 bytes 1 0 (omega arith)) (omega arith) in
     le_bytes_2 (take 2 bytes) (little_number 2 bytes) (omega (arith, length-take 2 bytes)) (small_take 2 bytes are) number
 
 back_8 : (bytes : List ℕ) → AreSmall bytes → 8 ≤ length bytes → u64_bytes (little_number 8 bytes) ≡ take 8 bytes
@@ -83,8 +85,11 @@ head_back : (bytes : List ℕ) (value : Value) → AreSmall bytes → length byt
 unfolding head_at head_bytes
 head_back bytes value are long =
     let none : drop 26 bytes ≡ [] = nothing (drop 26 bytes) (omega (arith, length-drop 26 bytes)) in
-    let last : u64_bytes (little_number 8 (drop 18 bytes)) ≡ drop 18 bytes = sym (append-nil (u64_bytes (little_number 8 (drop 18 bytes)))) ∙ ap (λ (xs : List ℕ). u64_bytes (little_number 8 (drop 18 bytes)) ++ xs) (sym none) ∙ then_8 18 bytes are (omega arith) in
-    ap (λ (xs : List ℕ). u16_bytes (little_number 2 bytes) ++ (u64_bytes (little_number 8 (drop 2 bytes)) ++ (u64_bytes (little_number 8 (drop 10 bytes)) ++ xs))) last
+    let last : u64_bytes (little_number 8 (drop 18 bytes)) ≡ drop 18 bytes =
+    sym (append-nil (u64_bytes (little_number 8 (drop 18 bytes)))) ∙ ap (λ (xs : List ℕ). u64_bytes (little_number 8 (drop 18 bytes)) ++ xs) (sym none)
+    ∙ then_8 18 bytes are (omega arith) in
+    ap (λ (xs : List ℕ). u16_bytes (little_number 2 bytes)
+    ++ (u64_bytes (little_number 8 (drop 2 bytes)) ++ (u64_bytes (little_number 8 (drop 10 bytes)) ++ xs))) last
     ∙ ap (λ (xs : List ℕ). u16_bytes (little_number 2 bytes) ++ (u64_bytes (little_number 8 (drop 2 bytes)) ++ xs)) (then_8 10 bytes are (omega arith))
     ∙ ap (λ (xs : List ℕ). u16_bytes (little_number 2 bytes) ++ xs) (then_8 2 bytes are (omega arith))
     ∙ ap (λ (xs : List ℕ). xs ++ drop 2 bytes) (back_2 bytes are (omega arith))
@@ -129,15 +134,19 @@ module _ (area : List ℕ) (run : RunEntry) (are : AreSmall area) (is : IsRun ru
   head : ℕ → Head
   head n = nth_head area run n
 
-  entry_before : (n : ℕ) → n < run.slot.records → entry_at area run n ≡ little_number 8 (slice_range area (run.slot.start + (index_start run + 8 * n)) (run.slot.start + (index_start run + 8 * n) + 8))
+  entry_before : (n : ℕ) → n < run.slot.records → entry_at area run n
+      ≡ little_number 8 (slice_range area (run.slot.start + (index_start run + 8 * n)) (run.slot.start + (index_start run + 8 * n) + 8))
   entry_before n less =
       let test : (n == run.slot.records) ≡ false = grind (arith, nat_tests) in
-      ap (λ (b : Bool). cond b (index_start run) (little_number 8 (slice_range area (run.slot.start + (index_start run + 8 * n)) (run.slot.start + (index_start run + 8 * n) + 8)))) test
+      ap (λ (b : Bool). cond b (index_start run)
+      (little_number 8 (slice_range area (run.slot.start + (index_start run + 8 * n)) (run.slot.start + (index_start run + 8 * n) + 8)))) test
 
   entry_last : entry_at area run run.slot.records ≡ index_start run
   entry_last =
       let test : (run.slot.records == run.slot.records) ≡ true = grind (arith, nat_tests) in
-      ap (λ (b : Bool). cond b (index_start run) (little_number 8 (slice_range area (run.slot.start + (index_start run + 8 * run.slot.records)) (run.slot.start + (index_start run + 8 * run.slot.records) + 8)))) test
+      ap (λ (b : Bool). cond b (index_start run)
+      (little_number 8 (slice_range area (run.slot.start + (index_start run + 8 * run.slot.records))
+      (run.slot.start + (index_start run + 8 * run.slot.records) + 8)))) test
 
   index_fits : index_start run + 8 * run.slot.records ≡ run.slot.len
   index_fits = omega (arith, is.shortest)
@@ -173,7 +182,8 @@ module _ (area : List ℕ) (run : RunEntry) (are : AreSmall area) (is : IsRun ru
         omega (arith, entry_last, ap (entry_at area run) same)
   ]
 
-  record_part : (n : ℕ) (less : n < run.slot.records) → record_bytes (record_at n) ≡ slice_range area (run.slot.start + entry_at area run n) (run.slot.start + entry_at area run (n + 1))
+  record_part : (n : ℕ) (less : n < run.slot.records) → record_bytes (record_at n)
+      ≡ slice_range area (run.slot.start + entry_at area run n) (run.slot.start + entry_at area run (n + 1))
   record_part n less =
       let from : ℕ = run.slot.start + entry_at area run n in
       let value = (value_there n less) in
@@ -182,10 +192,12 @@ module _ (area : List ℕ) (run : RunEntry) (are : AreSmall area) (is : IsRun ru
       let fits = whole.within in
       let size = index_fits in
       let long : length (slice_range area from (from + 26)) ≡ 26 = part_long area from (from + 26) (omega arith) (omega arith) ∙ omega arith in
-      let front : head_bytes (record_of (nth_head area run n) (value_for n)) ≡ slice_range area from (from + 26) = head_back (slice_range area from (from + 26)) (value_for n) (small_part area from (from + 26) are) long in
+      let front : head_bytes (record_of (nth_head area run n) (value_for n)) ≡ slice_range area from (from + 26) =
+      head_back (slice_range area from (from + 26)) (value_for n) (small_part area from (from + 26) are) long in
       let at : run.slot.start + (entry_at area run n + 26) ≡ from + 26 = omega arith in
       ap (λ (xs : List ℕ). xs ++ value_bytes (value_for n)) front
-      ∙ ap (λ (xs : List ℕ). slice_range area from (from + 26) ++ xs) (sym value.spelled ∙ ap (λ (k : ℕ). slice_range area k (run.slot.start + entry_at area run (n + 1))) at)
+      ∙ ap (λ (xs : List ℕ). slice_range area from (from + 26) ++ xs) (sym value.spelled
+      ∙ ap (λ (k : ℕ). slice_range area k (run.slot.start + entry_at area run (n + 1))) at)
       ∙ join area from (from + 26) (run.slot.start + entry_at area run (n + 1)) (omega arith) (omega arith)
 
   record_long : (n : ℕ) (less : n < run.slot.records) → entry_at area run n + length (record_bytes (record_at n)) ≡ entry_at area run (n + 1)
@@ -208,11 +220,13 @@ module _ (area : List ℕ) (run : RunEntry) (are : AreSmall area) (is : IsRun ru
       let last : suc n + k ≡ n + suc k = omega arith in
       omega (arith, rest, low, ap (entry_at area run) next, ap (entry_at area run) last)
 
-  records_part : (k n : ℕ) (fits : n + k ≤ run.slot.records) → records_bytes (recs k n) ≡ slice_range area (run.slot.start + entry_at area run n) (run.slot.start + entry_at area run (n + k))
+  records_part : (k n : ℕ) (fits : n + k ≤ run.slot.records) → records_bytes (recs k n)
+      ≡ slice_range area (run.slot.start + entry_at area run n) (run.slot.start + entry_at area run (n + k))
   unfolding records_bytes
   records_part zero n fits =
       let same : n + 0 ≡ n = omega arith in
-      sym (no_part area (run.slot.start + entry_at area run n)) ∙ ap (λ (k : ℕ). slice_range area (run.slot.start + entry_at area run n) (run.slot.start + entry_at area run k)) (sym same)
+      sym (no_part area (run.slot.start + entry_at area run n))
+      ∙ ap (λ (k : ℕ). slice_range area (run.slot.start + entry_at area run n) (run.slot.start + entry_at area run k)) (sym same)
   records_part (suc k) n fits =
       let next : suc n ≡ n + 1 = omega arith in
       let last : suc n + k ≡ n + suc k = omega arith in
@@ -221,16 +235,22 @@ module _ (area : List ℕ) (run : RunEntry) (are : AreSmall area) (is : IsRun ru
       let next_same = ap (entry_at area run) next in
       let last_same = ap (entry_at area run) last in
       ap (λ (xs : List ℕ). record_bytes (record_at n) ++ xs) (records_part k (suc n) (omega arith))
-      ∙ ap (λ (xs : List ℕ). xs ++ slice_range area (run.slot.start + entry_at area run (suc n)) (run.slot.start + entry_at area run (suc n + k))) (record_part n (omega arith))
-      ∙ ap (λ (j : ℕ). slice_range area (run.slot.start + entry_at area run n) (run.slot.start + entry_at area run (n + 1)) ++ slice_range area (run.slot.start + entry_at area run j) (run.slot.start + entry_at area run (suc n + k))) next
-      ∙ ap (λ (j : ℕ). slice_range area (run.slot.start + entry_at area run n) (run.slot.start + entry_at area run (n + 1)) ++ slice_range area (run.slot.start + entry_at area run (n + 1)) (run.slot.start + entry_at area run j)) last
-      ∙ join area (run.slot.start + entry_at area run n) (run.slot.start + entry_at area run (n + 1)) (run.slot.start + entry_at area run (n + suc k)) (omega (arith, low)) (omega (arith, rises, next_same, last_same))
+      ∙ ap (λ (xs : List ℕ). xs
+      ++ slice_range area (run.slot.start + entry_at area run (suc n)) (run.slot.start + entry_at area run (suc n + k))) (record_part n (omega arith))
+      ∙ ap (λ (j : ℕ). slice_range area (run.slot.start + entry_at area run n) (run.slot.start + entry_at area run (n + 1))
+      ++ slice_range area (run.slot.start + entry_at area run j) (run.slot.start + entry_at area run (suc n + k))) next
+      ∙ ap (λ (j : ℕ). slice_range area (run.slot.start + entry_at area run n) (run.slot.start + entry_at area run (n + 1))
+      ++ slice_range area (run.slot.start + entry_at area run (n + 1)) (run.slot.start + entry_at area run j)) last
+      ∙ join area (run.slot.start + entry_at area run n) (run.slot.start + entry_at area run (n + 1)) (run.slot.start + entry_at area run (n + suc k))
+      (omega (arith, low)) (omega (arith, rises, next_same, last_same))
 
-  index_part : (k n : ℕ) (fits : n + k ≤ run.slot.records) → index_bytes (entry_at area run n) (recs k n) ≡ slice_range area (run.slot.start + (index_start run + 8 * n)) (run.slot.start + (index_start run + 8 * (n + k)))
+  index_part : (k n : ℕ) (fits : n + k ≤ run.slot.records) → index_bytes (entry_at area run n) (recs k n)
+      ≡ slice_range area (run.slot.start + (index_start run + 8 * n)) (run.slot.start + (index_start run + 8 * (n + k)))
   unfolding index_bytes
   index_part zero n fits =
       let same : n + 0 ≡ n = omega arith in
-      sym (no_part area (run.slot.start + (index_start run + 8 * n))) ∙ ap (λ (k : ℕ). slice_range area (run.slot.start + (index_start run + 8 * n)) (run.slot.start + (index_start run + 8 * k))) (sym same)
+      sym (no_part area (run.slot.start + (index_start run + 8 * n)))
+      ∙ ap (λ (k : ℕ). slice_range area (run.slot.start + (index_start run + 8 * n)) (run.slot.start + (index_start run + 8 * k))) (sym same)
   index_part (suc k) n fits =
       let a : ℕ = run.slot.start + (index_start run + 8 * n) in
       let b : ℕ = run.slot.start + (index_start run + 8 * suc n) in
@@ -240,8 +260,10 @@ module _ (area : List ℕ) (run : RunEntry) (are : AreSmall area) (is : IsRun ru
       let long : length (slice_range area a (a + 8)) ≡ 8 = part_long area a (a + 8) (omega arith) (omega arith) ∙ omega arith in
       let all : take 8 (slice_range area a (a + 8)) ≡ slice_range area a (a + 8) = take_all (slice_range area a (a + 8)) 8 long in
       let first : u64_bytes (entry_at area run n) ≡ slice_range area a b =
-      ap u64_bytes (entry_before n (omega arith)) ∙ back_8 (slice_range area a (a + 8)) (small_part area a (a + 8) are) (omega (arith, long)) ∙ all ∙ ap (λ (j : ℕ). slice_range area a j) step in
-      let next : entry_at area run n + length (record_bytes (record_at n)) ≡ entry_at area run (suc n) = record_long n (omega arith) ∙ ap (entry_at area run) (omega arith) in
+      ap u64_bytes (entry_before n (omega arith)) ∙ back_8 (slice_range area a (a + 8)) (small_part area a (a + 8) are) (omega (arith, long)) ∙ all
+      ∙ ap (λ (j : ℕ). slice_range area a j) step in
+      let next : entry_at area run n + length (record_bytes (record_at n)) ≡ entry_at area run (suc n) =
+      record_long n (omega arith) ∙ ap (entry_at area run) (omega arith) in
       let last : suc n + k ≡ n + suc k = omega arith in
       ap (λ (xs : List ℕ). xs ++ index_bytes (entry_at area run n + length (record_bytes (record_at n))) (recs k (suc n))) first
       ∙ ap (λ (j : ℕ). slice_range area a b ++ index_bytes j (recs k (suc n))) next
@@ -282,11 +304,16 @@ module _ (area : List ℕ) (run : RunEntry) (are : AreSmall area) (is : IsRun ru
       let c : run.slot.start + (index_start run + 8 * 0) ≡ run.slot.start + index_start run = omega arith in
       let d : run.slot.start + (index_start run + 8 * (0 + run.slot.records)) ≡ run.slot.start + run.slot.len = omega (arith, size) in
       ap (λ (xs : List ℕ). xs ++ index_bytes 0 (recs run.slot.records 0)) (records_part run.slot.records 0 every_fits)
-      ∙ ap (λ (j : ℕ). slice_range area (run.slot.start + entry_at area run 0) (run.slot.start + entry_at area run (0 + run.slot.records)) ++ index_bytes j (recs run.slot.records 0)) (sym first_entry)
-      ∙ ap (λ (xs : List ℕ). slice_range area (run.slot.start + entry_at area run 0) (run.slot.start + entry_at area run (0 + run.slot.records)) ++ xs) (index_part run.slot.records 0 every_fits)
-      ∙ ap (λ (j : ℕ). slice_range area j (run.slot.start + entry_at area run (0 + run.slot.records)) ++ slice_range area (run.slot.start + (index_start run + 8 * 0)) (run.slot.start + (index_start run + 8 * (0 + run.slot.records)))) a
-      ∙ ap (λ (j : ℕ). slice_range area run.slot.start j ++ slice_range area (run.slot.start + (index_start run + 8 * 0)) (run.slot.start + (index_start run + 8 * (0 + run.slot.records)))) b
-      ∙ ap (λ (j : ℕ). slice_range area run.slot.start (run.slot.start + index_start run) ++ slice_range area j (run.slot.start + (index_start run + 8 * (0 + run.slot.records)))) c
+      ∙ ap (λ (j : ℕ). slice_range area (run.slot.start + entry_at area run 0) (run.slot.start + entry_at area run (0 + run.slot.records))
+      ++ index_bytes j (recs run.slot.records 0)) (sym first_entry)
+      ∙ ap (λ (xs : List ℕ). slice_range area (run.slot.start + entry_at area run 0) (run.slot.start + entry_at area run (0 + run.slot.records))
+      ++ xs) (index_part run.slot.records 0 every_fits)
+      ∙ ap (λ (j : ℕ). slice_range area j (run.slot.start + entry_at area run (0 + run.slot.records))
+      ++ slice_range area (run.slot.start + (index_start run + 8 * 0)) (run.slot.start + (index_start run + 8 * (0 + run.slot.records)))) a
+      ∙ ap (λ (j : ℕ). slice_range area run.slot.start j
+      ++ slice_range area (run.slot.start + (index_start run + 8 * 0)) (run.slot.start + (index_start run + 8 * (0 + run.slot.records)))) b
+      ∙ ap (λ (j : ℕ). slice_range area run.slot.start (run.slot.start + index_start run)
+      ++ slice_range area j (run.slot.start + (index_start run + 8 * (0 + run.slot.records)))) c
       ∙ ap (λ (j : ℕ). slice_range area run.slot.start (run.slot.start + index_start run) ++ slice_range area (run.slot.start + index_start run) j) d
       ∙ join area run.slot.start (run.slot.start + index_start run) (run.slot.start + run.slot.len) (omega arith) (omega (arith, size))
 
@@ -346,7 +373,8 @@ module _ (area : List ℕ) (run : RunEntry) (are : AreSmall area) (is : IsRun ru
   unfolding every
   unbroken_held =
       let within = whole.within in
-      let size : length (run_bytes every) ≡ run.slot.len = ap length bytes_are ∙ part_long area run.slot.start (run.slot.start + run.slot.len) (omega arith) within ∙ omega arith in (
+      let size : length (run_bytes every) ≡ run.slot.len =
+      ap length bytes_are ∙ part_long area run.slot.start (run.slot.start + run.slot.len) (omega arith) within ∙ omega arith in (
         every,
         record {
           held = record {
@@ -363,5 +391,6 @@ module _ (area : List ℕ) (run : RunEntry) (are : AreSmall area) (is : IsRun ru
         },
       )
 
-pub whole_run : (area : List ℕ) (run : RunEntry) → AreBytes area → IsRun run.slot → IsUnbroken area run → (records : List ArchiveRecord) × HoldsRun area run records
+pub whole_run : (area : List ℕ) (run : RunEntry) → AreBytes area → IsRun run.slot → IsUnbroken area run → (records : List ArchiveRecord)
+    × HoldsRun area run records
 whole_run area run are is whole = unbroken_held area run (small area are) is whole

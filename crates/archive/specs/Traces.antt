@@ -82,7 +82,8 @@ pub data IsFindBroken (area : List ℕ) (run : RunEntry) (key : Key) (time : ℕ
 
 -- the runs before this one that go beyond the time have no version that stands at it
 abbrev pub NoneBefore : List ℕ → List RunEntry → Key → ℕ → ℕ → Type 0
-NoneBefore area runs key time number = (n : ℕ) (run : RunEntry) → n < number → slice_get runs n ≡ Some run → time < run.slot.upto → IsFoundIn area run key time None
+NoneBefore area runs key time number =
+    (n : ℕ) (run : RunEntry) → n < number → slice_get runs n ≡ Some run → time < run.slot.upto → IsFoundIn area run key time None
 
 -- what a look through all runs found: no version, or that of the first run that has one
 pub data IsFound (area : List ℕ) (runs : List RunEntry) (key : Key) (time : ℕ) (answer : Option Value) : Type 0 where
@@ -121,7 +122,8 @@ GivesRow shown area w run n row =
     ⊎ (HasPart w (nth_head area run n)
     × ((value : Value) × IsValueAt area run n value × (row ≡ shown (nth_head area run n).key.record (cut w.a w.b (version_at area run n value)) ∷ [])))
 
--- Where a walk goes on behind the n-th record, and what it has read last by then: at the next one, or where a search that knows of the n-th finds the first record that it need not skip.
+-- Where a walk goes on behind the n-th record, and what it has read last by then: at the next one, or where a search that knows of the n-th finds the first
+-- record that it need not skip.
 pub data GoesOn (area : List ℕ) (w : Wanted) (run : RunEntry) (n next : ℕ) (last : Option Placed) : Type 0 where
   Beside : skip_to w (nth_head area run n) ≡ None → next ≡ n + 1 → last ≡ Some (placed_at area run n) → GoesOn area w run n next last
   Skips : (key : Key) (read : List ℕ) → skip_to w (nth_head area run n) ≡ Some key → IsSearched area run key w.a (read ++ n ∷ []) next
@@ -163,8 +165,10 @@ abbrev pub joined : {R : Type 0} → List (List R) → List R
 joined [] = []
 joined (part ∷ parts) = joined parts ++ part
 
--- A walk over the records of one run that has come to the n-th, has read this last and has given these rows: a search for the first that doesn't precede, and then record after record but for those that it skips.
-pub record IsWalkedTo {R : Type 0} (shown : ℕ → Version Value → R) (area : List ℕ) (w : Wanted) (run : RunEntry) (n : ℕ) (last : Option Placed) (rows : List R) : Type 0 where
+-- A walk over the records of one run that has come to the n-th, has read this last and has given these rows: a search for the first that doesn't precede, and
+-- then record after record but for those that it skips.
+pub record IsWalkedTo {R : Type 0} (shown : ℕ → Version Value
+    → R) (area : List ℕ) (w : Wanted) (run : RunEntry) (n : ℕ) (last : Option Placed) (rows : List R) : Type 0 where
   pub read : List ℕ
   pub first : ℕ
   pub searched : IsSearched area run w.first w.a read first
@@ -183,7 +187,8 @@ pub record IsWalked {R : Type 0} (shown : ℕ → Version Value → R) (area : L
 -- what was met that breaks a rule
 pub data IsWalkBroken {R : Type 0} (shown : ℕ → Version Value → R) (area : List ℕ) (w : Wanted) (run : RunEntry) : Type 0 where
   OnTheWay : IsSearchBroken area run w.first w.a → IsWalkBroken shown area w run
-  AtNext : (n : ℕ) (last : Option Placed) (rows : List R) → IsWalkedTo shown area w run n last rows → n < run.slot.records → IsHeadBroken area run last n → IsWalkBroken shown area w run
+  AtNext : (n : ℕ) (last : Option Placed) (rows : List R) → IsWalkedTo shown area w run n last rows → n < run.slot.records → IsHeadBroken area run last n
+      → IsWalkBroken shown area w run
   AtItsValue : (n : ℕ) (last : Option Placed) (rows : List R) → IsWalkedTo shown area w run n last rows → IsHeadSound area run last n
       → IsTrue (is_wanted w (nth_head area run n)) → HasPart w (nth_head area run n) → IsValueBroken area run n → IsWalkBroken shown area w run
   BehindIt : (n : ℕ) (last : Option Placed) (rows row : List R) → IsWalkedTo shown area w run n last rows → IsHeadSound area run last n
@@ -205,7 +210,8 @@ pub record IsOfRuns {R : Type 0} (Gives : RunEntry → List R → Type 0) (time 
   pub are : rows ≡ joined parts
 
 -- the run that begins here was read, and what was read last of it breaks a rule
-pub record IsDamagedRun {R : Type 0} (Gives : RunEntry → List R → Type 0) (Breaks : RunEntry → Type 0) (time : ℕ) (runs : List RunEntry) (start : ℕ) : Type 0 where
+pub record IsDamagedRun {R : Type 0} (Gives : RunEntry → List R → Type 0) (Breaks : RunEntry
+    → Type 0) (time : ℕ) (runs : List RunEntry) (start : ℕ) : Type 0 where
   pub parts : List (List R)
   pub each : AreWalked Gives time runs parts
   pub run : RunEntry

@@ -1,5 +1,6 @@
 -- A key's writes, parted at a time: those that were made by then, and the later ones.
-use Rattle.std.proofs.Common.{◌≡◌, ℕ, zero, suc, ◌<◌, nat_le, Bool, ◌&&◌, true, false, cond, List, [], ◌∷◌, length, get_or, drop, Option, None, refl, ap, sym, ◌∙◌, arith}
+use Rattle.std.proofs.Common.{◌≡◌, ℕ, zero, suc, ◌<◌, nat_le, Bool, ◌&&◌, true, false, cond, List, [], ◌∷◌, length, get_or, drop, Option, None, refl, ap, sym}
+use Rattle.std.proofs.Common.{◌∙◌, arith}
 use Rattle.std.specs.List.Sorted.{IsNonDecreasingBy}
 use Rattle.std.specs.Prelude.{is_none}
 use Rattle.std.proofs.Math.Seq.{drop-cons}
@@ -19,10 +20,15 @@ pub value-later : (before : Option Value) (time : ℕ) (ws : List Write) → IsB
 value-later before time [] begun = refl
 value-later before time (w ∷ ws) begun =
     let late : nat_le w.time time ≡ false = not_le (begun.after 0 w (omega arith) (omega arith)) in
-    rw late (value-later before time ws (record { within = omega arith; before = λ k d h. absurd (omega arith); after = λ k d h l. begun.after (suc k) d (omega arith) (omega arith) }))
+    rw late (value-later before time ws (record {
+      within = omega arith;
+      before = λ k d h. absurd (omega arith);
+      after = λ k d h l. begun.after (suc k) d (omega arith) (omega arith);
+    }))
 
 -- the value is that of the last write made by then
-pub value-begun : (before : Option Value) (time : ℕ) (ws : List Write) (n : ℕ) (d : Write) → IsBegun time ws (suc n) → value_after before ws time ≡ (get_or ws n d).write
+pub value-begun : (before : Option Value) (time : ℕ) (ws : List Write) (n : ℕ) (d : Write) → IsBegun time ws (suc n) → value_after before ws time
+    ≡ (get_or ws n d).write
 value-begun before time [] n d begun = absurd (let within = begun.within in omega arith)
 value-begun before time (w ∷ ws) zero d begun =
     let early : nat_le w.time time ≡ true = is_le (begun.before 0 w (omega arith)) in
@@ -46,10 +52,15 @@ behind-late mark w (v ∷ vs) begun =
 pub kept-later : (mark : ℕ) (ws : List Write) → IsBegun mark ws 0 → kept_after mark ws ≡ ws
 kept-later mark [] begun = refl
 kept-later mark (w ∷ ws) begun =
-    behind-late mark w ws (record { within = omega arith; before = λ k d h. absurd (omega arith); after = λ k d h l. begun.after (suc k) d (omega arith) (omega arith) })
+    behind-late mark w ws (record {
+      within = omega arith;
+      before = λ k d h. absurd (omega arith);
+      after = λ k d h l. begun.after (suc k) d (omega arith) (omega arith);
+    })
     ∙ from-late mark w ws (begun.after 0 w (omega arith) (omega arith))
 
-pub kept-begun : (mark : ℕ) (ws : List Write) (n : ℕ) (d : Write) → IsBegun mark ws (suc n) → kept_after mark ws ≡ from_standing mark (get_or ws n d) (drop (suc n) ws)
+pub kept-begun : (mark : ℕ) (ws : List Write) (n : ℕ) (d : Write) → IsBegun mark ws (suc n) → kept_after mark ws
+    ≡ from_standing mark (get_or ws n d) (drop (suc n) ws)
 kept-begun mark [] n d begun = absurd (let within = begun.within in omega arith)
 kept-begun mark (w ∷ ws) zero d begun = behind-late mark w ws (behind mark w ws 0 begun)
 kept-begun mark (w ∷ []) (suc n) d begun = absurd (let within = begun.within in omega arith)
@@ -58,13 +69,15 @@ kept-begun mark (w ∷ v ∷ vs) (suc n) d begun =
     rw early (kept-begun mark (v ∷ vs) n d (behind mark w (v ∷ vs) (suc n) begun))
 
 -- without the last write made by the mark where it says gone, and with it where it does not
-pub kept-gone : (mark : ℕ) (ws : List Write) (n : ℕ) (w : Write) → IsBegun mark ws (suc n) → w ≡ get_or ws n w → (nat_le w.time mark && is_none w.write) ≡ true → kept_after mark ws ≡ drop (suc n) ws
+pub kept-gone : (mark : ℕ) (ws : List Write) (n : ℕ) (w : Write) → IsBegun mark ws (suc n) → w ≡ get_or ws n w → (nat_le w.time mark && is_none w.write) ≡ true
+    → kept_after mark ws ≡ drop (suc n) ws
 kept-gone mark ws n w begun is gone =
     kept-begun mark ws n w begun
     ∙ ap (λ (v : Write). from_standing mark v (drop (suc n) ws)) (sym is)
     ∙ ap (λ (b : Bool). cond b (drop (suc n) ws) (w ∷ drop (suc n) ws)) gone
 
-pub kept-stands : (mark : ℕ) (ws : List Write) (n : ℕ) (w : Write) → IsBegun mark ws (suc n) → w ≡ get_or ws n w → (nat_le w.time mark && is_none w.write) ≡ false → kept_after mark ws ≡ drop n ws
+pub kept-stands : (mark : ℕ) (ws : List Write) (n : ℕ) (w : Write) → IsBegun mark ws (suc n) → w ≡ get_or ws n w → (nat_le w.time mark && is_none w.write)
+    ≡ false → kept_after mark ws ≡ drop n ws
 kept-stands mark ws n w begun is stands =
     let inside : n < length ws = let within = begun.within in omega arith in
     kept-begun mark ws n w begun

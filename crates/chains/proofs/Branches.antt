@@ -1,5 +1,6 @@
 -- One key's writes in branches: those of a fork, from the branch on in which a time lies.
-use Rattle.std.proofs.Common.{◌≡◌, ℕ, zero, suc, ◌+◌, ◌-◌, ◌<◌, ◌≤◌, List, [], ◌∷◌, ◌++◌, length, get_or, take, drop, Option, None, Some, refl, ap, sym, subst, ◌∙◌, arith, append_assoc, append-nil, length-append}
+use Rattle.std.proofs.Common.{◌≡◌, ℕ, zero, suc, ◌+◌, ◌-◌, ◌<◌, ◌≤◌, List, [], ◌∷◌, ◌++◌, length, get_or, take, drop, Option, None, Some, refl, ap, sym, subst}
+use Rattle.std.proofs.Common.{◌∙◌, arith, append_assoc, append-nil, length-append}
 use Rattle.std.specs.Prelude.{find}
 use Rattle.std.proofs.lemmas.List.{take-append-drop, drop_more}
 use Rattle.history.specs.declared.time.Version.{Version}
@@ -42,9 +43,11 @@ behind-any time (b ∷ bs) rest by = by
 
 from-all : (time : ℕ) (bs : List (Shape Write)) → BeginAfter time bs → IsRisingAfter 0 (all_of bs) → IsFrom time bs bs
 from-all time [] after up = record { front = []; parts = refl; begun = tt; later = tt }
-from-all time (b ∷ bs) after up = record { front = []; parts = refl; begun = tt; later = rising-back time b.pieces (all_of bs) (later-all time (b ∷ bs) after up) }
+from-all time (b ∷ bs) after up =
+    record { front = []; parts = refl; begun = tt; later = rising-back time b.pieces (all_of bs) (later-all time (b ∷ bs) after up) }
 
-from-begun : (time n : ℕ) (bs : List (Shape Write)) → BeginBy time (drop n bs) → BeginAfter time (drop (suc n) bs) → IsRisingAfter 0 (all_of bs) → IsFrom time bs (drop n bs)
+from-begun : (time n : ℕ) (bs : List (Shape Write)) → BeginBy time (drop n bs) → BeginAfter time (drop (suc n) bs) → IsRisingAfter 0 (all_of bs)
+    → IsFrom time bs (drop n bs)
 from-begun time n bs before after up = record {
   front = take n bs;
   parts = sym (take-append-drop n bs);
@@ -52,25 +55,31 @@ from-begun time n bs before after up = record {
   later = later-drop time n bs after up;
 }
 
-is-from-begun : (time n m : ℕ) (bs : List (Shape Write)) → m ≡ n - 1 → (0 < n → BeginBy time (drop m bs)) → BeginAfter time (drop n bs) → IsRisingAfter 0 (all_of bs) → IsFrom time bs (drop m bs)
+is-from-begun : (time n m : ℕ) (bs : List (Shape Write)) → m ≡ n - 1 → (0 < n → BeginBy time (drop m bs)) → BeginAfter time (drop n bs)
+    → IsRisingAfter 0 (all_of bs) → IsFrom time bs (drop m bs)
 is-from-begun time zero m bs is before after up = let none : m ≡ 0 = omega (arith, is) in rw none (from-all time bs after up)
 is-from-begun time (suc n) m bs is before after up =
     let same : n ≡ m = omega (arith, is) in
     from-begun time m bs (before (omega arith)) (rw same at after) up
 
-pub is-from : (time n m : ℕ) (bs : List (Shape Write)) → m ≡ n - 1 → (0 < n → BeginBy time (drop (n - 1) bs)) → BeginAfter time (drop n bs) → IsRisingAfter 0 (all_of bs) → IsFrom time bs (drop m bs)
+pub is-from : (time n m : ℕ) (bs : List (Shape Write)) → m ≡ n - 1 → (0 < n → BeginBy time (drop (n - 1) bs)) → BeginAfter time (drop n bs)
+    → IsRisingAfter 0 (all_of bs) → IsFrom time bs (drop m bs)
 is-from time n m bs is before after up = is-from-begun time n m bs is (λ h. subst (λ (k : ℕ). BeginBy time (drop k bs)) (sym is) (before h)) after up
 
 -- the branch of a number, and those behind it
-from-number : (time n : ℕ) (bs : List (Shape Write)) (b : Shape Write) → 0 < n → n ≤ length bs → b ≡ get_or bs (n - 1) b → (0 < n → BeginBy time (drop (n - 1) bs)) → BeginAfter time (drop n bs) → IsRisingAfter 0 (all_of bs) → IsFrom time bs (b ∷ drop n bs)
+from-number : (time n : ℕ) (bs : List (Shape Write)) (b : Shape Write) → 0 < n → n ≤ length bs → b ≡ get_or bs (n - 1) b
+    → (0 < n → BeginBy time (drop (n - 1) bs)) → BeginAfter time (drop n bs) → IsRisingAfter 0 (all_of bs) → IsFrom time bs (b ∷ drop n bs)
 from-number time n bs b some within is begun after up =
     let next : n - 1 + 1 ≡ n = omega (arith, some) in
-    let here : drop (n - 1) bs ≡ b ∷ drop n bs = drop_more bs (n - 1) b (omega (arith, some, within)) ∙ ap (λ (x : Shape Write). x ∷ drop (n - 1 + 1) bs) (sym is) ∙ ap (λ (k : ℕ). b ∷ drop k bs) next in
+    let here : drop (n - 1) bs ≡ b ∷ drop n bs =
+    drop_more bs (n - 1) b (omega (arith, some, within)) ∙ ap (λ (x : Shape Write). x ∷ drop (n - 1 + 1) bs) (sym is)
+    ∙ ap (λ (k : ℕ). b ∷ drop k bs) next in
     subst (λ (rest : List (Shape Write)). IsFrom time bs rest) here (is-from time n (n - 1) bs refl begun after up)
 
 -- ---- what lies before them says nothing of the time
 
-value-front : (t : ℕ) (front : List (Shape Write)) (b : Shape Write) (bs : List (Shape Write)) → BeginByBehind t front (b ∷ bs) → value_after None (all_of front ++ (b.pieces ++ all_of bs)) t ≡ value_after (value_at b.pieces t) (all_of bs) t
+value-front : (t : ℕ) (front : List (Shape Write)) (b : Shape Write) (bs : List (Shape Write)) → BeginByBehind t front (b ∷ bs)
+    → value_after None (all_of front ++ (b.pieces ++ all_of bs)) t ≡ value_after (value_at b.pieces t) (all_of bs) t
 value-front t [] b bs begun = value_after-append None b.pieces (all_of bs) t
 value-front t (f ∷ fs) b bs begun = value-behind None t (all_of (f ∷ fs)) b.pieces (all_of bs) begun.0 begun.1
 
@@ -82,7 +91,8 @@ ending-front t end (f ∷ fs) (b ∷ bs) begun up =
     ap (λ (n : ℕ). find (ends_after t) (versions_upto n (all_of (f ∷ fs)))) (first-piece end b.pieces (all_of bs) begun.0)
     ∙ none-piece t (all_of (f ∷ fs)) b.pieces (all_of bs) begun.0 begun.1 up
 
-next-front : (t : ℕ) (front rest : List (Shape Write)) → BeginByBehind t front rest → IsRisingAfter 0 (all_of front ++ all_of rest) → find (is_after t) (all_of front) ≡ None
+next-front : (t : ℕ) (front rest : List (Shape Write)) → BeginByBehind t front rest → IsRisingAfter 0 (all_of front ++ all_of rest)
+    → find (is_after t) (all_of front) ≡ None
 next-front t [] rest begun up = refl
 next-front t (f ∷ fs) [] begun up = absurd (omega (arith, begun))
 next-front t (f ∷ fs) (b ∷ bs) begun up = none-before t (all_of (f ∷ fs)) b.pieces (all_of bs) begun.0 begun.1 up
@@ -95,24 +105,28 @@ rows-front t end upto (f ∷ fs) (b ∷ bs) begun up =
     ap (λ (n : ℕ). rows (versions_upto n (all_of (f ∷ fs))) t upto) (first-piece end b.pieces (all_of bs) begun.0)
     ∙ no-rows_piece t upto (all_of (f ∷ fs)) b.pieces (all_of bs) begun.0 begun.1 up
 
-kept-behind_front : (t : ℕ) (front : List (Shape Write)) (b : Shape Write) (bs : List (Shape Write)) → BeginByBehind t front (b ∷ bs) → IsRisingAfter 0 (all_of front ++ (b.pieces ++ all_of bs))
+kept-behind_front : (t : ℕ) (front : List (Shape Write)) (b : Shape Write) (bs : List (Shape Write)) → BeginByBehind t front (b ∷ bs)
+    → IsRisingAfter 0 (all_of front ++ (b.pieces ++ all_of bs))
     → kept_after t (all_of front ++ (b.pieces ++ all_of bs)) ≡ kept_after t (b.pieces ++ all_of bs)
 kept-behind_front t [] b bs begun up = refl
 kept-behind_front t (f ∷ fs) b bs begun up = kept-behind t (all_of (f ∷ fs)) b.pieces (all_of bs) begun.0 begun.1 up
 
-front-behind : (t end upto : ℕ) (front : List (Shape Write)) (b : Shape Write) (bs : List (Shape Write)) (part : Versions) → BeginByBehind t front (b ∷ bs) → IsRisingAfter 0 (all_of front ++ (b.pieces ++ all_of bs))
+front-behind : (t end upto : ℕ) (front : List (Shape Write)) (b : Shape Write) (bs : List (Shape Write)) (part : Versions) → BeginByBehind t front (b ∷ bs)
+    → IsRisingAfter 0 (all_of front ++ (b.pieces ++ all_of bs))
     → IsFront t upto (versions_upto end (b.pieces ++ all_of bs)) part → IsFront t upto (versions_upto end (all_of front ++ (b.pieces ++ all_of bs))) part
 front-behind t end upto [] b bs part begun up front = front
 front-behind t end upto (f ∷ fs) b bs part begun up front =
     let place = first-front b.pieces (all_of bs) begun.0 in
-    front-later (all_of (f ∷ fs)) (b.pieces ++ all_of bs) (some-front b.pieces (all_of bs) begun.0) up end t upto part (subst (λ (n : ℕ). n ≤ t) (sym place) begun.1) front
+    front-later (all_of (f ∷ fs)) (b.pieces
+    ++ all_of bs) (some-front b.pieces (all_of bs) begun.0) up end t upto part (subst (λ (n : ℕ). n ≤ t) (sym place) begun.1) front
   where
     some-front : (ps ys : List Write) → 0 < length ps → 0 < length (ps ++ ys)
     some-front [] ys some = absurd (omega arith)
     some-front (p ∷ ps) ys some = omega arith
 
 -- of the first of them and the later ones
-front-first : (t end upto : ℕ) (ps ys : List Write) (part : Versions) → IsRisingAfter 0 (ps ++ ys) → IsRisingAfter t ys → upto ≤ first_time_or end ys → IsFront t upto (versions_upto (first_time_or end ys) ps) part
+front-first : (t end upto : ℕ) (ps ys : List Write) (part : Versions) → IsRisingAfter 0 (ps ++ ys) → IsRisingAfter t ys → upto ≤ first_time_or end ys
+    → IsFront t upto (versions_upto (first_time_or end ys) ps) part
     → IsFront t upto (versions_upto end (ps ++ ys)) part
 front-first t end upto ps [] part up later by front = subst (λ (ws : List Write). IsFront t upto (versions_upto end ws) part) (sym (append-nil ps)) front
 front-first t end upto ps (y ∷ ys) part up later by front = front-earlier ps (y ∷ ys) (omega arith) up end t upto part later.0 by front
@@ -120,7 +134,8 @@ front-first t end upto ps (y ∷ ys) part up later by front = front-earlier ps (
 last-first : (t end : ℕ) (xs ps ys : List Write) → IsRisingAfter 0 (ps ++ ys) → last_time (xs ++ (ps ++ ys)) ≤ end → last_time ps ≤ first_time_or end ys
 last-first t end xs [] ys up by = omega arith
 last-first t end xs (p ∷ ps) [] up by =
-    let same : last_time (xs ++ ((p ∷ ps) ++ [])) ≡ last_time (p ∷ ps) = last_time-back 0 xs ((p ∷ ps) ++ []) (omega arith) ∙ ap (λ (ws : List Write). last_time ws) (append-nil (p ∷ ps)) in
+    let same : last_time (xs ++ ((p ∷ ps) ++ [])) ≡ last_time (p ∷ ps) =
+    last_time-back 0 xs ((p ∷ ps) ++ []) (omega arith) ∙ ap (λ (ws : List Write). last_time ws) (append-nil (p ∷ ps)) in
     omega (arith, same, by)
 last-first t end xs (p ∷ ps) (y ∷ ys) up by = last-before 0 (p ∷ ps) (y ∷ ys) (omega arith) up
 
@@ -131,7 +146,8 @@ later-first t end (y ∷ ys) later before = later.0
 upto-first : (t end : ℕ) (xs ps ys : List Write) → IsRisingAfter t ys → last_time (xs ++ (ps ++ ys)) ≤ end → first_time_or end ys ≤ end
 upto-first t end xs ps [] later by = omega arith
 upto-first t end xs ps (y ∷ ys) later by =
-    let same : last_time (xs ++ (ps ++ y ∷ ys)) ≡ last_time (y ∷ ys) = last_time-back 0 xs (ps ++ y ∷ ys) (omega (arith, length-append ps (y ∷ ys))) ∙ last_time-back 0 ps (y ∷ ys) (omega arith) in
+    let same : last_time (xs ++ (ps ++ y ∷ ys)) ≡ last_time (y ∷ ys) =
+    last_time-back 0 xs (ps ++ y ∷ ys) (omega (arith, length-append ps (y ∷ ys))) ∙ last_time-back 0 ps (y ∷ ys) (omega arith) in
     first-upto end t (y ∷ ys) later (omega (arith, same, by))
 
 module _ {t : ℕ} {all rest : List (Shape Write)} (from : IsFrom t all rest) where
@@ -144,23 +160,28 @@ module _ {t : ℕ} {all rest : List (Shape Write)} (from : IsFrom t all rest) wh
   pub rising_from : IsRisingAfter 0 (all_of all) → IsRisingAfter 0 (all_of rest)
   rising_from rising = rising-back 0 (all_of from.front) (all_of rest) (rw parted at rising)
 
-  pub ending_from : (end : ℕ) → IsRisingAfter 0 (all_of all) → find (ends_after t) (versions_upto end (all_of rest)) ≡ find (ends_after t) (versions_upto end (all_of all))
+  pub ending_from : (end : ℕ) → IsRisingAfter 0 (all_of all) → find (ends_after t) (versions_upto end (all_of rest))
+      ≡ find (ends_after t) (versions_upto end (all_of all))
   ending_from end rising =
       let F = all_of from.front in
       sym (
       ap (λ (ws : List Write). find (ends_after t) (versions_upto end ws)) parted
       ∙ ap (λ (vs : List (Version Value)). find (ends_after t) vs) (versions-append end F (all_of rest))
-      ∙ find-past (ends_after t) (versions_upto (first_time_or end (all_of rest)) F) (versions_upto end (all_of rest)) (ending-front t end from.front rest from.begun (rw parted at rising)))
+      ∙ find-past (ends_after t) (versions_upto (first_time_or end (all_of rest)) F) (versions_upto end (all_of rest))
+      (ending-front t end from.front rest from.begun (rw parted at rising)))
 
-  pub found_from : (end : ℕ) (o : Option Versions) → IsRisingAfter 0 (all_of all) → IsFound t (versions_upto end (all_of rest)) o → IsFound t (versions_upto end (all_of all)) o
+  pub found_from : (end : ℕ) (o : Option Versions) → IsRisingAfter 0 (all_of all) → IsFound t (versions_upto end (all_of rest)) o
+      → IsFound t (versions_upto end (all_of all)) o
   found_from end o rising found =
       let F = all_of from.front in
       subst (λ (vs : Versions). IsFound t vs o) (sym (ap (λ (ws : List Write). versions_upto end ws) parted ∙ versions-append end F (all_of rest)))
-      (found-behind t (versions_upto (first_time_or end (all_of rest)) F) (versions_upto end (all_of rest)) o (ending-front t end from.front rest from.begun (rw parted at rising)) found)
+      (found-behind t (versions_upto (first_time_or end (all_of rest)) F) (versions_upto end (all_of rest)) o
+      (ending-front t end from.front rest from.begun (rw parted at rising)) found)
 
   pub next_from : IsRisingAfter 0 (all_of all) → find (is_after t) (all_of rest) ≡ find (is_after t) (all_of all)
   next_from rising =
-      sym (ap (λ (ws : List Write). find (is_after t) ws) parted ∙ find-past (is_after t) (all_of from.front) (all_of rest) (next-front t from.front rest from.begun (rw parted at rising)))
+      sym (ap (λ (ws : List Write). find (is_after t) ws) parted
+      ∙ find-past (is_after t) (all_of from.front) (all_of rest) (next-front t from.front rest from.begun (rw parted at rising)))
 
   pub rows_from : (end upto : ℕ) → IsRisingAfter 0 (all_of all) → rows (versions_upto end (all_of rest)) t upto ≡ rows (versions_upto end (all_of all)) t upto
   rows_from end upto rising =
@@ -184,7 +205,8 @@ module _ {t : ℕ} {all : List (Shape Write)} {b : Shape Write} {bs : List (Shap
       ∙ kept-behind_front t from.front b bs from.begun (rw (parted from) at rising)
       ∙ kept-front t b.pieces (all_of bs) from.later
 
-  pub front_from : (end upto : ℕ) (part : Versions) → IsRisingAfter 0 (all_of all) → upto ≤ first_time_or end (all_of bs) → IsFront t upto (versions_upto (first_time_or end (all_of bs)) b.pieces) part
+  pub front_from : (end upto : ℕ) (part : Versions) → IsRisingAfter 0 (all_of all) → upto ≤ first_time_or end (all_of bs)
+      → IsFront t upto (versions_upto (first_time_or end (all_of bs)) b.pieces) part
       → IsFront t upto (versions_upto end (all_of all)) part
   front_from end upto part rising by front =
       subst (λ (ws : List Write). IsFront t upto (versions_upto end ws) part) (sym (parted from))
@@ -192,7 +214,8 @@ module _ {t : ℕ} {all : List (Shape Write)} {b : Shape Write} {bs : List (Shap
       (front-first t end upto b.pieces (all_of bs) part (rising_from from rising) from.later by front))
 
   pub last_from : (end : ℕ) → IsRisingAfter 0 (all_of all) → last_time (all_of all) ≤ end → last_time b.pieces ≤ first_time_or end (all_of bs)
-  last_from end rising by = last-first t end (all_of from.front) b.pieces (all_of bs) (rising_from from rising) (subst (λ (ws : List Write). last_time ws ≤ end) (parted from) by)
+  last_from end rising by =
+      last-first t end (all_of from.front) b.pieces (all_of bs) (rising_from from rising) (subst (λ (ws : List Write). last_time ws ≤ end) (parted from) by)
 
   pub later_from : (end : ℕ) → t < end → t < first_time_or end (all_of bs)
   later_from end before = later-first t end (all_of bs) from.later before
@@ -206,15 +229,18 @@ same_from {t} {all} {rest} from same = equal from.front from.parts
   where
     equal : (front : List (Shape Write)) → all ≡ front ++ rest → all ≡ rest
     equal [] is = is
-    equal (f ∷ fs) is = let long : length all ≡ length (f ∷ fs ++ rest) = ap (λ (l : List (Shape Write)). length l) is in absurd (omega (arith, long, same, length-append fs rest))
+    equal (f ∷ fs) is = let long : length all ≡ length (f ∷ fs ++ rest) =
+        ap (λ (l : List (Shape Write)). length l) is in absurd (omega (arith, long, same, length-append fs rest))
 
 -- ---- the first of some branches, and those behind it
 
 module _ (rest : List (Shape Write)) {b : Shape Write} (some : 1 ≤ length rest) (is : b ≡ get_or rest 0 b) where
-  versions_are : (end : ℕ) → versions_upto end (all_of rest) ≡ versions_upto (first_time_or end (all_of (behind rest))) b.pieces ++ versions_upto end (all_of (behind rest))
+  versions_are : (end : ℕ) → versions_upto end (all_of rest) ≡ versions_upto (first_time_or end (all_of (behind rest))) b.pieces
+      ++ versions_upto end (all_of (behind rest))
   versions_are end = ap (λ (ws : List Write). versions_upto end ws) (pieces_are rest some is) ∙ versions-append end b.pieces (all_of (behind rest))
 
-  pub ending_first : (t end : ℕ) (v : Version Value) → find (ends_after t) (versions_upto (first_time_or end (all_of (behind rest))) b.pieces) ≡ Some v → find (ends_after t) (versions_upto end (all_of rest)) ≡ Some v
+  pub ending_first : (t end : ℕ) (v : Version Value) → find (ends_after t) (versions_upto (first_time_or end (all_of (behind rest))) b.pieces) ≡ Some v
+      → find (ends_after t) (versions_upto end (all_of rest)) ≡ Some v
   ending_first t end v e =
       ap (λ (vs : Versions). find (ends_after t) vs) (versions_are end)
       ∙ find-found (ends_after t) (versions_upto (first_time_or end (all_of (behind rest))) b.pieces) (versions_upto end (all_of (behind rest))) v e
@@ -225,23 +251,30 @@ module _ (rest : List (Shape Write)) {b : Shape Write} (some : 1 ≤ length rest
       sym (ap (λ (vs : Versions). find (ends_after t) vs) (versions_are end)
       ∙ find-past (ends_after t) (versions_upto (first_time_or end (all_of (behind rest))) b.pieces) (versions_upto end (all_of (behind rest))) e)
 
-  pub found_first : (t end : ℕ) (ps : Versions) → IsPartFrom t (versions_upto (first_time_or end (all_of (behind rest))) b.pieces) ps → IsPartFrom t (versions_upto end (all_of rest)) ps
+  pub found_first : (t end : ℕ) (ps : Versions) → IsPartFrom t (versions_upto (first_time_or end (all_of (behind rest))) b.pieces) ps
+      → IsPartFrom t (versions_upto end (all_of rest)) ps
   found_first t end ps part =
       subst (λ (vs : Versions). IsPartFrom t vs ps) (sym (versions_are end))
       (found-front t (versions_upto (first_time_or end (all_of (behind rest))) b.pieces) (versions_upto end (all_of (behind rest))) ps part)
 
-  pub found_later : (t end : ℕ) (o : Option Versions) → find (ends_after t) (versions_upto (first_time_or end (all_of (behind rest))) b.pieces) ≡ None → IsFound t (versions_upto end (all_of (behind rest))) o
+  pub found_later : (t end : ℕ) (o : Option Versions) → find (ends_after t) (versions_upto (first_time_or end (all_of (behind rest))) b.pieces) ≡ None
+      → IsFound t (versions_upto end (all_of (behind rest))) o
       → IsFound t (versions_upto end (all_of rest)) o
   found_later t end o none found =
       subst (λ (vs : Versions). IsFound t vs o) (sym (versions_are end))
       (found-behind t (versions_upto (first_time_or end (all_of (behind rest))) b.pieces) (versions_upto end (all_of (behind rest))) o none found)
 
-  pub rows_first : (end a upto : ℕ) → rows (versions_upto end (all_of rest)) a upto ≡ rows (versions_upto (first_time_or end (all_of (behind rest))) b.pieces) a upto ++ rows (versions_upto end (all_of (behind rest))) a upto
-  rows_first end a upto = ap (λ (vs : Versions). rows vs a upto) (versions_are end) ∙ rows-append a upto (versions_upto (first_time_or end (all_of (behind rest))) b.pieces) (versions_upto end (all_of (behind rest)))
+  pub rows_first : (end a upto : ℕ) → rows (versions_upto end (all_of rest)) a upto
+      ≡ rows (versions_upto (first_time_or end (all_of (behind rest))) b.pieces) a upto ++ rows (versions_upto end (all_of (behind rest))) a upto
+  rows_first end a upto =
+      ap (λ (vs : Versions). rows vs a upto) (versions_are end)
+      ∙ rows-append a upto (versions_upto (first_time_or end (all_of (behind rest))) b.pieces) (versions_upto end (all_of (behind rest)))
 
-  pub no_rows_late : (end a upto : ℕ) → IsRisingAfter 0 (all_of rest) → 0 < length b.pieces → upto ≤ first_time b.pieces → rows (versions_upto end (all_of rest)) a upto ≡ []
+  pub no_rows_late : (end a upto : ℕ) → IsRisingAfter 0 (all_of rest) → 0 < length b.pieces → upto ≤ first_time b.pieces
+      → rows (versions_upto end (all_of rest)) a upto ≡ []
   no_rows_late end a upto rising long late =
-      let place : first_time_or end (all_of rest) ≡ first_time b.pieces = ap (λ (ws : List Write). first_time_or end ws) (pieces_are rest some is) ∙ first-piece end b.pieces (all_of (behind rest)) long in
+      let place : first_time_or end (all_of rest) ≡ first_time b.pieces =
+      ap (λ (ws : List Write). first_time_or end ws) (pieces_are rest some is) ∙ first-piece end b.pieces (all_of (behind rest)) long in
       no-rows_from end a upto 0 (all_of rest) rising (subst (λ (n : ℕ). upto ≤ n) (sym place) late)
 
   pub behind_rising : IsRisingAfter 0 (all_of rest) → IsRisingAfter 0 (all_of (behind rest))
@@ -283,9 +316,11 @@ module _ {self : Shape Write} {bs : List (Shape Write)} (fork : IsFork self bs) 
     pub fork_kept : kept_after t self.pieces ≡ kept_after t b.pieces ++ all_of (behind rest)
     fork_kept = ap (λ (ws : List Write). kept_after t ws) (sym fork.writes) ∙ kept_from from-first fork.rising
 
-    pub fork_front : (end upto : ℕ) (part : Versions) → upto ≤ first_time_or end (all_of (behind rest)) → IsFront t upto (versions_upto (first_time_or end (all_of (behind rest))) b.pieces) part
+    pub fork_front : (end upto : ℕ) (part : Versions) → upto ≤ first_time_or end (all_of (behind rest))
+        → IsFront t upto (versions_upto (first_time_or end (all_of (behind rest))) b.pieces) part
         → IsFront t upto (versions_upto end self.pieces) part
-    fork_front end upto part by front = subst (λ (ws : List Write). IsFront t upto (versions_upto end ws) part) fork.writes (front_from from-first end upto part fork.rising by front)
+    fork_front end upto part by front =
+        subst (λ (ws : List Write). IsFront t upto (versions_upto end ws) part) fork.writes (front_from from-first end upto part fork.rising by front)
 
     pub fork_last : (end : ℕ) → last_time self.pieces ≤ end → last_time b.pieces ≤ first_time_or end (all_of (behind rest))
     fork_last end by = last_from from-first end fork.rising (subst (λ (ws : List Write). last_time ws ≤ end) (sym fork.writes) by)
@@ -329,7 +364,8 @@ module _ {self : Shape Write} {bs : List (Shape Write)} (fork : IsFork self bs) 
 
     whole : self.pieces ++ p ≡ all_of (before bs) ++ (last.pieces ++ p)
     whole =
-        ap (λ (ws : List Write). ws ++ p) (sym fork.writes ∙ ap all_of (last-of bs last some is) ∙ all_of-append (before bs) (last ∷ []) ∙ ap (λ (ws : List Write). all_of (before bs) ++ ws) (append-nil last.pieces))
+        ap (λ (ws : List Write). ws ++ p) (sym fork.writes ∙ ap all_of (last-of bs last some is) ∙ all_of-append (before bs) (last ∷ [])
+        ∙ ap (λ (ws : List Write). all_of (before bs) ++ ws) (append-nil last.pieces))
         ∙ append_assoc (all_of (before bs)) last.pieces p
 
     pub last_rising : IsRisingAfter 0 (self.pieces ++ p) → IsRisingAfter 0 (last.pieces ++ p)

@@ -51,10 +51,12 @@ pub older-latest : (time : ℕ) (m : List KeyWrites) (ws : List (KeyWrite Value)
 older-latest time m [] h = tt
 older-latest time m (w ∷ ws) h = (omega (arith, last_time-upto m w.key), older-latest time m ws h)
 
-writes_of-other : (m : List KeyWrites) (k : Key) (x : Write) (key : Key) → IsOrdered m → same_key k key ≡ false → writes_of (with_write m k x) key ≡ writes_of m key
+writes_of-other : (m : List KeyWrites) (k : Key) (x : Write) (key : Key) → IsOrdered m → same_key k key ≡ false → writes_of (with_write m k x) key
+    ≡ writes_of m key
 writes_of-other m k x key o other = writes_of-with_write m k x key o ∙ rw other refl
 
-others-older : (time : ℕ) (m : List KeyWrites) (k : Key) (x : Write) (ws : List (KeyWrite Value)) → IsOrdered m → AllByRecursion (λ y. key_cmp k y ≡ Less) (map (λ (w : KeyWrite Value). w.key) ws)
+others-older : (time : ℕ) (m : List KeyWrites) (k : Key) (x : Write) (ws : List (KeyWrite Value)) → IsOrdered m
+    → AllByRecursion (λ y. key_cmp k y ≡ Less) (map (λ (w : KeyWrite Value). w.key) ws)
     → AreOlder time m ws → AreOlder time (with_write m k x) ws
 others-older time m k x [] o above old = tt
 others-older time m k x (w ∷ ws) o above old =
@@ -62,7 +64,8 @@ others-older time m k x (w ∷ ws) o above old =
     let P : List Write → Type 0 = λ l. last_time l < time in
     (subst P (sym same) old.0, others-older time m k x ws o above.1 old.1)
 
-pub may-all-follow : (time : ℕ) (m : List KeyWrites) (ws : List (KeyWrite Value)) → IsOrdered m → AreOlder time m ws → IsStrictlySortedBy key_cmp (map (λ (w : KeyWrite Value). w.key) ws) → MayAllFollow time m ws
+pub may-all-follow : (time : ℕ) (m : List KeyWrites) (ws : List (KeyWrite Value)) → IsOrdered m → AreOlder time m ws
+    → IsStrictlySortedBy key_cmp (map (λ (w : KeyWrite Value). w.key) ws) → MayAllFollow time m ws
 unfolding IsStrictlySortedBy
 may-all-follow time m [] o old rising = tt
 may-all-follow time m (w ∷ ws) o old rising =
@@ -70,14 +73,16 @@ may-all-follow time m (w ∷ ws) o old rising =
     (old.0, may-all-follow time (with_write m w.key x) ws (ordered-with_write w.key x m o) (others-older time m w.key x ws o rising.0 old.1) rising.1)
 
 -- a key that all of these are behind is not among them
-write_in-none : (k key : Key) (ws : List (KeyWrite Value)) → same_key k key ≡ true → AllByRecursion (λ y. key_cmp k y ≡ Less) (map (λ (w : KeyWrite Value). w.key) ws) → write_in ws key ≡ None
+write_in-none : (k key : Key) (ws : List (KeyWrite Value)) → same_key k key ≡ true
+    → AllByRecursion (λ y. key_cmp k y ≡ Less) (map (λ (w : KeyWrite Value). w.key) ws) → write_in ws key ≡ None
 write_in-none k key [] same above = refl
 write_in-none k key (w ∷ ws) same above =
     let lt : key_lt k w.key ≡ true = key_lt-from_less k w.key above.0 in
     let other : same_key w.key key ≡ false = grind (arith, nat_tests) in
     rw other (write_in-none k key ws same above.1)
 
-pub writes_of-with_commit : (time : ℕ) (m : List KeyWrites) (ws : List (KeyWrite Value)) (key : Key) → IsOrdered m → IsStrictlySortedBy key_cmp (map (λ (w : KeyWrite Value). w.key) ws)
+pub writes_of-with_commit : (time : ℕ) (m : List KeyWrites) (ws : List (KeyWrite Value)) (key : Key) → IsOrdered m
+    → IsStrictlySortedBy key_cmp (map (λ (w : KeyWrite Value). w.key) ws)
     → writes_of (with_commit m time ws) key ≡ writes_of m key ++ written time ws key
 unfolding IsStrictlySortedBy
 writes_of-with_commit time m [] key o rising = sym (append-nil (writes_of m key))
@@ -85,7 +90,9 @@ writes_of-with_commit time m (w ∷ ws) key o rising =
     let x = stamped time w in
     let rest = writes_of-with_commit time (with_write m w.key x) ws key (ordered-with_write w.key x m o) rising.1 in
     let step = ap (λ l. l ++ written time ws key) (writes_of-with_write m w.key x key o) in
-    let Goal : Bool → Type 0 = λ b. same_key w.key key ≡ b → cond b (writes_of m w.key ++ x ∷ []) (writes_of m key) ++ written time ws key ≡ writes_of m key ++ option_to_list (option_map (λ (write : Option Value). record { time = time; write = write }) (cond b (Some w.write) (write_in ws key))) in
+    let Goal : Bool → Type 0 =
+    λ b. same_key w.key key ≡ b → cond b (writes_of m w.key ++ x ∷ []) (writes_of m key) ++ written time ws key ≡ writes_of m key
+    ++ option_to_list (option_map (λ (write : Option Value). record { time = time; write = write }) (cond b (Some w.write) (write_in ws key))) in
     let all : (b : Bool) → Goal b =
     λ b. elim b as Goal [
       | true ↦ λ same.
@@ -114,4 +121,5 @@ latest-with_write time (d ∷ ds) key w h upto =
 
 pub latest-with_commit : (time : ℕ) (m : List KeyWrites) (ws : List (KeyWrite Value)) → latest m ≤ time → latest (with_commit m time ws) ≤ time
 latest-with_commit time m [] h = h
-latest-with_commit time m (w ∷ ws) h = latest-with_commit time (with_write m w.key (stamped time w)) ws (latest-with_write time m w.key (stamped time w) h (omega arith))
+latest-with_commit time m (w ∷ ws) h =
+    latest-with_commit time (with_write m w.key (stamped time w)) ws (latest-with_write time m w.key (stamped time w) h (omega arith))

@@ -1,5 +1,6 @@
 -- Versions that lie together: those of the writes on one side of a piece among all.
-use Rattle.std.proofs.Common.{◌≡◌, ℕ, ◌<◌, drop, List, [], ◌∷◌, ◌++◌, length, Option, None, Some, Result, IfOk, refl, ap, sym, subst, ◌∙◌, arith, append_assoc, append-nil, take, ◌-◌}
+use Rattle.std.proofs.Common.{◌≡◌, ℕ, ◌<◌, drop, List, [], ◌∷◌, ◌++◌, length, Option, None, Some, Result, IfOk, refl, ap, sym, subst, ◌∙◌, arith, append_assoc}
+use Rattle.std.proofs.Common.{append-nil, take, ◌-◌}
 use Rattle.std.specs.Prelude.{find}
 use Rattle.std.specs.List.{slice_get}
 use Rattle.std.proofs.lemmas.List.{take-append-drop, take_rest}
@@ -27,7 +28,8 @@ found-front t xs ys (p ∷ ps) part = record {
 }
 
 -- where none of the first ones ends after the time, those that are found behind them
-pub found-behind : (t : ℕ) (xs ys : List (Version Value)) (o : Option (List (Version Value))) → find (ends_after t) xs ≡ None → IsFound t ys o → IsFound t (xs ++ ys) o
+pub found-behind : (t : ℕ) (xs ys : List (Version Value)) (o : Option (List (Version Value))) → find (ends_after t) xs ≡ None → IsFound t ys o
+    → IsFound t (xs ++ ys) o
 found-behind t xs ys None none found = find-past (ends_after t) xs ys none ∙ found
 found-behind t xs ys (Some ps) none part = record {
   before = xs ++ part.before;
@@ -38,19 +40,24 @@ found-behind t xs ys (Some ps) none part = record {
 }
 
 -- those of the older writes, and those of the recent ones
-pub found_older : (t : ℕ) (xs ys : List Write) (ps : List (Version Value)) → IsPartFrom t (versions_upto (first_time ys) xs) ps → IsPartFrom t (versions (xs ++ ys)) ps
+pub found_older : (t : ℕ) (xs ys : List Write) (ps : List (Version Value)) → IsPartFrom t (versions_upto (first_time ys) xs) ps
+    → IsPartFrom t (versions (xs ++ ys)) ps
 found_older t xs ys ps part =
-    subst (λ (vs : List (Version Value)). IsPartFrom t vs ps) (sym (versions-parts xs ys)) (found-front t (versions_upto (first_time ys) xs) (versions ys) ps part)
+    subst (λ (vs : List (Version Value)). IsPartFrom t vs ps) (sym (versions-parts xs ys))
+    (found-front t (versions_upto (first_time ys) xs) (versions ys) ps part)
 
-pub found_recent : {E : Type 0} (t : ℕ) (xs ys : List Write) (r : Result (Option (List (Version Value))) E) → find (ends_after t) (versions_upto (first_time ys) xs) ≡ None
+pub found_recent : {E : Type 0} (t : ℕ) (xs ys : List Write) (r : Result (Option (List (Version Value))) E)
+    → find (ends_after t) (versions_upto (first_time ys) xs) ≡ None
     → IfOk r (IsFound t (versions ys)) → IfOk r (IsFound t (versions (xs ++ ys)))
 found_recent t xs ys r none found =
     IfOk-weaker r (IsFound t (versions ys)) (IsFound t (versions (xs ++ ys)))
-    (λ o h. subst (λ (vs : List (Version Value)). IsFound t vs o) (sym (versions-parts xs ys)) (found-behind t (versions_upto (first_time ys) xs) (versions ys) o none h))
+    (λ o h. subst (λ (vs : List (Version Value)). IsFound t vs o) (sym (versions-parts xs ys))
+    (found-behind t (versions_upto (first_time ys) xs) (versions ys) o none h))
     found
 
 -- those from a write on, where the first of them is the one that ends after the time
-found-from : (t end : ℕ) (ws : List Write) (n : ℕ) → slice_get (versions_upto end (drop n ws)) 0 ≡ find (ends_after t) (versions_upto end ws) → 0 < length (versions_upto end (drop n ws))
+found-from : (t end : ℕ) (ws : List Write) (n : ℕ) → slice_get (versions_upto end (drop n ws)) 0 ≡ find (ends_after t) (versions_upto end ws)
+    → 0 < length (versions_upto end (drop n ws))
     → IsPartFrom t (versions_upto end ws) (versions_upto end (drop n ws))
 found-from t end ws n first some = record {
   before = versions_upto (first_time_or end (drop n ws)) (take n ws);
@@ -68,7 +75,8 @@ no-versions [] none = refl
 no-versions (v ∷ vs) none = absurd (omega arith)
 
 -- told of how many versions stand behind those; and where there are none
-module _ (t end : ℕ) (ws : List Write) (n values : ℕ) (first : slice_get (versions_upto end (drop n ws)) 0 ≡ find (ends_after t) (versions_upto end ws)) (counted : values ≡ length (versions_upto end (take (length ws - n) (drop n ws)))) where
+module _ (t end : ℕ) (ws : List Write) (n values : ℕ) (first : slice_get (versions_upto end (drop n ws)) 0
+    ≡ find (ends_after t) (versions_upto end ws)) (counted : values ≡ length (versions_upto end (take (length ws - n) (drop n ws)))) where
   left : values ≡ length (versions_upto end (drop n ws))
   left = counted ∙ ap (λ (l : List Write). length (versions_upto end l)) (take_rest ws n)
 

@@ -1,5 +1,6 @@
 -- One key's writes as two lists, one behind the other: what is kept of them, and their value at a time.
-use Rattle.std.proofs.Common.{◌≡◌, ℕ, ◌<◌, ◌≤◌, ◌^◌, nat_le, ◌&&◌, true, false, Bool, cond, List, [], ◌∷◌, ◌++◌, length, None, refl, ap, sym, ◌∙◌, arith, append_assoc, append-nil, length-append}
+use Rattle.std.proofs.Common.{◌≡◌, ℕ, ◌<◌, ◌≤◌, ◌^◌, nat_le, ◌&&◌, true, false, Bool, cond, List, [], ◌∷◌, ◌++◌, length, None, refl, ap, sym, ◌∙◌, arith}
+use Rattle.std.proofs.Common.{append_assoc, append-nil, length-append}
 use Rattle.std.specs.Prelude.{is_none}
 use Rattle.history.specs.declared.key.Key.{Key}
 use Rattle.history.specs.Time.{IsRisingAfter, value_after, value_at}
@@ -43,7 +44,8 @@ kept-all mark [] up = refl
 kept-all mark (w ∷ ws) up = behind-all mark w ws up.0 up.2
 
 standing-front : (mark : ℕ) (x : Write) (xs ys : List Write) → from_standing mark x (xs ++ ys) ≡ from_standing mark x xs ++ ys
-standing-front mark x xs ys = elim (nat_le x.time mark && is_none x.write) as (λ b. cond b (xs ++ ys) (x ∷ xs ++ ys) ≡ cond b xs (x ∷ xs) ++ ys) [ true ↦ refl | false ↦ refl ]
+standing-front mark x xs ys =
+    elim (nat_le x.time mark && is_none x.write) as (λ b. cond b (xs ++ ys) (x ∷ xs ++ ys) ≡ cond b xs (x ∷ xs) ++ ys) [ true ↦ refl | false ↦ refl ]
 
 behind-front : (mark : ℕ) (x : Write) (xs ys : List Write) → IsRisingAfter mark ys → kept_behind mark x (xs ++ ys) ≡ kept_behind mark x xs ++ ys
 behind-front mark x [] [] up = sym (append-nil (from_standing mark x []))
@@ -51,7 +53,8 @@ behind-front mark x [] (y ∷ ys) up =
     let late : nat_le y.time mark ≡ false = not_le up.0 in
     rw late (standing-front mark x [] (y ∷ ys))
 behind-front mark x (v ∷ vs) ys up =
-    elim (nat_le v.time mark) as (λ b. cond b (kept_behind mark v (vs ++ ys)) (from_standing mark x (v ∷ vs ++ ys)) ≡ cond b (kept_behind mark v vs) (from_standing mark x (v ∷ vs)) ++ ys) [
+    elim (nat_le v.time mark) as (λ b. cond b (kept_behind mark v (vs ++ ys)) (from_standing mark x (v ∷ vs ++ ys))
+    ≡ cond b (kept_behind mark v vs) (from_standing mark x (v ∷ vs)) ++ ys) [
       | true ↦ behind-front mark v vs ys up
       | false ↦ standing-front mark x (v ∷ vs) ys
     ]
@@ -61,7 +64,8 @@ kept-front mark [] ys up = kept-all mark ys up
 kept-front mark (x ∷ xs) ys up = behind-front mark x xs ys up
 
 -- what is before a write that was made by the mark is not needed
-pub kept-back : (s mark : ℕ) (xs : List Write) (w : Write) (ys : List Write) → IsRisingAfter s (xs ++ w ∷ ys) → w.time ≤ mark → kept_after mark (xs ++ w ∷ ys) ≡ kept_after mark (w ∷ ys)
+pub kept-back : (s mark : ℕ) (xs : List Write) (w : Write) (ys : List Write) → IsRisingAfter s (xs ++ w ∷ ys) → w.time ≤ mark → kept_after mark (xs ++ w ∷ ys)
+    ≡ kept_after mark (w ∷ ys)
 kept-back s mark [] w ys up by = refl
 kept-back s mark (x ∷ []) w ys up by = let early : nat_le w.time mark ≡ true = is_le by in rw early refl
 kept-back s mark (x ∷ v ∷ vs) w ys up by =
@@ -69,18 +73,21 @@ kept-back s mark (x ∷ v ∷ vs) w ys up by =
     rw early (kept-back x.time mark (v ∷ vs) w ys up.2 by)
 
 -- what is before a piece that begins by the mark is not needed
-pub kept-piece : (mark : ℕ) (older recent : List Write) → 0 < length recent → first_time recent ≤ mark → IsRisingAfter 0 (older ++ recent) → kept_after mark (older ++ recent) ≡ kept_after mark recent
+pub kept-piece : (mark : ℕ) (older recent : List Write) → 0 < length recent → first_time recent ≤ mark → IsRisingAfter 0 (older ++ recent)
+    → kept_after mark (older ++ recent) ≡ kept_after mark recent
 kept-piece mark older [] some h up = absurd (omega arith)
 kept-piece mark older (w ∷ ws) some h up = kept-back 0 mark older w ws up h
 
 -- the value at a time: that of the last piece where it has begun, and else that of an older write
-pub value_older : (time : ℕ) (older recent : List Write) → 0 < length recent → time < first_time recent → IsRisingAfter 0 (older ++ recent) → value_at (older ++ recent) time ≡ value_at older time
+pub value_older : (time : ℕ) (older recent : List Write) → 0 < length recent → time < first_time recent → IsRisingAfter 0 (older ++ recent)
+    → value_at (older ++ recent) time ≡ value_at older time
 value_older time older [] some h up = absurd (omega arith)
 value_older time older (w ∷ ws) some h up =
     let later = rising-back 0 older (w ∷ ws) up in
     value_after-append None older (w ∷ ws) time ∙ value_after-later (value_at older time) (w ∷ ws) time (h, later.1, later.2)
 
-pub value_recent : (time : ℕ) (older recent : List Write) → 0 < length recent → first_time recent ≤ time → value_at (older ++ recent) time ≡ value_at recent time
+pub value_recent : (time : ℕ) (older recent : List Write) → 0 < length recent → first_time recent ≤ time → value_at (older ++ recent) time
+    ≡ value_at recent time
 value_recent time older [] some h = absurd (omega arith)
 value_recent time older (w ∷ ws) some h =
     let early : nat_le w.time time ≡ true = is_le h in
@@ -100,9 +107,11 @@ pub kept_all : (mark : ℕ) (key : Key) (older recent : List Write) → 0 < leng
 kept_all mark key older recent some later same =
     kept_older mark key older recent some later ∙ ap (λ (ws : List Write). record { key = key; writes = ws ++ recent } ∷ []) same
 
-pub older-rising : (mark : ℕ) (older recent : List Write) → IsRisingAfter mark recent → IsRisingAfter 0 (older ++ recent) → IsRisingAfter 0 (kept_after mark older ++ recent)
+pub older-rising : (mark : ℕ) (older recent : List Write) → IsRisingAfter mark recent → IsRisingAfter 0 (older ++ recent)
+    → IsRisingAfter 0 (kept_after mark older ++ recent)
 older-rising mark older recent later up = rw (sym (kept-front mark older recent later)) (kept_after-rising 0 mark (older ++ recent) up)
 
 -- one more write, beside the older ones or behind all of them
-pub recent-rising : (older recent : List Write) (w : Write) → IsRisingAfter 0 (older ++ recent) → last_time (older ++ recent) < w.time → w.time < 2 ^ 63 → IsRisingAfter 0 (older ++ (recent ++ w ∷ []))
+pub recent-rising : (older recent : List Write) (w : Write) → IsRisingAfter 0 (older ++ recent) → last_time (older ++ recent) < w.time → w.time < 2 ^ 63
+    → IsRisingAfter 0 (older ++ (recent ++ w ∷ []))
 recent-rising older recent w up later small = rw (sym (append_assoc older recent (w ∷ []))) (rising-push 0 (older ++ recent) w up later small)

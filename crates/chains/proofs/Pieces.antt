@@ -14,7 +14,8 @@ pub later-piece : (t : ℕ) (ps ys : List Write) → 0 < length ps → t < first
 later-piece t [] ys some h up = absurd (omega arith)
 later-piece t (p ∷ ps) ys some h up = (h, up.1, up.2)
 
-pub value-behind : (before : Option Value) (t : ℕ) (xs ps ys : List Write) → 0 < length ps → first_time ps ≤ t → value_after before (xs ++ (ps ++ ys)) t ≡ value_after (value_at ps t) ys t
+pub value-behind : (before : Option Value) (t : ℕ) (xs ps ys : List Write) → 0 < length ps → first_time ps ≤ t → value_after before (xs ++ (ps ++ ys)) t
+    ≡ value_after (value_at ps t) ys t
 value-behind before t xs [] ys some h = absurd (omega arith)
 value-behind before t xs (p ∷ ps) ys some h =
     let early : nat_le p.time t ≡ true = is_le h in
@@ -23,6 +24,7 @@ value-behind before t xs (p ∷ ps) ys some h =
     ∙ value_after-append p.write ps ys t
     ∙ sym (ap (λ (b : Bool). value_after (value_after (cond b p.write None) ps t) ys t) early)
 
-pub kept-behind : (mark : ℕ) (xs ps ys : List Write) → 0 < length ps → first_time ps ≤ mark → IsRisingAfter 0 (xs ++ (ps ++ ys)) → kept_after mark (xs ++ (ps ++ ys)) ≡ kept_after mark (ps ++ ys)
+pub kept-behind : (mark : ℕ) (xs ps ys : List Write) → 0 < length ps → first_time ps ≤ mark → IsRisingAfter 0 (xs ++ (ps ++ ys))
+    → kept_after mark (xs ++ (ps ++ ys)) ≡ kept_after mark (ps ++ ys)
 kept-behind mark xs [] ys some h up = absurd (omega arith)
 kept-behind mark xs (p ∷ ps) ys some h up = kept-back 0 mark xs p (ps ++ ys) up h

@@ -15,7 +15,8 @@ first-push [] w some = absurd (omega arith)
 first-push (v ∷ vs) w some = refl
 
 -- they are still those of a piece, whether the write was put there or not
-pub pushed : {T E : Type 0} (r : Result T E) (first : ℕ) (old new : List Write) (w : Write) → OnOk r (new ≡ old ++ w ∷ []) → OnErr r (new ≡ old) → IsPiece first old → last_time old < w.time → w.time < 2 ^ 63 → IsPiece first new
+pub pushed : {T E : Type 0} (r : Result T E) (first : ℕ) (old new : List Write) (w : Write) → OnOk r (new ≡ old ++ w ∷ []) → OnErr r (new ≡ old)
+    → IsPiece first old → last_time old < w.time → w.time < 2 ^ 63 → IsPiece first new
 pushed (Ok x) first old new w ok err is later small =
     rw ok (rising-push 0 old w is.0 later small, omega (arith, is.1, length-append old (w ∷ [])), is.2 ∙ sym (first-push old w is.1))
 pushed (Err e) first old new w ok err is later small = rw err is

@@ -10,26 +10,31 @@ use Rattle.chains.specs.Writes.{Value}
 use Rattle.chains.proofs.Order.{above-back}
 use Rattle.chains.proofs.Scans.{above-relation}
 
-pub other-part : {X : Type 0} (relation : ℕ) (shown : KeyWrites → List X) (c : KeyWrites) → c.key.relation ≢ relation → cond (c.key.relation == relation) (shown c) [] ≡ []
+pub other-part : {X : Type 0} (relation : ℕ) (shown : KeyWrites → List X) (c : KeyWrites) → c.key.relation ≢ relation
+    → cond (c.key.relation == relation) (shown c) [] ≡ []
 other-part relation shown c other =
     let differs : (c.key.relation == relation) ≡ false = grind (arith, nat_tests) in
     rw differs refl
 
-pub relation-above : {X : Type 0} (relation : ℕ) (shown : KeyWrites → List X) (k : Key) (m : List KeyWrites) → relation < k.relation → AllAbove k m → of_relation relation shown m ≡ []
+pub relation-above : {X : Type 0} (relation : ℕ) (shown : KeyWrites → List X) (k : Key) (m : List KeyWrites) → relation < k.relation → AllAbove k m
+    → of_relation relation shown m ≡ []
 relation-above relation shown k [] h up = refl
 relation-above relation shown k (c ∷ cs) h up =
     let later = above-relation k c.key up.0 in
     let other : c.key.relation ≢ relation = omega arith in
     rw (other-part relation shown c other) (relation-above relation shown k cs h up.1)
 
-pub relation-append : {X : Type 0} (relation : ℕ) (shown : KeyWrites → List X) (l : List KeyWrites) (r : List KeyWrites) → of_relation relation shown (l ++ r) ≡ of_relation relation shown l ++ of_relation relation shown r
+pub relation-append : {X : Type 0} (relation : ℕ) (shown : KeyWrites → List X) (l : List KeyWrites) (r : List KeyWrites) → of_relation relation shown (l ++ r)
+    ≡ of_relation relation shown l ++ of_relation relation shown r
 relation-append relation shown [] r = refl
 relation-append {X} relation shown (d ∷ ds) r =
     let here : List X = cond (d.key.relation == relation) (shown d) [] in
-    ap (λ (x : List X). here ++ x) (relation-append relation shown ds r) ∙ sym (append_assoc here (of_relation relation shown ds) (of_relation relation shown r))
+    ap (λ (x : List X). here ++ x) (relation-append relation shown ds r)
+    ∙ sym (append_assoc here (of_relation relation shown ds) (of_relation relation shown r))
 
 -- chains before one of an earlier relation
-pub relation-below : {X : Type 0} (relation : ℕ) (shown : KeyWrites → List X) (l : List KeyWrites) (c : KeyWrites) (r : List KeyWrites) → c.key.relation < relation → IsOrdered (l ++ c ∷ r) → of_relation relation shown l ≡ []
+pub relation-below : {X : Type 0} (relation : ℕ) (shown : KeyWrites → List X) (l : List KeyWrites) (c : KeyWrites) (r : List KeyWrites)
+    → c.key.relation < relation → IsOrdered (l ++ c ∷ r) → of_relation relation shown l ≡ []
 relation-below relation shown [] c r h o = refl
 relation-below relation shown (d ∷ ds) c r h o =
     let below : key_lt d.key c.key ≡ true = (above-back d.key ds (c ∷ r) o.0).0 in

@@ -1,5 +1,6 @@
 -- The rows of one key's writes as those of two lists, one behind the other, and where there are none.
-use Rattle.std.proofs.Common.{◌≡◌, ℕ, ◌^◌, ◌<◌, ◌≤◌, Bool, true, false, cond, List, [], ◌∷◌, ◌++◌, length, Option, None, Some, refl, ap, sym, ◌∙◌, arith, append_assoc}
+use Rattle.std.proofs.Common.{◌≡◌, ℕ, ◌^◌, ◌<◌, ◌≤◌, Bool, true, false, cond, List, [], ◌∷◌, ◌++◌, length, Option, None, Some, refl, ap, sym, ◌∙◌, arith}
+use Rattle.std.proofs.Common.{append_assoc}
 use Rattle.std.specs.Prelude.{Result, Ok, Err, OnOk}
 use Rattle.std.proofs.lemmas.Bool.Decides.{nat_tests}
 use Rattle.history.specs.declared.time.Version.{Version}
@@ -13,7 +14,8 @@ pub rows-append : {V : Type 0} (a b : ℕ) (xs ys : List (Version V)) → rows (
 rows-append a b [] ys = refl
 rows-append {V} a b (x ∷ xs) ys =
     let rest = rows-append a b xs ys in
-    elim (lasts (cut a b x)) as (λ (c : Bool). cond c (cut a b x ∷ rows (xs ++ ys) a b) (rows (xs ++ ys) a b) ≡ cond c (cut a b x ∷ rows xs a b) (rows xs a b) ++ rows ys a b) [
+    elim (lasts (cut a b x)) as (λ (c : Bool). cond c (cut a b x ∷ rows (xs ++ ys) a b) (rows (xs ++ ys) a b) ≡ cond c (cut a b x ∷ rows xs a b) (rows xs a b)
+    ++ rows ys a b) [
       | true ↦ ap (λ (l : List (Version V)). cut a b x ∷ l) rest
       | false ↦ rest
     ]
@@ -27,7 +29,12 @@ first-of end (x ∷ xs) ys = refl
 pub versions-append : (end : ℕ) (xs ys : List Write) → versions_upto end (xs ++ ys) ≡ versions_upto (first_time_or end ys) xs ++ versions_upto end ys
 versions-append end [] ys = refl
 versions-append end (x ∷ xs) ys =
-    rw (first-of end xs ys, versions-append end xs ys) (sym (append_assoc (version_of x.time (first_time_or (first_time_or end ys) xs) x.write) (versions_upto (first_time_or end ys) xs) (versions_upto end ys)))
+    rw (
+      first-of end xs ys,
+      versions-append end xs ys,
+    )
+    (sym (append_assoc (version_of x.time (first_time_or (first_time_or end ys) xs) x.write) (versions_upto (first_time_or end ys) xs)
+    (versions_upto end ys)))
 
 pub first-endless : (ws : List Write) → first_time_or (2 ^ 63) ws ≡ first_time ws
 first-endless [] = refl
@@ -63,7 +70,8 @@ first-low s [] w ys up = omega arith
 first-low s (x ∷ xs) w ys up = let later = below x.time xs w ys up.2 in omega arith
 
 -- no version of the writes before this one lasts beyond it
-pub no-rows_before : (a b s : ℕ) (xs : List Write) (w : Write) (ys : List Write) → IsRisingAfter s (xs ++ w ∷ ys) → w.time ≤ a → rows (versions_upto w.time xs) a b ≡ []
+pub no-rows_before : (a b s : ℕ) (xs : List Write) (w : Write) (ys : List Write) → IsRisingAfter s (xs ++ w ∷ ys) → w.time ≤ a
+    → rows (versions_upto w.time xs) a b ≡ []
 no-rows_before a b s [] w ys up early = refl
 no-rows_before a b s (x ∷ xs) w ys up early =
     let low = first-low x.time xs w ys up.2 in
@@ -89,7 +97,8 @@ first-piece end [] ys some = absurd (omega arith)
 first-piece end (p ∷ ps) ys some = refl
 
 -- no version of the writes before a piece lasts beyond its beginning
-pub no-rows_piece : (a b : ℕ) (xs ps ys : List Write) → 0 < length ps → first_time ps ≤ a → IsRisingAfter 0 (xs ++ (ps ++ ys)) → rows (versions_upto (first_time ps) xs) a b ≡ []
+pub no-rows_piece : (a b : ℕ) (xs ps ys : List Write) → 0 < length ps → first_time ps ≤ a → IsRisingAfter 0 (xs ++ (ps ++ ys))
+    → rows (versions_upto (first_time ps) xs) a b ≡ []
 no-rows_piece a b xs [] ys some early up = absurd (omega arith)
 no-rows_piece a b xs (p ∷ ps) ys some early up = no-rows_before a b 0 xs p (ps ++ ys) up early
 

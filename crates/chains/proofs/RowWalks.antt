@@ -1,5 +1,6 @@
 -- The rows that a walk goes over: those of a piece's writes, and behind them those from the time at which its last version ends.
-use Rattle.std.proofs.Common.{◌≡◌, ℕ, ◌^◌, ◌<◌, ◌≤◌, max, min, false, List, [], ◌∷◌, ◌++◌, length, filter, Option, None, Some, refl, ap, sym, subst, ◌∙◌, arith, append_assoc, append-nil}
+use Rattle.std.proofs.Common.{◌≡◌, ℕ, ◌^◌, ◌<◌, ◌≤◌, max, min, false, List, [], ◌∷◌, ◌++◌, length, filter, Option, None, Some, refl, ap, sym, subst, ◌∙◌, arith}
+use Rattle.std.proofs.Common.{append_assoc, append-nil}
 use Rattle.std.proofs.lemmas.Bool.Decides.{nat_tests}
 use Rattle.history.specs.declared.time.Version.{Version}
 use Rattle.history.specs.Time.{IsRisingAfter}
@@ -35,7 +36,8 @@ no-rows_ended end a b s (w ∷ ws) up by early =
     ∙ rw (no-row_early w.time (first_time_or end ws) a b w.write (omega (arith, low, early))) (no-rows_ended end a b w.time ws up.2 by early)
 
 -- of the writes before those that begin by then
-no-rows_front : (a b : ℕ) (xs zs : List Write) → 0 < length zs → IsRisingAfter 0 (xs ++ zs) → first_time zs ≤ a → rows (versions_upto (first_time zs) xs) a b ≡ []
+no-rows_front : (a b : ℕ) (xs zs : List Write) → 0 < length zs → IsRisingAfter 0 (xs ++ zs) → first_time zs ≤ a → rows (versions_upto (first_time zs) xs) a b
+    ≡ []
 no-rows_front a b xs [] some up early = absurd (omega arith)
 no-rows_front a b xs (z ∷ zs) some up early = no-rows_before a b 0 xs z zs up early
 
@@ -56,7 +58,8 @@ rows-later end a c b s (w ∷ ws) up p q =
     ∙ (λ i. here i ++ behind i)
     ∙ sym (rows-append c b (version_of w.time (first_time_or end ws) w.write) (versions_upto end ws))
 
-rows-from_first : (end a c b : ℕ) (zs : List Write) → 0 < length zs → IsRisingAfter 0 zs → a ≤ first_time zs → c ≤ first_time zs → rows (versions_upto end zs) a b ≡ rows (versions_upto end zs) c b
+rows-from_first : (end a c b : ℕ) (zs : List Write) → 0 < length zs → IsRisingAfter 0 zs → a ≤ first_time zs → c ≤ first_time zs
+    → rows (versions_upto end zs) a b ≡ rows (versions_upto end zs) c b
 rows-from_first end a c b [] some up p q = absurd (omega arith)
 rows-from_first end a c b (z ∷ zs) some up p q =
     let here = row-later z.time (first_time_or end zs) a c b z.write p q in
@@ -87,7 +90,8 @@ module _ (xs zs : List Write) (some : 0 < length zs) (rising : IsRisingAfter 0 (
   past : (end a b : ℕ) → first_time zs ≤ a → rows (versions_upto end (xs ++ zs)) a b ≡ rows (versions_upto end zs) a b
   past end a b by = rows_parts end a b ∙ ap (λ (l : List (Version Value)). l ++ rows (versions_upto end zs) a b) (no-rows_front a b xs zs some rising by)
 
-  pub front-later : (end time upto : ℕ) (part : List (Version Value)) → first_time zs ≤ time → IsFront time upto (versions_upto end zs) part → IsFront time upto (versions_upto end (xs ++ zs)) part
+  pub front-later : (end time upto : ℕ) (part : List (Version Value)) → first_time zs ≤ time → IsFront time upto (versions_upto end zs) part
+      → IsFront time upto (versions_upto end (xs ++ zs)) part
   front-later end time upto part by front = record {
     later = front.later;
     rows_are = λ b.
@@ -95,7 +99,8 @@ module _ (xs zs : List Write) (some : 0 < length zs) (rising : IsRisingAfter 0 (
         ∙ ap (λ (l : List (Version Value)). rows part time b ++ l) (sym (past end upto b (omega (arith, by, front.later))));
   }
 
-  pub front-earlier : (end time upto : ℕ) (part : List (Version Value)) → time < first_time zs → upto ≤ first_time zs → IsFront time upto (versions_upto (first_time zs) xs) part
+  pub front-earlier : (end time upto : ℕ) (part : List (Version Value)) → time < first_time zs → upto ≤ first_time zs
+      → IsFront time upto (versions_upto (first_time zs) xs) part
       → IsFront time upto (versions_upto end (xs ++ zs)) part
   front-earlier end time upto part before by front = record {
     later = front.later;
@@ -103,12 +108,15 @@ module _ (xs zs : List Write) (some : 0 < length zs) (rising : IsRisingAfter 0 (
         rows_parts end time b
         ∙ ap (λ (l : List (Version Value)). l ++ rows (versions_upto end zs) time b) (front.rows_are b)
         ∙ append_assoc (rows part time b) (rows (versions_upto (first_time zs) xs) upto b) (rows (versions_upto end zs) time b)
-        ∙ ap (λ (l : List (Version Value)). rows part time b ++ (rows (versions_upto (first_time zs) xs) upto b ++ l)) (rows-from_first end time upto b zs some (rising-back 0 xs zs rising) (omega (arith, before)) by)
+        ∙ ap (λ (l : List (Version Value)). rows part time b
+        ++ (rows (versions_upto (first_time zs) xs) upto b
+        ++ l)) (rows-from_first end time upto b zs some (rising-back 0 xs zs rising) (omega (arith, before)) by)
         ∙ ap (λ (l : List (Version Value)). rows part time b ++ l) (sym (rows_parts end upto b));
   }
 
 -- all of some writes are a front where their last version ends
-pub front-whole : (time end : ℕ) (ws : List Write) → IsRisingAfter 0 ws → last_time ws ≤ end → time < end → IsFront time end (versions_upto end ws) (versions_upto end ws)
+pub front-whole : (time end : ℕ) (ws : List Write) → IsRisingAfter 0 ws → last_time ws ≤ end → time < end
+    → IsFront time end (versions_upto end ws) (versions_upto end ws)
 front-whole time end ws up by later = record {
   later = later;
   rows_are = λ b.
@@ -137,7 +145,8 @@ module _ (older last : List Write) (some : 0 < length last) (rising : IsRisingAf
       ap (λ (vs : List (Version Value)). rows vs time b) (sym (versions-endless (older ++ last)))
       ∙ no-rows_ended (2 ^ 63) time b 0 (older ++ last) rising (last-below 0 (older ++ last) (omega arith) rising) by
 
-  pub front_older : (time upto : ℕ) (part : List (Version Value)) → time < first_time last → upto ≤ first_time last → IsFront time upto (versions_upto (first_time last) older) part
+  pub front_older : (time upto : ℕ) (part : List (Version Value)) → time < first_time last → upto ≤ first_time last
+      → IsFront time upto (versions_upto (first_time last) older) part
       → IsFront time upto (versions (older ++ last)) part
   front_older time upto part later by front =
       subst (λ (vs : List (Version Value)). IsFront time upto vs part) (versions-endless (older ++ last))

@@ -16,6 +16,8 @@ head_is [] c e = absurd (cc)
 head_is (d ∷ ds) c e = let same : c ≡ d = cc in ap (λ x. x ∷ ds) (sym same)
 
 -- what places show, and one more behind them
-pub there-push : (xs : List (ℕ × Option Value)) (number : ℕ) (value : Option Value) → shown_there (xs ++ (number, value) ∷ []) ≡ shown_there xs ++ shown_of number value
+pub there-push : (xs : List (ℕ × Option Value)) (number : ℕ) (value : Option Value) → shown_there (xs ++ (number, value) ∷ []) ≡ shown_there xs
+    ++ shown_of number value
 there-push [] number value = append-nil (shown_of number value)
-there-push (x ∷ xs) number value = ap (λ rest. shown_of x.0 x.1 ++ rest) (there-push xs number value) ∙ sym (append_assoc (shown_of x.0 x.1) (shown_there xs) (shown_of number value))
+there-push (x ∷ xs) number value =
+    ap (λ rest. shown_of x.0 x.1 ++ rest) (there-push xs number value) ∙ sym (append_assoc (shown_of x.0 x.1) (shown_there xs) (shown_of number value))

@@ -1,5 +1,6 @@
 -- What several trees hold, one behind another.
-use Rattle.std.proofs.Common.{◌≡◌, ℕ, zero, suc, ◌-◌, ◌<◌, ◌≤◌, Bool, List, [], ◌∷◌, ◌++◌, length, get_or, take, drop, None, Some, refl, ap, sym, ◌∙◌, arith, append_assoc, append-nil}
+use Rattle.std.proofs.Common.{◌≡◌, ℕ, zero, suc, ◌-◌, ◌<◌, ◌≤◌, Bool, List, [], ◌∷◌, ◌++◌, length, get_or, take, drop, None, Some, refl, ap, sym, ◌∙◌, arith}
+use Rattle.std.proofs.Common.{append_assoc, append-nil}
 use Rattle.std.specs.Prelude.{find}
 use Rattle.std.proofs.lemmas.List.{take-append-drop, take_rest, drop_all}
 use Rattle.std.proofs.Math.Seq.{drop-cons}
@@ -68,7 +69,8 @@ module _ {E : Type 0} (rest : List (Shape E)) {t : Shape E} (some : 1 ≤ length
   find_behind p e = sym (ap (λ (xs : List E). find p xs) pieces_are ∙ find-past p t.pieces (all_of (behind rest)) e)
 
 -- what was put behind others, and a part that grows, are as much as they were with what came next
-pub put-part : {X : Type 0} (f f' p p' p'' xs rest rest' total : List X) → f' ++ p' ≡ f ++ p → p'' ≡ p' ++ xs → rest ≡ xs ++ rest' → f ++ (p ++ rest) ≡ total → f' ++ (p'' ++ rest') ≡ total
+pub put-part : {X : Type 0} (f f' p p' p'' xs rest rest' total : List X) → f' ++ p' ≡ f ++ p → p'' ≡ p' ++ xs → rest ≡ xs ++ rest' → f ++ (p ++ rest) ≡ total
+    → f' ++ (p'' ++ rest') ≡ total
 put-part {X} f f' p p' p'' xs rest rest' total put grown first is =
     ap (λ (l : List X). f' ++ (l ++ rest')) grown
     ∙ ap (λ (l : List X). f' ++ l) (append_assoc p' xs rest')

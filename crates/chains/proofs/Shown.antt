@@ -1,5 +1,6 @@
 -- A scan shows exactly the records of its relation that have a value at its time, rising.
-use Rattle.std.proofs.Common.{◌≡◌, ℕ, zero, suc, ◌+◌, ◌<◌, ◌==◌, Bool, true, false, cond, List, [], ◌∷◌, ◌++◌, map, Option, Some, None, refl, ap, sym, subst, arith, ⊎_elim}
+use Rattle.std.proofs.Common.{◌≡◌, ℕ, zero, suc, ◌+◌, ◌<◌, ◌==◌, Bool, true, false, cond, List, [], ◌∷◌, ◌++◌, map, Option, Some, None, refl, ap, sym, subst}
+use Rattle.std.proofs.Common.{arith, ⊎_elim}
 use Rattle.std.specs.Prelude.{Contains, find, option_map, option_to_list}
 use Rattle.std.specs.List.{AllByRecursion, slice_index}
 use Rattle.std.specs.List.Sorted.{IsStrictlyIncreasing}
@@ -21,7 +22,8 @@ value_of : ℕ → List KeyWrites → ℕ → ℕ → Option Value
 value_of relation m number time = value_at (writes_of m (key_of relation number)) time
 
 -- what one chain shows
-only_pair : (number : ℕ) (value : Value) (o : Option Value) (n : ℕ) → Contains (option_to_list (option_map (λ (v : Value). let pair : Pair = (n, v) in pair) o)) (number, value) → (n ≡ number) × (o ≡ Some value)
+only_pair : (number : ℕ) (value : Value) (o : Option Value) (n : ℕ)
+    → Contains (option_to_list (option_map (λ (v : Value). let pair : Pair = (n, v) in pair) o)) (number, value) → (n ≡ number) × (o ≡ Some value)
 only_pair number value None n there = let pair : Pair = (number, value) in absurd (Contains-nil pair there)
 only_pair number value (Some v) n there =
     let pair : Pair = (number, value) in
@@ -47,7 +49,8 @@ shown_has relation time c number value there =
     ] in
     all (c.key.relation == relation) refl there
 
-has_shown : (relation time : ℕ) (c : KeyWrites) (number : ℕ) (value : Value) → c.key.relation ≡ relation → c.key.record ≡ number → value_at c.writes time ≡ Some value
+has_shown : (relation time : ℕ) (c : KeyWrites) (number : ℕ) (value : Value) → c.key.relation ≡ relation → c.key.record ≡ number → value_at c.writes time
+    ≡ Some value
     → Contains (shown relation time c) (number, value)
 has_shown relation time c number value same record_is is =
     let pair : Pair = (number, value) in
@@ -58,7 +61,8 @@ has_shown relation time c number value same record_is is =
     subst (λ (ps : List Pair). Contains ps pair) (sym one) (Contains-head first [] pair first_is)
 
 -- a key above all of them has no value
-none_below : (relation time number : ℕ) (key : Key) (m : List KeyWrites) → AllAbove key m → same_key key (key_of relation number) ≡ true → value_of relation m number time ≡ None
+none_below : (relation time number : ℕ) (key : Key) (m : List KeyWrites) → AllAbove key m → same_key key (key_of relation number) ≡ true
+    → value_of relation m number time ≡ None
 unfolding value_of
 none_below relation time number key m up same =
     let is : key ≡ key_of relation number = key_is key (key_of relation number) same in
@@ -70,7 +74,8 @@ none_below relation time number key m up same =
         let numbers : a.record ≡ b.record = grind (arith, nat_tests) in
         λ i. record { relation = relations i; «record» = numbers i }
 
-shown_only : (relation time : ℕ) (m : List KeyWrites) → IsOrdered m → (number : ℕ) (value : Value) → Contains (scanned relation time m) (number, value) → value_of relation m number time ≡ Some value
+shown_only : (relation time : ℕ) (m : List KeyWrites) → IsOrdered m → (number : ℕ) (value : Value) → Contains (scanned relation time m) (number, value)
+    → value_of relation m number time ≡ Some value
 unfolding value_of
 shown_only relation time [] o number value there = let pair : Pair = (number, value) in absurd (Contains-nil pair there)
 shown_only relation time (c ∷ cs) o number value there =
@@ -91,13 +96,16 @@ shown_only relation time (c ∷ cs) o number value there =
     all (same_key c.key key) refl)
     (Contains-append_cases (shown relation time c) (scanned relation time cs) pair there)
 
-shown_all : (relation time : ℕ) (m : List KeyWrites) → (number : ℕ) (value : Value) → value_of relation m number time ≡ Some value → Contains (scanned relation time m) (number, value)
+shown_all : (relation time : ℕ) (m : List KeyWrites) → (number : ℕ) (value : Value) → value_of relation m number time ≡ Some value
+    → Contains (scanned relation time m) (number, value)
 unfolding value_of
 shown_all relation time [] number value is = cc
 shown_all relation time (c ∷ cs) number value is =
     let pair : Pair = (number, value) in
     let key = key_of relation number in
-    let Goal : Bool → Type 0 = λ b. same_key c.key key ≡ b → value_at (writes_in (cond b (Some c) (find (is_of key) cs))) time ≡ Some value → Contains (shown relation time c ++ scanned relation time cs) pair in
+    let Goal : Bool → Type 0 =
+    λ b. same_key c.key key ≡ b → value_at (writes_in (cond b (Some c) (find (is_of key) cs))) time ≡ Some value
+    → Contains (shown relation time c ++ scanned relation time cs) pair in
     let all : (b : Bool) → Goal b = λ b. elim b as Goal [
       | true ↦ λ same h.
           let relation_is : c.key.relation ≡ relation = grind (arith, nat_tests) in
@@ -121,7 +129,8 @@ over_cons n (p ∷ ps) over up (suc k) h =
     let next : suc k + 1 ≡ suc (k + 1) = omega arith in
     subst (λ (j : ℕ). slice_index xs k < slice_index (n ∷ xs) j) (sym next) (up k (omega arith))
 
-over_option : (n number : ℕ) (o : Option Value) (ps : List Pair) → n < number → AllOver n ps → AllOver n (option_to_list (option_map (λ (v : Value). let p : Pair = (number, v) in p) o) ++ ps)
+over_option : (n number : ℕ) (o : Option Value) (ps : List Pair) → n < number → AllOver n ps
+    → AllOver n (option_to_list (option_map (λ (v : Value). let p : Pair = (number, v) in p) o) ++ ps)
 unfolding AllOver
 over_option n number None ps less over = over
 over_option n number (Some v) ps less over = (less, over)
@@ -131,7 +140,10 @@ unfolding AllOver
 all_over relation time key [] is up = tt
 all_over relation time key (c ∷ cs) is up =
     let rest = all_over relation time key cs is up.1 in
-    let Goal : Bool → Type 0 = λ b. (c.key.relation == relation) ≡ b → AllOver key.record (cond b (option_to_list (option_map (λ (v : Value). let p : Pair = (c.key.record, v) in p) (value_at c.writes time))) [] ++ scanned relation time cs) in
+    let Goal : Bool → Type 0 =
+    λ b. (c.key.relation == relation) ≡ b
+    → AllOver key.record (cond b (option_to_list (option_map (λ (v : Value). let p : Pair = (c.key.record, v) in p) (value_at c.writes time))) []
+    ++ scanned relation time cs) in
     let all : (b : Bool) → Goal b = λ b. elim b as Goal [
       | true ↦ λ same.
           let above = up.0 in
@@ -151,7 +163,9 @@ shown_rises relation time [] o = λ k h. absurd (omega arith)
 shown_rises relation time (c ∷ cs) o =
     let rest = shown_rises relation time cs o.1 in
     let Goal : Bool → Type 0 = λ b. (c.key.relation == relation) ≡ b
-    → IsStrictlyIncreasing (map (λ (p : Pair). p.0) (cond b (option_to_list (option_map (λ (v : Value). let p : Pair = (c.key.record, v) in p) (value_at c.writes time))) [] ++ scanned relation time cs)) in
+    → IsStrictlyIncreasing
+    (map (λ (p : Pair). p.0) (cond b (option_to_list (option_map (λ (v : Value). let p : Pair = (c.key.record, v) in p) (value_at c.writes time))) []
+    ++ scanned relation time cs)) in
     let all : (b : Bool) → Goal b = λ b. elim b as Goal [
       | true ↦ λ same.
           let is : c.key.relation ≡ relation = grind (arith, nat_tests) in

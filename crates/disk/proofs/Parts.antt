@@ -53,7 +53,8 @@ written_part at part file = record {
 }
 
 -- and what lies apart from it is read as before
-pub part_beside : (at from : ℕ) (bytes part file : List ℕ) → AreApart from (length part) at (length bytes) → HoldsPart from part file → HoldsPart from part (overlaid file at bytes)
+pub part_beside : (at from : ℕ) (bytes part file : List ℕ) → AreApart from (length part) at (length bytes) → HoldsPart from part file
+    → HoldsPart from part (overlaid file at bytes)
 part_beside at from bytes part file apart held = record {
   inside = omega (arith, length-overlaid file at bytes, held.inside);
   is = slice_range-overlaid file at bytes from (from + length part) held.inside apart ∙ held.is;
@@ -64,7 +65,8 @@ apart_at from m at n k (inl before) low high = inl (omega arith)
 apart_at from m at n k (inr after) low high = inr (omega arith)
 
 -- a write, in full or in part, keeps what lies apart from it
-pub kept_by_write : (at n from : ℕ) (part : List ℕ) (old new : AreaState) → IsSound old → KeepsPart from part old → AreApart from (length part) at n → IsLoosened at n old new → KeepsPart from part new
+pub kept_by_write : (at n from : ℕ) (part : List ℕ) (old new : AreaState) → IsSound old → KeepsPart from part old → AreApart from (length part) at n
+    → IsLoosened at n old new → KeepsPart from part new
 kept_by_write at n from part old new sound keeps apart is = record {
   firm = rw is.firm keeps.firm;
   left = λ content left.

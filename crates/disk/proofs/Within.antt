@@ -14,10 +14,12 @@ may-leave a at bytes c sound left = record {
   are_bytes = left.are_bytes;
 }
 
-leaves : (area : Area) (at : ℕ) (bytes : List ℕ) (old : Areas) (image : Image) → AreSound old → LeavesImage (while_written area at (length bytes) old) image → LeavesImage (with_area area (written at bytes (area_of old area)) old) image
+leaves : (area : Area) (at : ℕ) (bytes : List ℕ) (old : Areas) (image : Image) → AreSound old → LeavesImage (while_written area at (length bytes) old) image
+    → LeavesImage (with_area area (written at bytes (area_of old area)) old) image
 leaves Status at bytes old image sound left = record { status = may-leave _ at bytes _ (sound Status) left.status; heap = left.heap; archive = left.archive }
 leaves Heap at bytes old image sound left = record { status = left.status; heap = may-leave _ at bytes _ (sound Heap) left.heap; archive = left.archive }
 leaves Archive at bytes old image sound left = record { status = left.status; heap = left.heap; archive = may-leave _ at bytes _ (sound Archive) left.archive }
 
 pub within-write : WithinWrite
-within-write area at bytes old new sound writes = record { each = λ image left. subst (λ (x : Areas). LeavesImage x image) (sym writes.written) (leaves area at bytes old image sound left) }
+within-write area at bytes old new sound writes =
+    record { each = λ image left. subst (λ (x : Areas). LeavesImage x image) (sym writes.written) (leaves area at bytes old image sound left) }

@@ -7,11 +7,14 @@ use Rattle.extents.specs.Usages.{HasUsage, IsFree, IsKept, with_usage, with_usag
 
 -- one more is taken
 abbrev pub ListTaken : Type 0
-ListTaken = (usages : List Usage) (numbers : List ℕ) (number : ℕ) → AreOut usages numbers → IsFree usages number → AreOut (with_usage usages number Out) (numbers ++ number ∷ [])
+ListTaken =
+    (usages : List Usage) (numbers : List ℕ) (number : ℕ) → AreOut usages numbers → IsFree usages number
+    → AreOut (with_usage usages number Out) (numbers ++ number ∷ [])
 
 -- the first of those that are out gets another usage, and the others are still out
 abbrev pub ListGivenBack : Type 0
-ListGivenBack = (usages : List Usage) (numbers : List ℕ) (number : ℕ) (usage : Usage) → AreOut usages (number ∷ numbers) → AreOut (with_usage usages number usage) numbers
+ListGivenBack =
+    (usages : List Usage) (numbers : List ℕ) (number : ℕ) (usage : Usage) → AreOut usages (number ∷ numbers) → AreOut (with_usage usages number usage) numbers
 
 -- extents that get one usage after the other have it in the end
 abbrev pub ListKept : Type 0
@@ -19,4 +22,6 @@ ListKept = (usages : List Usage) (numbers : List ℕ) → AreOut usages numbers 
 
 -- and those that are none of them stay what they were
 abbrev pub KeptsStay : Type 0
-KeptsStay = (usages : List Usage) (numbers : List ℕ) (usage old : Usage) (other : ℕ) → AreOut usages numbers → IsNoneOf other numbers → HasUsage old usages other → HasUsage old (with_usages usages numbers usage) other
+KeptsStay =
+    (usages : List Usage) (numbers : List ℕ) (usage old : Usage) (other : ℕ) → AreOut usages numbers → IsNoneOf other numbers → HasUsage old usages other
+    → HasUsage old (with_usages usages numbers usage) other

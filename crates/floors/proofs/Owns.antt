@@ -1,5 +1,6 @@
 -- The floors that relations have of their own, by rising relation.
-use Rattle.std.proofs.Common.{◌≡◌, ◌≢◌, ℕ, zero, suc, ◌<◌, ◌≤◌, Bool, true, false, cond, ◌==◌, nat_lt, ◌+◌, rules, List, [], ◌∷◌, ◌++◌, length, take, drop, get_or, Option, None, Some, refl, arith, ap, sym, subst, ◌∙◌, inl, inr}
+use Rattle.std.proofs.Common.{◌≡◌, ◌≢◌, ℕ, zero, suc, ◌<◌, ◌≤◌, Bool, true, false, cond, ◌==◌, nat_lt, ◌+◌, rules, List, [], ◌∷◌, ◌++◌, length, take, drop}
+use Rattle.std.proofs.Common.{get_or, Option, None, Some, refl, arith, ap, sym, subst, ◌∙◌, inl, inr}
 use Rattle.std.proofs.lemmas.Bool.{cases_lt, cases_eq}
 use Rattle.std.proofs.lemmas.Bool.Decides.{nat_tests}
 use Rattle.std.specs.List.{AllByRecursion}
@@ -11,7 +12,8 @@ use Rattle.floors.specs.Floors.{FloorsValue, AreRising, floor_or, floor_at, behi
 
 -- ---- order
 
-above-at : (low : ℕ) (own : List OwnFloor) (k : ℕ) (d : OwnFloor) → AllByRecursion (λ (p : OwnFloor). low < p.relation) own → k < length own → low < (get_or own k d).relation
+above-at : (low : ℕ) (own : List OwnFloor) (k : ℕ) (d : OwnFloor) → AllByRecursion (λ (p : OwnFloor). low < p.relation) own → k < length own
+    → low < (get_or own k d).relation
 above-at low [] k d above within = absurd (omega arith)
 above-at low (o ∷ os) zero d above within = above.0
 above-at low (o ∷ os) (suc k) d above within = above-at low os k d above.1 (omega arith)
@@ -34,12 +36,14 @@ partitioned relation own rising i j d le within below =
 
 -- a partition at the lesser relations
 abbrev pub IsPoint : ℕ → List OwnFloor → ℕ → Type 0
-IsPoint relation own place = IsPartitionPoint (λ (o : OwnFloor). nat_lt o.relation relation ≡ true) (λ (o : OwnFloor). nat_lt o.relation relation ≡ false) own place
+IsPoint relation own place =
+    IsPartitionPoint (λ (o : OwnFloor). nat_lt o.relation relation ≡ true) (λ (o : OwnFloor). nat_lt o.relation relation ≡ false) own place
 
 -- ---- what is found
 
 -- this place holds the floor of a relation, and no earlier one does
-pub floor-at : (every relation : ℕ) (own : List OwnFloor) (place : ℕ) (d : OwnFloor) → ((k : ℕ) (e : OwnFloor) → k < place → k < length own → nat_lt (get_or own k e).relation relation ≡ true)
+pub floor-at : (every relation : ℕ) (own : List OwnFloor) (place : ℕ) (d : OwnFloor)
+    → ((k : ℕ) (e : OwnFloor) → k < place → k < length own → nat_lt (get_or own k e).relation relation ≡ true)
     → place < length own → (get_or own place d).relation ≡ relation → (get_or own place d).floor ≡ floor_or every own relation
 floor-at every relation [] place d before within is = absurd (omega arith)
 floor-at every relation (o ∷ os) zero d before within is =
@@ -51,7 +55,8 @@ floor-at every relation (o ∷ os) (suc place) d before within is =
     rw apart (floor-at every relation os place d (λ k e low low'. before (suc k) e (omega arith) (omega arith)) (omega arith) is)
 
 -- none of these is of a relation
-pub floor-none : (every relation : ℕ) (own : List OwnFloor) → ((k : ℕ) (d : OwnFloor) → k < length own → (get_or own k d).relation ≢ relation) → every ≡ floor_or every own relation
+pub floor-none : (every relation : ℕ) (own : List OwnFloor) → ((k : ℕ) (d : OwnFloor) → k < length own → (get_or own k d).relation ≢ relation) → every
+    ≡ floor_or every own relation
 floor-none every relation [] none = refl
 floor-none every relation (o ∷ os) none =
     let differs : o.relation ≢ relation = none zero o (omega arith) in
@@ -91,9 +96,14 @@ raised-at (o ∷ os) relation floor zero within point =
     rw not_less refl
 raised-at (o ∷ os) relation floor (suc place) within point =
     let less : nat_lt o.relation relation ≡ true = point.0 zero o (omega arith) (omega arith) in
-    rw less (ap (λ raised. o ∷ raised) (raised-at os relation floor place (omega arith) (λ k d low low'. point.0 (suc k) d (omega arith) (omega arith), λ k d low low'. point.1 (suc k) d (omega arith) (omega arith))))
+    rw less (ap (λ raised. o
+    ∷ raised) (raised-at os relation floor place (omega arith) (
+      λ k d low low'. point.0 (suc k) d (omega arith) (omega arith),
+      λ k d low low'. point.1 (suc k) d (omega arith) (omega arith),
+    )))
 
-above-with : (low : ℕ) (own : List OwnFloor) (relation floor : ℕ) → low < relation → AllByRecursion (λ (p : OwnFloor). low < p.relation) own → AllByRecursion (λ (p : OwnFloor). low < p.relation) (with_own own relation floor)
+above-with : (low : ℕ) (own : List OwnFloor) (relation floor : ℕ) → low < relation → AllByRecursion (λ (p : OwnFloor). low < p.relation) own
+    → AllByRecursion (λ (p : OwnFloor). low < p.relation) (with_own own relation floor)
 above-with low [] relation floor less above = (less, tt)
 above-with low (o ∷ os) relation floor less above =
     elim (cases_lt o.relation relation) [
@@ -106,7 +116,8 @@ above-with low (o ∷ os) relation floor less above =
           ]
     ]
 
-lower : (low high : ℕ) (own : List OwnFloor) → low ≤ high → AllByRecursion (λ (p : OwnFloor). high < p.relation) own → AllByRecursion (λ (p : OwnFloor). low < p.relation) own
+lower : (low high : ℕ) (own : List OwnFloor) → low ≤ high → AllByRecursion (λ (p : OwnFloor). high < p.relation) own
+    → AllByRecursion (λ (p : OwnFloor). low < p.relation) own
 lower low high [] less above = tt
 lower low high (o ∷ os) less above = (omega (arith, above.0), lower low high os less above.1)
 
@@ -114,18 +125,25 @@ pub rising-with : (own : List OwnFloor) (relation floor : ℕ) → AreRising own
 rising-with [] relation floor rising = (tt, tt)
 rising-with (o ∷ os) relation floor rising =
     elim (cases_lt o.relation relation) [
-      | inl before ↦ let test : nat_lt o.relation relation ≡ true = grind (arith, nat_tests) in rw test (above-with o.relation os relation floor before rising.0, rising-with os relation floor rising.1)
+      | inl before ↦ let test : nat_lt o.relation relation ≡ true =
+          grind (arith, nat_tests) in rw test (above-with o.relation os relation floor before rising.0, rising-with os relation floor rising.1)
       | inr after ↦
           let test : nat_lt o.relation relation ≡ false = grind (arith, nat_tests) in
           elim (cases_eq o.relation relation) [
-            | inl same ↦ let is : (o.relation == relation) ≡ true = grind (arith, nat_tests) in rw test (rw is (lower relation o.relation os (omega (arith, same)) rising.0, rising.1))
-            | inr other ↦ let is : (o.relation == relation) ≡ false = grind (arith, nat_tests) in rw test (rw is ((omega (arith, after, other), lower relation o.relation os (omega (arith, after)) rising.0), rising))
+            | inl same ↦ let is : (o.relation == relation) ≡ true =
+                grind (arith, nat_tests) in rw test (rw is (lower relation o.relation os (omega (arith, same)) rising.0, rising.1))
+            | inr other ↦ let is : (o.relation == relation) ≡ false =
+                grind (arith, nat_tests) in rw test (rw is (
+                  (omega (arith, after, other), lower relation o.relation os (omega (arith, after)) rising.0),
+                  rising,
+                ))
           ]
     ]
 
 -- ---- its law
 
-own-raised : (every only floor : ℕ) (own : List OwnFloor) (relation : ℕ) → floor_or every (with_own own only floor) relation ≡ cond (only == relation) floor (floor_or every own relation)
+own-raised : (every only floor : ℕ) (own : List OwnFloor) (relation : ℕ) → floor_or every (with_own own only floor) relation
+    ≡ cond (only == relation) floor (floor_or every own relation)
 own-raised every only floor [] relation = refl
 own-raised every only floor (o ∷ os) relation =
     elim (cases_lt o.relation only) [
@@ -154,7 +172,8 @@ own-raised every only floor (o ∷ os) relation =
           ]
     ]
 
-pub raised-is : (floors : FloorsValue) (scope : Option ℕ) (floor relation : ℕ) → floor_at (raised_in scope floor floors) relation ≡ raised scope floor (floor_at floors) relation
+pub raised-is : (floors : FloorsValue) (scope : Option ℕ) (floor relation : ℕ) → floor_at (raised_in scope floor floors) relation
+    ≡ raised scope floor (floor_at floors) relation
 raised-is floors None floor relation = refl
 raised-is floors (Some only) floor relation = own-raised floors.every only floor floors.own relation
 
@@ -208,7 +227,8 @@ below-each every floor relation (o ∷ os) less below =
           absurd cc
     ]
 
-each-below : (every floor : ℕ) (own : List OwnFloor) → AreRising own → every < floor → ((relation : ℕ) → floor_or every own relation < floor) → all_below floor own ≡ true
+each-below : (every floor : ℕ) (own : List OwnFloor) → AreRising own → every < floor → ((relation : ℕ) → floor_or every own relation < floor)
+    → all_below floor own ≡ true
 each-below every floor [] rising less each = refl
 each-below every floor (o ∷ os) rising less each =
     let same : (o.relation == o.relation) ≡ true = grind (arith, nat_tests) in
@@ -226,7 +246,8 @@ each-below every floor (o ∷ os) rising less each =
 is_true : (b : Bool) → (IsTrue b ↔ (b ≡ true))
 is_true b = search rules
 
-pub below-one : (floors : FloorsValue) (only floor : ℕ) (low : Bool) → low ≡ nat_lt (floor_at floors only) floor → (IsTrue low ↔ AreBelow floors (Some only) floor)
+pub below-one : (floors : FloorsValue) (only floor : ℕ) (low : Bool) → low ≡ nat_lt (floor_at floors only) floor
+    → (IsTrue low ↔ AreBelow floors (Some only) floor)
 below-one floors only floor low is = (
   λ yes relation covered.
       let test : nat_lt (floor_at floors only) floor ≡ true = sym is ∙ (is_true low).0 yes in
@@ -240,7 +261,8 @@ below-one floors only floor low is = (
       (is_true low).1 (is ∙ test),
 )
 
-pub below-every : (floors : FloorsValue) (floor : ℕ) → AreRising floors.own → (IsTrue (nat_lt floors.every floor && all_below floor floors.own) ↔ AreBelow floors None floor)
+pub below-every : (floors : FloorsValue) (floor : ℕ) → AreRising floors.own
+    → (IsTrue (nat_lt floors.every floor && all_below floor floors.own) ↔ AreBelow floors None floor)
 below-every floors floor rising = (
   λ yes relation covered.
       let both : (nat_lt floors.every floor && all_below floor floors.own) ≡ true = (is_true _).0 yes in
@@ -255,7 +277,8 @@ below-every floors floor rising = (
       ],
   λ below.
       let all : IsTrue true = search rules in
-      let low : floors.every < floor = subst (λ (t : ℕ). t < floor) (above_fresh floors.every (fresh floors.own) floors.own (omega arith)) (below (fresh floors.own) all) in
+      let low : floors.every < floor =
+      subst (λ (t : ℕ). t < floor) (above_fresh floors.every (fresh floors.own) floors.own (omega arith)) (below (fresh floors.own) all) in
       let test : nat_lt floors.every floor ≡ true = grind (arith, nat_tests) in
       let rest = each-below floors.every floor floors.own rising low (λ relation. below relation all) in
       (is_true _).1 (ap (λ (b : Bool). b && all_below floor floors.own) test ∙ rest),

@@ -44,7 +44,8 @@ behind (o ∷ os) relation = if o.relation == relation then os else o ∷ os
 -- these floors with that of one relation, in place of the one that it had
 abbrev pub with_own : List OwnFloor → ℕ → ℕ → List OwnFloor
 with_own [] relation floor = record { relation = relation; floor = floor } ∷ []
-with_own (o ∷ os) relation floor = if nat_lt o.relation relation then o ∷ with_own os relation floor else record { relation = relation; floor = floor } ∷ behind (o ∷ os) relation
+with_own (o ∷ os) relation floor =
+    if nat_lt o.relation relation then o ∷ with_own os relation floor else record { relation = relation; floor = floor } ∷ behind (o ∷ os) relation
 
 -- the floors after one is raised, of one relation or of every relation
 abbrev pub raised_in : Option ℕ → ℕ → FloorsValue → FloorsValue

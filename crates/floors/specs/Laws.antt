@@ -5,4 +5,6 @@ use Rattle.floors.specs.Floors.{FloorsValue, floor_at, raised_in}
 
 -- a floor that is raised is that of the relations that it covers, and no other changes
 abbrev pub RaisedIs : Type 0
-RaisedIs = (floors : FloorsValue) (scope : Option ℕ) (floor relation : ℕ) → floor_at (raised_in scope floor floors) relation ≡ raised scope floor (floor_at floors) relation
+RaisedIs =
+    (floors : FloorsValue) (scope : Option ℕ) (floor relation : ℕ) → floor_at (raised_in scope floor floors) relation
+    ≡ raised scope floor (floor_at floors) relation

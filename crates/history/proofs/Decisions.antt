@@ -1,5 +1,6 @@
 -- The answers to a submission and to the start of a floor, exactly.
-use Rattle.std.proofs.Common.{◌≡◌, ℕ, ◌<◌, ◌≤◌, ◌^◌, ◌↔◌, min, nat_le, nat_lt, Bool, true, false, cond, IsTrue, List, [], ◌∷◌, map, Option, Some, None, refl, ap, sym, subst, ◌∙◌, arith}
+use Rattle.std.proofs.Common.{◌≡◌, ℕ, ◌<◌, ◌≤◌, ◌^◌, ◌↔◌, min, nat_le, nat_lt, Bool, true, false, cond, IsTrue, List, [], ◌∷◌, map, Option, Some, None, refl}
+use Rattle.std.proofs.Common.{ap, sym, subst, ◌∙◌, arith}
 use Rattle.std.specs.Prelude.{IsSome}
 use Rattle.std.specs.List.{AllByRecursion}
 use Rattle.std.specs.List.Sorted.{IsStrictlySortedBy}
@@ -24,7 +25,8 @@ same-keys : (a key : Key) → same_key a key ≡ true → a ≡ key
 same-keys a key same = grind (arith, nat_tests)
 
 -- some key that is in the write set was written later
-found-key : {V : Type 0} (h : History V) (s : ℕ) (writes : List (KeyWrite V)) (key : Key) → IsSome (write_in writes key) → IsTrue (is_written_after h s key) → (k : Key) × (conflict_with h s writes ≡ Some k)
+found-key : {V : Type 0} (h : History V) (s : ℕ) (writes : List (KeyWrite V)) (key : Key) → IsSome (write_in writes key) → IsTrue (is_written_after h s key)
+    → (k : Key) × (conflict_with h s writes ≡ Some k)
 found-key h s [] key shared later = absurd (let no : false ≡ true = shared in cc)
 found-key {V} h s (w ∷ ws) key shared later =
     let rest : IsSome (write_in ws key) → (k : Key) × (conflict_with h s ws ≡ Some k) = λ more. found-key h s ws key more later in
@@ -32,7 +34,8 @@ found-key {V} h s (w ∷ ws) key shared later =
     let all : (b : Bool) → Goal b = λ b. elim b as Goal [
       | true ↦ λ e. (w.key, refl)
       | false ↦ λ e.
-          let In : Bool → Type 0 = λ c. same_key w.key key ≡ c → IsSome (cond c (Some w.write) (write_in ws key)) → (k : Key) × (conflict_with h s ws ≡ Some k) in
+          let In : Bool → Type 0 =
+          λ c. same_key w.key key ≡ c → IsSome (cond c (Some w.write) (write_in ws key)) → (k : Key) × (conflict_with h s ws ≡ Some k) in
           let at : (c : Bool) → In c = λ c. elim c as In [
             | true ↦ λ same has. absurd (let no : true ≡ false = sym later ∙ ap (is_written_after h s) (sym (same-keys w.key key same)) ∙ e in cc)
             | false ↦ λ other has. rest has
@@ -42,10 +45,13 @@ found-key {V} h s (w ∷ ws) key shared later =
     all (is_written_after h s w.key) refl
 
 -- the key that is found is one of the write set's, and was written later
-key-found : {V : Type 0} (h : History V) (s : ℕ) (writes : List (KeyWrite V)) (k : Key) → conflict_with h s writes ≡ Some k → IsSome (write_in writes k) × IsTrue (is_written_after h s k)
+key-found : {V : Type 0} (h : History V) (s : ℕ) (writes : List (KeyWrite V)) (k : Key) → conflict_with h s writes ≡ Some k → IsSome (write_in writes k)
+    × IsTrue (is_written_after h s k)
 key-found h s [] k is = absurd cc
 key-found {V} h s (w ∷ ws) k is =
-    let Goal : Bool → Type 0 = λ b. is_written_after h s w.key ≡ b → cond b (Some w.key) (conflict_with h s ws) ≡ Some k → IsSome (write_in (w ∷ ws) k) × IsTrue (is_written_after h s k) in
+    let Goal : Bool → Type 0 =
+    λ b. is_written_after h s w.key ≡ b → cond b (Some w.key) (conflict_with h s ws) ≡ Some k → IsSome (write_in (w ∷ ws) k)
+    × IsTrue (is_written_after h s k) in
     let all : (b : Bool) → Goal b = λ b. elim b as Goal [
       | true ↦ λ e is.
           let same : w.key ≡ k = cc in
@@ -57,13 +63,19 @@ key-found {V} h s (w ∷ ws) k is =
     ] in
     all (is_written_after h s w.key) refl is
 
-pub conflict-found : {V : Type 0} (h : History V) (s : ℕ) (writes : List (KeyWrite V)) → ((key : Key) × (conflict_with h s writes ≡ Some key)) ↔ IsConflict h s writes
+pub conflict-found : {V : Type 0} (h : History V) (s : ℕ) (writes : List (KeyWrite V)) → ((key : Key) × (conflict_with h s writes ≡ Some key))
+    ↔ IsConflict h s writes
 conflict-found h s writes = (
   λ found.
       let parts = key-found h s writes found.0 found.1 in
       let later = (shared-written h s found.0).0 parts.1 in
       record { commit = later.0; key = found.0; committed = later.1; later = later.2; written = later.3; shared = parts.0 },
-  λ conflict. found-key h s writes conflict.key conflict.shared ((shared-written h s conflict.key).1 (conflict.commit, conflict.committed, conflict.later, conflict.written)),
+  λ conflict. found-key h s writes conflict.key conflict.shared ((shared-written h s conflict.key).1 (
+    conflict.commit,
+    conflict.committed,
+    conflict.later,
+    conflict.written,
+  )),
 )
 
 -- no key before the one that is found is shared
@@ -73,7 +85,8 @@ less-other a b key up same less = absurd (grind (arith, nat_tests))
 same-less : (a key : Key) → same_key a key ≡ true → key_cmp key a ≡ Less → ⊥
 same-less a key same less = absurd (grind (arith, nat_tests))
 
-has-above : {V : Type 0} (low key : Key) (ws : List (KeyWrite V)) → AllByRecursion (λ k. key_cmp low k ≡ Less) (map (λ w. w.key) ws) → IsSome (write_in ws key) → key_cmp key low ≡ Less → ⊥
+has-above : {V : Type 0} (low key : Key) (ws : List (KeyWrite V)) → AllByRecursion (λ k. key_cmp low k ≡ Less) (map (λ w. w.key) ws) → IsSome (write_in ws key)
+    → key_cmp key low ≡ Less → ⊥
 has-above low key [] above shared less = absurd (let none : false ≡ true = shared in cc)
 has-above {V} low key (w ∷ ws) above shared less =
     let Goal : Bool → Type 0 = λ b. same_key w.key key ≡ b → IsSome (cond b (Some w.write) (write_in ws key)) → ⊥ in
@@ -83,7 +96,8 @@ has-above {V} low key (w ∷ ws) above shared less =
     ] in
     all (same_key w.key key) refl shared
 
-pub conflict-least : {V : Type 0} (h : History V) (s : ℕ) (writes : List (KeyWrite V)) (key other : Key) → IsStrictlySortedBy key_cmp (map (λ w. w.key) writes) → conflict_with h s writes ≡ Some key
+pub conflict-least : {V : Type 0} (h : History V) (s : ℕ) (writes : List (KeyWrite V)) (key other : Key) → IsStrictlySortedBy key_cmp (map (λ w. w.key) writes)
+    → conflict_with h s writes ≡ Some key
     → IsSome (write_in writes other) → IsTrue (is_written_after h s other) → key_cmp other key ≡ Less → ⊥
 unfolding IsStrictlySortedBy
 conflict-least h s [] key other sorted is shared later less = absurd (let none : false ≡ true = shared in cc)
@@ -117,7 +131,8 @@ decided-key None c key e = absurd (timed-is c key e)
 decided-key (Some k) c key e = cc
 
 -- the answer is a conflict exactly where one is found
-pub conflict-decided : {V : Type 0} (m : Machine V) (s : Submission V) → ((key : Key) × (decision m s ≡ Conflicts key)) ↔ IsConflict (commit_order m) s.snapshot s.writes
+pub conflict-decided : {V : Type 0} (m : Machine V) (s : Submission V) → ((key : Key) × (decision m s ≡ Conflicts key))
+    ↔ IsConflict (commit_order m) s.snapshot s.writes
 conflict-decided {V} m s =
     let h = commit_order m in
     let found = conflict-found h s.snapshot s.writes in
@@ -158,7 +173,8 @@ in_use-none n (s ∷ ss) =
       | false ↦ λ e is. least-below n s ss (grind (arith, nat_tests))
     ] in (
       to (nat_lt (least s ss) n) refl,
-      λ all. let not : nat_lt (least s ss) n ≡ false = not_lt (below-least n s ss all.0 all.1) in ap (λ b. in_use_refusal (cond b (Some (least s ss)) None)) not,
+      λ all. let not : nat_lt (least s ss) n ≡ false =
+          not_lt (below-least n s ss all.0 all.1) in ap (λ b. in_use_refusal (cond b (Some (least s ss)) None)) not,
     )
 
 covers-covered : (scope : Option ℕ) → IsTrue (covers scope (covered scope))
@@ -166,7 +182,8 @@ covers-covered None = refl
 covers-covered (Some only) = grind (arith, nat_tests)
 
 -- a floor above that of one relation that it covers is above each
-rises-all : {V : Type 0} (m : Machine V) (r : Raising) → (r.scope ≡ None → (relation : ℕ) → m.floors relation ≡ m.floors 0) → m.floors (covered r.scope) < r.floor → (relation : ℕ) → IsTrue (covers r.scope relation) → m.floors relation < r.floor
+rises-all : {V : Type 0} (m : Machine V) (r : Raising) → (r.scope ≡ None → (relation : ℕ) → m.floors relation ≡ m.floors 0)
+    → m.floors (covered r.scope) < r.floor → (relation : ℕ) → IsTrue (covers r.scope relation) → m.floors relation < r.floor
 rises-all m r one above relation covered_by =
     let Goal : Option ℕ → Type 0 = λ o. r.scope ≡ o → m.floors (covered o) < r.floor → IsTrue (covers o relation) → m.floors relation < r.floor in
     let all : (o : Option ℕ) → Goal o = λ o. elim o as Goal [
@@ -175,12 +192,15 @@ rises-all m r one above relation covered_by =
     ] in
     all r.scope refl above covered_by
 
-pub floor-refused : {V : Type 0} (m : Machine V) (r : Raising) → (r.scope ≡ None → (relation : ℕ) → m.floors relation ≡ m.floors 0) → (floor_refusal m r ≡ None) ↔ MayRaise m r
+pub floor-refused : {V : Type 0} (m : Machine V) (r : Raising) → (r.scope ≡ None → (relation : ℕ) → m.floors relation ≡ m.floors 0) → (floor_refusal m r ≡ None)
+    ↔ MayRaise m r
 floor-refused m r one =
     let low = m.floors (covered r.scope) in
     let end = last m.published in
     let unused = in_use-none r.floor m.snapshots in
-    let To : Bool → Bool → Type 0 = λ a b. nat_le r.floor low ≡ a → nat_lt end r.floor ≡ b → cond a (Some NothingToDo) (cond b (Some (NotYet end)) (in_use_refusal (in_use_below m.snapshots r.floor))) ≡ None → MayRaise m r in
+    let To : Bool → Bool → Type 0 =
+    λ a b. nat_le r.floor low ≡ a → nat_lt end r.floor ≡ b
+    → cond a (Some NothingToDo) (cond b (Some (NotYet end)) (in_use_refusal (in_use_below m.snapshots r.floor))) ≡ None → MayRaise m r in
     let to : (a b : Bool) → To a b = λ a b. elim a as (λ a. To a b) [
       | true ↦ λ e k is. absurd cc
       | false ↦ elim b as (λ b. To false b) [

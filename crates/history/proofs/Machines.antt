@@ -1,5 +1,6 @@
 -- What every run of the machine keeps.
-use Rattle.std.proofs.Common.{◌≡◌, ℕ, ◌≤◌, Bool, true, false, cond, List, [], ◌∷◌, ◌++◌, length, take, drop, Option, Some, None, refl, ap, sym, subst, ◌∙◌, arith, take-append-drop, length-append, ⊎_elim}
+use Rattle.std.proofs.Common.{◌≡◌, ℕ, ◌≤◌, Bool, true, false, cond, List, [], ◌∷◌, ◌++◌, length, take, drop, Option, Some, None, refl, ap, sym, subst, ◌∙◌}
+use Rattle.std.proofs.Common.{arith, take-append-drop, length-append, ⊎_elim}
 use Rattle.std.specs.Prelude.{Contains, IsPermutation, MatchOption}
 use Rattle.std.specs.List.{AllByRecursion}
 use Rattle.std.proofs.lemmas.List.{append-nil}
@@ -8,7 +9,9 @@ use Rattle.history.specs.Floors.{Raising, covers, raised}
 use Rattle.history.specs.Histories.{History, last_after, last, IsHistory, HasRisingTimes}
 use Rattle.history.specs.Machine.{Machine, Gate, Due, MayBeOpen, commit_order, opened, IsRaisable, MayRaise, IsKeptSnapshot, IsMachine}
 use Rattle.history.specs.Submissions.{Decision, Reads, Conflicts, Ends, Queues}
-use Rattle.history.specs.Steps.{Event, Began, BeginRefused, Aborted, Decided, Refused, GroupBegan, Published, FloorStarted, FloorRefused, FloorPublished, GateDue, GateWritten, Broke, begun, decided, grouped, group_published, floor_started, floor_published, gated, broken, GivesUp, Step, Run}
+use Rattle.history.specs.Steps.{Event, Began, BeginRefused, Aborted, Decided, Refused, GroupBegan, Published, FloorStarted, FloorRefused, FloorPublished}
+use Rattle.history.specs.Steps.{GateDue, GateWritten, Broke, begun, decided, grouped, group_published, floor_started, floor_published, gated, broken, GivesUp}
+use Rattle.history.specs.Steps.{Step, Run}
 use Rattle.history.proofs.Members.{Contains-cons_cases, Contains-head, Contains-tail, Contains-nil}
 use Rattle.history.proofs.Histories.{last_after-append, rising-from_following}
 use Rattle.history.proofs.Runs.{last-later, step-history}
@@ -51,12 +54,14 @@ rising-behind t [] ys up = up
 rising-behind t (c ∷ cs) ys up = rising-behind c.time cs ys up.2
 
 -- what is published last is not earlier once a group is published
-last-grows : {V : Type 0} (IsValue : V → Type 0) (m : Machine V) → IsHistory IsValue (commit_order m) → last m.published ≤ last (m.published ++ take m.group m.queue)
+last-grows : {V : Type 0} (IsValue : V → Type 0) (m : Machine V) → IsHistory IsValue (commit_order m)
+    → last m.published ≤ last (m.published ++ take m.group m.queue)
 last-grows {V} IsValue m history =
     let up : HasRisingTimes 0 (m.published ++ m.queue) = rising-from_following IsValue [] (commit_order m) history in
     let behind : HasRisingTimes (last m.published) m.queue = rising-behind 0 m.published m.queue up in
     let front : HasRisingTimes (last m.published) (take m.group m.queue) =
-    rising-front (last m.published) (take m.group m.queue) (drop m.group m.queue) (subst (HasRisingTimes (last m.published)) (sym (take-append-drop m.group m.queue)) behind) in
+    rising-front (last m.published) (take m.group m.queue) (drop m.group m.queue)
+    (subst (HasRisingTimes (last m.published)) (sym (take-append-drop m.group m.queue)) behind) in
     let later = last-later (last m.published) (take m.group m.queue) front in
     omega (arith, later, last_after-append 0 m.published (take m.group m.queue))
 
@@ -68,7 +73,8 @@ kept-later floors s t snapshot le kept = record { published = omega (arith, kept
 raise-later : (floors : ℕ → ℕ) (s t : ℕ) (snapshots : List ℕ) (r : Raising) → s ≤ t → IsRaisable floors s snapshots r → IsRaisable floors t snapshots r
 raise-later floors s t snapshots r le may = record { rises = may.rises; upto_last = omega (arith, may.upto_last); in_use = may.in_use }
 
-pub opened-machine : {V : Type 0} (IsValue : V → Type 0) (h : History V) (floors : ℕ → ℕ) → IsHistory IsValue h → ((relation : ℕ) → floors relation ≤ last h) → IsMachine IsValue (opened h floors)
+pub opened-machine : {V : Type 0} (IsValue : V → Type 0) (h : History V) (floors : ℕ → ℕ) → IsHistory IsValue h → ((relation : ℕ) → floors relation ≤ last h)
+    → IsMachine IsValue (opened h floors)
 opened-machine IsValue h floors history reached = record {
   history = subst (IsHistory IsValue) (sym (append-nil h)) history;
   group_few = omega arith;
@@ -86,11 +92,17 @@ module _ {V : Type 0} (IsValue : V → Type 0) (old : Machine V) (is : IsMachine
     group_queued = is.group_queued;
     floors_reached = is.floors_reached;
     snapshots = (record { published = omega arith; kept = is.floors_reached }, is.snapshots);
-    raising = option-map (MayRaise old) (MayRaise (begun old)) old.raising (λ r may. record { rises = may.rises; upto_last = may.upto_last; in_use = (may.upto_last, may.in_use) }) is.raising;
+    raising =
+        option-map (MayRaise old) (MayRaise (begun old)) old.raising (λ r may. record {
+          rises = may.rises;
+          upto_last = may.upto_last;
+          in_use = (may.upto_last, may.in_use);
+        }) is.raising;
   }
 
   -- a transaction is over, and the queue may be longer
-  after-given_up : (queue : History V) (snapshot : ℕ) (rest : List ℕ) → length old.queue ≤ length queue → IsPermutation old.snapshots (snapshot ∷ rest) → IsHistory IsValue (old.published ++ queue)
+  after-given_up : (queue : History V) (snapshot : ℕ) (rest : List ℕ) → length old.queue ≤ length queue → IsPermutation old.snapshots (snapshot ∷ rest)
+      → IsHistory IsValue (old.published ++ queue)
       → IsMachine IsValue (record old { queue = queue; snapshots = rest })
   after-given_up queue snapshot rest longer moved history = record {
     history = history;
@@ -99,7 +111,11 @@ module _ {V : Type 0} (IsValue : V → Type 0) (old : Machine V) (is : IsMachine
     floors_reached = is.floors_reached;
     snapshots = all-left (IsKeptSnapshot old.floors (last old.published)) old.snapshots snapshot rest moved is.snapshots;
     raising = option-map (MayRaise old) (IsRaisable old.floors (last old.published) rest) old.raising
-        (λ r may. record { rises = may.rises; upto_last = may.upto_last; in_use = all-left (λ s. r.floor ≤ s) old.snapshots snapshot rest moved may.in_use }) is.raising;
+        (λ r may. record {
+          rises = may.rises;
+          upto_last = may.upto_last;
+          in_use = all-left (λ s. r.floor ≤ s) old.snapshots snapshot rest moved may.in_use;
+        }) is.raising;
   }
 
   after-grouped : IsMachine IsValue (grouped old)
@@ -121,8 +137,12 @@ module _ {V : Type 0} (IsValue : V → Type 0) (old : Machine V) (is : IsMachine
         group_few = omega arith;
         group_queued = omega arith;
         floors_reached = λ relation. omega (arith, is.floors_reached relation, grows);
-        snapshots = all-map (IsKeptSnapshot old.floors (last old.published)) (IsKeptSnapshot old.floors end) old.snapshots (λ s kept. kept-later old.floors (last old.published) end s grows kept) is.snapshots;
-        raising = option-map (MayRaise old) (IsRaisable old.floors end old.snapshots) old.raising (λ r may. raise-later old.floors (last old.published) end old.snapshots r grows may) is.raising;
+        snapshots =
+            all-map (IsKeptSnapshot old.floors (last old.published)) (IsKeptSnapshot old.floors end) old.snapshots
+            (λ s kept. kept-later old.floors (last old.published) end s grows kept) is.snapshots;
+        raising =
+            option-map (MayRaise old) (IsRaisable old.floors end old.snapshots) old.raising
+            (λ r may. raise-later old.floors (last old.published) end old.snapshots r grows may) is.raising;
       }
 
   after-started : (r : Raising) → MayRaise old r → IsMachine IsValue (floor_started old r)
@@ -157,7 +177,9 @@ module _ {V : Type 0} (IsValue : V → Type 0) (old : Machine V) (is : IsMachine
     group_few = is.group_few;
     group_queued = is.group_queued;
     floors_reached = λ relation. raised-by r (last old.published) relation may.upto_last (is.floors_reached relation);
-    snapshots = all-both (IsKeptSnapshot old.floors (last old.published)) (λ s. r.floor ≤ s) (IsKeptSnapshot (raised r.scope r.floor old.floors) (last old.published)) old.snapshots
+    snapshots =
+        all-both (IsKeptSnapshot old.floors (last old.published)) (λ s. r.floor ≤ s) (IsKeptSnapshot (raised r.scope r.floor old.floors) (last old.published))
+        old.snapshots
         (λ s kept above. record { published = kept.published; kept = λ relation. raised-by r s relation above (kept.kept relation) }) is.snapshots may.in_use;
     raising = tt;
   }
@@ -183,36 +205,44 @@ module _ {V : Type 0} (IsValue : V → Type 0) (old : Machine V) (is : IsMachine
   }
 
   -- the queue after a decision, and what else it leaves
-  decided-machine : (answer : Decision V) (snapshot : ℕ) (rest : List ℕ) → IsPermutation (decided old answer).snapshots (snapshot ∷ rest) → IsHistory IsValue (commit_order (decided old answer)) → IsMachine IsValue (record (decided old answer) { snapshots = rest })
+  decided-machine : (answer : Decision V) (snapshot : ℕ) (rest : List ℕ) → IsPermutation (decided old answer).snapshots (snapshot ∷ rest)
+      → IsHistory IsValue (commit_order (decided old answer)) → IsMachine IsValue (record (decided old answer) { snapshots = rest })
   decided-machine answer snapshot rest moved history =
-      elim answer as (λ (d : Decision V). IsPermutation (decided old d).snapshots (snapshot ∷ rest) → IsHistory IsValue (commit_order (decided old d)) → IsMachine IsValue (record (decided old d) { snapshots = rest })) [
+      elim answer as (λ (d : Decision V). IsPermutation (decided old d).snapshots (snapshot ∷ rest) → IsHistory IsValue (commit_order (decided old d))
+      → IsMachine IsValue (record (decided old d) { snapshots = rest })) [
         | Reads ↦ λ m h. after-given_up old.queue snapshot rest (omega arith) m h
         | Conflicts key ↦ λ m h. after-given_up old.queue snapshot rest (omega arith) m h
         | Ends ↦ λ m h. after-given_up old.queue snapshot rest (omega arith) m h
         | Queues c ↦ λ m h. after-given_up (old.queue ++ c ∷ []) snapshot rest (omega (arith, length-append old.queue (c ∷ []))) m h
       ] moved history
 
-pub step-machine : {V : Type 0} (IsValue : V → Type 0) (old new : Machine V) (event : Event V) → IsMachine IsValue old → Step IsValue old event new → IsMachine IsValue new
+pub step-machine : {V : Type 0} (IsValue : V → Type 0) (old new : Machine V) (event : Event V) → IsMachine IsValue old → Step IsValue old event new
+    → IsMachine IsValue new
 step-machine IsValue old new (Began snapshot) is step = subst (IsMachine IsValue) (sym step.2) (after-begun IsValue old is is.history)
 step-machine IsValue old new (BeginRefused why) is step = subst (IsMachine IsValue) (sym step.1) is
-step-machine IsValue old new (Aborted snapshot) is step = subst (IsMachine IsValue) (sym step.2) (after-given_up IsValue old is old.queue snapshot step.0 (omega arith) step.1 is.history)
+step-machine IsValue old new (Aborted snapshot) is step =
+    subst (IsMachine IsValue) (sym step.2) (after-given_up IsValue old is old.queue snapshot step.0 (omega arith) step.1 is.history)
 step-machine {V} IsValue old new (Decided s answer) is step =
     let history : IsHistory IsValue (commit_order (decided old answer)) =
     subst (λ (m : Machine V). IsHistory IsValue (commit_order m)) step.3.2 (step-history IsValue old new (Decided s answer) is.history step) in
     subst (IsMachine IsValue) (sym step.3.2) (decided-machine IsValue old is answer s.snapshot step.3.0 step.3.1 history)
-step-machine IsValue old new (Refused s why) is step = subst (IsMachine IsValue) (sym step.1.2) (after-given_up IsValue old is old.queue s.snapshot step.1.0 (omega arith) step.1.1 is.history)
+step-machine IsValue old new (Refused s why) is step =
+    subst (IsMachine IsValue) (sym step.1.2) (after-given_up IsValue old is old.queue s.snapshot step.1.0 (omega arith) step.1.1 is.history)
 step-machine IsValue old new GroupBegan is step = subst (IsMachine IsValue) (sym step.3) (after-grouped IsValue old is)
 step-machine {V} IsValue old new (Published size) is step =
-    let history : IsHistory IsValue (commit_order (group_published old)) = subst (λ (m : Machine V). IsHistory IsValue (commit_order m)) step.4 (step-history IsValue old new (Published size) is.history step) in
+    let history : IsHistory IsValue (commit_order (group_published old)) =
+    subst (λ (m : Machine V). IsHistory IsValue (commit_order m)) step.4 (step-history IsValue old new (Published size) is.history step) in
     subst (IsMachine IsValue) (sym step.4) (after-published IsValue old is history)
 step-machine IsValue old new (FloorStarted r) is step = subst (IsMachine IsValue) (sym step.3) (after-started IsValue old is r step.2)
 step-machine IsValue old new (FloorRefused r why) is step = subst (IsMachine IsValue) (sym step.2) is
-step-machine IsValue old new (FloorPublished r) is step = subst (IsMachine IsValue) (sym step.3) (after-raised IsValue old is r (in-the-making IsValue old is r step.1))
+step-machine IsValue old new (FloorPublished r) is step =
+    subst (IsMachine IsValue) (sym step.3) (after-raised IsValue old is r (in-the-making IsValue old is r step.1))
 step-machine IsValue old new (GateDue change) is step = subst (IsMachine IsValue) (sym step.3) (after-gated IsValue old is (Due change))
 step-machine IsValue old new (GateWritten change) is step = subst (IsMachine IsValue) (sym step.2) (after-gated IsValue old is (MayBeOpen change))
 step-machine IsValue old new Broke is step = subst (IsMachine IsValue) (sym step.1) (after-broken IsValue old is)
 
-pub run-machine : {V : Type 0} (IsValue : V → Type 0) (old new : Machine V) (events : List (Event V)) → IsMachine IsValue old → Run IsValue old events new → IsMachine IsValue new
+pub run-machine : {V : Type 0} (IsValue : V → Type 0) (old new : Machine V) (events : List (Event V)) → IsMachine IsValue old → Run IsValue old events new
+    → IsMachine IsValue new
 run-machine IsValue old new [] is run = subst (IsMachine IsValue) (sym run) is
 run-machine IsValue old new (event ∷ events) is run = run-machine IsValue run.0 new events (step-machine IsValue old run.0 event is run.1) run.2
 
@@ -224,14 +254,17 @@ floors-decided m (Conflicts key) relation = refl
 floors-decided m Ends relation = refl
 floors-decided m (Queues c) relation = refl
 
-same-floors : {V : Type 0} (old m new : Machine V) (relation : ℕ) → m.floors relation ≡ old.floors relation → new ≡ m → old.floors relation ≤ new.floors relation
+same-floors : {V : Type 0} (old m new : Machine V) (relation : ℕ) → m.floors relation ≡ old.floors relation → new ≡ m
+    → old.floors relation ≤ new.floors relation
 same-floors {V} old m new relation same is = omega (arith, same, ap (λ (x : Machine V). x.floors relation) is)
 
-step-floors : {V : Type 0} (IsValue : V → Type 0) (old new : Machine V) (event : Event V) (relation : ℕ) → IsMachine IsValue old → Step IsValue old event new → old.floors relation ≤ new.floors relation
+step-floors : {V : Type 0} (IsValue : V → Type 0) (old new : Machine V) (event : Event V) (relation : ℕ) → IsMachine IsValue old → Step IsValue old event new
+    → old.floors relation ≤ new.floors relation
 step-floors IsValue old new (Began snapshot) relation is step = same-floors old (begun old) new relation refl step.2
 step-floors IsValue old new (BeginRefused why) relation is step = same-floors old old new relation refl step.1
 step-floors IsValue old new (Aborted snapshot) relation is step = same-floors old (record old { snapshots = step.0 }) new relation refl step.2
-step-floors IsValue old new (Decided s answer) relation is step = same-floors old (record (decided old answer) { snapshots = step.3.0 }) new relation (floors-decided old answer relation) step.3.2
+step-floors IsValue old new (Decided s answer) relation is step =
+    same-floors old (record (decided old answer) { snapshots = step.3.0 }) new relation (floors-decided old answer relation) step.3.2
 step-floors IsValue old new (Refused s why) relation is step = same-floors old (record old { snapshots = step.1.0 }) new relation refl step.1.2
 step-floors IsValue old new GroupBegan relation is step = same-floors old (grouped old) new relation refl step.3
 step-floors IsValue old new (Published size) relation is step = same-floors old (group_published old) new relation refl step.4
@@ -243,7 +276,8 @@ step-floors IsValue old new (GateDue change) relation is step = same-floors old 
 step-floors IsValue old new (GateWritten change) relation is step = same-floors old (gated old (MayBeOpen change)) new relation refl step.2
 step-floors IsValue old new Broke relation is step = same-floors old (broken old) new relation refl step.1
 
-pub run-floors : {V : Type 0} (IsValue : V → Type 0) (old new : Machine V) (events : List (Event V)) (relation : ℕ) → IsMachine IsValue old → Run IsValue old events new → old.floors relation ≤ new.floors relation
+pub run-floors : {V : Type 0} (IsValue : V → Type 0) (old new : Machine V) (events : List (Event V)) (relation : ℕ) → IsMachine IsValue old
+    → Run IsValue old events new → old.floors relation ≤ new.floors relation
 run-floors IsValue old new [] relation is run = same-floors old old new relation refl run
 run-floors IsValue old new (event ∷ events) relation is run =
     let first = step-floors IsValue old run.0 event relation is run.1 in
@@ -258,9 +292,11 @@ not_both b h k = absurd (let no : true ≡ false = sym h ∙ k in cc)
 given_up : {V : Type 0} (old new : Machine V) (snapshot : ℕ) → GivesUp old snapshot new → new ≡ record old { snapshots = new.snapshots }
 given_up {V} old new snapshot gives = gives.2 ∙ ap (λ (l : List ℕ). record old { snapshots = l }) (ap (λ (m : Machine V). m.snapshots) (sym gives.2))
 
-refused-failed : {V : Type 0} (old new : Machine V) (event : Event V) (IsValue : V → Type 0) → old.failed ≡ true → Step IsValue old event new → new ≡ record old { snapshots = new.snapshots }
+refused-failed : {V : Type 0} (old new : Machine V) (event : Event V) (IsValue : V → Type 0) → old.failed ≡ true → Step IsValue old event new → new
+    ≡ record old { snapshots = new.snapshots }
 refused-failed old new (Began snapshot) IsValue failed step = absurd (not_both old.failed failed step.0)
-refused-failed {V} old new (BeginRefused why) IsValue failed step = step.1 ∙ ap (λ (l : List ℕ). record old { snapshots = l }) (ap (λ (m : Machine V). m.snapshots) (sym step.1))
+refused-failed {V} old new (BeginRefused why) IsValue failed step =
+    step.1 ∙ ap (λ (l : List ℕ). record old { snapshots = l }) (ap (λ (m : Machine V). m.snapshots) (sym step.1))
 refused-failed old new (Aborted snapshot) IsValue failed step = given_up old new snapshot step
 refused-failed old new (Decided s answer) IsValue failed step = absurd (not_both old.failed failed step.0)
 refused-failed old new (Refused s why) IsValue failed step = given_up old new s.snapshot step.1
@@ -273,7 +309,8 @@ refused-failed old new (GateDue change) IsValue failed step = absurd (not_both o
 refused-failed old new (GateWritten change) IsValue failed step = absurd (not_both old.failed failed step.0)
 refused-failed old new Broke IsValue failed step = absurd (not_both old.failed failed step.0)
 
-pub run-failed : {V : Type 0} (IsValue : V → Type 0) (old new : Machine V) (events : List (Event V)) → old.failed ≡ true → Run IsValue old events new → new ≡ record old { snapshots = new.snapshots }
+pub run-failed : {V : Type 0} (IsValue : V → Type 0) (old new : Machine V) (events : List (Event V)) → old.failed ≡ true → Run IsValue old events new → new
+    ≡ record old { snapshots = new.snapshots }
 run-failed {V} IsValue old new [] failed run = run ∙ ap (λ (l : List ℕ). record old { snapshots = l }) (ap (λ (m : Machine V). m.snapshots) (sym run))
 run-failed {V} IsValue old new (event ∷ events) failed run =
     let mid = run.0 in

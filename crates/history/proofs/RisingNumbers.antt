@@ -1,5 +1,6 @@
 -- Lists of rising numbers: what the order by index says of them, and a rising list for each list of numbers.
-use Rattle.std.proofs.Common.{◌≡◌, ℕ, ◌+◌, ◌<◌, ◌≤◌, zero, suc, Bool, true, false, cond, nat_lt, List, [], ◌∷◌, map, length, refl, subst, arith, ◌⊎◌, inl, inr, ⊎_elim}
+use Rattle.std.proofs.Common.{◌≡◌, ℕ, ◌+◌, ◌<◌, ◌≤◌, zero, suc, Bool, true, false, cond, nat_lt, List, [], ◌∷◌, map, length, refl, subst, arith, ◌⊎◌, inl, inr}
+use Rattle.std.proofs.Common.{⊎_elim}
 use Rattle.std.specs.Prelude.{Contains, filter, slice_index}
 use Rattle.std.specs.List.Sorted.{IsStrictlyIncreasing}
 use Rattle.std.proofs.lemmas.Bool.Decides.{nat_tests}
@@ -13,7 +14,8 @@ pub rising-lower : {X : Type 0} (f : X → ℕ) (n m : ℕ) (xs : List X) → n 
 rising-lower f n m [] le up = tt
 rising-lower f n m (x ∷ xs) le up = (omega (arith, up.0, le), up.1)
 
-rising-at : {X : Type 0} (f : X → ℕ) (n : ℕ) (xs : List X) → IsRisingFrom f n xs → (k : ℕ) → k + 1 < length (map f xs) → slice_index (map f xs) k < slice_index (map f xs) (k + 1)
+rising-at : {X : Type 0} (f : X → ℕ) (n : ℕ) (xs : List X) → IsRisingFrom f n xs → (k : ℕ) → k + 1 < length (map f xs)
+    → slice_index (map f xs) k < slice_index (map f xs) (k + 1)
 rising-at f n [] up k lt = absurd (omega (arith, lt))
 rising-at f n (x ∷ []) up k lt = absurd (omega (arith, lt))
 rising-at f n (x ∷ y ∷ ys) up zero lt = omega (arith, up.1.0)
@@ -29,7 +31,13 @@ filter-rising f p n [] up = tt
 filter-rising {X} f p n (x ∷ xs) up =
     let rest = filter-rising f p (f x + 1) xs up.1 in
     let le : n ≤ f x + 1 = omega (arith, up.0) in
-    elim (p x) as (λ b. IsRisingFrom f n (cond b (x ∷ filter p xs) (filter p xs))) [ true ↦ (up.0, rest) | false ↦ rising-lower f n (f x + 1) (filter p xs) le rest ]
+    elim (p x) as (λ b. IsRisingFrom f n (cond b (x ∷ filter p xs) (filter p xs))) [
+      | true ↦ (
+        up.0,
+        rest,
+      )
+      | false ↦ rising-lower f n (f x + 1) (filter p xs) le rest
+    ]
 
 -- ---- a rising list for each list
 
@@ -52,7 +60,8 @@ compare a b =
     all (nat_lt a b) (nat_lt b a) refl refl
 
 insertion : (n number : ℕ) (xs : List ℕ) → n ≤ number → IsRisingFrom (λ (k : ℕ). k) n xs → (ys : List ℕ) × IsInserted n number xs ys
-insertion n number [] le up = (number ∷ [], record { rising = (omega (arith, le), tt); has_it = Contains-head number [] number refl; has_those = λ k has. absurd (Contains-nil k has) })
+insertion n number [] le up =
+    (number ∷ [], record { rising = (omega (arith, le), tt); has_it = Contains-head number [] number refl; has_those = λ k has. absurd (Contains-nil k has) })
 insertion n number (x ∷ xs) le up =
     let Found : Type 0 = (ys : List ℕ) × IsInserted n number (x ∷ xs) ys in
     let before : number < x → Found = λ lt. (

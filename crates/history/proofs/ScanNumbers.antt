@@ -40,7 +40,9 @@ written-in {V} (w ∷ ws) key write =
 pub written-of : {V : Type 0} (h : History V) (key : Key) → writes_of h key ≢ [] → Contains (numbers_of h) key.record
 written-of [] key = λ some. absurd (some refl)
 written-of {V} (c ∷ cs) key =
-    let Goal : Option (Option V) → Type 0 = λ o. write_in c.writes key ≡ o → cons_option (option_map (λ write. record { time = c.time; write = write }) o) (writes_of cs key) ≢ [] → Contains (numbers_of (c ∷ cs)) key.record in
+    let Goal : Option (Option V) → Type 0 =
+    λ o. write_in c.writes key ≡ o → cons_option (option_map (λ write. record { time = c.time; write = write }) o) (writes_of cs key) ≢ []
+    → Contains (numbers_of (c ∷ cs)) key.record in
     let all : (o : Option (Option V)) → Goal o = λ o. elim o as Goal [
       | None ↦ λ e some. Contains-append_right (numbers_in c.writes) (numbers_of cs) key.record (written-of cs key some)
       | Some write ↦ λ e some. Contains-append_left (numbers_in c.writes) (numbers_of cs) key.record (written-in c.writes key write e)
@@ -54,9 +56,11 @@ state-written {V} h time key value is = written-of h key (λ empty.
 pub between-written : {V : Type 0} (h : History V) (key : Key) (a b : ℕ) → between h key a b ≢ [] → Contains (numbers_of h) key.record
 between-written {V} h key a b some = written-of h key (λ empty. some (ap (λ (ws : List (TimedWrite V)). rows (versions ws) a b) empty))
 
-pub seen-written : {V : Type 0} (h : History V) (snapshot : ℕ) (writes : List (KeyWrite V)) (key : Key) (value : V) → seen h snapshot writes key ≡ Some value → Contains (numbers_in writes ++ numbers_of h) key.record
+pub seen-written : {V : Type 0} (h : History V) (snapshot : ℕ) (writes : List (KeyWrite V)) (key : Key) (value : V) → seen h snapshot writes key ≡ Some value
+    → Contains (numbers_in writes ++ numbers_of h) key.record
 seen-written {V} h snapshot writes key value =
-    let Goal : Option (Option V) → Type 0 = λ o. write_in writes key ≡ o → unwrap_or o (state h snapshot key) ≡ Some value → Contains (numbers_in writes ++ numbers_of h) key.record in
+    let Goal : Option (Option V) → Type 0 =
+    λ o. write_in writes key ≡ o → unwrap_or o (state h snapshot key) ≡ Some value → Contains (numbers_in writes ++ numbers_of h) key.record in
     let all : (o : Option (Option V)) → Goal o = λ o. elim o as Goal [
       | None ↦ λ e is. Contains-append_right (numbers_in writes) (numbers_of h) key.record (state-written h snapshot key value is)
       | Some write ↦ λ e is. Contains-append_left (numbers_in writes) (numbers_of h) key.record (written-in writes key write e)

@@ -28,7 +28,8 @@ entry-is {V} f n number value is =
     let same : (number ≡ n) × (f n ≡ Some value) = entry-same n (f n) (number, value) is in
     ap f same.0 ∙ same.1
 
-entries-rising : {V : Type 0} (f : ℕ → Option V) (n : ℕ) (ns : List ℕ) → IsRisingFrom (λ (k : ℕ). k) n ns → IsRisingFrom (λ (p : ℕ × V). p.0) n (filter_map (entry f) ns)
+entries-rising : {V : Type 0} (f : ℕ → Option V) (n : ℕ) (ns : List ℕ) → IsRisingFrom (λ (k : ℕ). k) n ns
+    → IsRisingFrom (λ (p : ℕ × V). p.0) n (filter_map (entry f) ns)
 entries-rising f n [] up = tt
 entries-rising {V} f n (x ∷ xs) up =
     let found : List (ℕ × V) = filter_map (entry f) xs in
@@ -37,7 +38,8 @@ entries-rising {V} f n (x ∷ xs) up =
     let Goal : Option V → Type 0 = λ o. IsRisingFrom (λ (p : ℕ × V). p.0) n (cons_option (option_map (λ v. (x, v)) o) found) in
     elim (f x) as Goal [ None ↦ rising-lower (λ (p : ℕ × V). p.0) n (x + 1) found le rest | Some v ↦ (up.0, rest) ]
 
-pub scan-made : {V : Type 0} (values : Key → Option V) (relation : ℕ) (numbers : List ℕ) → ((number : ℕ) (value : V) → values (key_of relation number) ≡ Some value → Contains numbers number)
+pub scan-made : {V : Type 0} (values : Key → Option V) (relation : ℕ) (numbers : List ℕ)
+    → ((number : ℕ) (value : V) → values (key_of relation number) ≡ Some value → Contains numbers number)
     → (found : List (ℕ × V)) × IsScan values relation found
 scan-made {V} values relation numbers named =
     let f : ℕ → Option V = λ n. values (key_of relation n) in
@@ -48,7 +50,11 @@ scan-made {V} values relation numbers named =
         rising = rising-increasing (λ (p : ℕ × V). p.0) 0 found (entries-rising f 0 all.0 all.1);
         each = λ number value. (
           λ has. let from = (Contains-filter_map (entry f) all.0 (number, value)).0 has in entry-is f from.0 number value from.2,
-          λ is. (Contains-filter_map (entry f) all.0 (number, value)).1 (number, all.2 number (named number value is), ap (option_map (λ (v : V). (number, v))) is),
+          λ is. (Contains-filter_map (entry f) all.0 (number, value)).1 (
+            number,
+            all.2 number (named number value is),
+            ap (option_map (λ (v : V). (number, v))) is,
+          ),
         );
       },
     )
@@ -71,7 +77,8 @@ map-same : (ns : List ℕ) → map (λ (n : ℕ). n) ns ≡ ns
 map-same [] = refl
 map-same (n ∷ ns) = ap (λ (l : List ℕ). n ∷ l) (map-same ns)
 
-pub scan_of_rows-made : {V : Type 0} (rows : Key → List (Version V)) (relation : ℕ) (numbers : List ℕ) → ((number : ℕ) → rows (key_of relation number) ≢ [] → Contains numbers number)
+pub scan_of_rows-made : {V : Type 0} (rows : Key → List (Version V)) (relation : ℕ) (numbers : List ℕ)
+    → ((number : ℕ) → rows (key_of relation number) ≢ [] → Contains numbers number)
     → (found : List (ℕ × Version V)) × IsScanOfRows rows relation found
 scan_of_rows-made {V} rows relation numbers named =
     let p : ℕ → Bool = λ n. has_rows (rows (key_of relation n)) in

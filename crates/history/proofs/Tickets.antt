@@ -30,9 +30,11 @@ done-published {V} m time =
       λ found. let test : (found.0.time == time) ≡ true = grind (arith, nat_tests, found.2) in (done-is m time).1 (any.1 (found.0, found.1, test)),
     )
 
-pub done-stays : {V : Type 0} (IsValue : V → Type 0) (old new : Machine V) (events : List (Event V)) (time : ℕ) → Run IsValue old events new → redeemed_by old time ≡ Done time → redeemed_by new time ≡ Done time
+pub done-stays : {V : Type 0} (IsValue : V → Type 0) (old new : Machine V) (events : List (Event V)) (time : ℕ) → Run IsValue old events new
+    → redeemed_by old time ≡ Done time → redeemed_by new time ≡ Done time
 done-stays {V} IsValue old new events time run done =
     let found = (done-published old time).0 done in
     let more = run-shows IsValue old new events run in
-    let has : Contains new.published found.0 = subst (λ (l : History V). Contains l found.0) (sym more.1) (Contains-append_left old.published more.0 found.0 found.1) in
+    let has : Contains new.published found.0 =
+    subst (λ (l : History V). Contains l found.0) (sym more.1) (Contains-append_left old.published more.0 found.0 found.1) in
     (done-published new time).1 (found.0, has, found.2)

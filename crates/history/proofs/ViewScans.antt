@@ -1,5 +1,6 @@
 -- A view's scans are those of its history.
-use Rattle.std.proofs.Common.{◌≡◌, ℕ, ◌+◌, ◌<◌, ◌≤◌, ◌↔◌, min, nat_le, nat_lt, Bool, true, false, cond, List, [], ◌∷◌, ◌++◌, map, Option, Some, None, refl, ap, sym, ◌∙◌, arith}
+use Rattle.std.proofs.Common.{◌≡◌, ℕ, ◌+◌, ◌<◌, ◌≤◌, ◌↔◌, min, nat_le, nat_lt, Bool, true, false, cond, List, [], ◌∷◌, ◌++◌, map, Option, Some, None, refl, ap}
+use Rattle.std.proofs.Common.{sym, ◌∙◌, arith}
 use Rattle.std.specs.Prelude.{flat_map, Result, Ok, Err}
 use Rattle.std.proofs.lemmas.Bool.Decides.{nat_tests}
 use Rattle.history.specs.declared.key.Key.{Key}
@@ -14,7 +15,8 @@ use Rattle.history.proofs.Orders.{not_lt, not_le}
 use Rattle.history.proofs.Views.{at-kept, between-kept, in-range}
 
 -- a scan is of the values of its relation alone
-scan-same : {V : Type 0} (f g : Key → Option V) (relation : ℕ) (found : List (ℕ × V)) → ((number : ℕ) → f (key_of relation number) ≡ g (key_of relation number)) → IsScan f relation found → IsScan g relation found
+scan-same : {V : Type 0} (f g : Key → Option V) (relation : ℕ) (found : List (ℕ × V)) → ((number : ℕ) → f (key_of relation number) ≡ g (key_of relation number))
+    → IsScan f relation found → IsScan g relation found
 scan-same f g relation found same scan = record {
   rising = scan.rising;
   each = λ number value. (
@@ -27,7 +29,8 @@ scan-same f g relation found same scan = record {
 abbrev rows_at : {V : Type 0} → (Key → List (Version V)) → ℕ → ℕ → List (ℕ × Version V)
 rows_at f relation number = map (λ row. (number, row)) (f (key_of relation number))
 
-rows-same : {V : Type 0} (f g : Key → List (Version V)) (relation : ℕ) (numbers : List ℕ) → ((number : ℕ) → f (key_of relation number) ≡ g (key_of relation number))
+rows-same : {V : Type 0} (f g : Key → List (Version V)) (relation : ℕ) (numbers : List ℕ)
+    → ((number : ℕ) → f (key_of relation number) ≡ g (key_of relation number))
     → flat_map (rows_at f relation) numbers ≡ flat_map (rows_at g relation) numbers
 rows-same f g relation [] same = refl
 rows-same {V} f g relation (n ∷ ns) same =
@@ -35,7 +38,8 @@ rows-same {V} f g relation (n ∷ ns) same =
     let one : List (Version V) → List (ℕ × Version V) = λ l. map (λ row. (n, row)) l in
     ap (λ l. one l ++ flat_map (rows_at f relation) ns) (same n) ∙ ap (λ l. rows_at g relation n ++ l) rest
 
-scan_of_rows-same : {V : Type 0} (f g : Key → List (Version V)) (relation : ℕ) (found : List (ℕ × Version V)) → ((number : ℕ) → f (key_of relation number) ≡ g (key_of relation number)) → IsScanOfRows f relation found → IsScanOfRows g relation found
+scan_of_rows-same : {V : Type 0} (f g : Key → List (Version V)) (relation : ℕ) (found : List (ℕ × Version V))
+    → ((number : ℕ) → f (key_of relation number) ≡ g (key_of relation number)) → IsScanOfRows f relation found → IsScanOfRows g relation found
 scan_of_rows-same f g relation found same scan = record {
   numbers = scan.numbers;
   rising = scan.rising;
@@ -49,7 +53,9 @@ scan_of_rows-same f g relation found same scan = record {
 -- what the tests say where none refuses
 pub kept-time : (newest floor t : ℕ) → time_refusal newest floor t ≡ None → (floor ≤ t) × (t ≤ newest)
 kept-time newest floor t =
-    let Goal : Bool → Bool → Type 0 = λ a b. nat_lt t floor ≡ a → nat_lt newest t ≡ b → cond a (Some (BeforeKept floor)) (cond b (Some (NotYet newest)) None) ≡ None → (floor ≤ t) × (t ≤ newest) in
+    let Goal : Bool → Bool → Type 0 =
+    λ a b. nat_lt t floor ≡ a → nat_lt newest t ≡ b → cond a (Some (BeforeKept floor)) (cond b (Some (NotYet newest)) None) ≡ None → (floor ≤ t)
+    × (t ≤ newest) in
     let all : (a b : Bool) → Goal a b = λ a b. elim a as (λ a. Goal a b) [
       | true ↦ λ e k is. absurd cc
       | false ↦ elim b as (λ b. Goal false b) [
@@ -61,7 +67,10 @@ kept-time newest floor t =
 
 kept-start : (newest floor a b : ℕ) → interval_refusal newest floor a b ≡ None → floor ≤ a
 kept-start newest floor a b =
-    let Goal : Bool → Type 0 = λ p. nat_lt (min a b) floor ≡ p → cond p (Some (BeforeKept floor)) (cond (nat_lt (newest + 1) b) (Some (NotYet newest)) (cond (nat_le b a) (Some EmptyInterval) None)) ≡ None → floor ≤ a in
+    let Goal : Bool → Type 0 =
+    λ p. nat_lt (min a b) floor ≡ p
+    → cond p (Some (BeforeKept floor)) (cond (nat_lt (newest + 1) b) (Some (NotYet newest)) (cond (nat_le b a) (Some EmptyInterval) None)) ≡ None
+    → floor ≤ a in
     let all : (p : Bool) → Goal p = λ p. elim p as Goal [
       | true ↦ λ e is. absurd cc
       | false ↦ λ e is. grind (arith, nat_tests)
@@ -76,8 +85,10 @@ time-kept newest floor t from upto =
 
 pub kept-interval : (newest floor a b : ℕ) → interval_refusal newest floor a b ≡ None → (floor ≤ a) × (a < b) × (b ≤ newest + 1)
 kept-interval newest floor a b =
-    let test : Bool → Bool → Bool → Option QueryRefusal = λ p q r. cond p (Some (BeforeKept floor)) (cond q (Some (NotYet newest)) (cond r (Some EmptyInterval) None)) in
-    let Goal : Bool → Bool → Bool → Type 0 = λ p q r. nat_lt (min a b) floor ≡ p → nat_lt (newest + 1) b ≡ q → nat_le b a ≡ r → test p q r ≡ None → (floor ≤ a) × (a < b) × (b ≤ newest + 1) in
+    let test : Bool → Bool → Bool → Option QueryRefusal =
+    λ p q r. cond p (Some (BeforeKept floor)) (cond q (Some (NotYet newest)) (cond r (Some EmptyInterval) None)) in
+    let Goal : Bool → Bool → Bool → Type 0 =
+    λ p q r. nat_lt (min a b) floor ≡ p → nat_lt (newest + 1) b ≡ q → nat_le b a ≡ r → test p q r ≡ None → (floor ≤ a) × (a < b) × (b ≤ newest + 1) in
     let all : (p q r : Bool) → Goal p q r = λ p q r. elim p as (λ p. Goal p q r) [
       | true ↦ λ e k l is. absurd cc
       | false ↦ elim q as (λ q. Goal false q r) [
@@ -103,29 +114,39 @@ module _ {V : Type 0} (view : View V) (h : History V) (is : IsViewOf view h) (up
   pub view-scans : (t : ℕ) (answer : Result (List (ℕ × V)) QueryRefusal) → IsScanAtView view relation t answer ↔ IsScanAtAnswer h view.floors relation t answer
   view-scans t answer =
       let refusal = λ (n : ℕ). time_refusal n (view.floors relation) t in
-      let same : time_refusal view.newest (view.floors relation) t ≡ None → (number : ℕ) → standing_at (kept_in view (key_of relation number)) t ≡ state h t (key_of relation number) =
+      let same : time_refusal view.newest (view.floors relation) t ≡ None → (number : ℕ) → standing_at (kept_in view (key_of relation number)) t
+      ≡ state h t (key_of relation number) =
       λ none number.
       let kept = kept-time view.newest (view.floors relation) t none in
-      at-kept h view.floors view.archived view.reclaimed view.heap view.archive is.homes up (key_of relation number) t kept.0 (in-range view h is up (key_of relation number) t kept.1) in
+      at-kept h view.floors view.archived view.reclaimed view.heap view.archive is.homes up (key_of relation number) t kept.0
+      (in-range view h is up (key_of relation number) t kept.1) in
       let newest : refusal view.newest ≡ refusal (last h) = ap refusal is.newest_is in
       elim answer as (λ answer. IsScanAtView view relation t answer ↔ IsScanAtAnswer h view.floors relation t answer) [
         | Ok found ↦ (
           λ at. (sym newest ∙ at.0, scan-same (λ key. standing_at (kept_in view key) t) (state h t) relation found (same at.0) at.1),
-          λ at. let none : refusal view.newest ≡ None = newest ∙ at.0 in (none, scan-same (state h t) (λ key. standing_at (kept_in view key) t) relation found (λ number. sym (same none number)) at.1),
+          λ at. let none : refusal view.newest ≡ None =
+              newest ∙ at.0 in (none, scan-same (state h t) (λ key. standing_at (kept_in view key) t) relation found (λ number. sym (same none number)) at.1),
         )
         | Err why ↦ (λ at. sym newest ∙ at, λ at. newest ∙ at)
       ]
 
-  pub view-scans_rows : (a b : ℕ) (answer : Result (List (ℕ × Version V)) QueryRefusal) → IsScanBetweenView view relation a b answer ↔ IsScanBetweenAnswer h view.floors relation a b answer
+  pub view-scans_rows : (a b : ℕ) (answer : Result (List (ℕ × Version V)) QueryRefusal) → IsScanBetweenView view relation a b answer
+      ↔ IsScanBetweenAnswer h view.floors relation a b answer
   view-scans_rows a b answer =
       let refusal = λ (n : ℕ). interval_refusal n (view.floors relation) a b in
-      let same : interval_refusal view.newest (view.floors relation) a b ≡ None → (number : ℕ) → rows (kept_in view (key_of relation number)) a b ≡ between h (key_of relation number) a b =
-      λ none number. between-kept h view.floors view.archived view.reclaimed view.heap view.archive is.homes up (key_of relation number) a b (kept-start view.newest (view.floors relation) a b none) in
+      let same : interval_refusal view.newest (view.floors relation) a b ≡ None → (number : ℕ) → rows (kept_in view (key_of relation number)) a b
+      ≡ between h (key_of relation number) a b =
+      λ none number. between-kept h view.floors view.archived view.reclaimed view.heap view.archive is.homes up (key_of relation number) a b
+      (kept-start view.newest (view.floors relation) a b none) in
       let newest : refusal view.newest ≡ refusal (last h) = ap refusal is.newest_is in
       elim answer as (λ answer. IsScanBetweenView view relation a b answer ↔ IsScanBetweenAnswer h view.floors relation a b answer) [
         | Ok found ↦ (
           λ at. (sym newest ∙ at.0, scan_of_rows-same (λ key. rows (kept_in view key) a b) (λ key. between h key a b) relation found (same at.0) at.1),
-          λ at. let none : refusal view.newest ≡ None = newest ∙ at.0 in (none, scan_of_rows-same (λ key. between h key a b) (λ key. rows (kept_in view key) a b) relation found (λ number. sym (same none number)) at.1),
+          λ at. let none : refusal view.newest ≡ None =
+              newest ∙ at.0 in (
+                none,
+                scan_of_rows-same (λ key. between h key a b) (λ key. rows (kept_in view key) a b) relation found (λ number. sym (same none number)) at.1,
+              ),
         )
         | Err why ↦ (λ at. sym newest ∙ at, λ at. newest ∙ at)
       ]

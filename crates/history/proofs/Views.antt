@@ -1,5 +1,6 @@
 -- What is kept in both homes, put together: kept queries are answered as the write sets say.
-use Rattle.std.proofs.Common.{◌≡◌, ℕ, ◌+◌, ◌<◌, ◌≤◌, ◌^◌, min, nat_le, nat_lt, Bool, true, false, cond, List, ◌++◌, Option, Some, None, refl, ap, sym, ◌∙◌, arith}
+use Rattle.std.proofs.Common.{◌≡◌, ℕ, ◌+◌, ◌<◌, ◌≤◌, ◌^◌, min, nat_le, nat_lt, Bool, true, false, cond, List, ◌++◌, Option, Some, None, refl, ap, sym, ◌∙◌}
+use Rattle.std.proofs.Common.{arith}
 use Rattle.std.specs.Prelude.{filter}
 use Rattle.std.proofs.lemmas.List.Elements.{filter-append}
 use Rattle.std.proofs.lemmas.Bool.Decides.{nat_tests}
@@ -20,10 +21,12 @@ later_passes : {V : Type 0} (early late : ℕ) (v : Version V) → early ≤ lat
 later_passes early late v le ends = grind (arith, nat_tests)
 
 -- what ends after a later mark is among what ends after an earlier one
-pub filter-later : {V : Type 0} (early late : ℕ) (vs : List (Version V)) → early ≤ late → filter (ends_after late) (filter (ends_after early) vs) ≡ filter (ends_after late) vs
+pub filter-later : {V : Type 0} (early late : ℕ) (vs : List (Version V)) → early ≤ late → filter (ends_after late) (filter (ends_after early) vs)
+    ≡ filter (ends_after late) vs
 filter-later early late vs le = filter-filter (ends_after late) (ends_after early) vs (λ v h. later_passes early late v le h)
 
-module _ {V : Type 0} (h : History V) (floors : ℕ → ℕ) (archived reclaimed : ℕ) (heap archive : Key → List (Version V)) (homes : AreAtHome h floors archived reclaimed heap archive) (up : HasRisingTimes 0 h) (key : Key) where
+module _ {V : Type 0} (h : History V) (floors : ℕ → ℕ) (archived reclaimed : ℕ) (heap archive : Key
+    → List (Version V)) (homes : AreAtHome h floors archived reclaimed heap archive) (up : HasRisingTimes 0 h) (key : Key) where
   -- the kept versions of both homes, one after the other, are those of the history that end after the floor
   pub kept-is : kept_of (floors key.relation) archived (heap key) (archive key) ≡ filter (ends_after (floors key.relation)) (versions_of h key)
   kept-is =
@@ -70,7 +73,8 @@ module _ {V : Type 0} (h : History V) (floors : ℕ → ℕ) (archived reclaimed
 -- ---- the answers
 
 -- answers that agree where nothing is refused
-answers-at : {X : Type 0} (newest floor t : ℕ) (x y : X) → (floor ≤ t → t ≤ newest → x ≡ y) → unless_refused (time_refusal newest floor t) x ≡ unless_refused (time_refusal newest floor t) y
+answers-at : {X : Type 0} (newest floor t : ℕ) (x y : X) → (floor ≤ t → t ≤ newest → x ≡ y) → unless_refused (time_refusal newest floor t) x
+    ≡ unless_refused (time_refusal newest floor t) y
 answers-at {X} newest floor t x y same =
     let test : Bool → Bool → Option QueryRefusal = λ a b. cond a (Some (BeforeKept floor)) (cond b (Some (NotYet newest)) None) in
     let Goal : Bool → Bool → Type 0 = λ a b. nat_lt t floor ≡ a → nat_lt newest t ≡ b → unless_refused (test a b) x ≡ unless_refused (test a b) y in
@@ -83,9 +87,11 @@ answers-at {X} newest floor t x y same =
     ] in
     all (nat_lt t floor) (nat_lt newest t) refl refl
 
-answers-between : {X : Type 0} (newest floor a b : ℕ) (x y : X) → (floor ≤ a → x ≡ y) → unless_refused (interval_refusal newest floor a b) x ≡ unless_refused (interval_refusal newest floor a b) y
+answers-between : {X : Type 0} (newest floor a b : ℕ) (x y : X) → (floor ≤ a → x ≡ y) → unless_refused (interval_refusal newest floor a b) x
+    ≡ unless_refused (interval_refusal newest floor a b) y
 answers-between {X} newest floor a b x y same =
-    let test : Bool → Bool → Bool → Option QueryRefusal = λ p q r. cond p (Some (BeforeKept floor)) (cond q (Some (NotYet newest)) (cond r (Some EmptyInterval) None)) in
+    let test : Bool → Bool → Bool → Option QueryRefusal =
+    λ p q r. cond p (Some (BeforeKept floor)) (cond q (Some (NotYet newest)) (cond r (Some EmptyInterval) None)) in
     let Goal : Bool → Bool → Bool → Type 0 = λ p q r. nat_lt (min a b) floor ≡ p → unless_refused (test p q r) x ≡ unless_refused (test p q r) y in
     let all : (p q r : Bool) → Goal p q r = λ p q r. elim p as (λ p. Goal p q r) [
       | true ↦ λ e. refl

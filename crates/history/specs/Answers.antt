@@ -24,7 +24,9 @@ time_refusal newest floor time = if nat_lt time floor then Some (BeforeKept floo
 
 -- and of a query of an interval
 abbrev pub interval_refusal : ℕ → ℕ → ℕ → ℕ → Option QueryRefusal
-interval_refusal newest floor a b = if nat_lt (min a b) floor then Some (BeforeKept floor) else if nat_lt (newest + 1) b then Some (NotYet newest) else if nat_le b a then Some EmptyInterval else None
+interval_refusal newest floor a b =
+    if nat_lt (min a b) floor then Some (BeforeKept floor) else if nat_lt (newest + 1) b then Some (NotYet newest) else if nat_le b a then Some EmptyInterval
+    else None
 
 -- the refusal, if there is one, or else this answer
 abbrev pub unless_refused : {X : Type 0} → Option QueryRefusal → X → Result X QueryRefusal

@@ -1,4 +1,5 @@
--- What a stop may leave of a machine: what is published, and once the gate of what is being written may be open, that or what is published with the whole of it.
+-- What a stop may leave of a machine: what is published, and once the gate of what is being written may be open, that or what is published with the whole of
+-- it.
 use Rattle.std.specs.Prelude.{ℕ, ◌⊎◌, ◌++◌, take, Option, None, Some}
 use Rattle.history.specs.Floors.{Raising, raised}
 use Rattle.history.specs.Histories.{History}

@@ -15,4 +15,5 @@ ScanOfRowsExists V = (h : History V) (relation a b : ℕ) → (found : List (ℕ
 
 -- of what a transaction sees
 abbrev pub SeenScanExists : Type 0 → Type 0
-SeenScanExists V = (h : History V) (snapshot : ℕ) (writes : List (KeyWrite V)) (relation : ℕ) → (found : List (ℕ × V)) × IsScanSeen h snapshot writes relation found
+SeenScanExists V =
+    (h : History V) (snapshot : ℕ) (writes : List (KeyWrite V)) (relation : ℕ) → (found : List (ℕ × V)) × IsScanSeen h snapshot writes relation found

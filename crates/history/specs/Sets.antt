@@ -10,7 +10,8 @@ use Rattle.history.specs.Histories.{Commit, History}
 abbrev pub Writes : {V : Type 0} → History V → Key → ℕ → Option V → Type 0
 Writes {V} h key time write = (c : Commit V) × Contains h c × (c.time ≡ time) × (write_in c.writes key ≡ Some write)
 
--- A version of a key by its facts (what is written to it, and when): a value that is written at from, and to is the time of the key's next fact, gone included, or endless.
+-- A version of a key by its facts (what is written to it, and when): a value that is written at from, and to is the time of the key's next fact, gone included,
+-- or endless.
 -- Endless is 2^63, later than every commit, so that to is always a number.
 pub record IsSpan {V : Type 0} (IsFact : ℕ → Option V → Type 0) (v : Version V) : Type 0 where
   pub written : IsFact v.from (Some v.value)

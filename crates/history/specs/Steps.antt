@@ -103,7 +103,8 @@ abbrev pub Step : {V : Type 0} → (V → Type 0) → Machine V → Event V → 
 Step IsValue old (Began snapshot) new = (old.failed ≡ false) × (snapshot ≡ last old.published) × (new ≡ begun old)
 Step IsValue old (BeginRefused why) new = IsBeginRefusal old why × (new ≡ old)
 Step IsValue old (Aborted snapshot) new = GivesUp old snapshot new
-Step IsValue old (Decided s answer) new = (old.failed ≡ false) × IsSubmitted IsValue (commit_order old) s × (answer ≡ decision old s) × GivesUp (decided old answer) s.snapshot new
+Step IsValue old (Decided s answer) new =
+    (old.failed ≡ false) × IsSubmitted IsValue (commit_order old) s × (answer ≡ decision old s) × GivesUp (decided old answer) s.snapshot new
 Step IsValue old (Refused s why) new = IsRefusal old s why × GivesUp old s.snapshot new
 Step IsValue old GroupBegan new = (old.failed ≡ false) × (old.group ≡ 0) × (old.queue ≢ []) × (new ≡ grouped old)
 Step IsValue old (Published size) new = (old.failed ≡ false) × (0 < size) × (size ≡ old.group) × (old.gate ≡ MayBeOpen OfGroup) × (new ≡ group_published old)

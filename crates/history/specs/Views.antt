@@ -52,8 +52,10 @@ recent_between view key a b = unless_refused (interval_refusal view.newest (view
 
 -- the values of a relation at a time
 abbrev pub IsScanAtView : {V : Type 0} → View V → ℕ → ℕ → Result (List (ℕ × V)) QueryRefusal → Type 0
-IsScanAtView view relation time answer = IsScanAnswer (time_refusal view.newest (view.floors relation) time) (IsScan (λ key. standing_at (kept_in view key) time) relation) answer
+IsScanAtView view relation time answer =
+    IsScanAnswer (time_refusal view.newest (view.floors relation) time) (IsScan (λ key. standing_at (kept_in view key) time) relation) answer
 
 -- the rows of a relation from a to b
 abbrev pub IsScanBetweenView : {V : Type 0} → View V → ℕ → ℕ → ℕ → Result (List (ℕ × Version V)) QueryRefusal → Type 0
-IsScanBetweenView view relation a b answer = IsScanAnswer (interval_refusal view.newest (view.floors relation) a b) (IsScanOfRows (λ key. rows (kept_in view key) a b) relation) answer
+IsScanBetweenView view relation a b answer =
+    IsScanAnswer (interval_refusal view.newest (view.floors relation) a b) (IsScanOfRows (λ key. rows (kept_in view key) a b) relation) answer

@@ -108,10 +108,10 @@ survivor-settled later tells at image key time value machine settled survives =
     (record { kept = (settled.kept.0, tt); reached = settled.reached; is = settled.is })
     (record { kept = (settled.kept.0, tt); reached = omega (arith, settled.reached, reached); is = later m.published more time key follow settled.reached ∙ settled.is })
     (λ r is. record { kept = (raised-kept m r key.relation time settled.kept is, tt); reached = settled.reached; is = settled.is })
-    survives
+    survives.front
 
 -- what is published at a moment is in what is kept of it
 pub survivor-has : (tells : Bool) (at : Moment) (image : Image) (c : Commit Value) → Contains at.world.machine.published c → Survives tells at image → KeptLike tells image (λ h floors. Contains h c)
 survivor-has tells at image c has survives =
     let m = at.world.machine in
-    on-front tells image m at.done (λ h floors. Contains h c) has (Contains-append_left m.published (take m.group m.queue) c has) (λ r is. has) survives
+    on-front tells image m at.done (λ h floors. Contains h c) has (Contains-append_left m.published (take m.group m.queue) c has) (λ r is. has) survives.front

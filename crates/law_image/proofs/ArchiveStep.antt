@@ -39,7 +39,8 @@ pub joined : {V : Type 0} (f r a upto s : ℕ) (hv vs : List (Version V)) → r 
     → filter (ends_after f) (filter (ends_by a) vs) ++ filter (ends_after f) (filter (ends_by upto) (filter (ends_after (max a f)) hv))
     ≡ filter (ends_after f) (filter (ends_by upto) vs)
 joined f r a upto s hv vs ra au apart same =
-    let plan : filter (ends_after f) (filter (ends_by upto) (filter (ends_after (max a f)) hv)) ≡ filter (ends_after f) (filter (ends_by upto) (filter (ends_after a) vs)) =
+    let plan : filter (ends_after f) (filter (ends_by upto) (filter (ends_after (max a f)) hv))
+    ≡ filter (ends_after f) (filter (ends_by upto) (filter (ends_after a) vs)) =
     ap (λ l. filter (ends_after f) (filter (ends_by upto) l)) (
     filter-both (ends_after (max a f)) (ends_after a) (ends_after f) hv (λ v. after-both a f v)
     ∙ ap (filter (ends_after a)) same
@@ -47,7 +48,8 @@ joined f r a upto s hv vs ra au apart same =
     ∙ ap (filter (ends_after f)) (filter-later r a vs ra))
     ∙ ap (filter (ends_after f)) (filter-swap (ends_by upto) (ends_after f) (filter (ends_after a) vs))
     ∙ filter-filter (ends_after f) (ends_after f) (filter (ends_by upto) (filter (ends_after a) vs)) (λ v e. e) in
-    let old : filter (ends_by a) vs ≡ filter (ends_by upto) (filter (ends_by a) vs) = sym (filter-swap (ends_by upto) (ends_by a) vs ∙ filter-by a upto vs au) in
+    let old : filter (ends_by a) vs ≡ filter (ends_by upto) (filter (ends_by a) vs) =
+    sym (filter-swap (ends_by upto) (ends_by a) vs ∙ filter-by a upto vs au) in
     ap (λ l. filter (ends_after f) (filter (ends_by a) vs) ++ l) plan
     ∙ ap (λ l. filter (ends_after f) l ++ filter (ends_after f) (filter (ends_by upto) (filter (ends_after a) vs))) old
     ∙ sym (filter-append (ends_after f) (filter (ends_by upto) (filter (ends_by a) vs)) (filter (ends_by upto) (filter (ends_after a) vs)))
@@ -77,10 +79,10 @@ module _ (reading : Reading) (h : History Value) (floors : ℕ → ℕ) (stands 
     opens = record {
       reads = record {
         form = of-slots (with_run reading upto run) slots (record {
-            header = (is).header;
-            log = log-more reading.profile [] reading.log (Archived upto) (is).log may;
-            fits = omega (arith, length-append reading.log (Archived upto ∷ []), room);
-            runs = runs-more floor_of [] reading.log (Archived upto ∷ []) reading.runs (run ∷ []) (is).runs (plan.is_run, tt);
+          header = (is).header;
+          log = log-more reading.profile [] reading.log (Archived upto) (is).log may;
+          fits = omega (arith, length-append reading.log (Archived upto ∷ []), room);
+          runs = runs-more floor_of [] reading.log (Archived upto ∷ []) reading.runs (run ∷ []) (is).runs (plan.is_run, tt);
         });
         members = stands.opens.reads.members
             ∙ ap (λ l. filter (λ (head : Head). nat_lt (reclaim_mark reading.log) head.time) l) (sym same_heads)
@@ -97,18 +99,25 @@ module _ (reading : Reading) (h : History Value) (floors : ℕ → ℕ) (stands 
     };
     homes = record {
       marks = omega (arith, new_archived, same_reclaimed, stands.homes.marks, may.0);
-      in_heap = λ key. stands.homes.in_heap key ∙ ap (λ (r : ℕ). filter (ends_after (floors key.relation)) (filter (ends_after r) (versions_of h key))) (sym same_reclaimed);
+      in_heap =
+          λ key. stands.homes.in_heap key
+          ∙ ap (λ (r : ℕ). filter (ends_after (floors key.relation)) (filter (ends_after r) (versions_of h key))) (sym same_reclaimed);
       in_archive = λ key.
           let f = floors key.relation in
           let a = archived_upto reading in
           let vs = versions_of h key in
           let hv = heap_versions reading key in
-          ap (filter (ends_after f)) (flat_map-append (run_versions key) reading.runs (run ∷ []) ∙ ap (λ l. archived_versions reading key ++ l) (append-nil (run_versions key run)))
+          ap (filter (ends_after f)) (flat_map-append (run_versions key) reading.runs (run ∷ [])
+          ∙ ap (λ l. archived_versions reading key ++ l) (append-nil (run_versions key run)))
           ∙ filter-append (ends_after f) (archived_versions reading key) (run_versions key run)
           ∙ ap (λ l. l ++ filter (ends_after f) (run_versions key run)) (stands.homes.in_archive key)
           ∙ ap (λ l. filter (ends_after f) (filter (ends_by a) vs) ++ filter (ends_after f) l) (plan.each key)
-          ∙ ap (λ (g : ℕ). filter (ends_after f) (filter (ends_by a) vs) ++ filter (ends_after f) (filter (ends_by upto) (filter (ends_after (max a g)) hv))) (stands.opens.floors_given key.relation)
-          ∙ joined f (reclaimed_upto reading) a upto _ hv vs stands.homes.marks (omega (arith, may.0)) (versions-apart 0 (writes_of h key) (writes_of-rising 0 h key (rises reading h floors stands))) (stands.homes.in_heap key)
+          ∙ ap (λ (g : ℕ). filter (ends_after f) (filter (ends_by a) vs)
+          ++ filter (ends_after f) (filter (ends_by upto) (filter (ends_after (max a g)) hv))) (stands.opens.floors_given key.relation)
+          ∙ joined f (reclaimed_upto reading) a upto _ hv vs stands.homes.marks (omega (
+            arith,
+            may.0,
+          )) (versions-apart 0 (writes_of h key) (writes_of-rising 0 h key (rises reading h floors stands))) (stands.homes.in_heap key)
           ∙ ap (λ (m : ℕ). filter (ends_after f) (filter (ends_by m) vs)) (sym new_archived);
     };
   }

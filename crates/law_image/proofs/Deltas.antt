@@ -1,5 +1,6 @@
 -- What is stored of a write is read as it.
-use Rattle.std.proofs.Common.{◌≡◌, ℕ, ◌+◌, ◌*◌, ◌/◌, ◌%◌, ◌==◌, ◌&&◌, nat_lt, Bool, true, false, cond, List, [], ◌∷◌, length, Option, Some, None, refl, ap, sym, ◌∙◌, arith}
+use Rattle.std.proofs.Common.{◌≡◌, ℕ, ◌+◌, ◌*◌, ◌/◌, ◌%◌, ◌==◌, ◌&&◌, nat_lt, Bool, true, false, cond, List, [], ◌∷◌, length, Option, Some, None, refl, ap, sym}
+use Rattle.std.proofs.Common.{◌∙◌, arith}
 use Rattle.std.specs.Prelude.{bytes_eq}
 use Rattle.std.specs.Cmp.Lexicographic.{bytes_decides}
 use Rattle.std.proofs.lemmas.Bool.Decides.{nat_tests}
@@ -12,7 +13,8 @@ patched-none mask [] = refl
 patched-none mask (field ∷ fields) = refl
 
 -- a field that stays
-same_field : (m : ℕ) (changed : List (List ℕ)) (o : List ℕ) (old : Value) (n : List ℕ) (new : Value) → o ≡ n → patched m changed old ≡ new → patched (0 + 2 * m) changed (o ∷ old) ≡ n ∷ new
+same_field : (m : ℕ) (changed : List (List ℕ)) (o : List ℕ) (old : Value) (n : List ℕ) (new : Value) → o ≡ n → patched m changed old ≡ new
+    → patched (0 + 2 * m) changed (o ∷ old) ≡ n ∷ new
 same_field m [] o old n new same rest = cc (sym (patched-none m old), rest)
 same_field m (c ∷ changed) o old n new same rest =
     let even : ((0 + 2 * m) % 2 == 1) ≡ false = grind (arith, nat_tests) in
@@ -28,7 +30,8 @@ patched-all (o ∷ old) [] len = absurd (omega arith)
 patched-all (o ∷ old) (n ∷ new) len =
     let rest : patched (mask_of old new) (changed_of old new) old ≡ new = patched-all old new (omega arith) in
     let m = mask_of old new in
-    let Goal : Bool → Type 0 = λ b. bytes_eq o n ≡ b → patched (cond b 0 1 + 2 * m) (cond b (changed_of old new) (n ∷ changed_of old new)) (o ∷ old) ≡ n ∷ new in
+    let Goal : Bool → Type 0 =
+    λ b. bytes_eq o n ≡ b → patched (cond b 0 1 + 2 * m) (cond b (changed_of old new) (n ∷ changed_of old new)) (o ∷ old) ≡ n ∷ new in
     let all : (b : Bool) → Goal b = λ b. elim b as Goal [
       | true ↦ λ e.
           let same : o ≡ n = (bytes_decides o n).0 e in
@@ -47,7 +50,8 @@ written-stored before None = refl
 written-stored None (Some new) = refl
 written-stored (Some old) (Some new) =
     let shorter = nat_lt (delta_bytes (changed_of old new)) (anchor_bytes new) in
-    let Goal : Bool → Bool → Type 0 = λ a b. (length old == length new) ≡ a → written (Some old) (cond (a && b) (Delta (mask_of old new) (changed_of old new)) (Anchor new)) ≡ Some new in
+    let Goal : Bool → Bool → Type 0 =
+    λ a b. (length old == length new) ≡ a → written (Some old) (cond (a && b) (Delta (mask_of old new) (changed_of old new)) (Anchor new)) ≡ Some new in
     let all : (a b : Bool) → Goal a b = λ a b. elim a as (λ a. Goal a b) [
       | true ↦ elim b as (λ b. Goal true b) [
         | true ↦ λ e. let len : length old ≡ length new = grind (arith, nat_tests) in ap (λ (v : Value). Some v) (patched-all old new len)

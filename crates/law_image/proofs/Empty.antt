@@ -10,7 +10,19 @@ pub empty-stands_for : (profile slots pieces : ℕ) → IsHeader profile slots p
 unfolding IsStrictlySortedBy
 empty-stands_for profile slots pieces header = record {
   opens = record {
-    reads = record { form = of-slots (empty_reading profile slots pieces) (slots-profile profile slots pieces header) (record { header = header; log = tt; fits = omega arith; runs = tt }); members = refl; chains = tt; stored = tt; anchors = tt; anchor_times = tt };
+    reads = record {
+      form = of-slots (empty_reading profile slots pieces) (slots-profile profile slots pieces header) (record {
+        header = header;
+        log = tt;
+        fits = omega arith;
+        runs = tt;
+      });
+      members = refl;
+      chains = tt;
+      stored = tt;
+      anchors = tt;
+      anchor_times = tt;
+    };
     floors_given = λ relation. refl;
     history = tt;
     commits = refl;
@@ -29,7 +41,11 @@ empty-heap_stands extents header = record {
   opens = record {
     reads = record {
       form = record { header = header; log = record { each = tt; archived = omega arith; published = omega arith }; runs = tt };
-      members = refl; chains = tt; stored = tt; anchors = tt; anchor_times = tt;
+      members = refl;
+      chains = tt;
+      stored = tt;
+      anchors = tt;
+      anchor_times = tt;
     };
     floors_given = λ relation. refl;
     history = tt;

@@ -1,5 +1,6 @@
 -- The facts of a heap: members as commits, anchors, and that they rise.
-use Rattle.std.proofs.Common.{◌≡◌, ℕ, ◌<◌, ◌≤◌, ◌^◌, nat_le, nat_lt, Bool, true, false, cond, List, [], ◌∷◌, ◌++◌, map, Option, Some, None, refl, ap, sym, subst, ◌∙◌, arith, ⊎_elim, ◌↔◌, inl, inr}
+use Rattle.std.proofs.Common.{◌≡◌, ℕ, ◌<◌, ◌≤◌, ◌^◌, nat_le, nat_lt, Bool, true, false, cond, List, [], ◌∷◌, ◌++◌, map, Option, Some, None, refl, ap, sym}
+use Rattle.std.proofs.Common.{subst, ◌∙◌, arith, ⊎_elim, ◌↔◌, inl, inr}
 use Rattle.std.proofs.lemmas.List.Elements.{Contains-append_cases, Contains-append_left, Contains-append_right}
 use Rattle.history.specs.Sets.{Writes}
 use Rattle.history.proofs.Sets.{writes-are}
@@ -36,7 +37,8 @@ values_after-step : (f : Key → Option Value) (c : Commit Value) (rest : Histor
     → value_after (values_after f c key) (writes_of rest key) t ≡ value_after (f key) (writes_of (c ∷ rest) key) t
 values_after-step f c rest t key le =
     let early : nat_le c.time t ≡ true = is_le le in
-    elim (write_in c.writes key) as (λ o. value_after (unwrap_or o (f key)) (writes_of rest key) t ≡ value_after (f key) (cons_option (option_map (λ write. record { time = c.time; write = write }) o) (writes_of rest key)) t) [
+    elim (write_in c.writes key) as (λ o. value_after (unwrap_or o (f key)) (writes_of rest key) t
+    ≡ value_after (f key) (cons_option (option_map (λ write. record { time = c.time; write = write }) o) (writes_of rest key)) t) [
       | None ↦ refl
       | Some w ↦ ap (λ b. value_after (cond b w (f key)) (writes_of rest key) t) (sym early)
     ]
@@ -72,7 +74,8 @@ commits_from-after s mark f g (m ∷ ms) up values =
     let rest = commits_from (values_after f c) ms in
     ⊎_elim
     (λ (later : mark < m.head.time).
-    let same : g ≡ f = fun_ext (λ key. values key ∙ value_after-later (f key) (writes_of (c ∷ rest) key) mark (writes_of-rising mark (c ∷ rest) key (later, up.1, up.2))) in
+    let same : g ≡ f =
+    fun_ext (λ key. values key ∙ value_after-later (f key) (writes_of (c ∷ rest) key) mark (writes_of-rising mark (c ∷ rest) key (later, up.1, up.2))) in
     let all : filter (λ (x : Member). nat_lt mark x.head.time) (m ∷ ms) ≡ m ∷ ms = members-all mark f (m ∷ ms) (later, up.1, up.2) in
     rw all (ap (λ (v : Key → Option Value). commits_from v (m ∷ ms)) same ∙ sym (commits_after-all mark mark (c ∷ rest) (omega arith) (later, up.1, up.2))))
     (λ (early : m.head.time ≤ mark).
@@ -102,7 +105,8 @@ AreStored-after s mark f g (m ∷ ms) up values stored =
     let rest = commits_from (values_after f c) ms in
     ⊎_elim
     (λ (later : mark < m.head.time).
-    let same : g ≡ f = fun_ext (λ key. values key ∙ value_after-later (f key) (writes_of (c ∷ rest) key) mark (writes_of-rising mark (c ∷ rest) key (later, up.1, up.2))) in
+    let same : g ≡ f =
+    fun_ext (λ key. values key ∙ value_after-later (f key) (writes_of (c ∷ rest) key) mark (writes_of-rising mark (c ∷ rest) key (later, up.1, up.2))) in
     let all : filter (λ (x : Member). nat_lt mark x.head.time) (m ∷ ms) ≡ m ∷ ms = members-all mark f (m ∷ ms) (later, up.1, up.2) in
     rw all (subst (λ (v : Key → Option Value). AreStored v (m ∷ ms)) (sym same) stored))
     (λ (early : m.head.time ≤ mark).
@@ -115,7 +119,8 @@ other_key : (a b key : Key) → key_cmp a b ≡ Less → same_key a key ≡ true
 other_key a b key less same = grind (arith, nat_tests)
 
 -- a key has no old record beyond one of its own
-old_writes-beyond : (old : OldRecord) (olds : List OldRecord) (key : Key) → same_key old.key key ≡ true → AllByRecursion (λ k. key_cmp old.key k ≡ Less) (map (λ o. o.key) olds) → old_writes olds key ≡ []
+old_writes-beyond : (old : OldRecord) (olds : List OldRecord) (key : Key) → same_key old.key key ≡ true
+    → AllByRecursion (λ k. key_cmp old.key k ≡ Less) (map (λ o. o.key) olds) → old_writes olds key ≡ []
 old_writes-beyond old [] key same beyond = refl
 old_writes-beyond old (o ∷ olds) key same beyond =
     let other : same_key o.key key ≡ false = other_key old.key o.key key beyond.0 same in
@@ -123,12 +128,15 @@ old_writes-beyond old (o ∷ olds) key same beyond =
 
 -- a key has one old record at most, of a time up to the mark: the facts behind it rise
 pub old_writes-rising : (mark : ℕ) (olds : List OldRecord) (key : Key) (later : List (TimedWrite Value)) → mark < 2 ^ 63
-    → IsStrictlySortedBy key_cmp (map (λ old. old.key) olds) → AllByRecursion (IsAnchorUpto mark) olds → IsRisingAfter mark later → IsRisingAfter 0 (old_writes olds key ++ later)
+    → IsStrictlySortedBy key_cmp (map (λ old. old.key) olds) → AllByRecursion (IsAnchorUpto mark) olds → IsRisingAfter mark later
+    → IsRisingAfter 0 (old_writes olds key ++ later)
 unfolding IsStrictlySortedBy
 old_writes-rising mark [] key later lt sorted within up = rising_earlier 0 mark later (omega arith) up
 old_writes-rising mark (o ∷ olds) key later lt sorted within up =
     let rest = old_writes-rising mark olds key later lt sorted.1 within.1 up in
-    let Goal : Bool → Type 0 = λ b. same_key o.key key ≡ b → IsRisingAfter 0 (cons_option (cond b (Some (record { time = o.from; write = Some o.value })) None) (old_writes olds key) ++ later) in
+    let Goal : Bool → Type 0 =
+    λ b. same_key o.key key ≡ b
+    → IsRisingAfter 0 (cons_option (cond b (Some (record { time = o.from; write = Some o.value })) None) (old_writes olds key) ++ later) in
     let all : (b : Bool) → Goal b =
     λ b. elim b as Goal [
       | true ↦ λ e. rw (old_writes-beyond o olds key e sorted.0) (within.0.0, omega (arith, within.0.1), rising_earlier o.from mark later within.0.1 up)
@@ -138,7 +146,9 @@ old_writes-rising mark (o ∷ olds) key later lt sorted within up =
 
 -- none of the anchors is later than their mark
 -- an anchor alone stands at the mark
-one-standing : (mark : ℕ) (o : OldRecord) → mark < 2 ^ 63 → o.from ≤ mark → map as_write (filter (stands_at mark) (versions (record { time = o.from; write = Some o.value } ∷ []))) ≡ record { time = o.from; write = Some o.value } ∷ []
+one-standing : (mark : ℕ) (o : OldRecord) → mark < 2 ^ 63 → o.from ≤ mark
+    → map as_write (filter (stands_at mark) (versions (record { time = o.from; write = Some o.value } ∷ []))) ≡ record { time = o.from; write = Some o.value }
+    ∷ []
 one-standing mark o lt le =
     let from : nat_le o.from mark ≡ true = is_le le in
     let to : nat_lt mark (2 ^ 63) ≡ true = is_lt lt in
@@ -146,13 +156,16 @@ one-standing mark o lt le =
 
 -- the anchors stand at their mark
 pub old_writes-standing : (mark : ℕ) (olds : List OldRecord) (key : Key) → mark < 2 ^ 63
-    → IsStrictlySortedBy key_cmp (map (λ old. old.key) olds) → AllByRecursion (IsAnchorUpto mark) olds → map as_write (filter (stands_at mark) (versions (old_writes olds key))) ≡ old_writes olds key
+    → IsStrictlySortedBy key_cmp (map (λ old. old.key) olds) → AllByRecursion (IsAnchorUpto mark) olds
+    → map as_write (filter (stands_at mark) (versions (old_writes olds key))) ≡ old_writes olds key
 unfolding IsStrictlySortedBy
 old_writes-standing mark [] key lt sorted within = refl
 old_writes-standing mark (o ∷ olds) key lt sorted within =
     let rest = old_writes-standing mark olds key lt sorted.1 within.1 in
     let Goal : Bool → Type 0 = λ b. same_key o.key key ≡ b
-        → map as_write (filter (stands_at mark) (versions (cons_option (cond b (Some (record { time = o.from; write = Some o.value })) None) (old_writes olds key)))) ≡ cons_option (cond b (Some (record { time = o.from; write = Some o.value })) None) (old_writes olds key) in
+    → map as_write (filter (stands_at mark)
+    (versions (cons_option (cond b (Some (record { time = o.from; write = Some o.value })) None) (old_writes olds key))))
+    ≡ cons_option (cond b (Some (record { time = o.from; write = Some o.value })) None) (old_writes olds key) in
     let all : (b : Bool) → Goal b =
     λ b. elim b as Goal [
       | true ↦ λ e. rw (old_writes-beyond o olds key e sorted.0) (one-standing mark o lt within.0.1)
@@ -160,22 +173,26 @@ old_writes-standing mark (o ∷ olds) key lt sorted within =
     ] in
     all (same_key o.key key) refl
 
-pub old_writes-past : (mark later : ℕ) (olds : List OldRecord) (key : Key) → mark ≤ later → AllByRecursion (IsAnchorUpto mark) olds → writes_after later (old_writes olds key) ≡ []
+pub old_writes-past : (mark later : ℕ) (olds : List OldRecord) (key : Key) → mark ≤ later → AllByRecursion (IsAnchorUpto mark) olds
+    → writes_after later (old_writes olds key) ≡ []
 old_writes-past mark later [] key le within = refl
 old_writes-past mark later (o ∷ olds) key le within =
     let rest = old_writes-past mark later olds key le within.1 in
     let past : nat_lt later o.from ≡ false = not_lt (omega (arith, within.0.1)) in
-    let Goal : Bool → Type 0 = λ b. writes_after later (cons_option (cond b (Some (record { time = o.from; write = Some o.value })) None) (old_writes olds key)) ≡ [] in
+    let Goal : Bool → Type 0 =
+    λ b. writes_after later (cons_option (cond b (Some (record { time = o.from; write = Some o.value })) None) (old_writes olds key)) ≡ [] in
     elim (same_key o.key key) as Goal [ true ↦ rw past rest | false ↦ rest ]
 
 -- from their mark on, what they give is the latest
-pub old_writes-latest : (mark t : ℕ) (olds : List OldRecord) (key : Key) (before : Option Value) → mark ≤ t → mark < 2 ^ 63 → AllByRecursion (IsAnchorUpto mark) olds
+pub old_writes-latest : (mark t : ℕ) (olds : List OldRecord) (key : Key) (before : Option Value) → mark ≤ t → mark < 2 ^ 63
+    → AllByRecursion (IsAnchorUpto mark) olds
     → value_after before (old_writes olds key) t ≡ value_after before (old_writes olds key) (2 ^ 63)
 old_writes-latest mark t [] key before le lt within = refl
 old_writes-latest mark t (o ∷ olds) key before le lt within =
     let early : nat_le o.from t ≡ true = is_le (omega (arith, within.0.1)) in
     let early' : nat_le o.from (2 ^ 63) ≡ true = is_le (omega (arith, within.0.1)) in
-    let Goal : Bool → Type 0 = λ b. value_after before (cons_option (cond b (Some (record { time = o.from; write = Some o.value })) None) (old_writes olds key)) t
+    let Goal : Bool → Type 0 =
+    λ b. value_after before (cons_option (cond b (Some (record { time = o.from; write = Some o.value })) None) (old_writes olds key)) t
     ≡ value_after before (cons_option (cond b (Some (record { time = o.from; write = Some o.value })) None) (old_writes olds key)) (2 ^ 63) in
     elim (same_key o.key key) as Goal [
       | true ↦ ap (λ b. value_after (cond b (Some o.value) before) (old_writes olds key) t) early
@@ -185,11 +202,14 @@ old_writes-latest mark t (o ∷ olds) key before le lt within =
     ]
 
 -- the version that stands at a time, as a write, gives the value that stands then
-pub latest-standing : (s t : ℕ) (vs : List (Version Value)) → t < 2 ^ 63 → FollowOneAnotherFrom s vs → latest (map as_write (filter (stands_at t) vs)) ≡ standing_at vs t
+pub latest-standing : (s t : ℕ) (vs : List (Version Value)) → t < 2 ^ 63 → FollowOneAnotherFrom s vs → latest (map as_write (filter (stands_at t) vs))
+    ≡ standing_at vs t
 latest-standing s t [] lt apart = refl
 latest-standing s t (v ∷ vs) lt apart =
     let rest = latest-standing v.to t vs lt apart.2 in
-    let Goal : Bool → Type 0 = λ b. stands_at t v ≡ b → latest (map as_write (cond b (v ∷ filter (stands_at t) vs) (filter (stands_at t) vs))) ≡ option_map (λ (x : Version Value). x.value) (cond b (Some v) (find (stands_at t) vs)) in
+    let Goal : Bool → Type 0 =
+    λ b. stands_at t v ≡ b → latest (map as_write (cond b (v ∷ filter (stands_at t) vs) (filter (stands_at t) vs)))
+    ≡ option_map (λ (x : Version Value). x.value) (cond b (Some v) (find (stands_at t) vs)) in
     let all : (b : Bool) → Goal b =
     λ b. elim b as Goal [
       | true ↦ λ e.
@@ -201,7 +221,8 @@ latest-standing s t (v ∷ vs) lt apart =
     all (stands_at t v) refl
 
 -- the list of a key's facts has those that the sets say
-pub heap-facts_are : (reading : Reading) (key : Key) (time : ℕ) (write : Option Value) → Contains (heap_facts reading key) (record { time = time; write = write }) ↔ IsHeapFact reading key time write
+pub heap-facts_are : (reading : Reading) (key : Key) (time : ℕ) (write : Option Value)
+    → Contains (heap_facts reading key) (record { time = time; write = write }) ↔ IsHeapFact reading key time write
 heap-facts_are reading key time write =
     let fact : TimedWrite Value = record { time = time; write = write } in
     let olds = old_writes reading.anchors key in
@@ -210,5 +231,6 @@ heap-facts_are reading key time write =
       λ has.
           ⊎_elim (λ (old : Contains olds fact). inl old) (λ (new : Contains later fact). inr (are.0 new)) (Contains-append_cases olds later fact has),
       λ either.
-          ⊎_elim (λ (old : Contains olds fact). Contains-append_left olds later fact old) (λ (new : Writes (heap_commits reading) key time write). Contains-append_right olds later fact (are.1 new)) either,
+          ⊎_elim (λ (old : Contains olds fact). Contains-append_left olds later fact old)
+          (λ (new : Writes (heap_commits reading) key time write). Contains-append_right olds later fact (are.1 new)) either,
     )

@@ -1,5 +1,6 @@
 -- An image with a floor's slot stands for the same history with the floor raised.
-use Rattle.std.proofs.Common.{◌≡◌, ℕ, ◌<◌, ◌≤◌, nat_lt, Bool, true, false, cond, List, [], ◌∷◌, ◌++◌, length, Option, refl, ap, sym, subst, ◌∙◌, arith, length-append}
+use Rattle.std.proofs.Common.{◌≡◌, ℕ, ◌<◌, ◌≤◌, nat_lt, Bool, true, false, cond, List, [], ◌∷◌, ◌++◌, length, Option, refl, ap, sym, subst, ◌∙◌, arith}
+use Rattle.std.proofs.Common.{length-append}
 use Rattle.std.specs.Prelude.{filter, IsTrue, MatchBool}
 use Rattle.std.specs.List.{AllByRecursion}
 use Rattle.std.proofs.lemmas.List.{append-nil}
@@ -20,11 +21,13 @@ use Rattle.history.proofs.Views.{filter-later}
 use Rattle.law_image.proofs.Standing.{last-is}
 
 -- lists that agree on what ends after a floor agree on what ends after a later one
-raise : {V : Type 0} (low high : ℕ) (xs ys : List (Version V)) → low ≤ high → filter (ends_after low) xs ≡ filter (ends_after low) ys → filter (ends_after high) xs ≡ filter (ends_after high) ys
+raise : {V : Type 0} (low high : ℕ) (xs ys : List (Version V)) → low ≤ high → filter (ends_after low) xs ≡ filter (ends_after low) ys
+    → filter (ends_after high) xs ≡ filter (ends_after high) ys
 raise low high xs ys le same = sym (filter-later low high xs le) ∙ ap (filter (ends_after high)) same ∙ filter-later low high ys le
 
 -- a floor that the machine may raise may come next in the log
-pub raise-may_come : (reading : Reading) (m : Machine Value) (r : Raising) → StandsFor reading m.published m.floors → MayRaise m r → IsScopeOf reading.profile r.scope
+pub raise-may_come : (reading : Reading) (m : Machine Value) (r : Raising) → StandsFor reading m.published m.floors → MayRaise m r
+    → IsScopeOf reading.profile r.scope
     → MayCome reading.profile reading.log (Floor r.scope r.floor)
 raise-may_come reading m r stands may scope = (
   scope,
@@ -79,17 +82,20 @@ module _ (reading : Reading) (h : History Value) (floors : ℕ → ℕ) (stands 
       marks = omega (arith, same_archived, same_reclaimed, stands.homes.marks);
       in_heap = λ key.
           let f = raised scope floor floors key.relation in
-          raise (floors key.relation) f (heap_versions reading key) (filter (ends_after (reclaimed_upto reading)) (versions_of h key)) (rises key.relation) (stands.homes.in_heap key)
+          raise (floors key.relation) f (heap_versions reading key) (filter (ends_after (reclaimed_upto reading)) (versions_of h key)) (rises key.relation)
+          (stands.homes.in_heap key)
           ∙ ap (λ (r : ℕ). filter (ends_after f) (filter (ends_after r) (versions_of h key))) (sym same_reclaimed);
       in_archive = λ key.
           let f = raised scope floor floors key.relation in
-          raise (floors key.relation) f (archived_versions reading key) (filter (ends_by (archived_upto reading)) (versions_of h key)) (rises key.relation) (stands.homes.in_archive key)
+          raise (floors key.relation) f (archived_versions reading key) (filter (ends_by (archived_upto reading)) (versions_of h key)) (rises key.relation)
+          (stands.homes.in_archive key)
           ∙ ap (λ (a : ℕ). filter (ends_after f) (filter (ends_by a) (versions_of h key))) (sym same_archived);
     };
   }
 
 -- a slot at the end of the log
-pub floor-stands_for : (reading : Reading) (h : History Value) (floors : ℕ → ℕ) → StandsFor reading h floors → (scope : Option ℕ) (floor : ℕ) → MayCome reading.profile reading.log (Floor scope floor)
+pub floor-stands_for : (reading : Reading) (h : History Value) (floors : ℕ → ℕ) → StandsFor reading h floors → (scope : Option ℕ) (floor : ℕ)
+    → MayCome reading.profile reading.log (Floor scope floor)
     → HasSlots reading → HasRoom reading → StandsFor (with_floor reading scope floor) h (raised scope floor floors)
 floor-stands_for reading h floors stands scope floor may slots has_room =
     let is : IsSlotLog reading = in-slots reading slots stands.opens.reads.form in
@@ -99,12 +105,14 @@ floor-stands_for reading h floors stands scope floor may slots has_room =
       header = is.header;
       log = log-more reading.profile [] reading.log (Floor scope floor) is.log may;
       fits = omega (arith, length-append reading.log (Floor scope floor ∷ []), room);
-      runs = subst (AreRunsOf [] (reading.log ++ Floor scope floor ∷ [])) (append-nil reading.runs) (runs-more floor_of [] reading.log (Floor scope floor ∷ []) reading.runs [] is.runs tt);
+      runs = subst (AreRunsOf [] (reading.log ++ Floor scope floor ∷ [])) (append-nil reading.runs) (runs-more floor_of [] reading.log (Floor scope floor
+          ∷ []) reading.runs [] is.runs tt);
     }))
 
 -- a chain of its own at the end of a log in the heap
 pub floor-in_heap : (reading : Reading) (h : History Value) (floors : ℕ → ℕ) (scope : Option ℕ) (floor : ℕ)
-    → StandsFor reading h floors → is_in_heap reading.profile ≡ true → MayComeInHeap reading.log (Floor scope floor) → StandsFor (with_floor reading scope floor) h (raised scope floor floors)
+    → StandsFor reading h floors → is_in_heap reading.profile ≡ true → MayComeInHeap reading.log (Floor scope floor)
+    → StandsFor (with_floor reading scope floor) h (raised scope floor floors)
 floor-in_heap reading h floors scope floor stands heap may =
     let is : IsHeapLog reading = in-heap reading heap stands.opens.reads.form in
     let a = archive_mark-append 0 reading.log (Floor scope floor ∷ []) in
@@ -118,5 +126,6 @@ floor-in_heap reading h floors scope floor stands heap may =
         archived = omega (arith, a, r, (is.log).archived);
         published = omega (arith, l, r, (is.log).published);
       };
-      runs = subst (AreRunsBy no_floors [] (reading.log ++ Floor scope floor ∷ [])) (append-nil reading.runs) (runs-more no_floors [] reading.log (Floor scope floor ∷ []) reading.runs [] is.runs tt);
+      runs = subst (AreRunsBy no_floors [] (reading.log ++ Floor scope floor
+          ∷ [])) (append-nil reading.runs) (runs-more no_floors [] reading.log (Floor scope floor ∷ []) reading.runs [] is.runs tt);
     }))

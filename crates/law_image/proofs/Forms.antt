@@ -30,10 +30,12 @@ marked-form reading form =
     of-either (is_in_heap reading.profile) (IsHeapLog reading) (IsSlotLog reading) (AreMarked reading.log)
     (λ is. marked-heap reading.log is.log) (λ is. marked-all reading.profile [] reading.log marked-none is.log) form
 
-pub in-heap : (reading : Reading) → is_in_heap reading.profile ≡ true → MatchBool (is_in_heap reading.profile) (IsHeapLog reading) (IsSlotLog reading) → IsHeapLog reading
+pub in-heap : (reading : Reading) → is_in_heap reading.profile ≡ true → MatchBool (is_in_heap reading.profile) (IsHeapLog reading) (IsSlotLog reading)
+    → IsHeapLog reading
 in-heap reading heap form = subst (λ (b : Bool). MatchBool b (IsHeapLog reading) (IsSlotLog reading)) heap form
 
-pub of-heap : (reading : Reading) → is_in_heap reading.profile ≡ true → IsHeapLog reading → MatchBool (is_in_heap reading.profile) (IsHeapLog reading) (IsSlotLog reading)
+pub of-heap : (reading : Reading) → is_in_heap reading.profile ≡ true → IsHeapLog reading
+    → MatchBool (is_in_heap reading.profile) (IsHeapLog reading) (IsSlotLog reading)
 of-heap reading heap is = rw heap is
 
 -- the first three profiles have slots

@@ -35,20 +35,29 @@ module _ (reading : Reading) (h : History Value) (floors : ℕ → ℕ) (opens :
   facts-up : IsRisingAfter 0 (heap_facts reading key)
   facts-up =
       let up : HasRisingTimes (reclaimed_upto reading) (heap_commits reading) =
-      subst (HasRisingTimes (reclaimed_upto reading)) (sym opens.write_sets) (rising-commits_after 0 (reclaimed_upto reading) h (rising-from_following IsValue [] h opens.history)) in
-      old_writes-rising (reclaimed_upto reading) reading.anchors key (writes_of (heap_commits reading) key) (omega (arith, (marked).reclaimed, (marked).archived, (marked).last)) opens.reads.anchors opens.reads.anchor_times
+      subst (HasRisingTimes (reclaimed_upto reading)) (sym opens.write_sets)
+      (rising-commits_after 0 (reclaimed_upto reading) h (rising-from_following IsValue [] h opens.history)) in
+      old_writes-rising (reclaimed_upto reading) reading.anchors key (writes_of (heap_commits reading) key) (omega (
+        arith,
+        (marked).reclaimed,
+        (marked).archived,
+        (marked).last,
+      )) opens.reads.anchors opens.reads.anchor_times
       (writes_of-rising (reclaimed_upto reading) (heap_commits reading) key up)
 
   heap-rises : IsRisingBy (λ v. v.to) (first_time (heap_facts reading key)) (heap_versions reading key)
   heap-rises = apart-rising (first_time (heap_facts reading key)) (heap_versions reading key) (versions-apart 0 (heap_facts reading key) facts-up)
 
   history-rises : IsRisingBy (λ v. v.to) (first_time (writes_of h key)) (versions_of h key)
-  history-rises = apart-rising (first_time (writes_of h key)) (versions_of h key) (versions-apart 0 (writes_of h key) (writes_of-rising 0 h key (rising-from_following IsValue [] h opens.history)))
+  history-rises =
+      apart-rising (first_time (writes_of h key)) (versions_of h key)
+      (versions-apart 0 (writes_of h key) (writes_of-rising 0 h key (rising-from_following IsValue [] h opens.history)))
 
   floor-same : (v : Version Value) → floors key.relation < v.to → floor_of reading.log key.relation < v.to
   floor-same v lt = omega (arith, opens.floors_given key.relation, lt)
 
-  pub heap-from_sets : filter (ends_after (floors key.relation)) (heap_versions reading key) ≡ filter (ends_after (floors key.relation)) (filter (ends_after (reclaimed_upto reading)) (versions_of h key))
+  pub heap-from_sets : filter (ends_after (floors key.relation)) (heap_versions reading key)
+      ≡ filter (ends_after (floors key.relation)) (filter (ends_after (reclaimed_upto reading)) (versions_of h key))
   heap-from_sets =
       let f = floors key.relation in
       let r = reclaimed_upto reading in
@@ -56,7 +65,8 @@ module _ (reading : Reading) (h : History Value) (floors : ℕ → ℕ) (opens :
       let vs = versions_of h key in
       same_rising (λ (v : Version Value). v.to) _ _ (filter (ends_after f) hv) (filter (ends_after f) (filter (ends_after r) vs))
       (rising-by_filter (λ (v : Version Value). v.to) (ends_after f) (first_time (heap_facts reading key)) hv heap-rises)
-      (rising-by_filter (λ (v : Version Value). v.to) (ends_after f) (first_time (writes_of h key)) (filter (ends_after r) vs) (rising-by_filter (λ (v : Version Value). v.to) (ends_after r) (first_time (writes_of h key)) vs history-rises))
+      (rising-by_filter (λ (v : Version Value). v.to) (ends_after f) (first_time (writes_of h key)) (filter (ends_after r) vs)
+      (rising-by_filter (λ (v : Version Value). v.to) (ends_after r) (first_time (writes_of h key)) vs history-rises))
       (λ v has.
       let found = filter-Contains (ends_after f) hv v has in
       let after : f < v.to = after_of f v.to found.1 in
@@ -70,7 +80,8 @@ module _ (reading : Reading) (h : History Value) (floors : ℕ → ℕ) (opens :
       let past : r < v.to = after_of r v.to inner.1 in
       Contains-filter (ends_after f) hv v ((keeps.heap key v inner.0 after).1 past) outer.1)
 
-  pub archive-from_sets : filter (ends_after (floors key.relation)) (archived_versions reading key) ≡ filter (ends_after (floors key.relation)) (filter (ends_by (archived_upto reading)) (versions_of h key))
+  pub archive-from_sets : filter (ends_after (floors key.relation)) (archived_versions reading key)
+      ≡ filter (ends_after (floors key.relation)) (filter (ends_by (archived_upto reading)) (versions_of h key))
   archive-from_sets =
       let f = floors key.relation in
       let a = archived_upto reading in
@@ -78,7 +89,8 @@ module _ (reading : Reading) (h : History Value) (floors : ℕ → ℕ) (opens :
       let vs = versions_of h key in
       same_rising (λ (v : Version Value). v.to) _ _ (filter (ends_after f) av) (filter (ends_after f) (filter (ends_by a) vs))
       (rising-by_filter (λ (v : Version Value). v.to) (ends_after f) 0 av (runs-rising reading key opens.reads.form))
-      (rising-by_filter (λ (v : Version Value). v.to) (ends_after f) (first_time (writes_of h key)) (filter (ends_by a) vs) (rising-by_filter (λ (v : Version Value). v.to) (ends_by a) (first_time (writes_of h key)) vs history-rises))
+      (rising-by_filter (λ (v : Version Value). v.to) (ends_after f) (first_time (writes_of h key)) (filter (ends_by a) vs)
+      (rising-by_filter (λ (v : Version Value). v.to) (ends_by a) (first_time (writes_of h key)) vs history-rises))
       (λ v has.
       let found = filter-Contains (ends_after f) av v has in
       let after : f < v.to = after_of f v.to found.1 in

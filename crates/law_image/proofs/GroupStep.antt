@@ -1,5 +1,6 @@
 -- An image with a group's slot stands for the history with the group's commits.
-use Rattle.std.proofs.Common.{◌≡◌, ℕ, ◌<◌, ◌≤◌, ◌^◌, nat_lt, Bool, true, false, cond, List, [], ◌∷◌, ◌++◌, map, length, Option, None, refl, ap, sym, subst, ◌∙◌, arith, length-append, append_assoc, suc}
+use Rattle.std.proofs.Common.{◌≡◌, ℕ, ◌<◌, ◌≤◌, ◌^◌, nat_lt, Bool, true, false, cond, List, [], ◌∷◌, ◌++◌, map, length, Option, None, refl, ap, sym, subst, ◌∙◌}
+use Rattle.std.proofs.Common.{arith, length-append, append_assoc, suc}
 use Rattle.std.specs.Prelude.{filter, MatchBool}
 use Rattle.std.specs.List.{AllByRecursion}
 use Rattle.std.proofs.lemmas.List.{append-nil, map-append}
@@ -17,11 +18,14 @@ use Rattle.history.proofs.Appending.{ends_after-append, ends_by-append, filter_e
 use Rattle.history.proofs.Histories.{writes_of-append, writes_of-rising, rising-from_following, commits_after-all, may_follow-append}
 use Rattle.law_image.specs.Values.{Value, IsValue}
 use Rattle.law_image.specs.Reading.{Head, Commits, Member, Reading}
-use Rattle.law_image.specs.Log.{heads_of, last_time_after, last_time, told_time, archive_mark, reclaim_mark, floor_of, is_in_heap, AreRisingAfter, MayComeInHeap}
+use Rattle.law_image.specs.Log.{heads_of, last_time_after, last_time, told_time, archive_mark, reclaim_mark, floor_of, is_in_heap, AreRisingAfter}
+use Rattle.law_image.specs.Log.{MayComeInHeap}
 use Rattle.law_image.specs.Facts.{commits_from, old_writes, latest, heap_commits, heap_facts, AreStored}
-use Rattle.law_image.specs.StandsFor.{StandsFor, Reads, IsChain, IsAnchorUpto, AreRunsOf, AreRunsBy, no_floors, IsSlotLog, IsHeapLog, head_of, reclaimed_upto, archived_upto}
+use Rattle.law_image.specs.StandsFor.{StandsFor, Reads, IsChain, IsAnchorUpto, AreRunsOf, AreRunsBy, no_floors, IsSlotLog, IsHeapLog, head_of, reclaimed_upto}
+use Rattle.law_image.specs.StandsFor.{archived_upto}
 use Rattle.law_image.specs.Plans.{with_group, HasRoom, IsGroupOf, most_members}
-use Rattle.law_image.proofs.Logs.{heads_of-append, last_time_after-append, archive_mark-append, reclaim_mark-append, floors-append, log-more, all-more, runs-more, last_of-later, told-is_last}
+use Rattle.law_image.proofs.Logs.{heads_of-append, last_time_after-append, archive_mark-append, reclaim_mark-append, floors-append, log-more, all-more}
+use Rattle.law_image.proofs.Logs.{runs-more, last_of-later, told-is_last}
 use Rattle.law_image.proofs.Forms.{in-slots, in-heap, room-in_slots}
 use Rattle.law_image.proofs.FactsOf.{heads-commits_from, commits_from-append, AreStored-append}
 use Rattle.law_image.proofs.Standing.{marked, rises, last-is, floor-range, archived-range, last-range, recent-rise, facts-rise, heads-rising}
@@ -65,7 +69,9 @@ module _ (reading : Reading) (h : History Value) (floors : ℕ → ℕ) (stands 
   heads-of_group = sym (heads-commits_from (λ key. latest (heap_facts reading key)) group) ∙ ap (map head_of) joins.facts
 
   pub group-rise : AreRisingAfter (last_time reading.log) (map (λ m. m.head) group)
-  group-rise = subst (λ t. AreRisingAfter t (map (λ m. m.head) group)) (sym (last-is reading h floors stands)) (subst (AreRisingAfter (last h)) (sym heads-of_group) (heads-rising (last h) next next-rise))
+  group-rise =
+      subst (λ t. AreRisingAfter t (map (λ m. m.head) group)) (sym (last-is reading h floors stands))
+      (subst (AreRisingAfter (last h)) (sym heads-of_group) (heads-rising (last h) next next-rise))
 
   pub same_archived : archive_mark (reading.log ++ Commits (map (λ m. m.head) group) ∷ []) ≡ archive_mark reading.log
   same_archived = archive_mark-append 0 reading.log (Commits (map (λ m. m.head) group) ∷ [])
@@ -106,8 +112,11 @@ module _ (reading : Reading) (h : History Value) (floors : ℕ → ℕ) (stands 
       let sixteen : most_members reading.profile ≡ 16 = ap (λ (b : Bool). cond b 1024 16) slots in
       record {
         header = is.header;
-        log = log-more reading.profile [] reading.log (Commits (map (λ m. m.head) group)) is.log
-            (omega (arith, joins.some, length-map (λ (m : Member). m.head) group), omega (arith, joins.few, sixteen, length-map (λ (m : Member). m.head) group), group-rise);
+        log = log-more reading.profile [] reading.log (Commits (map (λ m. m.head) group)) is.log (
+          omega (arith, joins.some, length-map (λ (m : Member). m.head) group),
+          omega (arith, joins.few, sixteen, length-map (λ (m : Member). m.head) group),
+          group-rise,
+        );
         fits = omega (arith, length-append reading.log (Commits (map (λ m. m.head) group) ∷ []), room-in_slots reading slots room);
         runs = subst (AreRunsOf [] (reading.log ++ Commits (map (λ m. m.head) group) ∷ [])) (append-nil reading.runs)
             (runs-more floor_of [] reading.log (Commits (map (λ m. m.head) group) ∷ []) reading.runs [] is.runs tt);
@@ -118,8 +127,11 @@ module _ (reading : Reading) (h : History Value) (floors : ℕ → ℕ) (stands 
       let is = in-heap reading in_heap stands.opens.reads.form in
       let same : told_time reading.log ≡ last_time reading.log = told-is_last (last_time reading.log) (reclaim_mark reading.log) (is.log).published in
       let some : 0 < length (map (λ (m : Member). m.head) group) = omega (arith, joins.some, length-map (λ (m : Member). m.head) group) in
-      let later = last_of-later (last_time reading.log) (last_time reading.log) (map (λ m. m.head) group) (omega arith) (marked reading h floors stands).last some group-rise in
-      let at : last_time (with_group reading group).log ≡ last_time_after (last_time reading.log) (map (λ m. m.head) group) = ap (last_time_after 0) more_heads ∙ last_time_after-append 0 (heads_of reading.log) (map (λ m. m.head) group) in
+      let later =
+      last_of-later (last_time reading.log) (last_time reading.log) (map (λ m. m.head) group) (omega arith) (marked reading h floors stands).last some
+      group-rise in
+      let at : last_time (with_group reading group).log ≡ last_time_after (last_time reading.log) (map (λ m. m.head) group) =
+      ap (last_time_after 0) more_heads ∙ last_time_after-append 0 (heads_of reading.log) (map (λ m. m.head) group) in
       record {
         header = is.header;
         log = record {
@@ -133,7 +145,9 @@ module _ (reading : Reading) (h : History Value) (floors : ℕ → ℕ) (stands 
       }
 
   group-form : (b : Bool) → is_in_heap reading.profile ≡ b → MatchBool b (IsHeapLog (with_group reading group)) (IsSlotLog (with_group reading group))
-  group-form b = elim b as (λ b. is_in_heap reading.profile ≡ b → MatchBool b (IsHeapLog (with_group reading group)) (IsSlotLog (with_group reading group))) [ true ↦ group-in_heap | false ↦ group-in_slots ]
+  group-form b =
+      elim b as (λ b. is_in_heap reading.profile ≡ b
+      → MatchBool b (IsHeapLog (with_group reading group)) (IsSlotLog (with_group reading group))) [ true ↦ group-in_heap | false ↦ group-in_slots ]
 
   group-reads : Reads (with_group reading group)
   group-reads = record {
@@ -142,12 +156,17 @@ module _ (reading : Reading) (h : History Value) (floors : ℕ → ℕ) (stands 
         map-append (λ (m : Member). m.head) reading.members group
         ∙ ap (λ l. l ++ map (λ m. m.head) group) stands.opens.reads.members
         ∙ ap (λ l. filter (λ head. nat_lt (reclaim_mark reading.log) head.time) (heads_of reading.log) ++ l)
-        (sym (later-heads (reclaim_mark reading.log) (last_time reading.log) (map (λ m. m.head) group) (omega (arith, reclaimed-range, last-is reading h floors stands)) group-rise))
+        (sym (later-heads (reclaim_mark reading.log) (last_time reading.log) (map (λ m. m.head) group) (omega (
+          arith,
+          reclaimed-range,
+          last-is reading h floors stands,
+        )) group-rise))
         ∙ sym (filter-append (λ (head : Head). nat_lt (reclaim_mark reading.log) head.time) (heads_of reading.log) (map (λ m. m.head) group))
         ∙ ap (λ l. filter (λ head. nat_lt (reclaim_mark reading.log) head.time) l) (sym more_heads)
         ∙ ap (λ (r : ℕ). filter (λ head. nat_lt r head.time) (heads_of (reading.log ++ Commits (map (λ m. m.head) group) ∷ []))) (sym same_reclaimed);
     chains = AllByRecursion-append IsChain reading.members group stands.opens.reads.chains joins.chains;
-    stored = AreStored-append (reclaimed_upto reading) (λ key. latest (old_writes reading.anchors key)) reading.members group (recent-rise reading h floors stands) stands.opens.reads.stored
+    stored = AreStored-append (reclaimed_upto reading) (λ key. latest (old_writes reading.anchors key)) reading.members group
+        (recent-rise reading h floors stands) stands.opens.reads.stored
         (subst (λ (f : Key → Option Value). AreStored f group)
         (fun_ext (λ key. value_after-append None (old_writes reading.anchors key) (writes_of (heap_commits reading) key) (2 ^ 63))) joins.stored);
     anchors = stands.opens.reads.anchors;
@@ -162,11 +181,14 @@ module _ (reading : Reading) (h : History Value) (floors : ℕ → ℕ) (stands 
           reads = group-reads;
           floors_given = λ relation. same_floors relation ∙ stands.opens.floors_given relation;
           history = may_follow-append IsValue [] h next stands.opens.history joins.may;
-          commits = more_heads ∙ ap (λ l. l ++ map (λ m. m.head) group) stands.opens.commits ∙ ap (λ l. map head_of h ++ l) heads-of_group ∙ sym (map-append head_of h next);
+          commits =
+              more_heads ∙ ap (λ l. l ++ map (λ m. m.head) group) stands.opens.commits ∙ ap (λ l. map head_of h ++ l) heads-of_group
+              ∙ sym (map-append head_of h next);
           write_sets =
               more_commits
               ∙ ap (λ l. l ++ next) stands.opens.write_sets
-              ∙ ap (λ l. commits_after (reclaimed_upto reading) h ++ l) (sym (commits_after-all (reclaimed_upto reading) (last h) next reclaimed-range next-rise))
+              ∙ ap (λ l. commits_after (reclaimed_upto reading) h
+              ++ l) (sym (commits_after-all (reclaimed_upto reading) (last h) next reclaimed-range next-rise))
               ∙ sym (filter-append (λ (c : Commit Value). nat_lt (reclaimed_upto reading) c.time) h next)
               ∙ ap (λ (r : ℕ). commits_after r (h ++ next)) (sym same_reclaimed);
         };
@@ -185,7 +207,9 @@ module _ (reading : Reading) (h : History Value) (floors : ℕ → ℕ) (stands 
               let a = archived_upto reading in
               let range = archived-range reading h floors stands in
               stands.homes.in_archive key
-              ∙ ap (filter (ends_after f)) (sym (ends_by-append 0 a (writes_of h key) (writes_of next key) (omega arith) (writes_of-rising 0 h key (rises reading h floors stands)) (rising_earlier a (last h) (writes_of next key) range (later key))))
+              ∙ ap (filter (ends_after f))
+              (sym (ends_by-append 0 a (writes_of h key) (writes_of next key) (omega arith) (writes_of-rising 0 h key (rises reading h floors stands))
+              (rising_earlier a (last h) (writes_of next key) range (later key))))
               ∙ ap (λ l. filter (ends_after f) (filter (ends_by a) (versions l))) (sym (writes_of-append h next key))
               ∙ ap (λ (m : ℕ). filter (ends_after f) (filter (ends_by m) (versions_of (h ++ next) key))) (sym same_archived);
         };

@@ -1,10 +1,12 @@
 -- The runs of a log in the heap hang on the marks alone; and what stays of them where an archive takes the place of some.
-use Rattle.std.proofs.Common.{◌≡◌, ℕ, ◌<◌, ◌≤◌, ◌+◌, cond, zero, suc, List, [], ◌∷◌, ◌++◌, length, take, drop, Option, refl, ap, sym, subst, ◌∙◌, arith, append_assoc}
+use Rattle.std.proofs.Common.{◌≡◌, ℕ, ◌<◌, ◌≤◌, ◌+◌, cond, zero, suc, List, [], ◌∷◌, ◌++◌, length, take, drop, Option, refl, ap, sym, subst, ◌∙◌, arith}
+use Rattle.std.proofs.Common.{append_assoc}
 use Rattle.std.specs.Prelude.{IsTrue}
 use Rattle.std.proofs.lemmas.List.{append-nil}
 use Rattle.history.specs.Floors.{covers}
 use Rattle.law_image.specs.Reading.{Head, Slot, Commits, Archived, Reclaimed, Floor, ArchiveRecord}
-use Rattle.law_image.specs.Log.{heads_of, last_time_after, last_time, told_time, archive_mark_after, archive_mark, reclaim_mark_after, reclaim_mark, floors_after, floor_of, AllCome, MayComeInHeap, AreRisingAfter}
+use Rattle.law_image.specs.Log.{heads_of, last_time_after, last_time, told_time, archive_mark_after, archive_mark, reclaim_mark_after, reclaim_mark}
+use Rattle.law_image.specs.Log.{floors_after, floor_of, AllCome, MayComeInHeap, AreRisingAfter}
 use Rattle.law_image.specs.StandsFor.{IsRun, AreRunsBy, no_floors}
 use Rattle.law_image.specs.HeapPlans.{marks_of, first_runs}
 use Rattle.law_image.proofs.Logs.{heads_of-append, archive_mark-append, reclaim_mark-append, floors-append}
@@ -16,31 +18,44 @@ AreStacked mark [] (run ∷ runs) = ⊥
 AreStacked mark (upto ∷ marks) [] = ⊥
 AreStacked mark (upto ∷ marks) (run ∷ runs) = IsRun mark (no_floors []) upto run × AreStacked upto marks runs
 
-pub stack-of : (before log : List Slot) (runs : List (List ArchiveRecord)) → AreRunsBy no_floors before log runs → AreStacked (archive_mark before) (marks_of log) runs
+pub stack-of : (before log : List Slot) (runs : List (List ArchiveRecord)) → AreRunsBy no_floors before log runs
+    → AreStacked (archive_mark before) (marks_of log) runs
 stack-of before [] [] are = tt
 stack-of before [] (run ∷ runs) are = absurd are
 stack-of before (Commits heads ∷ slots) runs are =
     subst (λ n. AreStacked n (marks_of slots) runs) (archive_mark-append 0 before (Commits heads ∷ [])) (stack-of (before ++ Commits heads ∷ []) slots runs are)
 stack-of before (Archived upto ∷ slots) [] are = absurd are
-stack-of before (Archived upto ∷ slots) (run ∷ runs) are =
-    (are.0, subst (λ n. AreStacked n (marks_of slots) runs) (archive_mark-append 0 before (Archived upto ∷ [])) (stack-of (before ++ Archived upto ∷ []) slots runs are.1))
+stack-of before (Archived upto ∷ slots) (run ∷ runs) are = (
+  are.0,
+  subst (λ n. AreStacked n (marks_of slots) runs) (archive_mark-append 0 before (Archived upto ∷ [])) (stack-of (before ++ Archived upto
+      ∷ []) slots runs are.1),
+)
 stack-of before (Reclaimed upto ∷ slots) runs are =
-    subst (λ n. AreStacked n (marks_of slots) runs) (archive_mark-append 0 before (Reclaimed upto ∷ [])) (stack-of (before ++ Reclaimed upto ∷ []) slots runs are)
+    subst (λ n. AreStacked n (marks_of slots) runs) (archive_mark-append 0 before (Reclaimed upto ∷ [])) (stack-of (before ++ Reclaimed upto
+    ∷ []) slots runs are)
 stack-of before (Floor scope floor ∷ slots) runs are =
-    subst (λ n. AreStacked n (marks_of slots) runs) (archive_mark-append 0 before (Floor scope floor ∷ [])) (stack-of (before ++ Floor scope floor ∷ []) slots runs are)
+    subst (λ n. AreStacked n (marks_of slots) runs) (archive_mark-append 0 before (Floor scope floor ∷ [])) (stack-of (before ++ Floor scope floor
+    ∷ []) slots runs are)
 
-pub of-stack : (before log : List Slot) (runs : List (List ArchiveRecord)) → AreStacked (archive_mark before) (marks_of log) runs → AreRunsBy no_floors before log runs
+pub of-stack : (before log : List Slot) (runs : List (List ArchiveRecord)) → AreStacked (archive_mark before) (marks_of log) runs
+    → AreRunsBy no_floors before log runs
 of-stack before [] [] are = tt
 of-stack before [] (run ∷ runs) are = absurd are
 of-stack before (Commits heads ∷ slots) runs are =
-    of-stack (before ++ Commits heads ∷ []) slots runs (subst (λ n. AreStacked n (marks_of slots) runs) (sym (archive_mark-append 0 before (Commits heads ∷ []))) are)
+    of-stack (before ++ Commits heads
+    ∷ []) slots runs (subst (λ n. AreStacked n (marks_of slots) runs) (sym (archive_mark-append 0 before (Commits heads ∷ []))) are)
 of-stack before (Archived upto ∷ slots) [] are = absurd are
-of-stack before (Archived upto ∷ slots) (run ∷ runs) are =
-    (are.0, of-stack (before ++ Archived upto ∷ []) slots runs (subst (λ n. AreStacked n (marks_of slots) runs) (sym (archive_mark-append 0 before (Archived upto ∷ []))) are.1))
+of-stack before (Archived upto ∷ slots) (run ∷ runs) are = (
+  are.0,
+  of-stack (before ++ Archived upto
+      ∷ []) slots runs (subst (λ n. AreStacked n (marks_of slots) runs) (sym (archive_mark-append 0 before (Archived upto ∷ []))) are.1),
+)
 of-stack before (Reclaimed upto ∷ slots) runs are =
-    of-stack (before ++ Reclaimed upto ∷ []) slots runs (subst (λ n. AreStacked n (marks_of slots) runs) (sym (archive_mark-append 0 before (Reclaimed upto ∷ []))) are)
+    of-stack (before ++ Reclaimed upto
+    ∷ []) slots runs (subst (λ n. AreStacked n (marks_of slots) runs) (sym (archive_mark-append 0 before (Reclaimed upto ∷ []))) are)
 of-stack before (Floor scope floor ∷ slots) runs are =
-    of-stack (before ++ Floor scope floor ∷ []) slots runs (subst (λ n. AreStacked n (marks_of slots) runs) (sym (archive_mark-append 0 before (Floor scope floor ∷ []))) are)
+    of-stack (before ++ Floor scope floor
+    ∷ []) slots runs (subst (λ n. AreStacked n (marks_of slots) runs) (sym (archive_mark-append 0 before (Floor scope floor ∷ []))) are)
 
 pub marks-append : (log later : List Slot) → marks_of (log ++ later) ≡ marks_of log ++ marks_of later
 marks-append [] later = refl
@@ -61,7 +76,8 @@ last_mark-is before (Archived upto ∷ slots) = last_mark-is upto slots
 last_mark-is before (Reclaimed upto ∷ slots) = last_mark-is before slots
 last_mark-is before (Floor scope floor ∷ slots) = last_mark-is before slots
 
-pub stack-take : (kept mark : ℕ) (marks : List ℕ) (runs : List (List ArchiveRecord)) → AreStacked mark marks runs → AreStacked mark (take kept marks) (take kept runs)
+pub stack-take : (kept mark : ℕ) (marks : List ℕ) (runs : List (List ArchiveRecord)) → AreStacked mark marks runs
+    → AreStacked mark (take kept marks) (take kept runs)
 stack-take zero mark marks runs are = tt
 stack-take (suc kept) mark [] [] are = tt
 stack-take (suc kept) mark [] (run ∷ runs) are = absurd are
@@ -103,7 +119,8 @@ alike-none : TellAlike [] []
 alike-none = record { heads = refl; reclaimed = refl; floors = λ relation. refl; lower = omega arith }
 
 subst2-nil : (before less : List Slot) → TellAlike before less → TellAlike (before ++ []) (less ++ [])
-subst2-nil before less alike = subst (λ (l : List Slot). TellAlike l (less ++ [])) (sym (append-nil before)) (subst (λ (l : List Slot). TellAlike before l) (sym (append-nil less)) alike)
+subst2-nil before less alike =
+    subst (λ (l : List Slot). TellAlike l (less ++ [])) (sym (append-nil before)) (subst (λ (l : List Slot). TellAlike before l) (sym (append-nil less)) alike)
 
 -- a slot that stays in both
 kept-one : (before less : List Slot) (slot : Slot) (slots first : List Slot) → MayComeInHeap less slot
@@ -112,19 +129,23 @@ kept-one : (before less : List Slot) (slot : Slot) (slots first : List Slot) →
 kept-one before less slot slots first may rest = (
   (may, rest.0),
   subst (λ (l : List Slot). TellAlike l (less ++ slot ∷ first)) (append_assoc before (slot ∷ []) slots)
-  (subst (λ (l : List Slot). TellAlike ((before ++ slot ∷ []) ++ slots) l) (append_assoc less (slot ∷ []) first) rest.1),
+      (subst (λ (l : List Slot). TellAlike ((before ++ slot ∷ []) ++ slots) l) (append_assoc less (slot ∷ []) first) rest.1),
 )
 
-pub floors-alike : (f g : ℕ → ℕ) (slot : Slot) (relation : ℕ) → f relation ≡ g relation → floors_after f (slot ∷ []) relation ≡ floors_after g (slot ∷ []) relation
+pub floors-alike : (f g : ℕ → ℕ) (slot : Slot) (relation : ℕ) → f relation ≡ g relation → floors_after f (slot ∷ []) relation
+    ≡ floors_after g (slot ∷ []) relation
 floors-alike f g (Commits heads) relation same = same
 floors-alike f g (Archived upto) relation same = same
 floors-alike f g (Reclaimed upto) relation same = same
 floors-alike f g (Floor scope floor) relation same = ap (λ (n : ℕ). cond (covers scope relation) floor n) same
 
-pub alike-more : (log less : List Slot) (slot : Slot) → TellAlike log less → (archive_mark_after (archive_mark less) (slot ∷ []) ≤ archive_mark_after (archive_mark log) (slot ∷ [])) → TellAlike (log ++ slot ∷ []) (less ++ slot ∷ [])
+pub alike-more : (log less : List Slot) (slot : Slot) → TellAlike log less
+    → (archive_mark_after (archive_mark less) (slot ∷ []) ≤ archive_mark_after (archive_mark log) (slot ∷ []))
+    → TellAlike (log ++ slot ∷ []) (less ++ slot ∷ [])
 alike-more log less slot alike le = record {
   heads = heads_of-append less (slot ∷ []) ∙ ap (λ l. l ++ heads_of (slot ∷ [])) alike.heads ∙ sym (heads_of-append log (slot ∷ []));
-  reclaimed = reclaim_mark-append 0 less (slot ∷ []) ∙ ap (λ (n : ℕ). reclaim_mark_after n (slot ∷ [])) alike.reclaimed ∙ sym (reclaim_mark-append 0 log (slot ∷ []));
+  reclaimed =
+      reclaim_mark-append 0 less (slot ∷ []) ∙ ap (λ (n : ℕ). reclaim_mark_after n (slot ∷ [])) alike.reclaimed ∙ sym (reclaim_mark-append 0 log (slot ∷ []));
   floors = λ relation.
       ap (λ (f : ℕ → ℕ). f relation) (floors-append (λ q. 0) less (slot ∷ []))
       ∙ floors-alike (floor_of less) (floor_of log) slot relation (alike.floors relation)
@@ -148,23 +169,44 @@ alike-may log less (Archived upto) alike may = (omega (arith, alike.lower, may.0
 alike-may log less (Reclaimed upto) alike may =
     let l : last_time less ≡ last_time log = ap (last_time_after 0) alike.heads in
     (may.0, may.1, omega (arith, l, may.2), omega (arith, alike.reclaimed, may.3))
-alike-may log less (Floor scope floor) alike may =
-    (may.0, omega (arith, alike-told log less alike, may.1), λ relation covered. let f = alike.floors relation in let up = may.2 relation covered in omega (arith, f, up))
+alike-may log less (Floor scope floor) alike may = (
+  may.0,
+  omega (arith, alike-told log less alike, may.1),
+  λ relation covered. let f = alike.floors relation in let up =
+      may.2 relation covered in omega (arith, f, up),
+)
 
 -- the first runs of a log keep its rules
-first-may : (kept : ℕ) (before less log : List Slot) → TellAlike before less → AllCome MayComeInHeap before log → AllCome MayComeInHeap less (first_runs kept log) × TellAlike (before ++ log) (less ++ first_runs kept log)
+first-may : (kept : ℕ) (before less log : List Slot) → TellAlike before less → AllCome MayComeInHeap before log
+    → AllCome MayComeInHeap less (first_runs kept log) × TellAlike (before ++ log) (less ++ first_runs kept log)
 first-may zero before less [] alike may = (tt, subst2-nil before less alike)
 first-may (suc kept) before less [] alike may = (tt, subst2-nil before less alike)
-first-may zero before less (Commits heads ∷ slots) alike may = kept-one before less (Commits heads) slots (first_runs zero slots) (alike-may before less (Commits heads) alike may.0) (first-may zero (before ++ Commits heads ∷ []) (less ++ Commits heads ∷ []) slots (alike-more before less (Commits heads) alike alike.lower) may.1)
-first-may (suc kept) before less (Commits heads ∷ slots) alike may = kept-one before less (Commits heads) slots (first_runs (suc kept) slots) (alike-may before less (Commits heads) alike may.0) (first-may (suc kept) (before ++ Commits heads ∷ []) (less ++ Commits heads ∷ []) slots (alike-more before less (Commits heads) alike alike.lower) may.1)
+first-may zero before less (Commits heads ∷ slots) alike may =
+    kept-one before less (Commits heads) slots (first_runs zero slots) (alike-may before less (Commits heads) alike may.0) (first-may zero (before
+    ++ Commits heads ∷ []) (less ++ Commits heads ∷ []) slots (alike-more before less (Commits heads) alike alike.lower) may.1)
+first-may (suc kept) before less (Commits heads ∷ slots) alike may =
+    kept-one before less (Commits heads) slots (first_runs (suc kept) slots) (alike-may before less (Commits heads) alike may.0) (first-may (suc kept) (before
+    ++ Commits heads ∷ []) (less ++ Commits heads ∷ []) slots (alike-more before less (Commits heads) alike alike.lower) may.1)
 first-may zero before less (Archived upto ∷ slots) alike may =
     let rest = first-may zero (before ++ Archived upto ∷ []) less slots (alike-dropped before less upto alike (omega (arith, may.0.0))) may.1 in
     (rest.0, subst (λ (l : List Slot). TellAlike l (less ++ first_runs zero slots)) (append_assoc before (Archived upto ∷ []) slots) rest.1)
-first-may (suc kept) before less (Archived upto ∷ slots) alike may = kept-one before less (Archived upto) slots (first_runs kept slots) (alike-may before less (Archived upto) alike may.0) (first-may kept (before ++ Archived upto ∷ []) (less ++ Archived upto ∷ []) slots (alike-more before less (Archived upto) alike (omega arith)) may.1)
-first-may zero before less (Reclaimed upto ∷ slots) alike may = kept-one before less (Reclaimed upto) slots (first_runs zero slots) (alike-may before less (Reclaimed upto) alike may.0) (first-may zero (before ++ Reclaimed upto ∷ []) (less ++ Reclaimed upto ∷ []) slots (alike-more before less (Reclaimed upto) alike alike.lower) may.1)
-first-may (suc kept) before less (Reclaimed upto ∷ slots) alike may = kept-one before less (Reclaimed upto) slots (first_runs (suc kept) slots) (alike-may before less (Reclaimed upto) alike may.0) (first-may (suc kept) (before ++ Reclaimed upto ∷ []) (less ++ Reclaimed upto ∷ []) slots (alike-more before less (Reclaimed upto) alike alike.lower) may.1)
-first-may zero before less (Floor scope floor ∷ slots) alike may = kept-one before less (Floor scope floor) slots (first_runs zero slots) (alike-may before less (Floor scope floor) alike may.0) (first-may zero (before ++ Floor scope floor ∷ []) (less ++ Floor scope floor ∷ []) slots (alike-more before less (Floor scope floor) alike alike.lower) may.1)
-first-may (suc kept) before less (Floor scope floor ∷ slots) alike may = kept-one before less (Floor scope floor) slots (first_runs (suc kept) slots) (alike-may before less (Floor scope floor) alike may.0) (first-may (suc kept) (before ++ Floor scope floor ∷ []) (less ++ Floor scope floor ∷ []) slots (alike-more before less (Floor scope floor) alike alike.lower) may.1)
+first-may (suc kept) before less (Archived upto ∷ slots) alike may =
+    kept-one before less (Archived upto) slots (first_runs kept slots) (alike-may before less (Archived upto) alike may.0) (first-may kept (before
+    ++ Archived upto ∷ []) (less ++ Archived upto ∷ []) slots (alike-more before less (Archived upto) alike (omega arith)) may.1)
+first-may zero before less (Reclaimed upto ∷ slots) alike may =
+    kept-one before less (Reclaimed upto) slots (first_runs zero slots) (alike-may before less (Reclaimed upto) alike may.0) (first-may zero (before
+    ++ Reclaimed upto ∷ []) (less ++ Reclaimed upto ∷ []) slots (alike-more before less (Reclaimed upto) alike alike.lower) may.1)
+first-may (suc kept) before less (Reclaimed upto ∷ slots) alike may =
+    kept-one before less (Reclaimed upto) slots (first_runs (suc kept) slots) (alike-may before less (Reclaimed upto) alike may.0) (first-may (suc kept) (before
+    ++ Reclaimed upto ∷ []) (less ++ Reclaimed upto ∷ []) slots (alike-more before less (Reclaimed upto) alike alike.lower) may.1)
+first-may zero before less (Floor scope floor ∷ slots) alike may =
+    kept-one before less (Floor scope floor) slots (first_runs zero slots) (alike-may before less (Floor scope floor) alike may.0) (first-may zero (before
+    ++ Floor scope floor ∷ []) (less ++ Floor scope floor ∷ []) slots (alike-more before less (Floor scope floor) alike alike.lower) may.1)
+first-may (suc kept) before less (Floor scope floor ∷ slots) alike may =
+    kept-one before less (Floor scope floor) slots (first_runs (suc kept) slots) (alike-may before less (Floor scope floor) alike may.0)
+    (first-may (suc kept) (before ++ Floor scope floor ∷ []) (less ++ Floor scope floor
+    ∷ []) slots (alike-more before less (Floor scope floor) alike alike.lower) may.1)
 
-pub first-rules : (kept : ℕ) (log : List Slot) → AllCome MayComeInHeap [] log → AllCome MayComeInHeap [] (first_runs kept log) × TellAlike log (first_runs kept log)
+pub first-rules : (kept : ℕ) (log : List Slot) → AllCome MayComeInHeap [] log → AllCome MayComeInHeap [] (first_runs kept log)
+    × TellAlike log (first_runs kept log)
 first-rules kept log may = first-may kept [] [] log alike-none may

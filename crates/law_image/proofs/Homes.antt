@@ -23,10 +23,13 @@ by_of t n h = grind (arith, nat_tests)
 
 module _ (reading : Reading) (h : History Value) (floors : ℕ → ℕ) (stands : StandsFor reading h floors) (key : Key) (v : Version Value) where
   -- in the heap exactly the versions that end after R
-  pub heap-is : Contains (heap_versions reading key) v × (floors key.relation < v.to) ↔ IsVersion h key v × (floors key.relation < v.to) × (reclaimed_upto reading < v.to)
+  pub heap-is : Contains (heap_versions reading key) v × (floors key.relation < v.to) ↔ IsVersion h key v × (floors key.relation < v.to)
+      × (reclaimed_upto reading < v.to)
   heap-is = (
     λ has.
-        let kept = subst (λ l. Contains l v) (stands.homes.in_heap key) (Contains-filter (ends_after (floors key.relation)) (heap_versions reading key) v has.0 (is_lt has.1)) in
+        let kept =
+        subst (λ l. Contains l v) (stands.homes.in_heap key)
+        (Contains-filter (ends_after (floors key.relation)) (heap_versions reading key) v has.0 (is_lt has.1)) in
         let outer = filter-Contains (ends_after (floors key.relation)) (filter (ends_after (reclaimed_upto reading)) (versions_of h key)) v kept in
         let inner = filter-Contains (ends_after (reclaimed_upto reading)) (versions_of h key) v outer.0 in
         (inner.0, has.1, after_of (reclaimed_upto reading) v.to inner.1),
@@ -38,10 +41,13 @@ module _ (reading : Reading) (h : History Value) (floors : ℕ → ℕ) (stands 
   )
 
   -- in the archive exactly those that end by A
-  pub archive-is : Contains (archived_versions reading key) v × (floors key.relation < v.to) ↔ IsVersion h key v × (floors key.relation < v.to) × (v.to ≤ archived_upto reading)
+  pub archive-is : Contains (archived_versions reading key) v × (floors key.relation < v.to) ↔ IsVersion h key v × (floors key.relation < v.to)
+      × (v.to ≤ archived_upto reading)
   archive-is = (
     λ has.
-        let kept = subst (λ l. Contains l v) (stands.homes.in_archive key) (Contains-filter (ends_after (floors key.relation)) (archived_versions reading key) v has.0 (is_lt has.1)) in
+        let kept =
+        subst (λ l. Contains l v) (stands.homes.in_archive key)
+        (Contains-filter (ends_after (floors key.relation)) (archived_versions reading key) v has.0 (is_lt has.1)) in
         let outer = filter-Contains (ends_after (floors key.relation)) (filter (ends_by (archived_upto reading)) (versions_of h key)) v kept in
         let inner = filter-Contains (ends_by (archived_upto reading)) (versions_of h key) v outer.0 in
         (inner.0, has.1, by_of (archived_upto reading) v.to inner.1),
@@ -65,7 +71,8 @@ module _ (reading : Reading) (h : History Value) (floors : ℕ → ℕ) (stands 
         λ is.
             let after : floor_of reading.log key.relation < v.to = omega (arith, is.1, same) in
             ⊎_elim
-            (λ (later : archived_upto reading < v.to). let reclaimed : reclaimed_upto reading < v.to = omega (arith, stands.homes.marks) in let has = heap-is.1 (is.0, is.1, reclaimed) in (inl has.0, after))
+            (λ (later : archived_upto reading < v.to). let reclaimed : reclaimed_upto reading < v.to = omega (arith, stands.homes.marks) in let has =
+            heap-is.1 (is.0, is.1, reclaimed) in (inl has.0, after))
             (λ (early : v.to ≤ archived_upto reading). let has = archive-is.1 (is.0, is.1, early) in (inr has.0, after))
             (cases_lt (archived_upto reading) v.to),
       )

@@ -21,16 +21,25 @@ module _ (reading : Reading) (h : History Value) (floors : ℕ → ℕ) (stands 
   up = rising-from_following IsValue [] h stands.opens.history
 
   pub at-kept : (key : Key) (t : ℕ) → floors key.relation ≤ t → t < 2 ^ 63 → standing_at (kept_versions reading (floors key.relation) key) t ≡ state h t key
-  at-kept key t from below = views.at-kept h floors (archived_upto reading) (reclaimed_upto reading) (heap_versions reading) (archived_versions reading) stands.homes up key t from below
+  at-kept key t from below =
+      views.at-kept h floors (archived_upto reading) (reclaimed_upto reading) (heap_versions reading) (archived_versions reading) stands.homes up key t from
+      below
 
   pub between-kept : (key : Key) (a b : ℕ) → floors key.relation ≤ a → rows (kept_versions reading (floors key.relation) key) a b ≡ between h key a b
-  between-kept key a b from = views.between-kept h floors (archived_upto reading) (reclaimed_upto reading) (heap_versions reading) (archived_versions reading) stands.homes up key a b from
+  between-kept key a b from =
+      views.between-kept h floors (archived_upto reading) (reclaimed_upto reading) (heap_versions reading) (archived_versions reading) stands.homes up key a b
+      from
 
-  pub at-recent : (key : Key) (t : ℕ) → floors key.relation ≤ t → reclaimed_upto reading ≤ t → t < 2 ^ 63 → standing_at (heap_versions reading key) t ≡ state h t key
-  at-recent key t from recent below = views.at-recent h floors (archived_upto reading) (reclaimed_upto reading) (heap_versions reading) (archived_versions reading) stands.homes up key t from recent below
+  pub at-recent : (key : Key) (t : ℕ) → floors key.relation ≤ t → reclaimed_upto reading ≤ t → t < 2 ^ 63 → standing_at (heap_versions reading key) t
+      ≡ state h t key
+  at-recent key t from recent below =
+      views.at-recent h floors (archived_upto reading) (reclaimed_upto reading) (heap_versions reading) (archived_versions reading) stands.homes up key t from
+      recent below
 
   pub between-recent : (key : Key) (a b : ℕ) → floors key.relation ≤ a → reclaimed_upto reading ≤ a → rows (heap_versions reading key) a b ≡ between h key a b
-  between-recent key a b from recent = views.between-recent h floors (archived_upto reading) (reclaimed_upto reading) (heap_versions reading) (archived_versions reading) stands.homes up key a b from recent
+  between-recent key a b from recent =
+      views.between-recent h floors (archived_upto reading) (reclaimed_upto reading) (heap_versions reading) (archived_versions reading) stands.homes up key a b
+      from recent
 
   -- the log gives these floors
   pub floors-are : floor_of reading.log ≡ floors
@@ -40,5 +49,6 @@ module _ (reading : Reading) (h : History Value) (floors : ℕ → ℕ) (stands 
   pub is-view : IsViewOf (view_of reading) h
   is-view = record {
     newest_is = last-is reading h floors stands;
-    homes = subst (λ (f : ℕ → ℕ). AreAtHome h f (archived_upto reading) (reclaimed_upto reading) (heap_versions reading) (archived_versions reading)) (sym floors-are) stands.homes;
+    homes = subst (λ (f : ℕ
+        → ℕ). AreAtHome h f (archived_upto reading) (reclaimed_upto reading) (heap_versions reading) (archived_versions reading)) (sym floors-are) stands.homes;
   }

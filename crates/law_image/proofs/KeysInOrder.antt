@@ -26,7 +26,8 @@ all_less : (a b : Key) (ks : List Key) → key_cmp a b ≡ Less → AllByRecursi
 all_less a b [] less above = tt
 all_less a b (k ∷ ks) less above = (less_trans a b k less above.0, all_less a b ks less above.1)
 
-insert-above : (low key : Key) (ks : List Key) → key_cmp low key ≡ Less → AllByRecursion (λ k. key_cmp low k ≡ Less) ks → AllByRecursion (λ k. key_cmp low k ≡ Less) (insert_key key ks)
+insert-above : (low key : Key) (ks : List Key) → key_cmp low key ≡ Less → AllByRecursion (λ k. key_cmp low k ≡ Less) ks
+    → AllByRecursion (λ k. key_cmp low k ≡ Less) (insert_key key ks)
 insert-above low key [] less above = (less, tt)
 insert-above low key (k ∷ ks) less above =
     elim (key_cmp key k) as (λ o. AllByRecursion (λ x. key_cmp low x ≡ Less) (insert_at o key k ks (insert_key key ks))) [
@@ -55,7 +56,8 @@ keys-sorted (k ∷ ks) = insert-sorted k (sorted_keys ks) (keys-sorted ks)
 insert-others : (key k : Key) (ks : List Key) → AreOthers key (insert_key k ks) → (same_key k key ≡ false) × AreOthers key ks
 insert-others key k [] others = others
 insert-others key k (x ∷ xs) others =
-    let Goal : Ordering → Type 0 = λ o. key_cmp k x ≡ o → AreOthers key (insert_at o k x xs (insert_key k xs)) → (same_key k key ≡ false) × AreOthers key (x ∷ xs) in
+    let Goal : Ordering → Type 0 =
+    λ o. key_cmp k x ≡ o → AreOthers key (insert_at o k x xs (insert_key k xs)) → (same_key k key ≡ false) × AreOthers key (x ∷ xs) in
     let all : (o : Ordering) → Goal o = λ o. elim o as Goal [
       | Less ↦ λ e others. (others.0, others.1)
       | Equal ↦ λ e others. (same_other k x key e others.0, others)

@@ -48,12 +48,14 @@ standing-stays s mark ws more lt up up' =
     let next : mark < n = first_time-later mark more lt up' in
     ap (λ l. map as_write (filter (stands_at mark) l)) (versions-append s ws more up)
     ∙ ap (map as_write) (filter-append (stands_at mark) (map (ended n) (versions ws)) (versions more))
-    ∙ ap (λ l. map as_write (filter (stands_at mark) (map (ended n) (versions ws)) ++ l)) (none-stands n mark (versions more) next (versions-apart mark more up'))
+    ∙ ap (λ l. map as_write (filter (stands_at mark) (map (ended n) (versions ws))
+    ++ l)) (none-stands n mark (versions more) next (versions-apart mark more up'))
     ∙ ap (map as_write) (append-nil (filter (stands_at mark) (map (ended n) (versions ws))))
     ∙ ap (map as_write) (filter-map (stands_at mark) (stands_at mark) (ended n) (versions ws) (λ v. stands-ended mark n v next lt))
     ∙ as-writes-ended n (filter (stands_at mark) (versions ws))
 
-module _ (reading : Reading) (h next : History Value) (floors : ℕ → ℕ) (group : List Member) (stands : StandsFor reading h floors) (joins : IsGroupOf reading h next group) (room : HasRoom reading) where
+module _ (reading : Reading) (h next : History Value) (floors : ℕ
+    → ℕ) (group : List Member) (stands : StandsFor reading h floors) (joins : IsGroupOf reading h next group) (room : HasRoom reading) where
   same-mark : archived_upto (with_group reading group) ≡ archived_upto reading
   same-mark = same_archived reading h floors stands group next joins room
 
@@ -66,7 +68,8 @@ module _ (reading : Reading) (h next : History Value) (floors : ℕ → ℕ) (gr
   rise : (key : Key) → IsRisingAfter (last h) (writes_of next key)
   rise = later reading h floors stands group next joins room
 
-  pub archive-plan-stays : (upto : ℕ) (run : List ArchiveRecord) → upto ≤ last h → IsArchivePlan reading upto run → IsArchivePlan (with_group reading group) upto run
+  pub archive-plan-stays : (upto : ℕ) (run : List ArchiveRecord) → upto ≤ last h → IsArchivePlan reading upto run
+      → IsArchivePlan (with_group reading group) upto run
   archive-plan-stays upto run by plan = record {
     each = λ key.
         let mark = max (archived_upto reading) (floor_of reading.log key.relation) in
@@ -78,7 +81,8 @@ module _ (reading : Reading) (h next : History Value) (floors : ℕ → ℕ) (gr
         ∙ ap (λ (f : ℕ → ℕ). max (archived_upto (with_group reading group)) (f key.relation)) (sym same-floors) in
         plan.each key
         ∙ filter-swap (ends_by upto) (ends_after mark) (versions ws)
-        ∙ ap (filter (ends_after mark)) (sym (ends_by-append 0 upto ws more bound (facts-rise reading h floors stands key) (rising_earlier upto (last h) more by (rise key))))
+        ∙ ap (filter (ends_after mark))
+        (sym (ends_by-append 0 upto ws more bound (facts-rise reading h floors stands key) (rising_earlier upto (last h) more by (rise key))))
         ∙ ap (λ l. filter (ends_after mark) (filter (ends_by upto) (versions l))) (sym (facts key))
         ∙ sym (filter-swap (ends_by upto) (ends_after mark) (heap_versions (with_group reading group) key))
         ∙ ap (λ (m : ℕ). filter (ends_by upto) (filter (ends_after m) (heap_versions (with_group reading group) key))) same;
@@ -94,7 +98,11 @@ module _ (reading : Reading) (h next : History Value) (floors : ℕ → ℕ) (gr
         let more = writes_of next key in
         let range = archived-range reading h floors stands in
         plan.each key
-        ∙ sym (standing-stays 0 mark ws more (omega (arith, range, last-range reading h floors stands)) (facts-rise reading h floors stands key) (rising_earlier mark (last h) more range (rise key)))
+        ∙ sym (standing-stays 0 mark ws more (omega (
+          arith,
+          range,
+          last-range reading h floors stands,
+        )) (facts-rise reading h floors stands key) (rising_earlier mark (last h) more range (rise key)))
         ∙ ap (λ l. map as_write (filter (stands_at mark) (versions l))) (sym (facts key))
         ∙ ap (λ (a : ℕ). map as_write (filter (stands_at a) (heap_versions (with_group reading group) key))) (sym same-mark);
     rising = plan.rising;

@@ -1,5 +1,6 @@
 -- What the heap alone tells: the last value of each key, over which the next commits are stored.
-use Rattle.std.proofs.Common.{◌≡◌, ℕ, ◌<◌, ◌≤◌, ◌^◌, nat_le, nat_lt, suc, true, false, cond, ⊎_elim, List, [], ◌∷◌, ◌++◌, map, length, Option, Some, None, refl, ap, sym, subst, ◌∙◌, arith}
+use Rattle.std.proofs.Common.{◌≡◌, ℕ, ◌<◌, ◌≤◌, ◌^◌, nat_le, nat_lt, suc, true, false, cond, ⊎_elim, List, [], ◌∷◌, ◌++◌, map, length, Option, Some, None, refl}
+use Rattle.std.proofs.Common.{ap, sym, subst, ◌∙◌, arith}
 use Rattle.std.specs.Prelude.{option_map, unwrap_or, IsSome}
 use Rattle.std.specs.List.{AllByRecursion, cons_option}
 use Rattle.std.specs.List.Sorted.{IsStrictlySortedBy}
@@ -43,7 +44,8 @@ commits-stored before (c ∷ cs) =
     ∙ ap (λ l. c ∷ l) (commits-stored (values_after before c) cs)
 
 -- the records of a write set, where gone is of a value
-are-stored : (before : Key → Option Value) (ws : List (KeyWrite Value)) → AllByRecursion (λ w. w.write ≡ None → IsSome (before w.key)) ws → AllByRecursion (IsStored before) (map (stored_record before) ws)
+are-stored : (before : Key → Option Value) (ws : List (KeyWrite Value)) → AllByRecursion (λ w. w.write ≡ None → IsSome (before w.key)) ws
+    → AllByRecursion (IsStored before) (map (stored_record before) ws)
 are-stored before [] gone = tt
 are-stored before (w ∷ ws) gone = (
   record {
@@ -91,13 +93,15 @@ last-within t mark n (c ∷ cs) up within le =
     (cases_lt mark c.time)
 
 -- from the last time on a state does not change
-settled : (before : Option Value) (t a b : ℕ) (h : History Value) (key : Key) → HasRisingTimes t h → last_after t h ≤ a → last_after t h ≤ b → value_after before (writes_of h key) a ≡ value_after before (writes_of h key) b
+settled : (before : Option Value) (t a b : ℕ) (h : History Value) (key : Key) → HasRisingTimes t h → last_after t h ≤ a → last_after t h ≤ b
+    → value_after before (writes_of h key) a ≡ value_after before (writes_of h key) b
 settled before t a b [] key up la lb = refl
 settled before t a b (c ∷ cs) key up la lb =
     let within = last-later c.time cs up.2 in
     let at_a : nat_le c.time a ≡ true = is_le (omega (arith, within, la)) in
     let at_b : nat_le c.time b ≡ true = is_le (omega (arith, within, lb)) in
-    let step : Option (Option Value) → ℕ → Option Value = λ o n. value_after before (cons_option (option_map (λ write. record { time = c.time; write = write }) o) (writes_of cs key)) n in
+    let step : Option (Option Value) → ℕ → Option Value =
+    λ o n. value_after before (cons_option (option_map (λ write. record { time = c.time; write = write }) o) (writes_of cs key)) n in
     elim (write_in c.writes key) as (λ o. step o a ≡ step o b) [
       | None ↦ settled before c.time a b cs key up.2 la lb
       | Some w ↦
@@ -107,7 +111,8 @@ settled before t a b (c ∷ cs) key up la lb =
     ]
 
 -- the values after a commit are those of the history with it
-after-one : (h : History Value) (c : Commit Value) (key : Key) (t : ℕ) → c.time ≤ t → unwrap_or (write_in c.writes key) (value_at (writes_of h key) t) ≡ value_at (writes_of (h ++ c ∷ []) key) t
+after-one : (h : History Value) (c : Commit Value) (key : Key) (t : ℕ) → c.time ≤ t → unwrap_or (write_in c.writes key) (value_at (writes_of h key) t)
+    ≡ value_at (writes_of (h ++ c ∷ []) key) t
 after-one h c key t le =
     let early : nat_le c.time t ≡ true = is_le le in
     let whole : value_at (writes_of (h ++ c ∷ []) key) t ≡ value_after (value_at (writes_of h key) t) (writes_of (c ∷ []) key) t =
@@ -118,12 +123,14 @@ after-one h c key t le =
       | Some w ↦ ap (λ x. cond x w v) (sym early)
     ] ∙ sym whole
 
-gone-of_value : (h : History Value) (before : Key → Option Value) (ws : List (KeyWrite Value)) → ((key : Key) → state h (last h) key ≡ before key) → AllByRecursion (EndsAValue h) ws → AllByRecursion (λ w. w.write ≡ None → IsSome (before w.key)) ws
+gone-of_value : (h : History Value) (before : Key → Option Value) (ws : List (KeyWrite Value)) → ((key : Key) → state h (last h) key ≡ before key)
+    → AllByRecursion (EndsAValue h) ws → AllByRecursion (λ w. w.write ≡ None → IsSome (before w.key)) ws
 gone-of_value h before [] same gone = tt
 gone-of_value h before (w ∷ ws) same gone = ((λ is. subst IsSome (same w.key) (gone.0 is)), gone-of_value h before ws same gone.1)
 
 -- commits that may follow, over the values of the history, are chains of well stored records
-members-stored : (h next : History Value) (before : Key → Option Value) → HasRisingTimes 0 h → MayAllFollow IsValue h next → ((key : Key) → value_at (writes_of h key) (2 ^ 63) ≡ before key)
+members-stored : (h next : History Value) (before : Key → Option Value) → HasRisingTimes 0 h → MayAllFollow IsValue h next
+    → ((key : Key) → value_at (writes_of h key) (2 ^ 63) ≡ before key)
     → AllByRecursion IsChain (stored_members before next) × AreStored before (stored_members before next)
 members-stored h [] before up may same = (tt, tt)
 members-stored h (c ∷ cs) before up may same =
@@ -158,11 +165,13 @@ module _ (reading : Reading) (h : History Value) (floors : ℕ → ℕ) (stands 
       ∙ sym (at-recent reading h floors stands key l (floor-range reading h floors stands key.relation) past below)
       ∙ standing_at-versions 0 l facts below (facts-rise reading h floors stands key)
       ∙ split l
-      ∙ ap (λ v. value_after v (writes_of (heap_commits reading) key) l) (old_writes-latest r l reading.anchors key None past (omega (arith, past, below)) stands.opens.reads.anchor_times)
+      ∙ ap (λ v. value_after v (writes_of (heap_commits reading) key) l)
+      (old_writes-latest r l reading.anchors key None past (omega (arith, past, below)) stands.opens.reads.anchor_times)
       ∙ settled (old (2 ^ 63)) r l (2 ^ 63) (heap_commits reading) key (recent-rise reading h floors stands) recent (omega (arith, recent, below))
       ∙ sym (split (2 ^ 63))
 
-  pub stored-is_group : (next : History Value) → MayAllFollow IsValue h next → 0 < length next → length next ≤ most_members reading.profile → IsGroupOf reading h next (stored_members (λ key. latest (heap_facts reading key)) next)
+  pub stored-is_group : (next : History Value) → MayAllFollow IsValue h next → 0 < length next → length next ≤ most_members reading.profile
+      → IsGroupOf reading h next (stored_members (λ key. latest (heap_facts reading key)) next)
   stored-is_group next may some few =
       let before : Key → Option Value = λ key. latest (heap_facts reading key) in
       let all = members-stored h next before (rises reading h floors stands) may latest-is in

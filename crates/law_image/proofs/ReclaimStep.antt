@@ -39,7 +39,8 @@ module _ (reading : Reading) (h : History Value) (floors : ℕ → ℕ) (stands 
   mark-range = omega (arith, archived-range reading h floors stands, last-range reading h floors stands)
 
   -- the value of each key at the mark is what the plan's records give
-  planned_value : (key : Key) → latest (old_writes olds key) ≡ value_after (latest (old_writes reading.anchors key)) (writes_of (heap_commits reading) key) (archived_upto reading)
+  planned_value : (key : Key) → latest (old_writes olds key)
+      ≡ value_after (latest (old_writes reading.anchors key)) (writes_of (heap_commits reading) key) (archived_upto reading)
   planned_value key =
       let a = archived_upto reading in
       let facts = heap_facts reading key in
@@ -48,23 +49,30 @@ module _ (reading : Reading) (h : History Value) (floors : ℕ → ℕ) (stands 
       ∙ standing_at-versions 0 a facts mark-range (facts-rise reading h floors stands key)
       ∙ value_after-append None (old_writes reading.anchors key) (writes_of (heap_commits reading) key) a
       ∙ ap (λ v. value_after v (writes_of (heap_commits reading) key) a)
-      (old_writes-latest (reclaimed_upto reading) a reading.anchors key None stands.homes.marks (omega (arith, stands.homes.marks, mark-range)) stands.opens.reads.anchor_times)
+      (old_writes-latest (reclaimed_upto reading) a reading.anchors key None stands.homes.marks (omega (
+        arith,
+        stands.homes.marks,
+        mark-range,
+      )) stands.opens.reads.anchor_times)
 
   -- so the members that stay are the same commits
   later_commits : heap_commits (with_base reading olds after) ≡ commits_after (archived_upto reading) (heap_commits reading)
   later_commits =
-      commits_from-after (reclaimed_upto reading) (archived_upto reading) (λ key. latest (old_writes reading.anchors key)) (λ key. latest (old_writes olds key)) reading.members
+      commits_from-after (reclaimed_upto reading) (archived_upto reading) (λ key. latest (old_writes reading.anchors key)) (λ key. latest (old_writes olds key))
+      reading.members
       (recent-rise reading h floors stands) planned_value
 
   -- the facts that stay are those after the mark, behind the version that stands at it
-  later_facts : (key : Key) → heap_facts (with_base reading olds after) key ≡ map as_write (filter (stands_at (archived_upto reading)) (heap_versions reading key)) ++ writes_after (archived_upto reading) (heap_facts reading key)
+  later_facts : (key : Key) → heap_facts (with_base reading olds after) key
+      ≡ map as_write (filter (stands_at (archived_upto reading)) (heap_versions reading key)) ++ writes_after (archived_upto reading) (heap_facts reading key)
   later_facts key =
       let a = archived_upto reading in
       ap (λ l. l ++ writes_of (heap_commits (with_base reading olds after)) key) (plan.each key)
       ∙ ap (λ l. map as_write (filter (stands_at a) (heap_versions reading key)) ++ l) (
       ap (λ c. writes_of c key) later_commits
       ∙ writes_of-commits_after a (heap_commits reading) key
-      ∙ ap (λ l. l ++ writes_after a (writes_of (heap_commits reading) key)) (sym (old_writes-past (reclaimed_upto reading) a reading.anchors key stands.homes.marks stands.opens.reads.anchor_times))
+      ∙ ap (λ l. l ++ writes_after a (writes_of (heap_commits reading) key))
+      (sym (old_writes-past (reclaimed_upto reading) a reading.anchors key stands.homes.marks stands.opens.reads.anchor_times))
       ∙ sym (filter-append (λ (w : TimedWrite Value). nat_lt a w.time) (old_writes reading.anchors key) (writes_of (heap_commits reading) key)))
 
   pub reclaimed-stands_for : StandsFor (with_base reading olds after) h floors
@@ -76,9 +84,11 @@ module _ (reading : Reading) (h : History Value) (floors : ℕ → ℕ) (stands 
           reads = record {
             form = form;
             members =
-                sym (filter-map (λ (m : Member). nat_lt a m.head.time) (λ (head : Head). nat_lt a head.time) (λ (m : Member). m.head) reading.members (λ m. refl))
+                sym (filter-map (λ (m : Member). nat_lt a m.head.time) (λ (head : Head). nat_lt a head.time) (λ (m : Member). m.head) reading.members
+                (λ m. refl))
                 ∙ ap (filter (λ (head : Head). nat_lt a head.time)) stands.opens.reads.members
-                ∙ filter-filter (λ (head : Head). nat_lt a head.time) (λ (head : Head). nat_lt r head.time) (heads_of reading.log) (λ head e. later_lt r a head.time stands.homes.marks e)
+                ∙ filter-filter (λ (head : Head). nat_lt a head.time) (λ (head : Head). nat_lt r head.time) (heads_of reading.log)
+                (λ head e. later_lt r a head.time stands.homes.marks e)
                 ∙ ap (λ l. filter (λ (head : Head). nat_lt a head.time) l) (sym same_heads)
                 ∙ ap (λ (m : ℕ). filter (λ (head : Head). nat_lt m head.time) (heads_of after)) (sym new_reclaimed);
             chains = AllByRecursion-filter IsChain (λ m. nat_lt a m.head.time) reading.members stands.opens.reads.chains;
@@ -93,7 +103,8 @@ module _ (reading : Reading) (h : History Value) (floors : ℕ → ℕ) (stands 
           write_sets =
               later_commits
               ∙ ap (commits_after a) stands.opens.write_sets
-              ∙ filter-filter (λ (c : Commit Value). nat_lt a c.time) (λ (c : Commit Value). nat_lt r c.time) h (λ c e. later_lt r a c.time stands.homes.marks e)
+              ∙ filter-filter (λ (c : Commit Value). nat_lt a c.time) (λ (c : Commit Value). nat_lt r c.time) h
+              (λ c e. later_lt r a c.time stands.homes.marks e)
               ∙ ap (λ (m : ℕ). commits_after m h) (sym new_reclaimed);
         };
         homes = record {
@@ -108,12 +119,15 @@ module _ (reading : Reading) (h : History Value) (floors : ℕ → ℕ) (stands 
               ∙ filter-swap (ends_after a) (ends_after f) (filter (ends_after r) vs)
               ∙ ap (filter (ends_after f)) (filter-later r a vs stands.homes.marks)
               ∙ ap (λ (m : ℕ). filter (ends_after f) (filter (ends_after m) vs)) (sym new_reclaimed);
-          in_archive = λ key. stands.homes.in_archive key ∙ ap (λ (m : ℕ). filter (ends_after (floors key.relation)) (filter (ends_by m) (versions_of h key))) (sym same_archived);
+          in_archive =
+              λ key. stands.homes.in_archive key
+              ∙ ap (λ (m : ℕ). filter (ends_after (floors key.relation)) (filter (ends_by m) (versions_of h key))) (sym same_archived);
         };
       }
 
 -- a slot at the end of the log
-pub reclaim-stands_for : (reading : Reading) (h : History Value) (floors : ℕ → ℕ) → StandsFor reading h floors → (olds : List OldRecord) → IsReclaimPlan reading olds
+pub reclaim-stands_for : (reading : Reading) (h : History Value) (floors : ℕ → ℕ) → StandsFor reading h floors → (olds : List OldRecord)
+    → IsReclaimPlan reading olds
     → reclaimed_upto reading < archived_upto reading → HasSlots reading → HasRoom reading → StandsFor (with_anchors reading olds) h floors
 reclaim-stands_for reading h floors stands olds plan advances slots has_room =
     let a = archived_upto reading in
@@ -128,5 +142,6 @@ reclaim-stands_for reading h floors stands olds plan advances slots has_room =
       header = is.header;
       log = log-more reading.profile [] reading.log (Reclaimed a) is.log (refl, advances);
       fits = omega (arith, length-append reading.log (Reclaimed a ∷ []), room);
-      runs = subst (AreRunsOf [] (reading.log ++ Reclaimed a ∷ [])) (append-nil reading.runs) (runs-more floor_of [] reading.log (Reclaimed a ∷ []) reading.runs [] is.runs tt);
+      runs = subst (AreRunsOf [] (reading.log ++ Reclaimed a ∷ [])) (append-nil reading.runs) (runs-more floor_of [] reading.log (Reclaimed a
+          ∷ []) reading.runs [] is.runs tt);
     }))

@@ -21,7 +21,8 @@ pub rising-by_earlier : {X : Type 0} (f : X → ℕ) (n m : ℕ) (xs : List X) �
 rising-by_earlier f n m [] le up = tt
 rising-by_earlier f n m (x ∷ xs) le up = (omega (arith, up.0), up.1)
 
-pub rising-by_append : {X : Type 0} (f : X → ℕ) (n m : ℕ) (xs ys : List X) → n ≤ m → IsRisingBy f n xs → AllByRecursion (λ x. f x ≤ m) xs → IsRisingBy f m ys → IsRisingBy f n (xs ++ ys)
+pub rising-by_append : {X : Type 0} (f : X → ℕ) (n m : ℕ) (xs ys : List X) → n ≤ m → IsRisingBy f n xs → AllByRecursion (λ x. f x ≤ m) xs → IsRisingBy f m ys
+    → IsRisingBy f n (xs ++ ys)
 rising-by_append f n m [] ys le up below up' = rising-by_earlier f n m ys le up'
 rising-by_append f n m (x ∷ xs) ys le up below up' = (up.0, rising-by_append f (f x) m xs ys below.0 up.1 below.1 up')
 
@@ -45,16 +46,19 @@ other_key : (a b key : Key) → key_cmp a b ≡ Less → same_key a key ≡ true
 other_key a b key less same = grind (arith, nat_tests)
 
 -- behind a greater key there is none of this one
-beyond : (a key : Key) (s : ArchiveRecord) (rest : List ArchiveRecord) → same_key a key ≡ true → key_cmp a s.key ≡ Less → AreInOrder (s ∷ rest) → run_versions key (s ∷ rest) ≡ []
+beyond : (a key : Key) (s : ArchiveRecord) (rest : List ArchiveRecord) → same_key a key ≡ true → key_cmp a s.key ≡ Less → AreInOrder (s ∷ rest)
+    → run_versions key (s ∷ rest) ≡ []
 beyond a key s [] same less order = let other : same_key s.key key ≡ false = other_key a s.key key less same in rw other refl
 beyond a key s (t ∷ rest) same less order =
     let other : same_key s.key key ≡ false = other_key a s.key key less same in
     let next : key_cmp a t.key ≡ Less =
-    ⊎_elim (λ (l : key_cmp s.key t.key ≡ Less). less_trans a s.key t.key less l) (λ (e : (s.key ≡ t.key) × (s.version.to ≤ t.version.from)). subst (λ k. key_cmp a k ≡ Less) e.0 less) order.0 in
+    ⊎_elim (λ (l : key_cmp s.key t.key ≡ Less). less_trans a s.key t.key less l) (λ (e : (s.key ≡ t.key)
+    × (s.version.to ≤ t.version.from)). subst (λ k. key_cmp a k ≡ Less) e.0 less) order.0 in
     rw other (beyond a key t rest same next order.1)
 
 -- behind a record of a key, its others rise
-after-record : (mark : ℕ) (floors : ℕ → ℕ) (upto : ℕ) (key : Key) (r : ArchiveRecord) (rest : List ArchiveRecord) → same_key r.key key ≡ true → AreInOrder (r ∷ rest) → AllByRecursion (IsArchived mark floors upto) rest
+after-record : (mark : ℕ) (floors : ℕ → ℕ) (upto : ℕ) (key : Key) (r : ArchiveRecord) (rest : List ArchiveRecord) → same_key r.key key ≡ true
+    → AreInOrder (r ∷ rest) → AllByRecursion (IsArchived mark floors upto) rest
     → IsRisingBy (λ v. v.to) r.version.to (run_versions key rest)
 after-record mark floors upto key r [] same order each = tt
 after-record mark floors upto key r (s ∷ rest) same order each =
@@ -71,17 +75,20 @@ tail-order : (r : ArchiveRecord) (rest : List ArchiveRecord) → AreInOrder (r �
 tail-order r [] order = tt
 tail-order r (s ∷ rest) order = order.1
 
-run-rising : (mark : ℕ) (floors : ℕ → ℕ) (upto : ℕ) (key : Key) (run : List ArchiveRecord) → AreInOrder run → AllByRecursion (IsArchived mark floors upto) run → IsRisingBy (λ v. v.to) mark (run_versions key run)
+run-rising : (mark : ℕ) (floors : ℕ → ℕ) (upto : ℕ) (key : Key) (run : List ArchiveRecord) → AreInOrder run → AllByRecursion (IsArchived mark floors upto) run
+    → IsRisingBy (λ v. v.to) mark (run_versions key run)
 run-rising mark floors upto key [] order each = tt
 run-rising mark floors upto key (r ∷ rest) order each =
-    let Goal : Bool → Type 0 = λ b. same_key r.key key ≡ b → IsRisingBy (λ (v : Version Value). v.to) mark (cons_option (cond b (Some r.version) None) (run_versions key rest)) in
+    let Goal : Bool → Type 0 =
+    λ b. same_key r.key key ≡ b → IsRisingBy (λ (v : Version Value). v.to) mark (cons_option (cond b (Some r.version) None) (run_versions key rest)) in
     let all : (b : Bool) → Goal b = λ b. elim b as Goal [
       | true ↦ λ e. ((each.0).after_mark, after-record mark floors upto key r rest e order each.1)
       | false ↦ λ e. run-rising mark floors upto key rest (tail-order r rest order) each.1
     ] in
     all (same_key r.key key) refl
 
-run-by : (mark : ℕ) (floors : ℕ → ℕ) (upto : ℕ) (key : Key) (run : List ArchiveRecord) → AllByRecursion (IsArchived mark floors upto) run → AllByRecursion (λ v. v.to ≤ upto) (run_versions key run)
+run-by : (mark : ℕ) (floors : ℕ → ℕ) (upto : ℕ) (key : Key) (run : List ArchiveRecord) → AllByRecursion (IsArchived mark floors upto) run
+    → AllByRecursion (λ v. v.to ≤ upto) (run_versions key run)
 run-by mark floors upto key [] each = tt
 run-by mark floors upto key (r ∷ rest) each =
     elim (same_key r.key key) as (λ b. AllByRecursion (λ (v : Version Value). v.to ≤ upto) (cons_option (cond b (Some r.version) None) (run_versions key rest))) [
@@ -90,28 +97,36 @@ run-by mark floors upto key (r ∷ rest) each =
     ]
 
 -- the marks of the runs rise where each slot may come after those before it
-module _ (May : List Slot → Slot → Type 0) (floors : List Slot → ℕ → ℕ) (marks_rise : (before : List Slot) (upto : ℕ) → May before (Archived upto) → archive_mark before ≤ upto) (key : Key) where
+module _ (May : List Slot → Slot → Type 0) (floors : List Slot → ℕ → ℕ) (marks_rise : (before : List Slot) (upto : ℕ) → May before (Archived upto)
+    → archive_mark before ≤ upto) (key : Key) where
   pub runs-rise : (before log : List Slot) (runs : List (List ArchiveRecord)) → AllCome May before log → AreRunsBy floors before log runs
       → IsRisingBy (λ v. v.to) (archive_mark before) (flat_map (run_versions key) runs)
   runs-rise before [] [] may are = tt
   runs-rise before [] (run ∷ runs) may are = absurd are
   runs-rise before (Commits heads ∷ slots) runs may are =
-      subst (λ n. IsRisingBy (λ (v : Version Value). v.to) n (flat_map (run_versions key) runs)) (archive_mark-append 0 before (Commits heads ∷ [])) (runs-rise (before ++ Commits heads ∷ []) slots runs may.1 are)
+      subst (λ n. IsRisingBy (λ (v : Version Value). v.to) n (flat_map (run_versions key) runs)) (archive_mark-append 0 before (Commits heads
+      ∷ [])) (runs-rise (before ++ Commits heads ∷ []) slots runs may.1 are)
   runs-rise before (Archived upto ∷ slots) [] may are = tt
   runs-rise before (Archived upto ∷ slots) (run ∷ runs) may are =
-      rising-by_append (λ (v : Version Value). v.to) (archive_mark before) upto (run_versions key run) (flat_map (run_versions key) runs) (marks_rise before upto may.0)
+      rising-by_append (λ (v : Version Value). v.to) (archive_mark before) upto (run_versions key run) (flat_map (run_versions key) runs)
+      (marks_rise before upto may.0)
       (run-rising (archive_mark before) (floors before) upto key run (are.0).in_order (are.0).each)
       (run-by (archive_mark before) (floors before) upto key run (are.0).each)
-      (subst (λ n. IsRisingBy (λ (v : Version Value). v.to) n (flat_map (run_versions key) runs)) (archive_mark-append 0 before (Archived upto ∷ [])) (runs-rise (before ++ Archived upto ∷ []) slots runs may.1 are.1))
+      (subst (λ n. IsRisingBy (λ (v : Version Value). v.to) n (flat_map (run_versions key) runs)) (archive_mark-append 0 before (Archived upto
+      ∷ [])) (runs-rise (before ++ Archived upto ∷ []) slots runs may.1 are.1))
   runs-rise before (Reclaimed upto ∷ slots) runs may are =
-      subst (λ n. IsRisingBy (λ (v : Version Value). v.to) n (flat_map (run_versions key) runs)) (archive_mark-append 0 before (Reclaimed upto ∷ [])) (runs-rise (before ++ Reclaimed upto ∷ []) slots runs may.1 are)
+      subst (λ n. IsRisingBy (λ (v : Version Value). v.to) n (flat_map (run_versions key) runs)) (archive_mark-append 0 before (Reclaimed upto
+      ∷ [])) (runs-rise (before ++ Reclaimed upto ∷ []) slots runs may.1 are)
   runs-rise before (Floor scope floor ∷ slots) runs may are =
-      subst (λ n. IsRisingBy (λ (v : Version Value). v.to) n (flat_map (run_versions key) runs)) (archive_mark-append 0 before (Floor scope floor ∷ [])) (runs-rise (before ++ Floor scope floor ∷ []) slots runs may.1 are)
+      subst (λ n. IsRisingBy (λ (v : Version Value). v.to) n (flat_map (run_versions key) runs)) (archive_mark-append 0 before (Floor scope floor
+      ∷ [])) (runs-rise (before ++ Floor scope floor ∷ []) slots runs may.1 are)
 
 -- so it is of an image that reads, whatever the form of its log
-pub runs-rising : (reading : Reading) (key : Key) → MatchBool (is_in_heap reading.profile) (IsHeapLog reading) (IsSlotLog reading) → IsRisingBy (λ v. v.to) 0 (flat_map (run_versions key) reading.runs)
+pub runs-rising : (reading : Reading) (key : Key) → MatchBool (is_in_heap reading.profile) (IsHeapLog reading) (IsSlotLog reading)
+    → IsRisingBy (λ v. v.to) 0 (flat_map (run_versions key) reading.runs)
 runs-rising reading key form =
-    of-either (is_in_heap reading.profile) (IsHeapLog reading) (IsSlotLog reading) (IsRisingBy (λ (v : Version Value). v.to) 0 (flat_map (run_versions key) reading.runs))
+    of-either (is_in_heap reading.profile) (IsHeapLog reading) (IsSlotLog reading)
+    (IsRisingBy (λ (v : Version Value). v.to) 0 (flat_map (run_versions key) reading.runs))
     (λ is. runs-rise MayComeInHeap no_floors (λ before upto may. omega (arith, may.0)) key [] reading.log reading.runs (is.log).each is.runs)
     (λ is. runs-rise (MayCome reading.profile) floor_of (λ before upto may. omega (arith, may.0)) key [] reading.log reading.runs is.log is.runs)
     form

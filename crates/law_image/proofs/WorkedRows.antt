@@ -37,7 +37,8 @@ archived = record {
   slots = 16;
   pieces = 0;
   log = one 100 1 ∷ one 110 2 ∷ one 120 3 ∷ one 130 4 ∷ Archived 120 ∷ [];
-  members = member 100 1 seven (Anchor (word 97)) ∷ member 110 2 seven (Anchor (word 98)) ∷ member 120 3 seven Gone ∷ member 130 4 seven (Anchor (word 99)) ∷ [];
+  members =
+      member 100 1 seven (Anchor (word 97)) ∷ member 110 2 seven (Anchor (word 98)) ∷ member 120 3 seven Gone ∷ member 130 4 seven (Anchor (word 99)) ∷ [];
   anchors = [];
   runs = (record { key = seven; version = span 100 110 97 } ∷ record { key = seven; version = span 110 120 98 } ∷ []) ∷ [];
 }
@@ -71,7 +72,9 @@ floored = record {
   slots = 16;
   pieces = 0;
   log = one 100 1 ∷ one 105 2 ∷ one 110 3 ∷ one 115 4 ∷ Floor (Some 1) 115 ∷ [];
-  members = member 100 1 seven (Anchor (word 97)) ∷ member 105 2 five (Anchor (word 122)) ∷ member 110 3 seven (Anchor (word 98)) ∷ member 115 4 five (Anchor (word 121)) ∷ [];
+  members =
+      member 100 1 seven (Anchor (word 97)) ∷ member 105 2 five (Anchor (word 122)) ∷ member 110 3 seven (Anchor (word 98))
+      ∷ member 115 4 five (Anchor (word 121)) ∷ [];
   anchors = [];
   runs = [];
 }

@@ -1,5 +1,6 @@
 -- What the records of an image say of each key.
-use Rattle.std.specs.Prelude.{ℕ, ◌≡◌, ◌+◌, ◌*◌, ◌/◌, ◌%◌, ◌==◌, ◌&&◌, ◌⊎◌, bytes_eq, nat_lt, length, sum_by, Contains, IsSome, List, [], ◌∷◌, ◌++◌, map, filter_map, flat_map, Option, None, Some, option_map, if◌then◌else◌, ◌^◌}
+use Rattle.std.specs.Prelude.{ℕ, ◌≡◌, ◌+◌, ◌*◌, ◌/◌, ◌%◌, ◌==◌, ◌&&◌, ◌⊎◌, bytes_eq, nat_lt, length, sum_by, Contains, IsSome, List, [], ◌∷◌, ◌++◌, map}
+use Rattle.std.specs.Prelude.{filter_map, flat_map, Option, None, Some, option_map, if◌then◌else◌, ◌^◌}
 use Rattle.std.specs.List.{AllByRecursion}
 use Rattle.history.specs.declared.key.Key.{Key}
 use Rattle.history.specs.declared.key.KeyWrite.{KeyWrite}
@@ -18,7 +19,8 @@ use Rattle.law_image.specs.Reading.{Content, Anchor, Delta, Gone, HeapRecord, Me
 abbrev pub patched : ℕ → List (List ℕ) → Value → Value
 patched mask changed [] = []
 patched mask [] (field ∷ fields) = field ∷ fields
-patched mask (new ∷ changed) (field ∷ fields) = if mask % 2 == 1 then new ∷ patched (mask / 2) changed fields else field ∷ patched (mask / 2) (new ∷ changed) fields
+patched mask (new ∷ changed) (field ∷ fields) =
+    if mask % 2 == 1 then new ∷ patched (mask / 2) changed fields else field ∷ patched (mask / 2) (new ∷ changed) fields
 
 -- what a record writes to a key that had this value before
 abbrev pub written : Option Value → Content → Option Value
@@ -52,7 +54,9 @@ changed_of (old ∷ olds) (new ∷ news) = if bytes_eq old new then changed_of o
 
 -- how a value is stored over another: as a delta where it has as many fields and the delta is shorter
 abbrev pub stored_over : Value → Value → Content
-stored_over old new = if (length old == length new) && nat_lt (delta_bytes (changed_of old new)) (anchor_bytes new) then Delta (mask_of old new) (changed_of old new) else Anchor new
+stored_over old new =
+    if (length old == length new) && nat_lt (delta_bytes (changed_of old new)) (anchor_bytes new) then Delta (mask_of old new) (changed_of old new) else Anchor
+    new
 
 -- The one record that a write is stored as.
 -- What is stored is read back (the law stored_is_read).
@@ -118,7 +122,8 @@ heap_versions reading key = versions (heap_facts reading key)
 
 -- the same, told of sets: an anchor of the key with its own time, or a write of a member later than the mark
 abbrev pub IsHeapFact : Reading → Key → ℕ → Option Value → Type 0
-IsHeapFact reading key time write = Contains (old_writes reading.anchors key) (record { time = time; write = write }) ⊎ Writes (heap_commits reading) key time write
+IsHeapFact reading key time write =
+    Contains (old_writes reading.anchors key) (record { time = time; write = write }) ⊎ Writes (heap_commits reading) key time write
 
 -- the version of the key that a record of a run has, if it is one of the key
 abbrev pub version_for : Key → ArchiveRecord → Option (Version Value)

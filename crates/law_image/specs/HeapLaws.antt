@@ -17,21 +17,26 @@ EmptyHeapStands = (extents : ℕ) → IsHeapOf extents 0 → StandsFor (empty_he
 -- an archive changes neither history nor floors, of however many runs it takes the place
 abbrev pub MergeStands : Type 0
 MergeStands = (reading : Reading) (h : History Value) (floors : ℕ → ℕ) (kept upto : ℕ) (run : List ArchiveRecord)
-    → StandsFor reading h floors → is_in_heap reading.profile ≡ true → IsMergePlan reading kept upto run → archived_upto reading < upto → upto ≤ last h → StandsFor (with_merged reading kept upto run) h floors
+    → StandsFor reading h floors → is_in_heap reading.profile ≡ true → IsMergePlan reading kept upto run → archived_upto reading < upto → upto ≤ last h
+    → StandsFor (with_merged reading kept upto run) h floors
 
 -- nor does a base that takes the place of a front of the log
 abbrev pub BaseStands : Type 0
 BaseStands = (reading : Reading) (h : History Value) (floors : ℕ → ℕ) (olds : List OldRecord) (after : List Slot)
-    → StandsFor reading h floors → is_in_heap reading.profile ≡ true → IsReclaimPlan reading olds → IsBased (archived_upto reading) reading.log after → StandsFor (with_base reading olds after) h floors
+    → StandsFor reading h floors → is_in_heap reading.profile ≡ true → IsReclaimPlan reading olds → IsBased (archived_upto reading) reading.log after
+    → StandsFor (with_base reading olds after) h floors
 
 -- where nothing was archived since the last reclaim, the anchors that stand are the plan of one
 abbrev pub AnchorsArePlan : Type 0
-AnchorsArePlan = (reading : Reading) (h : History Value) (floors : ℕ → ℕ) → StandsFor reading h floors → archived_upto reading ≡ reclaimed_upto reading → IsReclaimPlan reading reading.anchors
+AnchorsArePlan =
+    (reading : Reading) (h : History Value) (floors : ℕ → ℕ) → StandsFor reading h floors → archived_upto reading ≡ reclaimed_upto reading
+    → IsReclaimPlan reading reading.anchors
 
 -- a group that is published while the base is made comes behind it as it comes behind the log
 abbrev pub BaseStaysBehind : Type 0
 BaseStaysBehind = (mark : ℕ) (log after : List Slot) (heads : List Head)
-    → mark ≤ last_time log → 0 < length heads → AreRisingAfter (last_time log) heads → IsBased mark log after → IsBased mark (log ++ Commits heads ∷ []) (after ++ Commits heads ∷ [])
+    → mark ≤ last_time log → 0 < length heads → AreRisingAfter (last_time log) heads → IsBased mark log after
+    → IsBased mark (log ++ Commits heads ∷ []) (after ++ Commits heads ∷ [])
 
 -- whether the base or the group comes first, the image is the same
 abbrev pub GroupBesideBase : Type 0
@@ -42,4 +47,5 @@ GroupBesideBase = (reading : Reading) (olds : List OldRecord) (after : List Slot
 -- a floor's entry raises the floor alone
 abbrev pub FloorStandsInHeap : Type 0
 FloorStandsInHeap = (reading : Reading) (h : History Value) (floors : ℕ → ℕ) (scope : Option ℕ) (floor : ℕ)
-    → StandsFor reading h floors → is_in_heap reading.profile ≡ true → MayComeInHeap reading.log (Floor scope floor) → StandsFor (with_floor reading scope floor) h (raised scope floor floors)
+    → StandsFor reading h floors → is_in_heap reading.profile ≡ true → MayComeInHeap reading.log (Floor scope floor)
+    → StandsFor (with_floor reading scope floor) h (raised scope floor floors)

@@ -26,7 +26,8 @@ first_runs zero (Archived upto ∷ slots) = first_runs zero slots
 first_runs (suc kept) (Archived upto ∷ slots) = Archived upto ∷ first_runs kept slots
 first_runs kept (slot ∷ slots) = slot ∷ first_runs kept slots
 
--- The plan of an archive whose run takes the place of the runs behind the first so many: their records and those of the versions with max (A, F) < to ≤ upto, in order, without what ended by its relation's floor.
+-- The plan of an archive whose run takes the place of the runs behind the first so many: their records and those of the versions with max (A, F) < to ≤ upto,
+-- in order, without what ended by its relation's floor.
 pub record IsMergePlan (reading : Reading) (kept upto : ℕ) (run : List ArchiveRecord) : Type 0 where
   pub within : kept ≤ length reading.runs
   pub each : (key : Key) → run_versions key run
@@ -50,4 +51,5 @@ pub record IsBased (mark : ℕ) (log after : List Slot) : Type 0 where
 
 -- the image with a base that names these anchors; the chains of the commits up to the archive mark are given up
 abbrev pub with_base : Reading → List OldRecord → List Slot → Reading
-with_base reading olds after = record reading { log = after; members = filter (λ m. nat_lt (archived_upto reading) m.head.time) reading.members; anchors = olds }
+with_base reading olds after =
+    record reading { log = after; members = filter (λ m. nat_lt (archived_upto reading) m.head.time) reading.members; anchors = olds }

@@ -17,7 +17,8 @@ use Rattle.law_image.specs.Facts.{written, stored, values_now, IsHeapFact, heap_
 use Rattle.law_image.specs.StandsFor.{IsHeader, StandsFor, StandsForBySets, IsKept, kept_versions, archived_upto, reclaimed_upto}
 use Rattle.law_image.specs.Views.{view_of}
 use Rattle.law_image.specs.PlansMade.{archive_plan, reclaim_plan, retired}
-use Rattle.law_image.specs.Plans.{empty_reading, HasSlots, HasRoom, most_members, IsGroupOf, stored_members, with_group, IsArchivePlan, with_run, IsReclaimPlan, with_anchors, with_floor, with_piece}
+use Rattle.law_image.specs.Plans.{empty_reading, HasSlots, HasRoom, most_members, IsGroupOf, stored_members, with_group, IsArchivePlan, with_run, IsReclaimPlan}
+use Rattle.law_image.specs.Plans.{with_anchors, with_floor, with_piece}
 
 -- an image with no slot open stands for the empty history
 abbrev pub EmptyStands : Type 0
@@ -31,16 +32,19 @@ GroupStands = (reading : Reading) (h next : History Value) (floors : ℕ → ℕ
 -- an archive changes neither history nor floors
 abbrev pub ArchiveStands : Type 0
 ArchiveStands = (reading : Reading) (h : History Value) (floors : ℕ → ℕ) (upto : ℕ) (run : List ArchiveRecord)
-    → StandsFor reading h floors → IsArchivePlan reading upto run → archived_upto reading < upto → upto ≤ last h → HasSlots reading → HasRoom reading → StandsFor (with_run reading upto run) h floors
+    → StandsFor reading h floors → IsArchivePlan reading upto run → archived_upto reading < upto → upto ≤ last h → HasSlots reading → HasRoom reading
+    → StandsFor (with_run reading upto run) h floors
 
 -- nor does a reclaim
 abbrev pub ReclaimStands : Type 0
 ReclaimStands = (reading : Reading) (h : History Value) (floors : ℕ → ℕ) (olds : List OldRecord)
-    → StandsFor reading h floors → IsReclaimPlan reading olds → reclaimed_upto reading < archived_upto reading → HasSlots reading → HasRoom reading → StandsFor (with_anchors reading olds) h floors
+    → StandsFor reading h floors → IsReclaimPlan reading olds → reclaimed_upto reading < archived_upto reading → HasSlots reading → HasRoom reading
+    → StandsFor (with_anchors reading olds) h floors
 
 -- what is planned of an image that stands for a history is a plan
 abbrev pub ArchiveIsPlanned : Type 0
-ArchiveIsPlanned = (reading : Reading) (h : History Value) (floors : ℕ → ℕ) (upto : ℕ) → StandsFor reading h floors → IsArchivePlan reading upto (archive_plan reading upto)
+ArchiveIsPlanned =
+    (reading : Reading) (h : History Value) (floors : ℕ → ℕ) (upto : ℕ) → StandsFor reading h floors → IsArchivePlan reading upto (archive_plan reading upto)
 
 -- the anchors that are planned of an image that stands for a history are the plan of a reclaim
 abbrev pub ReclaimIsPlanned : Type 0
@@ -49,7 +53,8 @@ ReclaimIsPlanned = (reading : Reading) (h : History Value) (floors : ℕ → ℕ
 -- a plan stays one while groups are published beside its job: what they write ends after all that it has
 abbrev pub ArchivePlanStays : Type 0
 ArchivePlanStays = (reading : Reading) (h next : History Value) (floors : ℕ → ℕ) (group : List Member) (upto : ℕ) (run : List ArchiveRecord)
-    → StandsFor reading h floors → IsGroupOf reading h next group → HasRoom reading → upto ≤ last h → IsArchivePlan reading upto run → IsArchivePlan (with_group reading group) upto run
+    → StandsFor reading h floors → IsGroupOf reading h next group → HasRoom reading → upto ≤ last h → IsArchivePlan reading upto run
+    → IsArchivePlan (with_group reading group) upto run
 
 -- the plan of a reclaim stays one while groups are published beside its job
 abbrev pub ReclaimPlanStays : Type 0
@@ -58,12 +63,15 @@ ReclaimPlanStays = (reading : Reading) (h next : History Value) (floors : ℕ �
 
 -- a reclaim keeps the members that it does not retire
 abbrev pub RetiredAreGivenUp : Type 0
-RetiredAreGivenUp = (reading : Reading) (olds : List OldRecord) (m : Member) → Contains reading.members m ↔ (Contains (retired reading) m ⊎ Contains (with_anchors reading olds).members m)
+RetiredAreGivenUp =
+    (reading : Reading) (olds : List OldRecord) (m : Member) → Contains reading.members m
+    ↔ (Contains (retired reading) m ⊎ Contains (with_anchors reading olds).members m)
 
 -- a floor's slot raises the floor alone
 abbrev pub FloorStands : Type 0
 FloorStands = (reading : Reading) (h : History Value) (floors : ℕ → ℕ) (scope : Option ℕ) (floor : ℕ)
-    → StandsFor reading h floors → MayCome reading.profile reading.log (Floor scope floor) → HasSlots reading → HasRoom reading → StandsFor (with_floor reading scope floor) h (raised scope floor floors)
+    → StandsFor reading h floors → MayCome reading.profile reading.log (Floor scope floor) → HasSlots reading → HasRoom reading
+    → StandsFor (with_floor reading scope floor) h (raised scope floor floors)
 
 -- and a piece gives room alone
 abbrev pub PieceStands : Type 0
@@ -86,11 +94,15 @@ ImageIsView = (reading : Reading) (h : History Value) (floors : ℕ → ℕ) →
 
 -- a query of a key at a time is answered as the history says
 abbrev pub ImageAnswersAt : Type 0
-ImageAnswersAt = (reading : Reading) (h : History Value) (floors : ℕ → ℕ) (key : Key) (t : ℕ) → StandsFor reading h floors → at_view (view_of reading) key t ≡ at_answer h floors key t
+ImageAnswersAt =
+    (reading : Reading) (h : History Value) (floors : ℕ → ℕ) (key : Key) (t : ℕ) → StandsFor reading h floors → at_view (view_of reading) key t
+    ≡ at_answer h floors key t
 
 -- a query of a key from a to b is answered as the history says
 abbrev pub ImageAnswersBetween : Type 0
-ImageAnswersBetween = (reading : Reading) (h : History Value) (floors : ℕ → ℕ) (key : Key) (a b : ℕ) → StandsFor reading h floors → between_view (view_of reading) key a b ≡ between_answer h floors key a b
+ImageAnswersBetween =
+    (reading : Reading) (h : History Value) (floors : ℕ → ℕ) (key : Key) (a b : ℕ) → StandsFor reading h floors → between_view (view_of reading) key a b
+    ≡ between_answer h floors key a b
 
 -- a scan of a relation at a time is answered as the history says
 abbrev pub ImageScansAt : Type 0
@@ -110,12 +122,14 @@ KeptIsSet = (reading : Reading) (h : History Value) (floors : ℕ → ℕ) (key 
 -- of these, the heap has those that end after R
 abbrev pub HeapIsSet : Type 0
 HeapIsSet = (reading : Reading) (h : History Value) (floors : ℕ → ℕ) (key : Key) (v : Version Value)
-    → StandsFor reading h floors → Contains (heap_versions reading key) v × (floors key.relation < v.to) ↔ IsVersion h key v × (floors key.relation < v.to) × (reclaimed_upto reading < v.to)
+    → StandsFor reading h floors → Contains (heap_versions reading key) v × (floors key.relation < v.to) ↔ IsVersion h key v × (floors key.relation < v.to)
+    × (reclaimed_upto reading < v.to)
 
 -- and the archive those that end by A
 abbrev pub ArchiveIsSet : Type 0
 ArchiveIsSet = (reading : Reading) (h : History Value) (floors : ℕ → ℕ) (key : Key) (v : Version Value)
-    → StandsFor reading h floors → Contains (archived_versions reading key) v × (floors key.relation < v.to) ↔ IsVersion h key v × (floors key.relation < v.to) × (v.to ≤ archived_upto reading)
+    → StandsFor reading h floors → Contains (archived_versions reading key) v × (floors key.relation < v.to) ↔ IsVersion h key v × (floors key.relation < v.to)
+    × (v.to ≤ archived_upto reading)
 
 -- a heap version is a version among the heap's facts, as one of a history is among its writes
 abbrev pub HeapVersionsAreSpans : Type 0
@@ -142,7 +156,9 @@ RecentRows = (reading : Reading) (h : History Value) (floors : ℕ → ℕ) (key
 
 -- commits that may follow are stored as a group that is theirs
 abbrev pub StoredIsGroup : Type 0
-StoredIsGroup = (reading : Reading) (h next : History Value) (floors : ℕ → ℕ) → StandsFor reading h floors → MayAllFollow IsValue h next → 0 < length next → length next ≤ most_members reading.profile
+StoredIsGroup =
+    (reading : Reading) (h next : History Value) (floors : ℕ → ℕ) → StandsFor reading h floors → MayAllFollow IsValue h next → 0 < length next
+    → length next ≤ most_members reading.profile
     → IsGroupOf reading h next (stored_members (values_now reading) next)
 
 -- where the machine publishes a group, the image with the group's slot stands for what is then published
@@ -159,5 +175,6 @@ RaiseMayCome = (reading : Reading) (m : Machine Value) (r : Raising)
 -- where the machine publishes a floor, the image with its slot stands for what then holds
 abbrev pub FloorPublishes : Type 0
 FloorPublishes = (reading : Reading) (old new : Machine Value) (r : Raising)
-    → StandsFor reading old.published old.floors → IsMachine IsValue old → Step IsValue old (FloorPublished r) new → IsScopeOf reading.profile r.scope → HasSlots reading → HasRoom reading
+    → StandsFor reading old.published old.floors → IsMachine IsValue old → Step IsValue old (FloorPublished r) new → IsScopeOf reading.profile r.scope
+    → HasSlots reading → HasRoom reading
     → StandsFor (with_floor reading r.scope r.floor) new.published new.floors

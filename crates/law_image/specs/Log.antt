@@ -64,7 +64,8 @@ abbrev pub MayCome : ℕ → List Slot → Slot → Type 0
 MayCome profile before (Commits heads) = (0 < length heads) × (length heads ≤ 16) × AreRisingAfter (last_time before) heads
 MayCome profile before (Archived upto) = (archive_mark before < upto) × (upto ≤ last_time before)
 MayCome profile before (Reclaimed upto) = (upto ≡ archive_mark before) × (reclaim_mark before < upto)
-MayCome profile before (Floor scope floor) = IsScopeOf profile scope × (floor ≤ last_time before) × ((relation : ℕ) → IsTrue (covers scope relation) → floor_of before relation < floor)
+MayCome profile before (Floor scope floor) =
+    IsScopeOf profile scope × (floor ≤ last_time before) × ((relation : ℕ) → IsTrue (covers scope relation) → floor_of before relation < floor)
 
 -- each of these slots may come after those before it, by such a rule
 abbrev pub AllCome : (List Slot → Slot → Type 0) → List Slot → List Slot → Type 0
@@ -82,7 +83,8 @@ KeepsLogRules profile log = MayAllCome profile [] log
 -- ---- a log that lies in the heap
 
 -- In profile 4 the log lies in the heap, and has no slots. A chain of it is told as the slots that say the same: a group as its commits that are later than the
--- reclaim mark; the base, which comes first, as the commits that its rolls name, the mark, its runs and its floors. A run that another took the place of is left out.
+-- reclaim mark; the base, which comes first, as the commits that its rolls name, the mark, its runs and its floors. A run that another took the place of is
+-- left out.
 abbrev pub is_in_heap : ℕ → Bool
 is_in_heap profile = profile == 4
 
@@ -95,7 +97,8 @@ abbrev pub MayComeInHeap : List Slot → Slot → Type 0
 MayComeInHeap before (Commits heads) = (0 < length heads) × AreRisingAfter (told_time before) heads
 MayComeInHeap before (Archived upto) = (archive_mark before < upto) × (upto ≤ told_time before)
 MayComeInHeap before (Reclaimed upto) = (0 < upto) × (upto < 2 ^ 63) × (last_time before ≤ upto) × (reclaim_mark before ≡ 0)
-MayComeInHeap before (Floor scope floor) = IsSome scope × (floor ≤ told_time before) × ((relation : ℕ) → IsTrue (covers scope relation) → floor_of before relation < floor)
+MayComeInHeap before (Floor scope floor) =
+    IsSome scope × (floor ≤ told_time before) × ((relation : ℕ) → IsTrue (covers scope relation) → floor_of before relation < floor)
 
 -- It keeps its rules: what is reclaimed is archived, and no later than the last commit.
 pub record KeepsHeapRules (log : List Slot) : Type 0 where

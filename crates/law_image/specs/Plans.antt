@@ -46,7 +46,8 @@ with_group reading group = record reading { log = reading.log ++ Commits (map (�
 
 -- The plan of an archive: the versions with max (A, F) < to ≤ upto, in order.
 pub record IsArchivePlan (reading : Reading) (upto : ℕ) (run : List ArchiveRecord) : Type 0 where
-  pub each : (key : Key) → run_versions key run ≡ filter (ends_by upto) (filter (ends_after (max (archived_upto reading) (floor_of reading.log key.relation))) (heap_versions reading key))
+  pub each : (key : Key) → run_versions key run
+      ≡ filter (ends_by upto) (filter (ends_after (max (archived_upto reading) (floor_of reading.log key.relation))) (heap_versions reading key))
   pub is_run : IsRun (archived_upto reading) (floor_of reading.log) upto run
 
 -- the image with an archive's slot and its run

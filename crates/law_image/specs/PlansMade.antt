@@ -42,7 +42,8 @@ heap_keys reading = sorted_keys (map (λ old. old.key) reading.anchors ++ member
 
 -- the versions of a key with max (A, F) < to ≤ upto
 abbrev pub to_archive : Reading → ℕ → Key → List (Version Value)
-to_archive reading upto key = filter (ends_by upto) (filter (ends_after (max (archived_upto reading) (floor_of reading.log key.relation))) (heap_versions reading key))
+to_archive reading upto key =
+    filter (ends_by upto) (filter (ends_after (max (archived_upto reading) (floor_of reading.log key.relation))) (heap_versions reading key))
 
 -- the record of a run that has this version of a key
 abbrev pub archive_record : Key → Version Value → ArchiveRecord

@@ -66,7 +66,8 @@ abbrev pub AreRunsBy : (List Slot → ℕ → ℕ) → List Slot → List Slot �
 AreRunsBy floors before [] [] = Unit {0}
 AreRunsBy floors before [] (run ∷ runs) = ⊥
 AreRunsBy floors before (Archived upto ∷ slots) [] = ⊥
-AreRunsBy floors before (Archived upto ∷ slots) (run ∷ runs) = IsRun (archive_mark before) (floors before) upto run × AreRunsBy floors (before ++ Archived upto ∷ []) slots runs
+AreRunsBy floors before (Archived upto ∷ slots) (run ∷ runs) =
+    IsRun (archive_mark before) (floors before) upto run × AreRunsBy floors (before ++ Archived upto ∷ []) slots runs
 AreRunsBy floors before (slot ∷ slots) runs = AreRunsBy floors (before ++ slot ∷ []) slots runs
 
 -- there is one run for each archived slot, by the mark and the floors before it
@@ -144,8 +145,10 @@ IsKept reading key v = (Contains (heap_versions reading key) v ⊎ Contains (arc
 pub record KeepsAsSets (reading : Reading) (h : History Value) (floors : ℕ → ℕ) : Type 0 where
   pub marks : reclaimed_upto reading ≤ archived_upto reading
   pub kept : (key : Key) (v : Version Value) → IsKept reading key v ↔ IsVersion h key v × (floors key.relation < v.to)
-  pub heap : (key : Key) (v : Version Value) → IsVersion h key v → floors key.relation < v.to → Contains (heap_versions reading key) v ↔ (reclaimed_upto reading < v.to)
-  pub archive : (key : Key) (v : Version Value) → IsVersion h key v → floors key.relation < v.to → Contains (archived_versions reading key) v ↔ (v.to ≤ archived_upto reading)
+  pub heap : (key : Key) (v : Version Value) → IsVersion h key v → floors key.relation < v.to → Contains (heap_versions reading key) v
+      ↔ (reclaimed_upto reading < v.to)
+  pub archive : (key : Key) (v : Version Value) → IsVersion h key v → floors key.relation < v.to → Contains (archived_versions reading key) v
+      ↔ (v.to ≤ archived_upto reading)
 
 -- the image stands for this history with these floors, by sets: the law SetsAreLists says that it is the same
 pub record StandsForBySets (reading : Reading) (h : History Value) (floors : ℕ → ℕ) : Type 0 where

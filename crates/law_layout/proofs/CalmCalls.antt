@@ -26,18 +26,21 @@ use Rattle.law_layout.proofs.Growing.{growth_leaves, zeros-torn, growing-synced,
 bytes-of : (file : List ℕ) (at : ℕ) (bytes : List ℕ) → AreBytes (overlaid file at bytes) → AreBytes bytes
 bytes-of file at bytes all = λ i d lt.
     let place : at + i - at ≡ i = omega arith in
-    let is = overlaid-within file at bytes (at + i) (omega arith) (omega (arith, lt)) ∙ ap (λ (k : ℕ). slice_index bytes k) place ∙ get_or_default bytes i 0 d lt in
+    let is = overlaid-within file at bytes (at + i) (omega arith) (omega (arith, lt)) ∙ ap (λ (k : ℕ). slice_index bytes k) place
+    ∙ get_or_default bytes i 0 d lt in
     subst (λ (b : ℕ). b < 256) is (all (at + i) 0 (omega (arith, lt, length-overlaid file at bytes)))
 
 -- a write is the same one in the calm area
-record WritesCalm (header : Header) (growth : GrowthStage) (calm : AreaState) (at : ℕ) (bytes : List ℕ) (result : Result (Unit {0}) DeviceFault) (old new : Areas) : Type 0 where
+record WritesCalm (header : Header) (growth : GrowthStage) (calm : AreaState) (at : ℕ) (bytes : List ℕ) (result : Result (Unit {0}) DeviceFault)
+    (old new : Areas) : Type 0 where
   pub next : AreaState
   pub call : Writes Status at bytes result (record old { status = calm }) (record old { status = next })
   pub sound : IsSound next
   pub goes : OnOk result (IsGrowing header growth next new.status)
   pub leaves : (content : List ℕ) → MayLeave new.status content → LeftBeside header (IsTrue (may_be_open growth)) next content
 
-module _ (header : Header) (growth : GrowthStage) (calm : AreaState) (old : Areas) (growing : IsGrowing header growth calm old.status) (sound-calm : IsSound calm) (sound : AreSound old)
+module _ (header : Header) (growth : GrowthStage) (calm : AreaState) (old : Areas) (growing : IsGrowing header growth calm old.status)
+    (sound-calm : IsSound calm) (sound : AreSound old)
     (at : ℕ) (bytes : List ℕ) (behind : 512 ≤ at) (within : at + length bytes ≤ slot_start (total header)) where
   abbrev a : AreaState
   a = old.status
@@ -56,7 +59,8 @@ module _ (header : Header) (growth : GrowthStage) (calm : AreaState) (old : Area
 
   -- ---- made
 
-  same-written : (k : ℕ) → k < slot_start (total header) → k ≢ next_gate header → slice_index (overlaid old.status.bytes at bytes) k ≡ slice_index (overlaid calm.bytes at bytes) k
+  same-written : (k : ℕ) → k < slot_start (total header) → k ≢ next_gate header → slice_index (overlaid old.status.bytes at bytes) k
+      ≡ slice_index (overlaid calm.bytes at bytes) k
   same-written k low other = elim (cases_lt k at) [
     | inl before ↦
         overlaid-elsewhere old.status.bytes at bytes k (omega (arith, low, long)) (inl (omega arith))
@@ -93,7 +97,9 @@ module _ (header : Header) (growth : GrowthStage) (calm : AreaState) (old : Area
   }
 
   keeps-written : KeepsZeros header old.status → KeepsZeros header (written at bytes old.status)
-  keeps-written keeps = zeros-torn header calm old.status (sound Status) at (length bytes) (overlaid old.status.bytes at bytes) (IsTorn-overlaid old.status.bytes at bytes) zeros-apart keeps
+  keeps-written keeps =
+      zeros-torn header calm old.status (sound Status) at (length bytes) (overlaid old.status.bytes at bytes) (IsTorn-overlaid old.status.bytes at bytes)
+      zeros-apart keeps
 
   at-written : (stage : GrowthStage) → IsGrowthAt header stage calm old.status → IsGrowthAt header stage (written at bytes calm) (written at bytes old.status)
   at-written (Zeroing parts) is = (gate-written is.0, is.1, zeros-written (8192 * parts) is.2)
@@ -122,7 +128,8 @@ module _ (header : Header) (growth : GrowthStage) (calm : AreaState) (old : Area
     loose = λ k low other untouched. (untouched.0, growing.beside.loose k low other untouched.1);
   }
 
-  gate-loosened : GateStands header calm old.status → GateStands header (loosened at (length bytes) calm.bytes calm) (loosened at (length bytes) old.status.bytes old.status)
+  gate-loosened : GateStands header calm old.status
+      → GateStands header (loosened at (length bytes) calm.bytes calm) (loosened at (length bytes) old.status.bytes old.status)
   gate-loosened stands = record { same = stands.same; loose = λ untouched. (untouched.0, stands.loose untouched.1) }
 
   keeps-loosened : KeepsZeros header old.status → KeepsZeros header (loosened at (length bytes) old.status.bytes old.status)
@@ -142,7 +149,8 @@ module _ (header : Header) (growth : GrowthStage) (calm : AreaState) (old : Area
 
   -- ---- by the answer
 
-  write-is-calm : (result : Result (Unit {0}) DeviceFault) (new : Areas) → AreSound new → Writes Status at bytes result old new → WritesCalm header growth calm at bytes result old new
+  write-is-calm : (result : Result (Unit {0}) DeviceFault) (new : Areas) → AreSound new → Writes Status at bytes result old new
+      → WritesCalm header growth calm at bytes result old new
   write-is-calm (Ok done) new sound-new call =
       let is : new.status ≡ written at bytes old.status = ap (λ (x : Areas). x.status) call.written in
       let are : AreBytes (overlaid old.status.bytes at bytes) = subst (λ (s : AreaState). AreBytes s.bytes) is (let s = sound-new Status in s.are_bytes) in
@@ -152,7 +160,8 @@ module _ (header : Header) (growth : GrowthStage) (calm : AreaState) (old : Area
         call = record { written = refl; in_part = inr (Tears-written Status at bytes (record old { status = calm })) };
         sound = next-sound;
         goes = subst (λ (s : AreaState). IsGrowing header growth (written at bytes calm) s) (sym is) growing-written;
-        leaves = λ content left. growth_leaves header growth (written at bytes calm) (written at bytes old.status) content growing-written next-sound (subst (λ (s : AreaState). MayLeave s content) is left);
+        leaves = λ content left. growth_leaves header growth (written at bytes calm) (written at bytes old.status) content growing-written next-sound
+            (subst (λ (s : AreaState). MayLeave s content) is left);
       }
   write-is-calm (Err fault) new sound-new call = record {
     next = loosened at (length bytes) calm.bytes calm;
@@ -160,24 +169,29 @@ module _ (header : Header) (growth : GrowthStage) (calm : AreaState) (old : Area
     sound = sound-loosened;
     goes = tt;
     leaves = λ content left.
-        growth_leaves header growth (loosened at (length bytes) calm.bytes calm) (loosened at (length bytes) old.status.bytes old.status) content growing-loosened sound-loosened
+        growth_leaves header growth (loosened at (length bytes) calm.bytes calm) (loosened at (length bytes) old.status.bytes old.status) content
+        growing-loosened sound-loosened
         (torn-leaves at (length bytes) old new content (sound Status) call.in_part left);
   }
 
 -- ---- the calls of a slot
 
 module _ (header : Header) (growth : GrowthStage) (calm : AreaState) (number : ℕ) (body : List ℕ) (old new : Areas)
-    (growing : IsGrowing header growth calm old.status) (sound-calm : IsSound calm) (sound : AreSound old) (sound-new : AreSound new) (among : number < total header) where
-  sync-is-calm : (stage : SlotStage) (result : Result (Unit {0}) DeviceFault) → ((from to : Areas) → Syncs Status result from to → IsSlotCall number body stage result from to) → Syncs Status result old new
+    (growing : IsGrowing header growth calm old.status) (sound-calm : IsSound calm) (sound : AreSound old) (sound-new : AreSound new)
+    (among : number < total header) where
+  sync-is-calm : (stage : SlotStage) (result : Result (Unit {0}) DeviceFault)
+      → ((from to : Areas) → Syncs Status result from to → IsSlotCall number body stage result from to) → Syncs Status result old new
       → IsCalmCall header growth calm number body stage result old new
   sync-is-calm stage (Ok done) is call = record {
     next = synced calm;
     call = is (record old { status = calm }) (record old { status = synced calm }) (record { synced = refl; same = tt });
     sound = sound-synced calm sound-calm;
     alone = alone-synced (Ok done) old new call;
-    goes = subst (λ (x : Areas). IsGrowing header growth (synced calm) x.status) (sym call.synced) (growing-synced header growth calm old.status sound-calm (sound Status) growing);
+    goes = subst (λ (x : Areas). IsGrowing header growth (synced calm) x.status) (sym call.synced)
+        (growing-synced header growth calm old.status sound-calm (sound Status) growing);
     leaves = λ content left.
-        growth_leaves header growth (synced calm) (synced old.status) content (growing-synced header growth calm old.status sound-calm (sound Status) growing) (sound-synced calm sound-calm)
+        growth_leaves header growth (synced calm) (synced old.status) content (growing-synced header growth calm old.status sound-calm (sound Status) growing)
+        (sound-synced calm sound-calm)
         (subst (λ (x : Areas). MayLeave x.status content) call.synced left);
   }
   sync-is-calm stage (Err fault) is call = record {
@@ -186,7 +200,8 @@ module _ (header : Header) (growth : GrowthStage) (calm : AreaState) (number : �
     sound = sound-calm;
     alone = alone-synced (Err fault) old new call;
     goes = tt;
-    leaves = λ content left. growth_leaves header growth calm old.status content growing sound-calm (synced-leaves (Err fault) old new content (sound Status) call left);
+    leaves = λ content left. growth_leaves header growth calm old.status content growing sound-calm
+        (synced-leaves (Err fault) old new content (sound Status) call left);
   }
 
   write-is : (stage : SlotStage) (result : Result (Unit {0}) DeviceFault) (at : ℕ) (bytes : List ℕ) → 512 ≤ at → at + length bytes ≤ slot_start (total header)
@@ -203,9 +218,12 @@ module _ (header : Header) (growth : GrowthStage) (calm : AreaState) (number : �
         leaves = w.leaves;
       }
 
-  pub slot_is_calm : (stage : SlotStage) (result : Result (Unit {0}) DeviceFault) → (stage ≡ slots.Begun → length body ≡ 511) → IsSlotCall number body stage result old new → IsCalmCall header growth calm number body stage result old new
-  slot_is_calm slots.Begun result whole call = write-is slots.Begun result (slot_start number + 1) body (omega arith) (omega (arith, whole refl, among)) (λ from to w. w) call
+  pub slot_is_calm : (stage : SlotStage) (result : Result (Unit {0}) DeviceFault) → (stage ≡ slots.Begun → length body ≡ 511)
+      → IsSlotCall number body stage result old new → IsCalmCall header growth calm number body stage result old new
+  slot_is_calm slots.Begun result whole call =
+      write-is slots.Begun result (slot_start number + 1) body (omega arith) (omega (arith, whole refl, among)) (λ from to w. w) call
   slot_is_calm slots.BodyWritten result whole call = sync-is-calm slots.BodyWritten result (λ from to s. s) call
-  slot_is_calm slots.BodySynced result whole call = write-is slots.BodySynced result (slot_start number) (0xC7 ∷ []) (omega arith) (omega (arith, among)) (λ from to w. w) call
+  slot_is_calm slots.BodySynced result whole call =
+      write-is slots.BodySynced result (slot_start number) (0xC7 ∷ []) (omega arith) (omega (arith, among)) (λ from to w. w) call
   slot_is_calm slots.GateWritten result whole call = sync-is-calm slots.GateWritten result (λ from to s. s) call
   slot_is_calm slots.Opened result whole call = absurd call

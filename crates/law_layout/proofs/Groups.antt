@@ -24,14 +24,17 @@ use Rattle.status.specs.Header.{total}
 use Rattle.status.specs.SlotCalls.{Begun}
 
 -- the write of an extent that no live chain has keeps the layout's parts
-pub parts_kept : (layout : Layout) (e : Extent) (old : Areas) (heap : AreaState) → AllByRecursion IsExtent (live layout) → IsExtent e → AllByRecursion (λ (f : Extent). f.number ≢ e.number) (live layout)
-    → IsSound old.heap → IsLoosened (extent_start e.number) (length (extent_bytes e)) old.heap heap → KeepsParts layout old → KeepsParts layout (record old { heap = heap })
+pub parts_kept : (layout : Layout) (e : Extent) (old : Areas) (heap : AreaState) → AllByRecursion IsExtent (live layout) → IsExtent e
+    → AllByRecursion (λ (f : Extent). f.number ≢ e.number) (live layout)
+    → IsSound old.heap → IsLoosened (extent_start e.number) (length (extent_bytes e)) old.heap heap → KeepsParts layout old
+    → KeepsParts layout (record old { heap = heap })
 parts_kept layout e old heap are is apart sound loose keeps = record {
   extents = others_kept e is (live layout) are apart old.heap heap sound loose keeps.extents;
   runs = keeps.runs;
 }
 
-module _ (header : Header) (layout : Layout) (group : Group) (room : length layout.slots < total header) (live_are : AllByRecursion IsExtent (live layout)) (group_are : AllByRecursion IsExtent (extents_of group.members))
+module _ (header : Header) (layout : Layout) (group : Group) (room : length layout.slots < total header) (live_are : AllByRecursion IsExtent (live layout))
+    (group_are : AllByRecursion IsExtent (extents_of group.members))
     (free : AreDistinct (live layout ++ extents_of group.members)) where
   adds : Adds header layout group.slot (laid_out layout group)
   adds = record { slots_are = refl; room = room }
@@ -68,7 +71,8 @@ module _ (header : Header) (layout : Layout) (group : Group) (room : length layo
       record {
         rests = record {
           status = at.rests.status;
-          parts = parts_kept layout e old new live_are is (live_apart done e rest parts) (sound Heap) (written_is (extent_start e.number) (extent_bytes e) old.heap (sound Heap)) at.rests.parts;
+          parts = parts_kept layout e old new live_are is (live_apart done e rest parts) (sound Heap)
+              (written_is (extent_start e.number) (extent_bytes e) old.heap (sound Heap)) at.rests.parts;
         };
         parts_are = append_assoc done (e ∷ []) rest ∙ parts;
         written = one_more_held e is done (done_are done e rest parts) (done_apart done e rest parts) old.heap.bytes at.written;
@@ -79,12 +83,15 @@ module _ (header : Header) (layout : Layout) (group : Group) (room : length layo
   all_synced done old at sound =
       let all : done ≡ extents_of group.members = sym (append-nil done) ∙ at.parts_are in
       let was : KeepsExtents (live layout) (synced old.heap) = extents_kept_by_sync (live layout) old.heap (sound Heap) at.rests.parts.extents in
-      let more : KeepsExtents (extents_of group.members) (synced old.heap) = subst (λ es. KeepsExtents es (synced old.heap)) all (extents_synced done old.heap at.written) in
+      let more : KeepsExtents (extents_of group.members) (synced old.heap) =
+      subst (λ es. KeepsExtents es (synced old.heap)) all (extents_synced done old.heap at.written) in
       record {
         status = at.rests.status;
         old_parts = record { extents = was; runs = at.rests.parts.runs };
         new_parts = record {
-          extents = subst (λ es. KeepsExtents es (synced old.heap)) (sym (live_more layout group)) (AllByRecursion-append (KeepsExtent (synced old.heap)) (live layout) (extents_of group.members) was more);
+          extents =
+              subst (λ es. KeepsExtents es (synced old.heap)) (sym (live_more layout group))
+              (AllByRecursion-append (KeepsExtent (synced old.heap)) (live layout) (extents_of group.members) was more);
           runs = at.rests.parts.runs;
         };
       }
@@ -97,15 +104,18 @@ module _ (header : Header) (layout : Layout) (group : Group) (room : length layo
   group_holds (Turning stage) areas image at left = turn_holds header layout group.slot (laid_out layout group) adds stage areas image at left
 
   module _ (body : List ℕ) (long : length body ≡ 511) (spelled : IsSpelled header.profile (length layout.slots) body group.slot) where
-    pub group_call_holds : (stage : Stage) (result : Result (Unit {0}) DeviceFault) (old new : Areas) (image : Image) → IsAt header layout group stage old → AreSound old
-        → IsCallOf layout body stage result old new → LeavesImage new image → MayBecome stage (HoldsLayout header image layout) (HoldsLayout header image (laid_out layout group))
+    pub group_call_holds : (stage : Stage) (result : Result (Unit {0}) DeviceFault) (old new : Areas) (image : Image) → IsAt header layout group stage old
+        → AreSound old
+        → IsCallOf layout body stage result old new → LeavesImage new image
+        → MayBecome stage (HoldsLayout header image layout) (HoldsLayout header image (laid_out layout group))
     group_call_holds (Storing done (e ∷ rest)) result old new image at sound call left =
         let at_e = extent_start e.number in
         let n = length (extent_bytes e) in
         let before = (left_by_write Heap at_e (extent_bytes e) result old new call sound).each image left in
         let torn : AreaState = loosened at_e n old.heap.bytes old.heap in
         parts_hold header layout (record old { heap = torn }) image
-        (parts_kept layout e old torn live_are (is_extent done e rest at.parts_are) (live_apart done e rest at.parts_are) (sound Heap) (loosened_is at_e n old.heap) at.rests.parts)
+        (parts_kept layout e old torn live_are (is_extent done e rest at.parts_are) (live_apart done e rest at.parts_are) (sound Heap)
+        (loosened_is at_e n old.heap) at.rests.parts)
         (rests_leave header old.status image.status layout.slots at.rests.status before.status) before.heap before.archive
     group_call_holds (Storing done []) result old new image at sound call left =
         rests_hold header layout old image at.rests ((left_by_sync Heap result old new call sound).each image left)
@@ -118,4 +128,5 @@ module _ (header : Header) (layout : Layout) (group : Group) (room : length layo
         → IsCallOf layout body stage (Ok tt) old new → IsAt header layout group (stage_after stage) new
     group_call_leads (Storing done (e ∷ rest)) old new at sound call = rw call.written (stored_one done e rest old at sound)
     group_call_leads (Storing done []) old new at sound call = rw call.synced (all_synced done old at sound)
-    group_call_leads (Turning stage) old new at sound call = turn_call_leads header layout group.slot (laid_out layout group) adds body long spelled stage old new at sound call
+    group_call_leads (Turning stage) old new at sound call =
+        turn_call_leads header layout group.slot (laid_out layout group) adds body long spelled stage old new at sound call

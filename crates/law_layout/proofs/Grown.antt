@@ -21,7 +21,8 @@ use Rattle.law_layout.specs.Keeping.{StatusRests}
 use Rattle.law_layout.specs.SlotTurns.{StatusAt}
 use Rattle.law_layout.specs.Growing.{IsGrowing}
 
-pub piece_laid : (header : Header) (layout : Layout) (reading : Reading) → IsLayoutOf header layout reading → IsLayoutOf (grown header) layout (with_piece reading)
+pub piece_laid : (header : Header) (layout : Layout) (reading : Reading) → IsLayoutOf header layout reading
+    → IsLayoutOf (grown header) layout (with_piece reading)
 piece_laid header layout reading laid = record {
   heap = record {
     profile_is = laid.heap.profile_is;
@@ -38,7 +39,8 @@ piece_laid header layout reading laid = record {
   runs = record { runs_are = laid.runs.runs_are; entries_are = laid.runs.entries_are; each_run = laid.runs.each_run };
 }
 
-pub shut_holds : (header : Header) (layout : Layout) (image : Image) (calm : List ℕ) → MayGrow header → HoldsLayout header (record image { status = calm }) layout → IsBeside header calm image.status
+pub shut_holds : (header : Header) (layout : Layout) (image : Image) (calm : List ℕ) → MayGrow header
+    → HoldsLayout header (record image { status = calm }) layout → IsBeside header calm image.status
     → slice_index image.status (next_gate header) ≢ 0xC7 → HoldsLayout header image layout
 shut_holds header layout image calm may held beside shut = record {
   log = still_shut header layout.slots calm image.status may held.log beside shut;
@@ -46,7 +48,8 @@ shut_holds header layout image calm may held beside shut = record {
   runs = held.runs;
 }
 
-pub open_holds : (header : Header) (layout : Layout) (image : Image) (calm : List ℕ) → MayGrow header → HoldsLayout header (record image { status = calm }) layout → IsBeside header calm image.status
+pub open_holds : (header : Header) (layout : Layout) (image : Image) (calm : List ℕ) → MayGrow header
+    → HoldsLayout header (record image { status = calm }) layout → IsBeside header calm image.status
     → HasZeros header piece_length image.status → slice_index image.status (next_gate header) ≡ 0xC7 → HoldsLayout (grown header) image layout
 open_holds header layout image calm may held beside zeros is_open = record {
   log = then_grown header layout.slots calm image.status may held.log beside zeros is_open;
@@ -56,7 +59,8 @@ open_holds header layout image calm may held beside zeros is_open = record {
 
 -- ---- once the piece is open
 
-module _ (header : Header) (calm a : AreaState) (may : MayGrow header) (growing : IsGrowing header GateWritten calm a) (sound : IsSound calm) (settled : IsSettled a) where
+module _ (header : Header) (calm a : AreaState) (may : MayGrow header) (growing : IsGrowing header GateWritten calm a) (sound : IsSound calm)
+    (settled : IsSettled a) where
   besides : IsBeside header calm.bytes a.bytes
   besides = record {
     room = omega (arith, growing.beside.room, sound.firm);
@@ -77,7 +81,8 @@ module _ (header : Header) (calm a : AreaState) (may : MayGrow header) (growing 
   rests-now ss rests = record { settled = settled; log = now ss rests.log }
 
   module _ (ss : List Slot) (slot : Slot) (room : length ss < total header) where
-    body-now : (log : IsLog header calm.bytes ss) → IsSpelled header.profile (length ss) (body_at calm.bytes (length ss)) slot → IsSpelled header.profile (length ss) (body_at a.bytes (length ss)) slot
+    body-now : (log : IsLog header calm.bytes ss) → IsSpelled header.profile (length ss) (body_at calm.bytes (length ss)) slot
+        → IsSpelled header.profile (length ss) (body_at a.bytes (length ss)) slot
     body-now log spelled = rw (body_same header ss calm.bytes a.bytes may log besides (length ss) room) spelled
 
     at-now : (stage : SlotStage) → StatusAt header ss slot stage calm → StatusAt (grown header) ss slot stage a
@@ -98,6 +103,7 @@ pub grown_rests : (header : Header) (ss : List Slot) (calm a : AreaState) → Ma
     → StatusRests header ss calm → StatusRests (grown header) ss a
 grown_rests header ss calm a may growing sound settled rests = rests-now header calm a may growing sound settled ss rests
 
-pub grown_turns : (header : Header) (ss : List Slot) (slot : Slot) (stage : SlotStage) (calm a : AreaState) → MayGrow header → IsGrowing header GateWritten calm a → IsSound calm → IsSettled a
+pub grown_turns : (header : Header) (ss : List Slot) (slot : Slot) (stage : SlotStage) (calm a : AreaState) → MayGrow header
+    → IsGrowing header GateWritten calm a → IsSound calm → IsSettled a
     → length ss < total header → StatusAt header ss slot stage calm → StatusAt (grown header) ss slot stage a
 grown_turns header ss slot stage calm a may growing sound settled room at = at-now header calm a may growing sound settled ss slot room stage at

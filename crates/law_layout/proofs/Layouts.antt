@@ -21,7 +21,8 @@ use Rattle.law_image.proofs.Standing.{last-is}
 use Rattle.law_image.proofs.Forms.{has-room}
 use Rattle.law_image.proofs.GroupStep.{group-stands_for, group-rise, reclaimed-range, length-map}
 use Rattle.law_layout.specs.Extents.{IsExtent, AreDistinct}
-use Rattle.law_layout.specs.Layouts.{StoredMember, IsStoredMember, Layout, extents_of, live, entries_in, entries_of, later_than, anchors_in, anchors_after, no_anchors, IsLayoutOf, IsAnchorChain}
+use Rattle.law_layout.specs.Layouts.{StoredMember, IsStoredMember, Layout, extents_of, live, entries_in, entries_of, later_than, anchors_in, anchors_after}
+use Rattle.law_layout.specs.Layouts.{no_anchors, IsLayoutOf, IsAnchorChain}
 use Rattle.law_layout.specs.Turn.{Names, Group, members_of, laid_out, MayJoin}
 use Rattle.status.specs.declared.header.Header.{Header}
 use Rattle.status.specs.Rules.{head_of, slot_of, runs_in, runs_of, AreInRow}
@@ -36,7 +37,9 @@ pub group_extents_are : (members : List StoredMember) → AllByRecursion IsStore
 group_extents_are = member_extents
 
 pub live_extents_are : (header : Header) (layout : Layout) (reading : Reading) → IsLayoutOf header layout reading → AllByRecursion IsExtent (live layout)
-live_extents_are header layout reading laid = AllByRecursion-append IsExtent layout.anchors (extents_of layout.members) laid.heap.anchors_are.is_chain.each (member_extents layout.members laid.heap.each_member)
+live_extents_are header layout reading laid =
+    AllByRecursion-append IsExtent layout.anchors (extents_of layout.members) laid.heap.anchors_are.is_chain.each
+    (member_extents layout.members laid.heap.each_member)
 
 -- ---- what a slot of commits names
 
@@ -52,7 +55,8 @@ named_runs body entries named = ap runs_in named
 named_anchors : (before : Anchors) (body : Body) (entries : List Entry) → Names body entries → anchors_in before body ≡ before
 named_anchors before body entries named = ap (anchors_in before) named
 
-pub anchors-append : (before : Anchors) (slots : List Slot) (slot : Slot) → anchors_after before (slots ++ slot ∷ []) ≡ anchors_in (anchors_after before slots) slot.body
+pub anchors-append : (before : Anchors) (slots : List Slot) (slot : Slot) → anchors_after before (slots ++ slot ∷ [])
+    ≡ anchors_in (anchors_after before slots) slot.body
 anchors-append before [] slot = refl
 anchors-append before (s ∷ slots) slot = anchors-append (anchors_in before s.body) slots slot
 
@@ -63,7 +67,8 @@ later_entries mark t (entry ∷ entries) le up =
     let late : nat_lt mark entry.time ≡ true = is_lt (omega (arith, up.0)) in
     rw late (ap (λ l. entry ∷ l) (later_entries mark entry.time entries (omega (arith, up.0)) up.2))
 
-member_heads : (members : List StoredMember) → AllByRecursion IsStoredMember members → map (λ m. m.head) (map (λ s. s.member) members) ≡ map head_of (map (λ s. s.entry) members)
+member_heads : (members : List StoredMember) → AllByRecursion IsStoredMember members → map (λ m. m.head) (map (λ s. s.member) members)
+    ≡ map head_of (map (λ s. s.entry) members)
 member_heads [] all = refl
 member_heads (s ∷ members) all =
     ap (λ (h : Head). h ∷ map (λ m. m.head) (map (λ (s : StoredMember). s.member) members)) (all.0).head_is
@@ -82,7 +87,14 @@ module _ (header : Header) (layout : Layout) (reading : Reading) (h next : Histo
   entries = map (λ s. s.entry) group.members
 
   pub has_room : HasRoom reading
-  has_room = has-room reading (omega (arith, joins.room, laid.heap.slots_are, ap (λ l. length l) laid.heap.log_is, length-map (λ (s : Slot). slot_of s.body) layout.slots))
+  has_room =
+      has-room reading (omega (
+        arith,
+        joins.room,
+        laid.heap.slots_are,
+        ap (λ l. length l) laid.heap.log_is,
+        length-map (λ (s : Slot). slot_of s.body) layout.slots,
+      ))
 
   pub stands_more : StandsFor (with_group reading (members_of group)) (h ++ next) floors
   stands_more = group-stands_for reading h floors stands (members_of group) next joins.is_group has_room
@@ -113,7 +125,8 @@ module _ (header : Header) (layout : Layout) (reading : Reading) (h next : Histo
   unfolding entries
   later_more =
       let mark = reclaim_mark reading.log in
-      let range : mark ≤ last_time reading.log = omega (arith, reclaimed-range reading h floors stands (members_of group) next joins.is_group has_room, last-is reading h floors stands) in
+      let range : mark ≤ last_time reading.log =
+      omega (arith, reclaimed-range reading h floors stands (members_of group) next joins.is_group has_room, last-is reading h floors stands) in
       map-append (λ (s : StoredMember). s.entry) layout.members group.members
       ∙ ap (λ l. l ++ entries) laid.heap.entries_are
       ∙ ap (λ l. later_than mark (entries_of layout.slots) ++ l) (sym (later_entries mark (last_time reading.log) entries range entries_rise))
@@ -130,12 +143,14 @@ module _ (header : Header) (layout : Layout) (reading : Reading) (h next : Histo
       log_is =
           map-append (λ (s : Slot). slot_of s.body) layout.slots (group.slot ∷ [])
           ∙ ap (λ l. l ++ slot_of group.slot.body ∷ []) laid.heap.log_is
-          ∙ ap (λ b. reading.log ++ b ∷ []) (named_slot group.slot.body (map (λ s. s.entry) group.members) joins.named ∙ ap Commits (sym (member_heads group.members joins.each)));
+          ∙ ap (λ b. reading.log ++ b ∷ []) (named_slot group.slot.body (map (λ s. s.entry) group.members) joins.named
+          ∙ ap Commits (sym (member_heads group.members joins.each)));
       members_are = map-append (λ (s : StoredMember). s.member) layout.members group.members ∙ ap (λ l. l ++ members_of group) laid.heap.members_are;
       entries_are = later_more ∙ ap (λ (mark : ℕ). later_than mark (entries_of (layout.slots ++ group.slot ∷ []))) (sym same_mark);
       each_member = AllByRecursion-append IsStoredMember layout.members group.members laid.heap.each_member joins.each;
       anchors_are = subst (λ a. IsAnchorChain a layout.anchors reading.anchors)
-          (sym (anchors-append no_anchors layout.slots group.slot ∙ named_anchors (anchors_after no_anchors layout.slots) group.slot.body (map (λ s. s.entry) group.members) joins.named)) laid.heap.anchors_are;
+          (sym (anchors-append no_anchors layout.slots group.slot
+          ∙ named_anchors (anchors_after no_anchors layout.slots) group.slot.body (map (λ s. s.entry) group.members) joins.named)) laid.heap.anchors_are;
       apart = subst AreDistinct (sym (live_more layout group)) joins.free;
       in_row = subst (AreInRow 0) (sym runs_more) laid.heap.in_row;
     };

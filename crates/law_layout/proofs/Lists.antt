@@ -14,7 +14,8 @@ pub both : {X : Type 0} (P Q R : X → Type 0) (xs : List X) → ((x : X) → P 
 both P Q R [] f ps qs = tt
 both P Q R (x ∷ xs) f ps qs = (f x ps.0 qs.0, both P Q R xs f ps.1 qs.1)
 
-pub three : {X : Type 0} (P Q R S : X → Type 0) (xs : List X) → ((x : X) → P x → Q x → R x → S x) → AllByRecursion P xs → AllByRecursion Q xs → AllByRecursion R xs → AllByRecursion S xs
+pub three : {X : Type 0} (P Q R S : X → Type 0) (xs : List X) → ((x : X) → P x → Q x → R x → S x) → AllByRecursion P xs → AllByRecursion Q xs
+    → AllByRecursion R xs → AllByRecursion S xs
 three P Q R S [] f ps qs rs = tt
 three P Q R S (x ∷ xs) f ps qs rs = (f x ps.0 qs.0 rs.0, three P Q R S xs f ps.1 qs.1 rs.1)
 
@@ -56,6 +57,8 @@ distinct_join (x ∷ xs) ys a b cross = (AllByRecursion-append (λ (f : Extent).
 pub cross_turned : (xs ys : List Extent) → AreCross xs ys → AreCross ys xs
 cross_turned xs [] cross = tt
 cross_turned xs (y ∷ ys) cross = (
-  weaker (λ (e : Extent). (e.number ≢ y.number) × AllByRecursion (λ f. e.number ≢ f.number) ys) (λ (e : Extent). y.number ≢ e.number) xs (λ e all same. all.0 (sym same)) cross,
-  cross_turned xs ys (weaker (λ (e : Extent). (e.number ≢ y.number) × AllByRecursion (λ f. e.number ≢ f.number) ys) (λ (e : Extent). AllByRecursion (λ f. e.number ≢ f.number) ys) xs (λ e all. all.1) cross),
+  weaker (λ (e : Extent). (e.number ≢ y.number)
+      × AllByRecursion (λ f. e.number ≢ f.number) ys) (λ (e : Extent). y.number ≢ e.number) xs (λ e all same. all.0 (sym same)) cross,
+  cross_turned xs ys (weaker (λ (e : Extent). (e.number ≢ y.number)
+      × AllByRecursion (λ f. e.number ≢ f.number) ys) (λ (e : Extent). AllByRecursion (λ f. e.number ≢ f.number) ys) xs (λ e all. all.1) cross),
 )

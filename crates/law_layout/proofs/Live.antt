@@ -22,7 +22,8 @@ pub record LiveParts (heap : List ℕ) (taken : List Extent) (before : Key → O
   pub apart : AreDistinct (taken ++ extents_of members)
   pub spellings : AreStored before (map (λ s. s.member) members)
 
-pub live_of_parts : (heap : List ℕ) (taken : List Extent) (before : Key → Option Value) (members : List StoredMember) → LiveParts heap taken before members → AreLive heap taken before members
+pub live_of_parts : (heap : List ℕ) (taken : List Extent) (before : Key → Option Value) (members : List StoredMember) → LiveParts heap taken before members
+    → AreLive heap taken before members
 live_of_parts heap taken before [] parts = tt
 live_of_parts heap taken before (s ∷ members) parts =
     let apart : AreDistinct ((taken ++ s.extents) ++ extents_of members) = rw (append_assoc taken s.extents (extents_of members)) parts.apart in (
@@ -42,8 +43,10 @@ live_of_parts heap taken before (s ∷ members) parts =
       }),
     )
 
-pub parts_of_live : (heap : List ℕ) (taken : List Extent) (before : Key → Option Value) (members : List StoredMember) → AreDistinct taken → AreLive heap taken before members → LiveParts heap taken before members
-parts_of_live heap taken before [] distinct live = record { stored = tt; rules = tt; held = tt; apart = subst AreDistinct (sym (append-nil taken)) distinct; spellings = tt }
+pub parts_of_live : (heap : List ℕ) (taken : List Extent) (before : Key → Option Value) (members : List StoredMember) → AreDistinct taken
+    → AreLive heap taken before members → LiveParts heap taken before members
+parts_of_live heap taken before [] distinct live =
+    record { stored = tt; rules = tt; held = tt; apart = subst AreDistinct (sym (append-nil taken)) distinct; spellings = tt }
 parts_of_live heap taken before (s ∷ members) distinct live =
     let rest = parts_of_live heap (taken ++ s.extents) (values_left before s) members (live.0).apart live.1 in
     record {
@@ -59,19 +62,23 @@ unfoldable pub values_behind : (Key → Option Value) → List StoredMember → 
 values_behind before members = applied before (commits_from before (map (λ s. s.member) members))
 
 -- one member more
-pub live_more : (heap : List ℕ) (taken : List Extent) (before : Key → Option Value) (members : List StoredMember) (s : StoredMember) → AreLive heap taken before members
+pub live_more : (heap : List ℕ) (taken : List Extent) (before : Key → Option Value) (members : List StoredMember) (s : StoredMember)
+    → AreLive heap taken before members
     → IsLiveMember heap (taken ++ extents_of members) (values_behind before members) s → AreLive heap taken before (members ++ s ∷ [])
 unfolding values_behind
 live_more heap taken before [] s live is = (subst (λ (es : List Extent). IsLiveMember heap es before s) (append-nil taken) is, tt)
 live_more heap taken before (m ∷ members) s live is = (
   live.0,
   live_more heap (taken ++ m.extents) (values_left before m) members s live.1
-      (subst (λ (es : List Extent). IsLiveMember heap es (applied (values_left before m) (commits_from (values_left before m) (map (λ x. x.member) members))) s) (sym (append_assoc taken m.extents (extents_of members))) is),
+      (subst (λ (es : List Extent). IsLiveMember heap es (applied (values_left before m) (commits_from (values_left before m) (map (λ x. x.member) members))) s)
+      (sym (append_assoc taken m.extents (extents_of members))) is),
 )
 
 -- where the first of the others fails, it is the first that fails of all
-pub fails_behind : (heap : List ℕ) (taken : List Extent) (before : Key → Option Value) (members : List StoredMember) (entries : List Entry) (place : ℕ) → AreLive heap taken before members
-    → FailsAt heap (taken ++ extents_of members) (values_behind before members) entries place → FailsAt heap taken before (map (λ s. s.entry) members ++ entries) place
+pub fails_behind : (heap : List ℕ) (taken : List Extent) (before : Key → Option Value) (members : List StoredMember) (entries : List Entry) (place : ℕ)
+    → AreLive heap taken before members
+    → FailsAt heap (taken ++ extents_of members) (values_behind before members) entries place
+    → FailsAt heap taken before (map (λ s. s.entry) members ++ entries) place
 unfolding values_behind
 fails_behind heap taken before [] entries place live fails = subst (λ (es : List Extent). FailsAt heap es before entries place) (append-nil taken) fails
 fails_behind heap taken before (m ∷ members) entries place live fails =
@@ -80,5 +87,6 @@ fails_behind heap taken before (m ∷ members) entries place live fails =
       refl,
       live.0,
       fails_behind heap (taken ++ m.extents) (values_left before m) members entries place live.1
-          (subst (λ (es : List Extent). FailsAt heap es (applied (values_left before m) (commits_from (values_left before m) (map (λ x. x.member) members))) entries place) (sym (append_assoc taken m.extents (extents_of members))) fails),
+          (subst (λ (es : List Extent). FailsAt heap es (applied (values_left before m) (commits_from (values_left before m) (map (λ x. x.member) members)))
+          entries place) (sym (append_assoc taken m.extents (extents_of members))) fails),
     )

@@ -1,5 +1,6 @@
 -- What an image opens as is one, and where it opens no check fails.
-use Rattle.std.proofs.Common.{◌≡◌, inl, inr, ℕ, ◌+◌, ◌<◌, nat_le, true, false, cond, List, [], ◌∷◌, ◌++◌, map, length, Option, refl, sym, ap, subst, ◌∙◌, arith, append_assoc}
+use Rattle.std.proofs.Common.{◌≡◌, inl, inr, ℕ, ◌+◌, ◌<◌, nat_le, true, false, cond, List, [], ◌∷◌, ◌++◌, map, length, Option, refl, sym, ap, subst, ◌∙◌, arith}
+use Rattle.std.proofs.Common.{append_assoc}
 use Rattle.std.specs.Prelude.{flat_map}
 use Rattle.std.specs.List.{AllByRecursion}
 use Rattle.std.proofs.lemmas.Bool.{cases_order}
@@ -56,7 +57,8 @@ joined-bodies_from : (body : List ℕ) (list : List (List ℕ)) → joined (bodi
 unfolding joined
 joined-bodies_from body [] = refl
 joined-bodies_from body (r ∷ list) =
-    elim (nat_le (length body + length r) 8176) as (λ b. joined (cond b (bodies_from (body ++ r) list) (body ∷ bodies_from r list)) ≡ body ++ (r ++ joined list)) [
+    elim (nat_le (length body + length r) 8176) as (λ b. joined (cond b (bodies_from (body ++ r) list) (body ∷ bodies_from r list)) ≡ body
+    ++ (r ++ joined list)) [
       | true ↦ joined-bodies_from (body ++ r) list ∙ append_assoc body r (joined list)
       | false ↦ ap (λ l. body ++ l) (joined-bodies_from r list)
     ]
@@ -81,20 +83,26 @@ same_bytes f first extents records records' a b xs ys same is_a is_b =
 
 -- ---- chains
 
-module _ (records_once : (a b : List HeapRecord) → AllByRecursion IsRecord a → AllByRecursion IsRecord b → flat_map record_bytes a ≡ flat_map record_bytes b → a ≡ b)
-    (olds_once : (a b : List OldRecord) → AllByRecursion IsOldRecord a → AllByRecursion IsOldRecord b → flat_map old_bytes a ≡ flat_map old_bytes b → a ≡ b) where
-  same_stored : (s s' : StoredMember) → s.entry ≡ s'.entry → s.extents ≡ s'.extents → s.member.head ≡ s'.member.head → s.member.records ≡ s'.member.records → s ≡ s'
+module _ (records_once : (a b : List HeapRecord) → AllByRecursion IsRecord a → AllByRecursion IsRecord b → flat_map record_bytes a ≡ flat_map record_bytes b → a
+    ≡ b)
+    (olds_once : (a b : List OldRecord) → AllByRecursion IsOldRecord a → AllByRecursion IsOldRecord b → flat_map old_bytes a ≡ flat_map old_bytes b → a
+    ≡ b) where
+  same_stored : (s s' : StoredMember) → s.entry ≡ s'.entry → s.extents ≡ s'.extents → s.member.head ≡ s'.member.head → s.member.records ≡ s'.member.records → s
+      ≡ s'
   same_stored s s' entry extents head records = λ i. record { entry = entry i; member = record { head = head i; records = records i }; extents = extents i }
 
-  pub one_member : (heap : List ℕ) (taken : List Extent) (before : Key → Option Value) (s s' : StoredMember) → IsLiveMember heap taken before s → IsLiveMember heap taken before s' → s.entry ≡ s'.entry → s ≡ s'
+  pub one_member : (heap : List ℕ) (taken : List Extent) (before : Key → Option Value) (s s' : StoredMember) → IsLiveMember heap taken before s
+      → IsLiveMember heap taken before s' → s.entry ≡ s'.entry → s ≡ s'
   one_member heap taken before s s' is is' entry =
       let chain' : IsChain s.entry.first s.entry.extents s.entry.records s'.extents (map record_bytes s'.member.records) =
       subst (λ (e : Entry). IsChain e.first e.extents e.records s'.extents (map record_bytes s'.member.records)) (sym entry) is'.stored.chain in
       let extents : s.extents ≡ s'.extents =
-      one_chain heap s.entry.first s.entry.extents s.entry.records s.entry.records s.extents s'.extents (map record_bytes s.member.records) (map record_bytes s'.member.records) is.stored.chain chain' is.held is'.held in
+      one_chain heap s.entry.first s.entry.extents s.entry.records s.entry.records s.extents s'.extents (map record_bytes s.member.records)
+      (map record_bytes s'.member.records) is.stored.chain chain' is.held is'.held in
       let records : s.member.records ≡ s'.member.records =
       records_once s.member.records s'.member.records is.stored.each is'.stored.each
-      (same_bytes record_bytes s.entry.first s.entry.extents s.entry.records s.entry.records s.extents s'.extents s.member.records s'.member.records extents is.stored.chain chain') in
+      (same_bytes record_bytes s.entry.first s.entry.extents s.entry.records s.entry.records s.extents s'.extents s.member.records s'.member.records extents
+      is.stored.chain chain') in
       same_stored s s' entry extents (is.stored.head_is ∙ ap (λ (e : Entry). record { time = e.time; label = e.label }) entry ∙ sym is'.stored.head_is) records
 
   entries_head : (e e' : Entry) (es es' : List Entry) → e ∷ es ≡ e' ∷ es' → e ≡ e'
@@ -103,7 +111,8 @@ module _ (records_once : (a b : List HeapRecord) → AllByRecursion IsRecord a �
   entries_tail : (e e' : Entry) (es es' : List Entry) → e ∷ es ≡ e' ∷ es' → es ≡ es'
   entries_tail e e' es es' same = cc
 
-  pub one_live : (heap : List ℕ) (taken : List Extent) (before : Key → Option Value) (ms ns : List StoredMember) → AreLive heap taken before ms → AreLive heap taken before ns
+  pub one_live : (heap : List ℕ) (taken : List Extent) (before : Key → Option Value) (ms ns : List StoredMember) → AreLive heap taken before ms
+      → AreLive heap taken before ns
       → map (λ s. s.entry) ms ≡ map (λ s. s.entry) ns → ms ≡ ns
   one_live heap taken before [] [] a b same = refl
   one_live heap taken before [] (n ∷ ns) a b same = cc
@@ -112,12 +121,14 @@ module _ (records_once : (a b : List HeapRecord) → AllByRecursion IsRecord a �
       let entry : m.entry ≡ n.entry = entries_head m.entry n.entry (map (λ s. s.entry) ms) (map (λ s. s.entry) ns) same in
       let rest : map (λ s. s.entry) ms ≡ map (λ s. s.entry) ns = entries_tail m.entry n.entry (map (λ s. s.entry) ms) (map (λ s. s.entry) ns) same in
       let first : m ≡ n = one_member heap taken before m n a.0 b.0 entry in
-      let behind : AreLive heap (taken ++ m.extents) (values_left before m) ns = subst (λ (s : StoredMember). AreLive heap (taken ++ s.extents) (values_left before s) ns) (sym first) b.1 in
+      let behind : AreLive heap (taken ++ m.extents) (values_left before m) ns =
+      subst (λ (s : StoredMember). AreLive heap (taken ++ s.extents) (values_left before s) ns) (sym first) b.1 in
       let more : ms ≡ ns = one_live heap (taken ++ m.extents) (values_left before m) ms ns a.1 behind rest in
       λ i. first i ∷ more i
 
   -- where all members are right, none is the first that is not
-  pub none_fails : (heap : List ℕ) (taken : List Extent) (before : Key → Option Value) (ms : List StoredMember) (place : ℕ) → AreLive heap taken before ms → ¬ FailsAt heap taken before (map (λ s. s.entry) ms) place
+  pub none_fails : (heap : List ℕ) (taken : List Extent) (before : Key → Option Value) (ms : List StoredMember) (place : ℕ) → AreLive heap taken before ms
+      → ¬ FailsAt heap taken before (map (λ s. s.entry) ms) place
   none_fails heap taken before [] place live fails = fails
   none_fails heap taken before (m ∷ ms) place live (inl fails) = fails.1 (record { found = m; entry_is = refl; is = live.0 })
   none_fails heap taken before (m ∷ ms) place live (inr fails) =
@@ -129,15 +140,18 @@ module _ (records_once : (a b : List HeapRecord) → AllByRecursion IsRecord a �
   pub one_anchors : (heap : List ℕ) (mark : ℕ) (anchors : Anchors) (a b : HasAnchors heap mark anchors) → (a.chain ≡ b.chain) × (a.olds ≡ b.olds)
   one_anchors heap mark anchors a b =
       let chains : a.chain ≡ b.chain =
-      one_chain heap anchors.first anchors.extents anchors.records anchors.records a.chain b.chain (map old_bytes a.olds) (map old_bytes b.olds) a.are.is_chain.is_chain b.are.is_chain.is_chain a.are.held b.are.held in (
+      one_chain heap anchors.first anchors.extents anchors.records anchors.records a.chain b.chain (map old_bytes a.olds) (map old_bytes b.olds)
+      a.are.is_chain.is_chain b.are.is_chain.is_chain a.are.held b.are.held in (
         chains,
         olds_once a.olds b.olds a.are.is_chain.each b.are.is_chain.each
-            (same_bytes old_bytes anchors.first anchors.extents anchors.records anchors.records a.chain b.chain a.olds b.olds chains a.are.is_chain.is_chain b.are.is_chain.is_chain),
+            (same_bytes old_bytes anchors.first anchors.extents anchors.records anchors.records a.chain b.chain a.olds b.olds chains a.are.is_chain.is_chain
+            b.are.is_chain.is_chain),
       )
 
   -- what opens holds its heap
   pub opens_heap : (header : Header) (image : Image) (layout : Layout) (reading : Reading) → Opens header image layout reading
-      → (has : HasAnchors image.heap (mark_of layout.slots) (anchors_after no_anchors layout.slots)) × (has.chain ≡ layout.anchors) × (has.olds ≡ reading.anchors)
+      → (has : HasAnchors image.heap (mark_of layout.slots) (anchors_after no_anchors layout.slots)) × (has.chain ≡ layout.anchors)
+      × (has.olds ≡ reading.anchors)
       × (map (λ s. s.entry) layout.members ≡ later_than (mark_of layout.slots) (entries_of layout.slots))
       × AreLive image.heap layout.anchors (λ key. latest (old_writes reading.anchors key)) layout.members
   opens_heap header image layout reading opens =

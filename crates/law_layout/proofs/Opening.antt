@@ -28,12 +28,17 @@ pub held_opens : (header : Header) (image : Image) (layout : Layout) (reading : 
     → Opens header image (unread_layout layout) (unread reading)
 held_opens header image layout reading h floors laid held stands built =
     let reads : Reads reading = stands.opens.reads in
-    let slots : HasSlots reading = ap is_in_heap laid.heap.profile_is ∙ slots-profile header.profile header.slots header.pieces held.log.header_is.front.numbers in
+    let slots : HasSlots reading =
+    ap is_in_heap laid.heap.profile_is ∙ slots-profile header.profile header.slots header.pieces held.log.header_is.front.numbers in
     let form : IsSlotLog reading = in-slots reading slots reads.form in
-    let log : KeepsLogRules header.profile (log_of layout.slots) = subst (λ (n : ℕ). KeepsLogRules n (log_of layout.slots)) laid.heap.profile_is (subst (KeepsLogRules reading.profile) (sym laid.heap.log_is) form.log) in
+    let log : KeepsLogRules header.profile (log_of layout.slots) =
+    subst (λ (n : ℕ). KeepsLogRules n (log_of layout.slots)) laid.heap.profile_is (subst (KeepsLogRules reading.profile) (sym laid.heap.log_is) form.log) in
     let ends : AllByRecursion (λ (s : StoredRun). EndsWithin (length image.archive) s.entry) layout.runs =
     both IsStoredRun (HoldsRun image.archive) (λ (s : StoredRun). EndsWithin (length image.archive) s.entry) layout.runs
-    (λ s stored is. let inside : s.entry.start + length (run_bytes s.records) ≤ length image.archive = is.inside in omega (arith, stored.length_is)) laid.runs.each_run held.runs in
+    (λ s stored is. let inside : s.entry.start + length (run_bytes s.records) ≤ length image.archive = is.inside in omega (
+      arith,
+      stored.length_is,
+    )) laid.runs.each_run held.runs in
     record {
       log = record {
         header_is = held.log.header_is;
@@ -64,7 +69,8 @@ held_opens header image layout reading h floors laid held stands built =
         anchor_times = reads.anchor_times;
       };
       extents = held.extents;
-      runs_end = subst (AllByRecursion (EndsWithin (length image.archive))) laid.runs.entries_are (of_entries (EndsWithin (length image.archive)) layout.runs ends);
+      runs_end =
+          subst (AllByRecursion (EndsWithin (length image.archive))) laid.runs.entries_are (of_entries (EndsWithin (length image.archive)) layout.runs ends);
       no_runs = refl;
       no_run_records = refl;
     }

@@ -45,10 +45,12 @@ each_record : (rs : List readings.HeapRecord) → AllByRecursion IsRecord rs →
 each_record [] each = tt
 each_record (r ∷ rs) each = (each.0, each_record rs each.1)
 
-pub records_once : (a b : List readings.HeapRecord) → AllByRecursion IsRecord a → AllByRecursion IsRecord b → flat_map record_bytes a ≡ flat_map record_bytes b → a ≡ b
+pub records_once : (a b : List readings.HeapRecord) → AllByRecursion IsRecord a → AllByRecursion IsRecord b → flat_map record_bytes a ≡ flat_map record_bytes b
+    → a ≡ b
 records_once a b are_a are_b same =
     sym (records_again a)
-    ∙ ap (λ (l : List Record). map heap_record l) (one_list (map record_of a) (map record_of b) (each_record a are_a) (each_record b are_b) (spelled a ∙ same ∙ sym (spelled b)))
+    ∙ ap (λ (l : List Record). map heap_record l) (one_list (map record_of a) (map record_of b) (each_record a are_a) (each_record b are_b) (spelled a ∙ same
+    ∙ sym (spelled b)))
     ∙ records_again b
 
 olds_again : (rs : List readings.OldRecord) → map old_record (map old_record_of rs) ≡ rs
@@ -64,10 +66,12 @@ each_old : (rs : List readings.OldRecord) → AllByRecursion IsOldRecord rs → 
 each_old [] each = tt
 each_old (r ∷ rs) each = let from = (each.0).from in (record { key = (each.0).key; content = (omega arith, (each.0).value) }, each_old rs each.1)
 
-pub olds_once : (a b : List readings.OldRecord) → AllByRecursion IsOldRecord a → AllByRecursion IsOldRecord b → flat_map old_bytes a ≡ flat_map old_bytes b → a ≡ b
+pub olds_once : (a b : List readings.OldRecord) → AllByRecursion IsOldRecord a → AllByRecursion IsOldRecord b → flat_map old_bytes a ≡ flat_map old_bytes b → a
+    ≡ b
 olds_once a b are_a are_b same =
     sym (olds_again a)
-    ∙ ap (λ (l : List Record). map old_record l) (one_list (map old_record_of a) (map old_record_of b) (each_old a are_a) (each_old b are_b) (olds_spelled a ∙ same ∙ sym (olds_spelled b)))
+    ∙ ap (λ (l : List Record). map old_record l) (one_list (map old_record_of a) (map old_record_of b) (each_old a are_a) (each_old b are_b) (olds_spelled a
+    ∙ same ∙ sym (olds_spelled b)))
     ∙ olds_again b
 
 -- ---- one reading
@@ -75,12 +79,14 @@ olds_once a b are_a are_b same =
 same_layout : (a b : Layout) → a.slots ≡ b.slots → a.anchors ≡ b.anchors → a.members ≡ b.members → a.runs ≡ b.runs → a ≡ b
 same_layout a b slots anchors members runs = λ i. record { slots = slots i; anchors = anchors i; members = members i; runs = runs i }
 
-same_reading : (a b : readings.Reading) → a.profile ≡ b.profile → a.slots ≡ b.slots → a.pieces ≡ b.pieces → a.log ≡ b.log → a.members ≡ b.members → a.anchors ≡ b.anchors → a.runs ≡ b.runs → a ≡ b
+same_reading : (a b : readings.Reading) → a.profile ≡ b.profile → a.slots ≡ b.slots → a.pieces ≡ b.pieces → a.log ≡ b.log → a.members ≡ b.members → a.anchors
+    ≡ b.anchors → a.runs ≡ b.runs → a ≡ b
 same_reading a b profile slots pieces log members anchors runs =
     λ i. record { profile = profile i; slots = slots i; pieces = pieces i; log = log i; members = members i; anchors = anchors i; runs = runs i }
 
 -- of one header and one log
-one_reading : (header : Header) (image : Image) (a b : Layout) (r s : readings.Reading) → a.slots ≡ b.slots → Opens header image a r → Opens header image b s → (a ≡ b) × (r ≡ s)
+one_reading : (header : Header) (image : Image) (a b : Layout) (r s : readings.Reading) → a.slots ≡ b.slots → Opens header image a r → Opens header image b s
+    → (a ≡ b) × (r ≡ s)
 one_reading header image a b r s slots opens_a opens_b =
     let heap_a = opens_heap records_once olds_once header image a r opens_a in
     let heap_b = opens_heap records_once olds_once header image b s opens_b in
@@ -97,7 +103,8 @@ one_reading header image a b r s slots opens_a opens_b =
     let live : AreLive image.heap a.anchors (λ key. latest (old_writes r.anchors key)) b.members =
     subst (λ (es : List Extent). AreLive image.heap es (λ key. latest (old_writes r.anchors key)) b.members) (sym chains)
     (subst (λ (l : List readings.OldRecord). AreLive image.heap b.anchors (λ key. latest (old_writes l key)) b.members) (sym olds) heap_b.4) in
-    let members : a.members ≡ b.members = one_live records_once olds_once image.heap a.anchors (λ key. latest (old_writes r.anchors key)) a.members b.members heap_a.4 live entries in
+    let members : a.members ≡ b.members =
+    one_live records_once olds_once image.heap a.anchors (λ key. latest (old_writes r.anchors key)) a.members b.members heap_a.4 live entries in
     let la = opens_a.lays_out in
     let lb = opens_b.lays_out in (
       same_layout a b slots chains members (opens_a.no_runs ∙ sym opens_b.no_runs),
@@ -107,7 +114,8 @@ one_reading header image a b r s slots opens_a opens_b =
           olds (opens_a.no_run_records ∙ sym opens_b.no_run_records),
     )
 
-pub opens_once : (header header' : Header) (image : Image) (layout layout' : Layout) (reading reading' : readings.Reading) → Opens header image layout reading → Opens header' image layout' reading'
+pub opens_once : (header header' : Header) (image : Image) (layout layout' : Layout) (reading reading' : readings.Reading) → Opens header image layout reading
+    → Opens header' image layout' reading'
     → (header ≡ header') × (layout ≡ layout') × (reading ≡ reading')
 opens_once header header' image layout layout' reading reading' opens opens' =
     let same : header ≡ header' = one_header header header' _ opens.log.header_is.front opens'.log.header_is.front in
@@ -139,12 +147,15 @@ opens_no_fault header image layout reading place opens = (
         let olds : fails.0.olds ≡ reading.anchors = sym same.1 ∙ heap.2 in
         none_fails records_once olds_once image.heap layout.anchors (λ key. latest (old_writes reading.anchors key)) layout.members place heap.4
         (subst (λ (l : List Entry). FailsAt image.heap layout.anchors (λ key. latest (old_writes reading.anchors key)) l place) (sym heap.3)
-        (subst (λ (es : List Extent). FailsAt image.heap es (λ key. latest (old_writes reading.anchors key)) (later_than (mark_of layout.slots) (entries_of layout.slots)) place) chain
-        (subst (λ (l : List readings.OldRecord). FailsAt image.heap fails.0.chain (λ key. latest (old_writes l key)) (later_than (mark_of layout.slots) (entries_of layout.slots)) place) olds fails.1)))
+        (subst (λ (es : List Extent). FailsAt image.heap es (λ key. latest (old_writes reading.anchors key))
+        (later_than (mark_of layout.slots) (entries_of layout.slots)) place) chain
+        (subst (λ (l : List readings.OldRecord). FailsAt image.heap fails.0.chain (λ key. latest (old_writes l key))
+        (later_than (mark_of layout.slots) (entries_of layout.slots)) place) olds fails.1)))
 
 -- ---- one first fault
 
-one_place_at : (heap : List ℕ) (taken : List Extent) (before : Key → Option Value) (entries : List Entry) (p q : ℕ) → FailsAt heap taken before entries p → FailsAt heap taken before entries q → p ≡ q
+one_place_at : (heap : List ℕ) (taken : List Extent) (before : Key → Option Value) (entries : List Entry) (p q : ℕ) → FailsAt heap taken before entries p
+    → FailsAt heap taken before entries q → p ≡ q
 one_place_at heap taken before [] p q a b = absurd a
 one_place_at heap taken before (e ∷ entries) p q (inl a) (inl b) = a.0 ∙ sym b.0
 one_place_at heap taken before (e ∷ entries) p q (inl a) (inr b) = absurd (a.1 (record { found = b.0; entry_is = b.1; is = b.2 }))

@@ -28,7 +28,8 @@ module _ (profile : ℕ) where
   some_is : (a b : Slot) → Some a ≡ Some b → a ≡ b
   some_is a b same = cc
 
-  rules_each : (before rest : List Slot) → MayAllCome profile (log_of before) (log_of rest) → AreInRow (row_end 0 (runs_of before)) (runs_of rest) → Built rest → Follow before rest
+  rules_each : (before rest : List Slot) → MayAllCome profile (log_of before) (log_of rest) → AreInRow (row_end 0 (runs_of before)) (runs_of rest) → Built rest
+      → Follow before rest
   unfolding Follow Built some_is
   rules_each before [] may row built n slot is = cc
   rules_each before (s ∷ rest) may row built zero slot is =
@@ -44,19 +45,26 @@ module _ (profile : ℕ) where
       (subst (λ (e : ℕ). AreInRow e (runs_of rest)) (sym (end-push before s)) parts.1)
       (λ m x at. built (suc m) x at) n slot is)
 
-  rules_all : (before rest : List Slot) → Follow before rest → MayAllCome profile (log_of before) (log_of rest) × AreInRow (row_end 0 (runs_of before)) (runs_of rest) × Built rest
+  rules_all : (before rest : List Slot) → Follow before rest → MayAllCome profile (log_of before) (log_of rest)
+      × AreInRow (row_end 0 (runs_of before)) (runs_of rest) × Built rest
   unfolding Follow Built
   rules_all before [] each = (tt, tt, λ n slot is. cc)
   rules_all before (s ∷ rest) each =
       let first : MayFollow profile before s = subst (λ (b : List Slot). MayFollow profile b s) (append-nil before) (each zero s refl) in
-      let more = rules_all (before ++ s ∷ []) rest (λ n slot is. subst (λ (b : List Slot). MayFollow profile b slot) (sym (append_assoc before (s ∷ []) (take n rest))) (each (suc n) slot is)) in
-      let built : (n : ℕ) (slot : Slot) → slice_get (s ∷ rest) n ≡ Some slot → IsTrue (is_built profile (kind_of slot.body)) = λ n slot is. (each n slot is).built in (
+      let more =
+      rules_all (before ++ s
+      ∷ []) rest (λ n slot is. subst (λ (b : List Slot). MayFollow profile b slot) (sym (append_assoc before (s ∷ []) (take n rest)))
+      (each (suc n) slot is)) in
+      let built : (n : ℕ) (slot : Slot) → slice_get (s ∷ rest) n ≡ Some slot → IsTrue (is_built profile (kind_of slot.body)) =
+      λ n slot is. (each n slot is).built in (
         (first.may_come, subst (λ l. MayAllCome profile l (log_of rest)) (log-push before s) more.0),
-        row_join (row_end 0 (runs_of before)) (runs_in s.body) (runs_of rest) first.in_row (subst (λ (e : ℕ). AreInRow e (runs_of rest)) (end-push before s) more.1),
+        row_join (row_end 0 (runs_of before)) (runs_in s.body) (runs_of rest) first.in_row
+            (subst (λ (e : ℕ). AreInRow e (runs_of rest)) (end-push before s) more.1),
         built,
       )
 
-  pub rules_kept : (slots : List Slot) → MayAllCome profile [] (log_of slots) → AreInRow 0 (runs_of slots) → ((n : ℕ) (slot : Slot) → slice_get slots n ≡ Some slot → IsTrue (is_built profile (kind_of slot.body)))
+  pub rules_kept : (slots : List Slot) → MayAllCome profile [] (log_of slots) → AreInRow 0 (runs_of slots)
+      → ((n : ℕ) (slot : Slot) → slice_get slots n ≡ Some slot → IsTrue (is_built profile (kind_of slot.body)))
       → KeepsRules profile slots
   unfolding Follow Built
   rules_kept slots may row built = rules_each [] slots may row built

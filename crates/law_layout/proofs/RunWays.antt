@@ -29,11 +29,14 @@ row_end-more place [] run = refl
 row_end-more place (r ∷ runs) run = row_end-more (r.start + r.len) runs run
 
 -- runs that are kept end within what is on the disk
-kept-within : (place : ℕ) (runs : List StoredRun) (a : AreaState) → place ≤ a.firm → AllByRecursion IsStoredRun runs → KeepsRuns runs a → row_end place (map (λ s. s.entry) runs) ≤ a.firm
+kept-within : (place : ℕ) (runs : List StoredRun) (a : AreaState) → place ≤ a.firm → AllByRecursion IsStoredRun runs → KeepsRuns runs a
+    → row_end place (map (λ s. s.entry) runs) ≤ a.firm
 kept-within place [] a low each keeps = low
-kept-within place (s ∷ runs) a low each keeps = kept-within (s.entry.start + s.entry.len) runs a (omega (arith, (keeps.0).firm, (each.0).length_is)) each.1 keeps.1
+kept-within place (s ∷ runs) a low each keeps =
+    kept-within (s.entry.start + s.entry.len) runs a (omega (arith, (keeps.0).firm, (each.0).length_is)) each.1 keeps.1
 
-pub row-within : (header : Header) (layout : Layout) (reading : Reading) (areas : Areas) → IsLayoutOf header layout reading → AreSound areas → KeepsRuns layout.runs areas.archive → row_end 0 (runs_of layout.slots) ≤ length areas.archive.bytes
+pub row-within : (header : Header) (layout : Layout) (reading : Reading) (areas : Areas) → IsLayoutOf header layout reading → AreSound areas
+    → KeepsRuns layout.runs areas.archive → row_end 0 (runs_of layout.slots) ≤ length areas.archive.bytes
 row-within header layout reading areas laid sound keeps =
     let within = kept-within 0 layout.runs areas.archive (omega arith) laid.runs.each_run keeps in
     let same : row_end 0 (map (λ (s : StoredRun). s.entry) layout.runs) ≡ row_end 0 (runs_of layout.slots) = ap (row_end 0) laid.runs.entries_are in
@@ -54,7 +57,8 @@ range-split bytes a m n =
     ∙ ap (λ (k : ℕ). take (a + m - a) (drop a bytes) ++ take k (drop (a + m) bytes)) (sym back)
 
 -- the piece behind what is held is written, and more is held
-pub front-grows : (start : ℕ) (front piece bytes : List ℕ) → HoldsPart start front bytes → HoldsPart start (front ++ piece) (overlaid bytes (start + length front) piece)
+pub front-grows : (start : ℕ) (front piece bytes : List ℕ) → HoldsPart start front bytes
+    → HoldsPart start (front ++ piece) (overlaid bytes (start + length front) piece)
 front-grows start front piece bytes held =
     let at = start + length front in
     let new = overlaid bytes at piece in

@@ -25,17 +25,20 @@ use Rattle.status.specs.SlotCalls.{SlotStage, Begun, BodyWritten, BodySynced, Ga
 -- ---- the status area alone
 
 -- within the write of the body
-body_left : (header : Header) (slots : List Slot) (n : ℕ) (a : AreaState) (content : List ℕ) → length slots < total header → n ≡ 511 → StatusRests header slots a
+body_left : (header : Header) (slots : List Slot) (n : ℕ) (a : AreaState) (content : List ℕ) → length slots < total header → n ≡ 511
+    → StatusRests header slots a
     → MayLeave (loosened (slot_start (length slots) + 1) n a.bytes a) content → IsLog header content slots
 body_left header slots n a content room long rests left =
     let may : MayLeave (loosened (slot_start (length slots) + 1) 511 a.bytes a) content = rw (← long) left in
     body_changes header slots room a.bytes content rests.log (loosened_agrees (slot_start (length slots) + 1) 511 a content rests.settled may)
 
 -- within the write of the gate
-gate_left : (header : Header) (slots : List Slot) (slot : Slot) (a : AreaState) (content : List ℕ) → length slots < total header → IsBodySynced header slots slot a
+gate_left : (header : Header) (slots : List Slot) (slot : Slot) (a : AreaState) (content : List ℕ) → length slots < total header
+    → IsBodySynced header slots slot a
     → MayLeave (loosened (slot_start (length slots)) 1 a.bytes a) content → IsOldOrNew header slots slot content
 gate_left header slots slot a content room synced left =
-    gate_changes header slots room a.bytes content synced.rests.log slot synced.body (loosened_agrees (slot_start (length slots)) 1 a content synced.rests.settled left)
+    gate_changes header slots room a.bytes content synced.rests.log slot synced.body
+    (loosened_agrees (slot_start (length slots)) 1 a content synced.rests.settled left)
 
 -- what was written is read, from its place on
 read_again : (file : List ℕ) (at : ℕ) (bytes : List ℕ) → take (length bytes) (drop at (overlaid file at bytes)) ≡ bytes
@@ -53,13 +56,15 @@ read_first file at byte =
     ∙ ap (λ (xs : List ℕ). get_or xs 0 0) (slice_range-overlaid_same file at (byte ∷ []))
 
 -- after the body's write
-body_done : (header : Header) (slots : List Slot) (slot : Slot) (body : List ℕ) (a : AreaState) → length slots < total header → length body ≡ 511 → IsSpelled header.profile (length slots) body slot
+body_done : (header : Header) (slots : List Slot) (slot : Slot) (body : List ℕ) (a : AreaState) → length slots < total header → length body ≡ 511
+    → IsSpelled header.profile (length slots) body slot
     → StatusRests header slots a → LeavesOnly (λ bytes. IsLog header bytes slots) (written (slot_start (length slots) + 1) body a)
     → IsBodyWritten header slots slot (written (slot_start (length slots) + 1) body a)
 body_done header slots slot body a room long spelled rests left =
     let at = slot_start (length slots) + 1 in
     let agrees : Agrees at 511 a.bytes (overlaid a.bytes at body) = rw (← long) (overlaid_agrees at body a.bytes) in
-    let stands : body_at (overlaid a.bytes at body) (length slots) ≡ body = ap (λ n. take n (drop at (overlaid a.bytes at body))) (sym long) ∙ read_again a.bytes at body in
+    let stands : body_at (overlaid a.bytes at body) (length slots) ≡ body =
+    ap (λ n. take n (drop at (overlaid a.bytes at body))) (sym long) ∙ read_again a.bytes at body in
     record {
       log = body_changes header slots room a.bytes (overlaid a.bytes at body) rests.log agrees;
       body = rw stands spelled;
@@ -73,33 +78,42 @@ gate_done : (header : Header) (slots : List Slot) (slot : Slot) (a : AreaState) 
 gate_done header slots slot a room synced left =
     let at = slot_start (length slots) in
     record {
-      log = gate_opens header slots room a.bytes (overlaid a.bytes at (0xC7 ∷ [])) synced.rests.log slot synced.body (overlaid_agrees at (0xC7 ∷ []) a.bytes) (read_first a.bytes at 0xC7);
+      log = gate_opens header slots room a.bytes (overlaid a.bytes at (0xC7 ∷ [])) synced.rests.log slot synced.body (overlaid_agrees at (0xC7
+          ∷ []) a.bytes) (read_first a.bytes at 0xC7);
       left = left;
     }
 
 module _ (header : Header) (old_layout : Layout) (slot : Slot) (new_layout : Layout) (adds : Adds header old_layout slot new_layout) where
   -- ---- what a stop may leave
 
-  old_held : (areas : Areas) (image : Image) → KeepsParts old_layout areas → IsLog header image.status old_layout.slots → MayLeave areas.heap image.heap → MayLeave areas.archive image.archive
+  old_held : (areas : Areas) (image : Image) → KeepsParts old_layout areas → IsLog header image.status old_layout.slots → MayLeave areas.heap image.heap
+      → MayLeave areas.archive image.archive
       → HoldsLayout header image old_layout
   old_held areas image keeps log left_heap left_archive = parts_hold header old_layout areas image keeps log left_heap left_archive
 
-  new_held : (areas : Areas) (image : Image) → KeepsParts new_layout areas → IsLog header image.status (old_layout.slots ++ slot ∷ []) → MayLeave areas.heap image.heap → MayLeave areas.archive image.archive
+  new_held : (areas : Areas) (image : Image) → KeepsParts new_layout areas → IsLog header image.status (old_layout.slots ++ slot ∷ [])
+      → MayLeave areas.heap image.heap → MayLeave areas.archive image.archive
       → HoldsLayout header image new_layout
   new_held areas image keeps log left_heap left_archive = parts_hold header new_layout areas image keeps (rw adds.slots_are log) left_heap left_archive
 
-  either_held : (areas : Areas) (image : Image) → KeepsParts old_layout areas → KeepsParts new_layout areas → IsOldOrNew header old_layout.slots slot image.status
+  either_held : (areas : Areas) (image : Image) → KeepsParts old_layout areas → KeepsParts new_layout areas
+      → IsOldOrNew header old_layout.slots slot image.status
       → MayLeave areas.heap image.heap → MayLeave areas.archive image.archive → HoldsLayout header image old_layout ⊎ HoldsLayout header image new_layout
   either_held areas image keeps_old keeps_new (inl log) left_heap left_archive = inl (old_held areas image keeps_old log left_heap left_archive)
   either_held areas image keeps_old keeps_new (inr log) left_heap left_archive = inr (new_held areas image keeps_new log left_heap left_archive)
 
   pub turn_holds : (stage : SlotStage) (areas : Areas) (image : Image) → IsTurnAt header old_layout slot new_layout stage areas → LeavesImage areas image
       → MayAt stage (HoldsLayout header image old_layout) (HoldsLayout header image new_layout)
-  turn_holds Begun areas image at left = old_held areas image at.old_parts (rests_leave header areas.status image.status old_layout.slots at.status left.status) left.heap left.archive
+  turn_holds Begun areas image at left =
+      old_held areas image at.old_parts (rests_leave header areas.status image.status old_layout.slots at.status left.status) left.heap left.archive
   turn_holds BodyWritten areas image at left = old_held areas image at.old_parts (at.status.left image.status left.status) left.heap left.archive
-  turn_holds BodySynced areas image at left = old_held areas image at.old_parts (rests_leave header areas.status image.status old_layout.slots at.status.rests left.status) left.heap left.archive
-  turn_holds GateWritten areas image at left = either_held areas image at.old_parts at.new_parts (at.status.left image.status left.status) left.heap left.archive
-  turn_holds Opened areas image at left = new_held areas image at.new_parts (rests_leave header areas.status image.status (old_layout.slots ++ slot ∷ []) at.status left.status) left.heap left.archive
+  turn_holds BodySynced areas image at left =
+      old_held areas image at.old_parts (rests_leave header areas.status image.status old_layout.slots at.status.rests left.status) left.heap left.archive
+  turn_holds GateWritten areas image at left =
+      either_held areas image at.old_parts at.new_parts (at.status.left image.status left.status) left.heap left.archive
+  turn_holds Opened areas image at left =
+      new_held areas image at.new_parts (rests_leave header areas.status image.status (old_layout.slots ++ slot
+      ∷ []) at.status left.status) left.heap left.archive
 
   -- once the gate is synced, the areas are at rest with the new layout
   pub opened_rests : (areas : Areas) → IsTurnAt header old_layout slot new_layout Opened areas → RestsAs header new_layout areas
@@ -109,16 +123,20 @@ module _ (header : Header) (old_layout : Layout) (slot : Slot) (new_layout : Lay
     place : ℕ
     place = length old_layout.slots
 
-    pub turn_call_holds : (stage : SlotStage) (result : Result (Unit {0}) DeviceFault) (old new : Areas) (image : Image) → IsTurnAt header old_layout slot new_layout stage old → AreSound old
-        → IsSlotCall (length old_layout.slots) body stage result old new → LeavesImage new image → MayWithin stage (HoldsLayout header image old_layout) (HoldsLayout header image new_layout)
+    pub turn_call_holds : (stage : SlotStage) (result : Result (Unit {0}) DeviceFault) (old new : Areas) (image : Image)
+        → IsTurnAt header old_layout slot new_layout stage old → AreSound old
+        → IsSlotCall (length old_layout.slots) body stage result old new → LeavesImage new image
+        → MayWithin stage (HoldsLayout header image old_layout) (HoldsLayout header image new_layout)
     turn_call_holds Begun result old new image at sound call left =
         let before = (left_by_write Status (slot_start (length old_layout.slots) + 1) body result old new call sound).each image left in
-        old_held old image at.old_parts (body_left header old_layout.slots (length body) old.status image.status adds.room long at.status before.status) before.heap before.archive
+        old_held old image at.old_parts (body_left header old_layout.slots (length body) old.status image.status adds.room long at.status before.status)
+        before.heap before.archive
     turn_call_holds BodyWritten result old new image at sound call left =
         turn_holds BodyWritten old image at ((left_by_sync Status result old new call sound).each image left)
     turn_call_holds BodySynced result old new image at sound call left =
         let before = (left_by_write Status (slot_start (length old_layout.slots)) (0xC7 ∷ []) result old new call sound).each image left in
-        either_held old image at.old_parts at.new_parts (gate_left header old_layout.slots slot old.status image.status adds.room at.status before.status) before.heap before.archive
+        either_held old image at.old_parts at.new_parts (gate_left header old_layout.slots slot old.status image.status adds.room at.status before.status)
+        before.heap before.archive
     turn_call_holds GateWritten result old new image at sound call left =
         turn_holds GateWritten old image at ((left_by_sync Status result old new call sound).each image left)
     turn_call_holds Opened result old new image at sound call left = absurd call
@@ -135,12 +153,14 @@ module _ (header : Header) (old_layout : Layout) (slot : Slot) (new_layout : Lay
         let at_body = slot_start (length old_layout.slots) + 1 in
         record {
           status = body_done header old_layout.slots slot body old.status adds.room long spelled at.status (λ content left.
-              body_left header old_layout.slots (length body) old.status content adds.room long at.status ((written_is at_body body old.status (sound Status)).left content left));
+              body_left header old_layout.slots (length body) old.status content adds.room long at.status
+              ((written_is at_body body old.status (sound Status)).left content left));
           old_parts = other_parts old_layout old (written at_body body old.status) at.old_parts;
           new_parts = other_parts new_layout old (written at_body body old.status) at.new_parts;
         }
 
-    body_synced : (old : Areas) → IsTurnAt header old_layout slot new_layout BodyWritten old → IsTurnAt header old_layout slot new_layout BodySynced (record old { status = synced old.status })
+    body_synced : (old : Areas) → IsTurnAt header old_layout slot new_layout BodyWritten old
+        → IsTurnAt header old_layout slot new_layout BodySynced (record old { status = synced old.status })
     body_synced old at = record {
       status = record { rests = record { settled = record { firm = refl; loose = refl }; log = at.status.log }; body = at.status.body };
       old_parts = other_parts old_layout old (synced old.status) at.old_parts;
@@ -153,12 +173,14 @@ module _ (header : Header) (old_layout : Layout) (slot : Slot) (new_layout : Lay
         let at_gate = slot_start (length old_layout.slots) in
         record {
           status = gate_done header old_layout.slots slot old.status adds.room at.status (λ content left.
-              gate_left header old_layout.slots slot old.status content adds.room at.status ((written_is at_gate (0xC7 ∷ []) old.status (sound Status)).left content left));
+              gate_left header old_layout.slots slot old.status content adds.room at.status
+              ((written_is at_gate (0xC7 ∷ []) old.status (sound Status)).left content left));
           old_parts = other_parts old_layout old (written at_gate (0xC7 ∷ []) old.status) at.old_parts;
           new_parts = other_parts new_layout old (written at_gate (0xC7 ∷ []) old.status) at.new_parts;
         }
 
-    gate_synced : (old : Areas) → IsTurnAt header old_layout slot new_layout GateWritten old → IsTurnAt header old_layout slot new_layout Opened (record old { status = synced old.status })
+    gate_synced : (old : Areas) → IsTurnAt header old_layout slot new_layout GateWritten old
+        → IsTurnAt header old_layout slot new_layout Opened (record old { status = synced old.status })
     gate_synced old at = record {
       status = record { settled = record { firm = refl; loose = refl }; log = at.status.log };
       old_parts = other_parts old_layout old (synced old.status) at.old_parts;
@@ -173,7 +195,8 @@ module _ (header : Header) (old_layout : Layout) (slot : Slot) (new_layout : Lay
     turn_call_leads GateWritten old new at sound call = rw call.synced (gate_synced old at)
     turn_call_leads Opened old new at sound call = absurd call
 
-    pub slot_goes : (stage : SlotStage) (areas : Areas) → AreSound areas → IsTurnAt header old_layout slot new_layout stage areas → IsSlotWay header old_layout slot new_layout body stage areas
+    pub slot_goes : (stage : SlotStage) (areas : Areas) → AreSound areas → IsTurnAt header old_layout slot new_layout stage areas
+        → IsSlotWay header old_layout slot new_layout body stage areas
     slot_goes stage areas sound at = record {
       before = λ image left. turn_holds stage areas image at left;
       within = λ result next image call left. turn_call_holds stage result areas next image at sound call left;

@@ -24,7 +24,8 @@ runs_left : (runs : List StoredRun) (a : AreaState) (content : List ℕ) → Kee
 runs_left runs a content keeps left = weaker (KeepsRun a) (HoldsRun content) runs (λ s kept. kept.left content left) keeps
 
 -- a resting status area leaves its log alone
-pub rests_leave : (header : Header) (a : AreaState) (content : List ℕ) (slots : _) → StatusRests header slots a → MayLeave a content → IsLog header content slots
+pub rests_leave : (header : Header) (a : AreaState) (content : List ℕ) (slots : _) → StatusRests header slots a → MayLeave a content
+    → IsLog header content slots
 rests_leave header a content slots rests left = rw (left.settled rests.settled.loose) rests.log
 
 -- what is kept of a layout's parts, with its log, is the layout
@@ -36,7 +37,8 @@ parts_hold header layout areas image keeps log left_heap left_archive = record {
   runs = runs_left layout.runs areas.archive image.archive keeps.runs left_archive;
 }
 
-pub rests_hold : (header : Header) (layout : Layout) (areas : Areas) (image : Image) → RestsAs header layout areas → LeavesImage areas image → HoldsLayout header image layout
+pub rests_hold : (header : Header) (layout : Layout) (areas : Areas) (image : Image) → RestsAs header layout areas → LeavesImage areas image
+    → HoldsLayout header image layout
 rests_hold header layout areas image rests left =
     parts_hold header layout areas image rests.parts (rests_leave header areas.status image.status layout.slots rests.status left.status) left.heap left.archive
 

@@ -15,16 +15,19 @@ use Rattle.law_layout.proofs.SlotTurns.{turn_holds, turn_call_holds}
 use Rattle.status.specs.declared.header.Header.{Header}
 use Rattle.status.specs.SlotCalls.{SlotStage}
 
-pub turn_stands : (header : Header) (old : Layout) (slot : Slot) (new : Layout) (reading reading' : Reading) (h h' : History Value) (floors floors' : ℕ → ℕ) (body : List ℕ) (stage : SlotStage) (areas : Areas)
+pub turn_stands : (header : Header) (old : Layout) (slot : Slot) (new : Layout) (reading reading' : Reading) (h h' : History Value) (floors floors' : ℕ
+    → ℕ) (body : List ℕ) (stage : SlotStage) (areas : Areas)
     → Adds header old slot new → IsLayoutOf header old reading → StandsFor reading h floors → IsLayoutOf header new reading' → StandsFor reading' h' floors'
-    → length body ≡ 511 → IsSpelled header.profile (length old.slots) body slot → AreSound areas → IsTurnAt header old slot new stage areas → IsTurnWay header old body stage areas h h' floors floors'
+    → length body ≡ 511 → IsSpelled header.profile (length old.slots) body slot → AreSound areas → IsTurnAt header old slot new stage areas
+    → IsTurnWay header old body stage areas h h' floors floors'
 turn_stands header old slot new reading reading' h h' floors floors' body stage areas adds laid stands laid' stands' long spelled sound at = record {
   before = λ image left.
       may_at stage (HoldsLayout header image old) (HoldsLayout header image new) (ImageStandsFor header image h floors) (ImageStandsFor header image h' floors')
       (held_stands header old reading h floors image laid stands) (held_stands header new reading' h' floors' image laid' stands')
       (turn_holds header old slot new adds stage areas image at left);
   within = λ result next image call left.
-      may_within stage (HoldsLayout header image old) (HoldsLayout header image new) (ImageStandsFor header image h floors) (ImageStandsFor header image h' floors')
+      may_within stage (HoldsLayout header image old) (HoldsLayout header image new) (ImageStandsFor header image h floors)
+      (ImageStandsFor header image h' floors')
       (held_stands header old reading h floors image laid stands) (held_stands header new reading' h' floors' image laid' stands')
       (turn_call_holds header old slot new adds body long spelled stage result areas next image at sound call left);
 }

@@ -1,5 +1,6 @@
 -- The bytes of an extent say what it is, and so those of a heap which chain begins at an extent.
-use Rattle.std.proofs.Common.{◌≡◌, ℕ, zero, suc, inl, inr, Some, ◌+◌, ◌-◌, ◌^◌, ◌<◌, List, [], ◌∷◌, ◌++◌, length, take, drop, replicate, refl, sym, ap, ◌∙◌, arith}
+use Rattle.std.proofs.Common.{◌≡◌, ℕ, zero, suc, inl, inr, Some, ◌+◌, ◌-◌, ◌^◌, ◌<◌, List, [], ◌∷◌, ◌++◌, length, take, drop, replicate, refl, sym, ap, ◌∙◌}
+use Rattle.std.proofs.Common.{arith}
 use Rattle.std.specs.Prelude.{slice_range, slice_get}
 use Rattle.std.proofs.lemmas.Bool.{cases_lt, cases_order}
 use Rattle.std.proofs.lemmas.Option.{slice_get-get_or}
@@ -52,12 +53,15 @@ pub one_extent : (e f : Extent) → IsExtent e → IsExtent f → e.next < 2 ^ 3
 one_extent e f is_e is_f next_e next_f same =
     let number : e.number ≡ f.number = sym (first_word e (omega (arith, is_e.high))) ∙ ap number_of same ∙ first_word f (omega (arith, is_f.high)) in
     let next : e.next ≡ f.next = sym (second_word e next_e) ∙ ap (λ (b : List ℕ). number_of (drop 4 b)) same ∙ second_word f next_f in
-    let long : length e.body ≡ length f.body = sym (third_word e (omega (arith, is_e.fits))) ∙ ap (λ (b : List ℕ). number_of (drop 8 b)) same ∙ third_word f (omega (arith, is_f.fits)) in
-    let body : e.body ≡ f.body = sym (body_part e) ∙ ap (λ (n : ℕ). take n (drop 16 (extent_bytes e))) long ∙ ap (λ (b : List ℕ). take (length f.body) (drop 16 b)) same ∙ body_part f in
+    let long : length e.body ≡ length f.body =
+    sym (third_word e (omega (arith, is_e.fits))) ∙ ap (λ (b : List ℕ). number_of (drop 8 b)) same ∙ third_word f (omega (arith, is_f.fits)) in
+    let body : e.body ≡ f.body =
+    sym (body_part e) ∙ ap (λ (n : ℕ). take n (drop 16 (extent_bytes e))) long ∙ ap (λ (b : List ℕ). take (length f.body) (drop 16 b)) same ∙ body_part f in
     same_extent e f number next body
 
 -- a part of one length at one place is one
-held_once : (heap : List ℕ) (e f : Extent) → IsExtent e → IsExtent f → e.number ≡ f.number → HoldsExtent heap e → HoldsExtent heap f → extent_bytes e ≡ extent_bytes f
+held_once : (heap : List ℕ) (e f : Extent) → IsExtent e → IsExtent f → e.number ≡ f.number → HoldsExtent heap e → HoldsExtent heap f → extent_bytes e
+    ≡ extent_bytes f
 held_once heap e f is_e is_f number held_e held_f =
     let long : length (extent_bytes e) ≡ length (extent_bytes f) = extent-length e is_e ∙ sym (extent-length f is_f) in
     sym held_e.is
@@ -69,7 +73,8 @@ first-range : (chain : List Extent) → AllByRecursion IsExtent chain → first_
 first-range [] each = omega arith
 first-range (e ∷ chain) each = let high = (each.0).high in omega arith
 
-chains_once : (heap : List ℕ) (a b : List Extent) → first_of a ≡ first_of b → length a ≡ length b → AreLinked a → AreLinked b → AllByRecursion IsExtent a → AllByRecursion IsExtent b
+chains_once : (heap : List ℕ) (a b : List Extent) → first_of a ≡ first_of b → length a ≡ length b → AreLinked a → AreLinked b → AllByRecursion IsExtent a
+    → AllByRecursion IsExtent b
     → AllByRecursion (HoldsExtent heap) a → AllByRecursion (HoldsExtent heap) b → a ≡ b
 chains_once heap [] [] first long link_a link_b each_a each_b held_a held_b = refl
 chains_once heap [] (f ∷ b) first long link_a link_b each_a each_b held_a held_b = absurd (omega arith)
@@ -83,7 +88,8 @@ chains_once heap (e ∷ a) (f ∷ b) first long link_a link_b each_a each_b held
     λ i. same i ∷ rest i
 
 pub one_chain : (heap : List ℕ) (first extents records records' : ℕ) (a b : List Extent) (list list' : List (List ℕ))
-    → IsChain first extents records a list → IsChain first extents records' b list' → AllByRecursion (HoldsExtent heap) a → AllByRecursion (HoldsExtent heap) b → a ≡ b
+    → IsChain first extents records a list → IsChain first extents records' b list' → AllByRecursion (HoldsExtent heap) a → AllByRecursion (HoldsExtent heap) b
+    → a ≡ b
 one_chain heap first extents records records' a b list list' is_a is_b held_a held_b =
     chains_once heap a b (is_a.first_is ∙ sym is_b.first_is) (is_a.extents_are ∙ sym is_b.extents_are) is_a.linked is_b.linked is_a.each is_b.each held_a held_b
 
@@ -94,7 +100,8 @@ slot_within [] n lt = absurd (omega arith)
 slot_within (s ∷ slots) zero lt = (s, refl)
 slot_within (s ∷ slots) (suc n) lt = slot_within slots n (omega arith)
 
-no_longer : (header : Header) (bytes : List ℕ) (a b : List Slot) → (length a < total header → ¬ IsOpen bytes (length a)) → OpensWith header bytes b → length a < length b → ⊥
+no_longer : (header : Header) (bytes : List ℕ) (a b : List Slot) → (length a < total header → ¬ IsOpen bytes (length a)) → OpensWith header bytes b
+    → length a < length b → ⊥
 no_longer header bytes a b ended opens shorter =
     let there = slot_within b (length a) shorter in
     ended (let fits = opens.fits in omega arith) (opens.each_open (length a) there.0 there.1)
@@ -106,22 +113,27 @@ only_slots header bytes a b opens_a opens_b ended_a ended_b = elim (cases_order 
   | inl long ↦ same_lists a b long (λ n d within.
       let fits = opens_a.fits in
       let few = opens_a.has_room.few in
-      one_slot header.profile n (body_at bytes n) _ _ (omega arith) (opens_a.each_spelled n _ (slice_get-get_or a n d within)) (opens_b.each_spelled n _ (slice_get-get_or b n d (omega arith))))
+      one_slot header.profile n (body_at bytes n) _ _ (omega arith) (opens_a.each_spelled n _ (slice_get-get_or a n d within))
+      (opens_b.each_spelled n _ (slice_get-get_or b n d (omega arith))))
   | inr (inl shorter) ↦ absurd (no_longer header bytes a b ended_a opens_b shorter)
   | inr (inr longer) ↦ absurd (no_longer header bytes b a ended_b opens_a longer)
 ]
 
 pub one_log : (header : Header) (bytes : List ℕ) (a b : List Slot) → IsLog header bytes a → IsLog header bytes b → a ≡ b
-one_log header bytes a b log_a log_b = only_slots header bytes a b log_a.opens log_b.opens (log_a.closed (length a) (omega arith)) (log_b.closed (length b) (omega arith))
+one_log header bytes a b log_a log_b =
+    only_slots header bytes a b log_a.opens log_b.opens (log_a.closed (length a) (omega arith)) (log_b.closed (length b) (omega arith))
 
 -- ---- what stands for nothing
 
-no_log : (header : Header) (n : ℕ) (bytes : List ℕ) (slots : List Slot) → n < total header → IsOpen bytes n → ((slot : Slot) → ¬ IsSpelled header.profile n (body_at bytes n) slot) → ¬ IsLog header bytes slots
+no_log : (header : Header) (n : ℕ) (bytes : List ℕ) (slots : List Slot) → n < total header → IsOpen bytes n
+    → ((slot : Slot) → ¬ IsSpelled header.profile n (body_at bytes n) slot) → ¬ IsLog header bytes slots
 no_log header n bytes slots within is_open none log = elim (cases_lt n (length slots)) [
   | inl named ↦ let there = slot_within slots n named in none there.0 (log.opens.each_spelled n there.0 there.1)
   | inr behind ↦ log.closed n behind within is_open
 ]
 
-pub torn_is_none : (header : Header) (n : ℕ) (image : Image) (h : History Value) (floors : ℕ → ℕ) → n < total header → IsOpen image.status n → ((slot : Slot) → ¬ IsSpelled header.profile n (body_at image.status n) slot)
+pub torn_is_none : (header : Header) (n : ℕ) (image : Image) (h : History Value) (floors : ℕ → ℕ) → n < total header → IsOpen image.status n
+    → ((slot : Slot) → ¬ IsSpelled header.profile n (body_at image.status n) slot)
     → ¬ ImageStandsFor header image h floors
-torn_is_none header n image h floors within is_open none stands = no_log header n image.status stands.reads_as.layout.slots within is_open none stands.reads_as.held.log
+torn_is_none header n image h floors within is_open none stands =
+    no_log header n image.status stands.reads_as.layout.slots within is_open none stands.reads_as.held.log

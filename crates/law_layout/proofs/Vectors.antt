@@ -7,7 +7,8 @@ use Rattle.law_layout.specs.Records.{u16_bytes, record_bytes, old_bytes, archive
 use Rattle.law_layout.specs.Extents.{extent_bytes, bodies}
 use Rattle.law_layout.specs.Runs.{run_bytes}
 
-anchor : record_bytes (record { key = record { relation = 1; «record» = 7 }; content = Anchor ((0x61 ∷ []) ∷ []) }) ≡ 1 ∷ 1 ∷ 0 ∷ 7 ∷ 0 ∷ 0 ∷ 0 ∷ 0 ∷ 0 ∷ 0 ∷ 0 ∷ 1 ∷ 1 ∷ 0x61 ∷ []
+anchor : record_bytes (record { key = record { relation = 1; «record» = 7 }; content = Anchor ((0x61 ∷ []) ∷ []) }) ≡ 1 ∷ 1 ∷ 0 ∷ 7 ∷ 0 ∷ 0 ∷ 0 ∷ 0 ∷ 0 ∷ 0 ∷ 0
+    ∷ 1 ∷ 1 ∷ 0x61 ∷ []
 unfolding record_bytes spelling u16_bytes u64_bytes
 anchor = refl
 
@@ -16,7 +17,8 @@ extent_1 : extent_bytes (record { number = 1; next = 0; body = 1 ∷ 1 ∷ 0 ∷
 unfolding extent_bytes u32_bytes
 extent_1 = refl
 
-delta : record_bytes (record { key = record { relation = 1; «record» = 7 }; content = Delta 2 ((0x63 ∷ []) ∷ []) }) ≡ 2 ∷ 1 ∷ 0 ∷ 7 ∷ 0 ∷ 0 ∷ 0 ∷ 0 ∷ 0 ∷ 0 ∷ 0 ∷ 2 ∷ 0 ∷ 1 ∷ 0x63 ∷ []
+delta : record_bytes (record { key = record { relation = 1; «record» = 7 }; content = Delta 2 ((0x63 ∷ []) ∷ []) }) ≡ 2 ∷ 1 ∷ 0 ∷ 7 ∷ 0 ∷ 0 ∷ 0 ∷ 0 ∷ 0 ∷ 0 ∷ 0
+    ∷ 2 ∷ 0 ∷ 1 ∷ 0x63 ∷ []
 unfolding record_bytes spelling u16_bytes u64_bytes
 delta = refl
 

@@ -35,15 +35,19 @@ use Rattle.status.specs.SlotCalls.{Begun, Opened}
 part_again : (at : ℕ) (part old new : List ℕ) → HoldsPart at part old → HasPartOf at (length part) old new → HoldsPart at part new
 part_again at part old new held has = held_again at part old new has.inside has.same held
 
-extents_again : (es : List Extent) (old new : List ℕ) → AllByRecursion (HoldsExtent old) es → AllByRecursion (HasExtentOf old new) es → AllByRecursion (HoldsExtent new) es
+extents_again : (es : List Extent) (old new : List ℕ) → AllByRecursion (HoldsExtent old) es → AllByRecursion (HasExtentOf old new) es
+    → AllByRecursion (HoldsExtent new) es
 extents_again es old new held has =
-    both (HoldsExtent old) (HasExtentOf old new) (HoldsExtent new) es (λ e was same. part_again (extent_start e.number) (extent_bytes e) old new was same) held has
+    both (HoldsExtent old) (HasExtentOf old new) (HoldsExtent new) es (λ e was same. part_again (extent_start e.number) (extent_bytes e) old new was same) held
+    has
 
-runs_again : (runs : List StoredRun) (old new : List ℕ) → AllByRecursion (HoldsRun old) runs → AllByRecursion (HasRunOf old new) runs → AllByRecursion (HoldsRun new) runs
+runs_again : (runs : List StoredRun) (old new : List ℕ) → AllByRecursion (HoldsRun old) runs → AllByRecursion (HasRunOf old new) runs
+    → AllByRecursion (HoldsRun new) runs
 runs_again runs old new held has =
     both (HoldsRun old) (HasRunOf old new) (HoldsRun new) runs (λ s was same. part_again s.entry.start (run_bytes s.records) old new was same) held has
 
-pub layout_again : (header : Header) (layout : Layout) (old new : Image) → HoldsLayout header old layout → HasLayoutOf header layout old new → HoldsLayout header new layout
+pub layout_again : (header : Header) (layout : Layout) (old new : Image) → HoldsLayout header old layout → HasLayoutOf header layout old new
+    → HoldsLayout header new layout
 layout_again header layout old new held has = record {
   log = same_log header layout.slots old.status new.status held.log has.log;
   extents = extents_again (live layout) old.heap new.heap held.extents has.parts.extents;
@@ -58,7 +62,9 @@ synced_rests header layout image held =
     record {
       status = record { settled = record { firm = refl; loose = refl }; log = held.log };
       parts = record {
-        extents = weaker (HoldsExtent image.heap) (KeepsExtent heap) (live layout) (λ e was. synced_part (extent_start e.number) (extent_bytes e) heap was) held.extents;
+        extents =
+            weaker (HoldsExtent image.heap) (KeepsExtent heap) (live layout) (λ e was. synced_part (extent_start e.number) (extent_bytes e) heap was)
+            held.extents;
         runs = weaker (HoldsRun image.archive) (KeepsRun archive) layout.runs (λ s was. synced_part s.entry.start (run_bytes s.records) archive was) held.runs;
       };
     }
@@ -75,7 +81,8 @@ module _ (header : Header) (layout : Layout) (reading : Reading) (h next : Histo
       held = record {
         log = then_new header layout.slots old.status new.status held.log has.elsewhere group.slot joins.room has.is_open has.spelled;
         extents = subst (AllByRecursion (HoldsExtent new.heap)) (sym (live_more layout group))
-            (AllByRecursion-append (HoldsExtent new.heap) (live layout) (extents_of group.members) (extents_again (live layout) old.heap new.heap held.extents has.parts.extents) has.extents);
+            (AllByRecursion-append (HoldsExtent new.heap) (live layout) (extents_of group.members)
+            (extents_again (live layout) old.heap new.heap held.extents has.parts.extents) has.extents);
         runs = runs_again layout.runs old.archive new.archive held.runs has.parts.runs;
       };
     };
@@ -114,7 +121,8 @@ module _ (header : Header) (layout : Layout) (reading : Reading) (h next : Histo
         → IsAt header layout group (stage_after_all stage states) (last_of old states) × AreSound (last_of old states)
     reached stage old [] at goes = (at, goes)
     reached stage old (new ∷ more) at goes =
-        reached (stage_after stage) new more (group_call_leads header layout group joins.room live_are group_are joins.free body long spelled stage old new at goes.0 goes.1) goes.2
+        reached (stage_after stage) new more
+        (group_call_leads header layout group joins.room live_are group_are joins.free body long spelled stage old new at goes.0 goes.1) goes.2
 
     pub group_goes : (start : Areas) (states : List Areas) → RestsAs header layout start → Goes layout body (Storing [] (extents_of group.members)) start states
         → IsGroupWay header layout h next floors group body (stage_after_all (Storing [] (extents_of group.members)) states) (last_of start states)
@@ -125,8 +133,13 @@ module _ (header : Header) (layout : Layout) (reading : Reading) (h next : Histo
         let here = reached (Storing [] (extents_of group.members)) start states begun goes in
         record {
           before = λ image left. may_be stage image (group_holds header layout group joins.room live_are group_are joins.free stage areas image here.0 left);
-          within = λ result new image call left. may_become stage image (group_call_holds header layout group joins.room live_are group_are joins.free body long spelled stage result areas new image here.0 here.1 call left);
-          rests = λ end. opened_rests header layout group.slot (laid_out layout group) (record { slots_are = refl; room = joins.room }) areas (subst (λ (s : Stage). IsAt header layout group s areas) end here.0);
+          within = λ result new image call left. may_become stage image
+              (group_call_holds header layout group joins.room live_are group_are joins.free body long spelled stage result areas new image here.0 here.1 call
+              left);
+          rests = λ end. opened_rests header layout group.slot (laid_out layout group) (record {
+            slots_are = refl;
+            room = joins.room;
+          }) areas (subst (λ (s : Stage). IsAt header layout group s areas) end here.0);
         }
 
 opened_stays : (states : List Areas) → stage_after_all (Turning Opened) states ≡ Turning Opened
@@ -147,7 +160,8 @@ group_ends done (e ∷ rest) (a ∷ states) n = group_ends (done ++ e ∷ []) re
 
 -- ---- the empty image
 
-pub empty_laid : (header : Header) → IsLayoutOf header (record { slots = []; anchors = []; members = []; runs = [] }) (empty_reading header.profile header.slots header.pieces)
+pub empty_laid : (header : Header)
+    → IsLayoutOf header (record { slots = []; anchors = []; members = []; runs = [] }) (empty_reading header.profile header.slots header.pieces)
 empty_laid header = record {
   heap = record {
     profile_is = refl;
@@ -157,7 +171,8 @@ empty_laid header = record {
     members_are = refl;
     entries_are = refl;
     each_member = tt;
-    anchors_are = record { is_chain = record { first_is = refl; extents_are = refl; records_are = refl; linked = tt; each = tt; bodies_are = refl }; each = tt };
+    anchors_are =
+        record { is_chain = record { first_is = refl; extents_are = refl; records_are = refl; linked = tt; each = tt; bodies_are = refl }; each = tt };
     apart = tt;
     in_row = tt;
   };

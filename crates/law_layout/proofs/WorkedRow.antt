@@ -40,7 +40,10 @@ abbrev extent : Extent
 extent = record { number = 1; next = 0; body = 1 ∷ 1 ∷ 0 ∷ 7 ∷ 0 ∷ 0 ∷ 0 ∷ 0 ∷ 0 ∷ 0 ∷ 0 ∷ 1 ∷ 1 ∷ 0x61 ∷ [] }
 
 abbrev group : Group
-group = record { members = record { entry = entry; member = member; extents = extent ∷ [] } ∷ []; slot = record { number = 0; body = Commits (record { items = entry ∷ [] }) } }
+group = record {
+  members = record { entry = entry; member = member; extents = extent ∷ [] } ∷ [];
+  slot = record { number = 0; body = Commits (record { items = entry ∷ [] }) };
+}
 
 abbrev empty_layout : Layout
 empty_layout = record { slots = []; anchors = []; members = []; runs = [] }
@@ -57,7 +60,12 @@ is_key : IsKey seven
 is_key = record { relation = lit< tt; number = lit< tt }
 
 is_value : IsValue word
-is_value = record { some = omega arith; few = omega arith; fields = (record { short = omega arith; are_bytes = All-from_recursion (λ (b : ℕ). b < 256) (0x61 ∷ []) (lit< tt, tt) }, tt) }
+is_value =
+    record {
+      some = omega arith;
+      few = omega arith;
+      fields = (record { short = omega arith; are_bytes = All-from_recursion (λ (b : ℕ). b < 256) (0x61 ∷ []) (lit< tt, tt) }, tt);
+    }
 
 may_join : MayJoin sixteen empty_layout (empty_reading 1 16 0) [] next group
 may_join = record {
@@ -83,7 +91,14 @@ may_join = record {
   each = (
     record {
       head_is = refl;
-      chain = record { first_is = refl; extents_are = refl; records_are = refl; linked = (refl, tt); each = (record { low = omega arith; high = omega arith; some = omega arith; fits = omega arith }, tt); bodies_are = rw one_body refl };
+      chain = record {
+        first_is = refl;
+        extents_are = refl;
+        records_are = refl;
+        linked = (refl, tt);
+        each = (record { low = omega arith; high = omega arith; some = omega arith; fits = omega arith }, tt);
+        bodies_are = rw one_body refl;
+      };
       each = (
         record {
           key = is_key;

@@ -15,19 +15,24 @@ use Rattle.status.specs.SlotCalls.{SlotStage}
 
 -- the write of an extent that is in no live chain, in full or in part, keeps the layout's parts
 abbrev pub HeapBeside : Type 0
-HeapBeside = (header : Header) (layout : Layout) (reading : Reading) (e : Extent) (old : Areas) (heap : AreaState) → IsLayoutOf header layout reading → AreSound old
+HeapBeside =
+    (header : Header) (layout : Layout) (reading : Reading) (e : Extent) (old : Areas) (heap : AreaState) → IsLayoutOf header layout reading → AreSound old
     → IsExtent e → AllByRecursion (λ f. f.number ≢ e.number) (live layout) → IsLoosened (extent_start e.number) (length (extent_bytes e)) old.heap heap
     → KeepsParts layout old → KeepsParts layout (record old { heap = heap })
 
 -- so does a write behind the last run
 abbrev pub ArchiveBeside : Type 0
-ArchiveBeside = (header : Header) (layout : Layout) (reading : Reading) (at n : ℕ) (old : Areas) (archive : AreaState) → IsLayoutOf header layout reading → AreSound old
+ArchiveBeside =
+    (header : Header) (layout : Layout) (reading : Reading) (at n : ℕ) (old : Areas) (archive : AreaState) → IsLayoutOf header layout reading → AreSound old
     → row_end 0 (runs_of layout.slots) ≤ at → IsLoosened at n old.archive archive → KeepsParts layout old → KeepsParts layout (record old { archive = archive })
 
 -- while a slot is in the writing, an extent may be written that is in no live chain of either layout, and the heap may be synced
 abbrev pub TurnBesideWrite : Type 0
-TurnBesideWrite = (header : Header) (old : Layout) (slot : Slot) (new : Layout) (stage : SlotStage) (e : Extent) (areas : Areas) (heap : AreaState) → AllByRecursion IsExtent (live old) → AllByRecursion IsExtent (live new) → IsExtent e
-    → AllByRecursion (λ f. f.number ≢ e.number) (live old) → AllByRecursion (λ f. f.number ≢ e.number) (live new) → AreSound areas → IsLoosened (extent_start e.number) (length (extent_bytes e)) areas.heap heap
+TurnBesideWrite =
+    (header : Header) (old : Layout) (slot : Slot) (new : Layout) (stage : SlotStage) (e : Extent) (areas : Areas) (heap : AreaState)
+    → AllByRecursion IsExtent (live old) → AllByRecursion IsExtent (live new) → IsExtent e
+    → AllByRecursion (λ f. f.number ≢ e.number) (live old) → AllByRecursion (λ f. f.number ≢ e.number) (live new) → AreSound areas
+    → IsLoosened (extent_start e.number) (length (extent_bytes e)) areas.heap heap
     → IsTurnAt header old slot new stage areas → IsTurnAt header old slot new stage (record areas { heap = heap })
 
 -- while a slot is in the writing, the heap may be synced

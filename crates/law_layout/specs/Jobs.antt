@@ -20,7 +20,8 @@ archived layout slot run = record layout { slots = layout.slots ++ slot ∷ []; 
 
 -- one slot more, another anchor chain, and the members later than a mark
 abbrev pub reclaimed : Layout → Slot → ℕ → List Extent → Layout
-reclaimed layout slot mark chain = record layout { slots = layout.slots ++ slot ∷ []; anchors = chain; members = filter (λ s. nat_lt mark s.entry.time) layout.members }
+reclaimed layout slot mark chain =
+    record layout { slots = layout.slots ++ slot ∷ []; anchors = chain; members = filter (λ s. nat_lt mark s.entry.time) layout.members }
 
 -- one slot more
 abbrev pub floored : Layout → Slot → Layout
@@ -28,27 +29,38 @@ floored layout slot = record layout { slots = layout.slots ++ slot ∷ [] }
 
 -- each spells the reading that the job leads to
 abbrev pub ArchiveLaid : Type 0
-ArchiveLaid = (header : Header) (layout : Layout) (reading : Reading) (slot : Slot) (run : StoredRun) → IsLayoutOf header layout reading → slot.body ≡ Archived run.entry
-    → IsStoredRun run → AreInRow 0 (runs_of layout.slots ++ run.entry ∷ []) → IsLayoutOf header (archived layout slot run) (with_run reading run.entry.upto run.records)
+ArchiveLaid =
+    (header : Header) (layout : Layout) (reading : Reading) (slot : Slot) (run : StoredRun) → IsLayoutOf header layout reading → slot.body ≡ Archived run.entry
+    → IsStoredRun run → AreInRow 0 (runs_of layout.slots ++ run.entry ∷ [])
+    → IsLayoutOf header (archived layout slot run) (with_run reading run.entry.upto run.records)
 
 -- the layout after a reclaim spells the reading with its anchors
 abbrev pub ReclaimLaid : Type 0
-ReclaimLaid = (header : Header) (layout : Layout) (reading : Reading) (slot : Slot) (anchors : Anchors) (chain : List Extent) (olds : List OldRecord) → IsLayoutOf header layout reading
-    → slot.body ≡ Reclaimed anchors → anchors.upto ≡ archived_upto reading → reclaimed_upto reading ≤ archived_upto reading → IsAnchorChain anchors chain olds → AreDistinct (live layout ++ chain)
+ReclaimLaid =
+    (header : Header) (layout : Layout) (reading : Reading) (slot : Slot) (anchors : Anchors) (chain : List Extent) (olds : List OldRecord)
+    → IsLayoutOf header layout reading
+    → slot.body ≡ Reclaimed anchors → anchors.upto ≡ archived_upto reading → reclaimed_upto reading ≤ archived_upto reading → IsAnchorChain anchors chain olds
+    → AreDistinct (live layout ++ chain)
     → IsLayoutOf header (reclaimed layout slot (archived_upto reading) chain) (with_anchors reading olds)
 
 -- the layout after a floor spells the reading with the floor
 abbrev pub FloorLaid : Type 0
-FloorLaid = (header : Header) (layout : Layout) (reading : Reading) (slot : Slot) (relation : Option ℕ) (floor : ℕ) → IsLayoutOf header layout reading → slot.body ≡ Floor relation floor
+FloorLaid =
+    (header : Header) (layout : Layout) (reading : Reading) (slot : Slot) (relation : Option ℕ) (floor : ℕ) → IsLayoutOf header layout reading → slot.body
+    ≡ Floor relation floor
     → IsLayoutOf header (floored layout slot) (with_floor reading relation floor)
 
 -- and its parts are kept where the old ones and the new one are. A floor has no part of its own
 abbrev pub ArchiveKept : Type 0
-ArchiveKept = (layout : Layout) (slot : Slot) (run : StoredRun) (areas : Areas) → KeepsParts layout areas → KeepsRun areas.archive run → KeepsParts (archived layout slot run) areas
+ArchiveKept =
+    (layout : Layout) (slot : Slot) (run : StoredRun) (areas : Areas) → KeepsParts layout areas → KeepsRun areas.archive run
+    → KeepsParts (archived layout slot run) areas
 
 -- the parts after a reclaim are kept, where those before it are and its chain is
 abbrev pub ReclaimKept : Type 0
-ReclaimKept = (layout : Layout) (slot : Slot) (mark : ℕ) (chain : List Extent) (areas : Areas) → KeepsParts layout areas → KeepsExtents chain areas.heap → KeepsParts (reclaimed layout slot mark chain) areas
+ReclaimKept =
+    (layout : Layout) (slot : Slot) (mark : ℕ) (chain : List Extent) (areas : Areas) → KeepsParts layout areas → KeepsExtents chain areas.heap
+    → KeepsParts (reclaimed layout slot mark chain) areas
 
 -- the parts after a floor are kept, where those before it are
 abbrev pub FloorKept : Type 0

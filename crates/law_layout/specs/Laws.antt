@@ -19,7 +19,8 @@ use Rattle.status.specs.SlotCalls.{SlotStage, Opened, IsSlotCall, slot_stage_aft
 
 -- an image that has the layout of another has its readings, and stands for what that stands for
 abbrev pub FrameReads : Type 0
-FrameReads = (header : Header) (layout : Layout) (old new : Image) → HoldsLayout header old layout → HasLayoutOf header layout old new → HoldsLayout header new layout
+FrameReads =
+    (header : Header) (layout : Layout) (old new : Image) → HoldsLayout header old layout → HasLayoutOf header layout old new → HoldsLayout header new layout
 
 -- an image with the group's slot and its extents stands for the history with the group's commits
 abbrev pub SlotStands : Type 0
@@ -30,7 +31,8 @@ SlotStands = (header : Header) (layout : Layout) (reading : Reading) (h next : H
 -- areas at rest leave only images that stand for the history
 abbrev pub RestStands : Type 0
 RestStands = (header : Header) (layout : Layout) (reading : Reading) (h : History Value) (floors : ℕ → ℕ) (areas : Areas) (image : Image)
-    → IsLayoutOf header layout reading → StandsFor reading h floors → RestsAs header layout areas → LeavesImage areas image → ImageStandsFor header image h floors
+    → IsLayoutOf header layout reading → StandsFor reading h floors → RestsAs header layout areas → LeavesImage areas image
+    → ImageStandsFor header image h floors
 
 -- a header with closed gates stands for the empty history
 abbrev pub EmptyStands : Type 0
@@ -43,7 +45,8 @@ SyncedRests = (header : Header) (layout : Layout) (image : Image) → HoldsLayou
 -- What holds of the writing of a slot at a stage: what a stop may leave holds the old layout, or from the gate's write on either, or at the end the new one.
 pub record IsSlotWay (header : Header) (old : Layout) (slot : Slot) (new : Layout) (body : List ℕ) (stage : SlotStage) (areas : Areas) : Type 0 where
   pub before : (image : Image) → LeavesImage areas image → MayAt stage (HoldsLayout header image old) (HoldsLayout header image new)
-  pub within : (result : Result (Unit {0}) DeviceFault) (next : Areas) (image : Image) → IsSlotCall (length old.slots) body stage result areas next → LeavesImage next image
+  pub within : (result : Result (Unit {0}) DeviceFault) (next : Areas) (image : Image) → IsSlotCall (length old.slots) body stage result areas next
+      → LeavesImage next image
       → MayWithin stage (HoldsLayout header image old) (HoldsLayout header image new)
   pub leads : (next : Areas) → IsSlotCall (length old.slots) body stage (Ok tt) areas next → IsTurnAt header old slot new (slot_stage_after stage) next
 
@@ -68,8 +71,10 @@ abbrev pub last_of : Areas → List Areas → Areas
 last_of old [] = old
 last_of old (new ∷ more) = last_of new more
 
--- What holds of a group at a stage: what a stop may leave stands for the history, or from the gate's write on for it with the whole group or without, or at the end with it.
-pub record IsGroupWay (header : Header) (layout : Layout) (h next : History Value) (floors : ℕ → ℕ) (group : Group) (body : List ℕ) (stage : Stage) (areas : Areas) : Type 0 where
+-- What holds of a group at a stage: what a stop may leave stands for the history, or from the gate's write on for it with the whole group or without, or at the
+-- end with it.
+pub record IsGroupWay (header : Header) (layout : Layout) (h next : History Value) (floors : ℕ
+    → ℕ) (group : Group) (body : List ℕ) (stage : Stage) (areas : Areas) : Type 0 where
   -- before the next call
   pub before : (image : Image) → LeavesImage areas image → MayBe stage (ImageStandsFor header image h floors) (ImageStandsFor header image (h ++ next) floors)
   -- within it and after it, also where it is refused
@@ -80,7 +85,9 @@ pub record IsGroupWay (header : Header) (layout : Layout) (h next : History Valu
 
 -- The theorem of a group's way to the disk, at every moment.
 abbrev pub GroupGoes : Type 0
-GroupGoes = (header : Header) (layout : Layout) (reading : Reading) (h next : History Value) (floors : ℕ → ℕ) (group : Group) (body : List ℕ) (start : Areas) (states : List Areas)
+GroupGoes =
+    (header : Header) (layout : Layout) (reading : Reading) (h next : History Value) (floors : ℕ
+    → ℕ) (group : Group) (body : List ℕ) (start : Areas) (states : List Areas)
     → IsLayoutOf header layout reading → StandsFor reading h floors → RestsAs header layout start → MayJoin header layout reading h next group
     → length body ≡ 511 → IsSpelled header.profile (length layout.slots) body group.slot
     → Goes layout body (Storing [] (extents_of group.members)) start states
@@ -88,16 +95,23 @@ GroupGoes = (header : Header) (layout : Layout) (reading : Reading) (h next : Hi
 
 -- its slot is open after one call an extent and five more
 abbrev pub GroupEnds : Type 0
-GroupEnds = (group : Group) (states : List Areas) → length states ≡ length (extents_of group.members) + 5 → stage_after_all (Storing [] (extents_of group.members)) states ≡ Turning Opened
+GroupEnds =
+    (group : Group) (states : List Areas) → length states ≡ length (extents_of group.members) + 5
+    → stage_after_all (Storing [] (extents_of group.members)) states ≡ Turning Opened
 
 -- the same told of histories: for a slot of any kind that leads from one reading, history and floors to others
-pub record IsTurnWay (header : Header) (old : Layout) (body : List ℕ) (stage : SlotStage) (areas : Areas) (h h' : History Value) (floors floors' : ℕ → ℕ) : Type 0 where
+pub record IsTurnWay (header : Header) (old : Layout) (body : List ℕ) (stage : SlotStage) (areas : Areas) (h h' : History Value) (floors floors' : ℕ
+    → ℕ) : Type 0 where
   pub before : (image : Image) → LeavesImage areas image → MayAt stage (ImageStandsFor header image h floors) (ImageStandsFor header image h' floors')
-  pub within : (result : Result (Unit {0}) DeviceFault) (next : Areas) (image : Image) → IsSlotCall (length old.slots) body stage result areas next → LeavesImage next image
+  pub within : (result : Result (Unit {0}) DeviceFault) (next : Areas) (image : Image) → IsSlotCall (length old.slots) body stage result areas next
+      → LeavesImage next image
       → MayWithin stage (ImageStandsFor header image h floors) (ImageStandsFor header image h' floors')
 
 -- so it is where the slot's layouts spell readings that stand for these histories and floors
 abbrev pub TurnStands : Type 0
-TurnStands = (header : Header) (old : Layout) (slot : Slot) (new : Layout) (reading reading' : Reading) (h h' : History Value) (floors floors' : ℕ → ℕ) (body : List ℕ) (stage : SlotStage) (areas : Areas)
+TurnStands =
+    (header : Header) (old : Layout) (slot : Slot) (new : Layout) (reading reading' : Reading) (h h' : History Value) (floors floors' : ℕ
+    → ℕ) (body : List ℕ) (stage : SlotStage) (areas : Areas)
     → Adds header old slot new → IsLayoutOf header old reading → StandsFor reading h floors → IsLayoutOf header new reading' → StandsFor reading' h' floors'
-    → length body ≡ 511 → IsSpelled header.profile (length old.slots) body slot → AreSound areas → IsTurnAt header old slot new stage areas → IsTurnWay header old body stage areas h h' floors floors'
+    → length body ≡ 511 → IsSpelled header.profile (length old.slots) body slot → AreSound areas → IsTurnAt header old slot new stage areas
+    → IsTurnWay header old body stage areas h h' floors floors'

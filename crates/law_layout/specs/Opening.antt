@@ -22,7 +22,8 @@ use Rattle.law_image.specs.Log.{heads_of, reclaim_mark, KeepsLogRules}
 use Rattle.law_image.specs.Facts.{commit_read, latest, old_writes, values_at_mark, IsStored, AreStored}
 use Rattle.law_image.specs.StandsFor.{StandsFor, IsHeader, IsChain as IsMember, IsAnchorUpto}
 use Rattle.law_layout.specs.Extents.{Extent, HoldsExtent, AreDistinct}
-use Rattle.law_layout.specs.Layouts.{StoredMember, IsStoredMember, Layout, live, entries_of, later_than, anchors_after, no_anchors, IsAnchorChain, LaysOutHeap, IsLayoutOf, HoldsLayout}
+use Rattle.law_layout.specs.Layouts.{StoredMember, IsStoredMember, Layout, live, entries_of, later_than, anchors_after, no_anchors, IsAnchorChain, LaysOutHeap}
+use Rattle.law_layout.specs.Layouts.{IsLayoutOf, HoldsLayout}
 
 -- ---- what is read
 
@@ -134,13 +135,16 @@ pub record HoldsHeap (heap : List ℕ) (slots : List Slot) : Type 0 where
 -- the first run that ends past an archive of this length starts here
 abbrev pub FailsRuns : ℕ → List Run → ℕ → Type 0
 FailsRuns archive_len [] place = ⊥
-FailsRuns archive_len (run ∷ runs) place = ((place ≡ run.start) × (archive_len < run.start + run.len)) ⊎ (EndsWithin archive_len run × FailsRuns archive_len runs place)
+FailsRuns archive_len (run ∷ runs) place =
+    ((place ≡ run.start) × (archive_len < run.start + run.len)) ⊎ (EndsWithin archive_len run × FailsRuns archive_len runs place)
 
 -- ---- laws
 
 -- an image opens as one reading
 abbrev pub OpensOnce : Type 0
-OpensOnce = (header header' : Header) (image : Image) (layout layout' : Layout) (reading reading' : Reading) → Opens header image layout reading → Opens header' image layout' reading'
+OpensOnce =
+    (header header' : Header) (image : Image) (layout layout' : Layout) (reading reading' : Reading) → Opens header image layout reading
+    → Opens header' image layout' reading'
     → (header ≡ header') × (layout ≡ layout') × (reading ≡ reading')
 
 -- the kinds of all slots are built

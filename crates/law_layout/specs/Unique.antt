@@ -15,7 +15,8 @@ use Rattle.status.specs.Header.{total}
 -- a slot names one chain of extents in a heap
 abbrev pub OneChain : Type 0
 OneChain = (heap : List ℕ) (first extents records records' : ℕ) (a b : List Extent) (list list' : List (List ℕ))
-    → IsChain first extents records a list → IsChain first extents records' b list' → AllByRecursion (HoldsExtent heap) a → AllByRecursion (HoldsExtent heap) b → a ≡ b
+    → IsChain first extents records a list → IsChain first extents records' b list' → AllByRecursion (HoldsExtent heap) a → AllByRecursion (HoldsExtent heap) b
+    → a ≡ b
 
 -- a status area is one log
 abbrev pub OneLog : Type 0
@@ -23,5 +24,7 @@ OneLog = (header : Header) (bytes : List ℕ) (a b : List Slot) → IsLog header
 
 -- an open gate before bytes that are no slot: such an image stands for nothing
 abbrev pub TornIsNone : Type 0
-TornIsNone = (header : Header) (n : ℕ) (image : Image) (h : History Value) (floors : ℕ → ℕ) → n < total header → IsOpen image.status n → ((slot : Slot) → ¬ IsSpelled header.profile n (body_at image.status n) slot)
+TornIsNone =
+    (header : Header) (n : ℕ) (image : Image) (h : History Value) (floors : ℕ → ℕ) → n < total header → IsOpen image.status n
+    → ((slot : Slot) → ¬ IsSpelled header.profile n (body_at image.status n) slot)
     → ¬ ImageStandsFor header image h floors

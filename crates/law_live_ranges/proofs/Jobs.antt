@@ -1,5 +1,6 @@
 -- The steps of a job.
-use Rattle.std.proofs.Common.{◌≡◌, ◌*◌, ℕ, zero, suc, ◌+◌, ◌≤◌, nat_le, Bool, true, false, is_some, IsTrue, List, [], ◌∷◌, Option, Some, None, Result, Ok, Err, MatchBool, MatchOption, MatchResult, slice_get, refl, sym, ap, subst, ◌∙◌, inl, inr, arith}
+use Rattle.std.proofs.Common.{◌≡◌, ◌*◌, ℕ, zero, suc, ◌+◌, ◌≤◌, nat_le, Bool, true, false, is_some, IsTrue, List, [], ◌∷◌, Option, Some, None, Result, Ok, Err}
+use Rattle.std.proofs.Common.{MatchBool, MatchOption, MatchResult, slice_get, refl, sym, ap, subst, ◌∙◌, inl, inr, arith}
 use Rattle.std.specs.Prelude.{◌⊎◌}
 use Rattle.std.specs.List.{AllByRecursion, flat_map}
 use Rattle.std.proofs.lemmas.Bool.Decides.{nat_tests}
@@ -32,7 +33,9 @@ use Rattle.floors.specs.Floors.{FloorsValue}
 use Rattle.store.specs.Values.{StoreValue, IsOnItsWay, turn_of}
 use Rattle.store.specs.Parts.{GrowsBehind}
 use Rattle.store.specs.Pumps.{disk_answer}
-use Rattle.store.specs.Jobs.{PumpsJob, TakesJobStep, Stores, Grows, HasGrown, growing, WritesOrSyncs, WritesRun, AnchorsOrSync, WritesAnchors, SyncsStored, BeginsJobSlot, TurnsJob, IsJobTurned, JobTurnFails, JobMoves, with_job, job_fails, first_turn, slot_taken, made_ready, piece_of, behind_piece}
+use Rattle.store.specs.Jobs.{PumpsJob, TakesJobStep, Stores, Grows, HasGrown, growing, WritesOrSyncs, WritesRun, AnchorsOrSync, WritesAnchors, SyncsStored}
+use Rattle.store.specs.Jobs.{BeginsJobSlot, TurnsJob, IsJobTurned, JobTurnFails, JobMoves, with_job, job_fails, first_turn, slot_taken, made_ready, piece_of}
+use Rattle.store.specs.Jobs.{behind_piece}
 use Rattle.store.specs.declared.job.Job.{Job}
 use Rattle.store.specs.declared.job.JobWork.{JobWork}
 use Rattle.store.specs.declared.job.JobWork.TheVariants.{Archive as ArchiveWork, Reclaim, Floor, Grow}
@@ -66,27 +69,36 @@ record Named (v new : StoreValue) : Type 0 where
   behind : WritesBehind new
 
 -- a store with the same log and the same extents names the same
-same_named : (v new : StoreValue) (job : Option Job) → MatchOption job (Unit {0}) (λ j. IsBehindRuns v.runs_end j.work) → new.transactions.usages ≡ v.transactions.usages → new.log ≡ v.log → new.runs_end ≡ v.runs_end → new.job ≡ job → Named v new
+same_named : (v new : StoreValue) (job : Option Job) → MatchOption job (Unit {0}) (λ j. IsBehindRuns v.runs_end j.work) → new.transactions.usages
+    ≡ v.transactions.usages → new.log ≡ v.log → new.runs_end ≡ v.runs_end → new.job ≡ job → Named v new
 same_named v new job behind usages log runs is = record {
-  named = λ area k named. inl (named_by v new (kept_same v.transactions.usages new.transactions.usages usages) (omega (arith, ap (λ (l : LogState). l.used) log)) (omega (arith, ap (λ (l : LogState). l.pieces) log)) (omega (arith, runs)) area k named);
+  named = λ area k named. inl
+      (named_by v new (kept_same v.transactions.usages new.transactions.usages usages) (omega (arith, ap (λ (l : LogState). l.used) log)) (omega (
+        arith,
+        ap (λ (l : LogState). l.pieces) log,
+      )) (omega (arith, runs)) area k named);
   behind = behind_by new job v.runs_end is runs behind;
 }
 
 goes_on : (v new : StoreValue) (made : Job) → IsBehindRuns v.runs_end made.work → new ≡ with_job v made new → Named v new
 goes_on v new made behind is =
-    same_named v new (Some made) behind (ap (λ (s : StoreValue). s.transactions.usages) is) (ap (λ (s : StoreValue). s.log) is) (ap (λ (s : StoreValue). s.runs_end) is) (ap (λ (s : StoreValue). s.job) is)
+    same_named v new (Some made) behind (ap (λ (s : StoreValue). s.transactions.usages) is) (ap (λ (s : StoreValue). s.log) is)
+    (ap (λ (s : StoreValue). s.runs_end) is) (ap (λ (s : StoreValue). s.job) is)
 
 fails : (v new : StoreValue) (made : Job) → IsBehindRuns v.runs_end made.work → new ≡ job_fails v made new → Named v new
 fails v new made behind is =
-    same_named v new (Some made) behind (ap (λ (s : StoreValue). s.transactions.usages) is) (ap (λ (s : StoreValue). s.log) is) (ap (λ (s : StoreValue). s.runs_end) is) (ap (λ (s : StoreValue). s.job) is)
+    same_named v new (Some made) behind (ap (λ (s : StoreValue). s.transactions.usages) is) (ap (λ (s : StoreValue). s.log) is)
+    (ap (λ (s : StoreValue). s.runs_end) is) (ap (λ (s : StoreValue). s.job) is)
 
-moves : (what : JobDid) (made refused : Job) (v : StoreValue) (result : Result JobDid PumpFault) (new : StoreValue) → IsBehindRuns v.runs_end made.work → IsBehindRuns v.runs_end refused.work → JobMoves what made refused v result new → Named v new
+moves : (what : JobDid) (made refused : Job) (v : StoreValue) (result : Result JobDid PumpFault) (new : StoreValue) → IsBehindRuns v.runs_end made.work
+    → IsBehindRuns v.runs_end refused.work → JobMoves what made refused v result new → Named v new
 moves what made refused v (Ok said) new one other is = goes_on v new made one is.1
 moves what made refused v (Err why) new one other is = fails v new refused other is.1
 
 -- ---- what is written before the slot
 
-writes_run : (tells : Bool) (v new : StoreValue) (run : Run) (writer : InWriting) (stage : JobStage) (result : Result JobDid PumpFault) → IsBehindRuns v.runs_end (ArchiveWork run writer)
+writes_run : (tells : Bool) (v new : StoreValue) (run : Run) (writer : InWriting) (stage : JobStage) (result : Result JobDid PumpFault)
+    → IsBehindRuns v.runs_end (ArchiveWork run writer)
     → WritesRun tells run writer (record { work = ArchiveWork run writer; stage = stage }) v result new → Ends tells v new
 writes_run tells v new run writer stage result behind w =
     let later : IsBehindRuns v.runs_end (ArchiveWork run (behind_piece writer)) = (behind.0, let at = behind.1 in omega arith) in
@@ -101,7 +113,8 @@ writes_run tells v new run writer stage result behind w =
       behind = named.behind;
     }
 
-writes_anchors : (tells : Bool) (v new : StoreValue) (anchors : Anchors) (source : Sourced) (written number : ℕ) (stage : JobStage) (result : Result JobDid PumpFault) → IsOut v.transactions.usages number
+writes_anchors : (tells : Bool) (v new : StoreValue) (anchors : Anchors) (source : Sourced) (written number : ℕ) (stage : JobStage)
+    (result : Result JobDid PumpFault) → IsOut v.transactions.usages number
     → WritesAnchors tells anchors source written number (record { work = Reclaim anchors source written; stage = stage }) v result new → Ends tells v new
 writes_anchors tells v new anchors source written number stage result out w =
     let made : Job = record { work = Reclaim anchors w.behind (written + 1); stage = stage } in
@@ -115,7 +128,8 @@ writes_anchors tells v new anchors source written number stage result out w =
       behind = named.behind;
     }
 
-syncs : (tells : Bool) (area : Area) (what : JobDid) (v new : StoreValue) (job : Job) (result : Result JobDid PumpFault) → Goes tells v → IsBehindRuns v.runs_end job.work → SyncsStored tells area what job v result new → Ends tells v new
+syncs : (tells : Bool) (area : Area) (what : JobDid) (v new : StoreValue) (job : Job) (result : Result JobDid PumpFault) → Goes tells v
+    → IsBehindRuns v.runs_end job.work → SyncsStored tells area what job v result new → Ends tells v new
 syncs tells area what v new job result goes behind s =
     let named = moves what (record job { stage = stages.Stored }) job v result new behind behind s.moves in record {
       leaves = record {
@@ -125,9 +139,11 @@ syncs tells area what v new job result goes behind s =
       behind = named.behind;
     }
 
-run_or_sync : (tells : Bool) (left : List ℕ) (v new : StoreValue) (run : Run) (writer : InWriting) (stage : JobStage) (result : Result JobDid PumpFault) → Goes tells v → IsBehindRuns v.runs_end (ArchiveWork run writer)
+run_or_sync : (tells : Bool) (left : List ℕ) (v new : StoreValue) (run : Run) (writer : InWriting) (stage : JobStage) (result : Result JobDid PumpFault)
+    → Goes tells v → IsBehindRuns v.runs_end (ArchiveWork run writer)
     → WritesOrSyncs tells left run writer (record { work = ArchiveWork run writer; stage = stage }) v result new → Ends tells v new
-run_or_sync tells [] v new run writer stage result goes behind is = syncs tells Archive did.RunSynced v new (record { work = ArchiveWork run writer; stage = stage }) result goes behind is
+run_or_sync tells [] v new run writer stage result goes behind is =
+    syncs tells Archive did.RunSynced v new (record { work = ArchiveWork run writer; stage = stage }) result goes behind is
 run_or_sync tells (b ∷ bs) v new run writer stage result goes behind is = writes_run tells v new run writer stage result behind is
 
 out_at : (us : List Usage) (ns : List ℕ) (i n : ℕ) → AllByRecursion (IsOut us) ns → slice_get ns i ≡ Some n → IsOut us n
@@ -135,52 +151,70 @@ out_at us [] i n out found = absurd cc
 out_at us (m ∷ ms) zero n out found = let same : m ≡ n = cc in subst (IsOut us) same out.0
 out_at us (m ∷ ms) (suc i) n out found = out_at us ms i n out.1 found
 
-anchors_or_sync : (tells : Bool) (o : Option ℕ) (v new : StoreValue) (anchors : Anchors) (source : Sourced) (written : ℕ) (stage : JobStage) (result : Result JobDid PumpFault) → slice_get v.transactions.reserved written ≡ o → Goes tells v
+anchors_or_sync : (tells : Bool) (o : Option ℕ) (v new : StoreValue) (anchors : Anchors) (source : Sourced) (written : ℕ) (stage : JobStage)
+    (result : Result JobDid PumpFault) → slice_get v.transactions.reserved written ≡ o → Goes tells v
     → AnchorsOrSync tells o anchors source written (record { work = Reclaim anchors source written; stage = stage }) v result new → Ends tells v new
-anchors_or_sync tells None v new anchors source written stage result found goes is = syncs tells Heap did.HeapSynced v new (record { work = Reclaim anchors source written; stage = stage }) result goes tt is
+anchors_or_sync tells None v new anchors source written stage result found goes is =
+    syncs tells Heap did.HeapSynced v new (record { work = Reclaim anchors source written; stage = stage }) result goes tt is
 anchors_or_sync tells (Some number) v new anchors source written stage result found goes is =
-    writes_anchors tells v new anchors source written number stage result (out_at v.transactions.usages v.transactions.reserved written number (goes.out).each found) is
+    writes_anchors tells v new anchors source written number stage result
+    (out_at v.transactions.usages v.transactions.reserved written number (goes.out).each found) is
 
 -- ---- a growth
 
 -- after a device call of it all that was named is, and the slots of the piece once its gate is open
-has_grown : (grew : Grew) (growth : GrowthState) (v new : StoreValue) (what : JobDid) → growth.piece ≡ v.log.pieces → HasGrown grew growth v what new → Named v new
+has_grown : (grew : Grew) (growth : GrowthState) (v new : StoreValue) (what : JobDid) → growth.piece ≡ v.log.pieces → HasGrown grew growth v what new
+    → Named v new
 has_grown grew.WroteZeros growth v new what piece is = goes_on v new (growing (growth_after growth)) tt is.1
 has_grown grew.ZerosSynced growth v new what piece is = goes_on v new (growing (growth_after growth)) tt is.1
 has_grown grew.GateWritten growth v new what piece is = goes_on v new (growing (growth_after growth)) tt is.1
 has_grown grew.Grown growth v new what piece is = record {
-  named = λ area k named. inl (named_by v new (kept_same v.transactions.usages new.transactions.usages (ap (λ (s : StoreValue). s.transactions.usages) is.2)) (omega (arith, ap (λ (s : StoreValue). s.log.used) is.2))
+  named = λ area k named. inl
+      (named_by v new (kept_same v.transactions.usages new.transactions.usages (ap (λ (s : StoreValue). s.transactions.usages) is.2)) (omega (
+        arith,
+        ap (λ (s : StoreValue). s.log.used) is.2,
+      ))
       (omega (arith, ap (λ (s : StoreValue). s.log.pieces) is.2, piece)) (omega (arith, ap (λ (s : StoreValue). s.runs_end) is.2)) area k named);
   behind = behind_by new None v.runs_end (ap (λ (s : StoreValue). s.job) is.2) (ap (λ (s : StoreValue). s.runs_end) is.2) tt;
 }
 
 growth_named : (growth : GrowthState) (v new : StoreValue) (result : Result JobDid PumpFault) → growth.piece ≡ v.log.pieces
-    → MatchResult result (λ what. HasGrown (grew_at growth.stage) growth v what new) (λ why. (why ≡ fault.Failed) × (new ≡ job_fails v (growing (growth_after growth)) new)) → Named v new
+    → MatchResult result (λ what. HasGrown (grew_at growth.stage) growth v what new) (λ why. (why ≡ fault.Failed)
+    × (new ≡ job_fails v (growing (growth_after growth)) new)) → Named v new
 growth_named growth v new (Ok what) piece answer = has_grown (grew_at growth.stage) growth v new what piece answer
 growth_named growth v new (Err why) piece answer = fails v new (growing (growth_after growth)) tt answer.1
 
-grows : (tells : Bool) (growth : GrowthState) (v new : StoreValue) (result : Result JobDid PumpFault) → Goes tells v → GrowsBehind (Grow growth) v.log → Grows tells growth v result new → Ends tells v new
+grows : (tells : Bool) (growth : GrowthState) (v new : StoreValue) (result : Result JobDid PumpFault) → Goes tells v → GrowsBehind (Grow growth) v.log
+    → Grows tells growth v result new → Ends tells v new
 grows tells growth v new result goes behind g =
     let named = growth_named growth v new result behind.1 g.answer in record {
       leaves = record {
         left = λ told area k is.
-            left_by_growth growth.stage growth.slots growth.piece (disk_answer result) v.disk.areas new.disk.areas ((g.call).areas told) (goes.sound told) (let few = goes.pieces in let slots = behind.0 in let piece = behind.1 in let room = behind.2 in omega (arith, few, slots, piece, room)) area k
-            (λ same. let place : IsNamed v Status k = subst (λ (a : Area). IsNamed v a k) same is in (let low = place.0 in let slots = behind.0 in let used = goes.used in omega (arith, low, slots, used), elim place.1 [ inl gate ↦ inl (let piece = behind.1 in omega (arith, gate, piece)) | inr slot ↦ inr slot ]));
+            left_by_growth growth.stage growth.slots growth.piece (disk_answer result) v.disk.areas new.disk.areas ((g.call).areas told) (goes.sound told)
+            (let few = goes.pieces in let slots = behind.0 in let piece = behind.1 in let room = behind.2 in omega (arith, few, slots, piece, room)) area k
+            (λ same. let place : IsNamed v Status k = subst (λ (a : Area). IsNamed v a k) same is in (
+              let low = place.0 in let slots = behind.0 in let used = goes.used in omega (arith, low, slots, used),
+              elim place.1 [ inl gate ↦ inl (let piece = behind.1 in omega (arith, gate, piece)) | inr slot ↦ inr slot ],
+            ));
         named = named.named;
       };
       behind = named.behind;
     }
 
-stores : (tells : Bool) (work : JobWork) (stage : JobStage) (v new : StoreValue) (result : Result JobDid PumpFault) → Goes tells v → GrowsBehind work v.log → IsBehindRuns v.runs_end work → Stores tells work (record { work = work; stage = stage }) v result new → Ends tells v new
+stores : (tells : Bool) (work : JobWork) (stage : JobStage) (v new : StoreValue) (result : Result JobDid PumpFault) → Goes tells v → GrowsBehind work v.log
+    → IsBehindRuns v.runs_end work → Stores tells work (record { work = work; stage = stage }) v result new → Ends tells v new
 stores tells (ArchiveWork run writer) stage v new result goes place behind is = run_or_sync tells writer.left v new run writer stage result goes behind is
-stores tells (Reclaim anchors source written) stage v new result goes place behind is = anchors_or_sync tells (slice_get v.transactions.reserved written) v new anchors source written stage result refl goes is
+stores tells (Reclaim anchors source written) stage v new result goes place behind is =
+    anchors_or_sync tells (slice_get v.transactions.reserved written) v new anchors source written stage result refl goes is
 stores tells (Floor scope time floors) stage v new result goes place behind is = absurd is
 stores tells (Grow growth) stage v new result goes place behind is = grows tells growth v new result goes place is
 
 -- ---- the slot
 
 -- the slot of a reclaim is open: what is not named still is given up
-reclaimed : (t : TurnState) (anchors : Anchors) (source : Sourced) (written : ℕ) (stage : JobStage) (v new : StoreValue) (what : JobDid) → AreOut v.transactions.usages v.transactions.reserved → t.number ≡ v.log.used → v.job ≡ Some (record { work = Reclaim anchors source written; stage = stage })
+reclaimed : (t : TurnState) (anchors : Anchors) (source : Sourced) (written : ℕ) (stage : JobStage) (v new : StoreValue) (what : JobDid)
+    → AreOut v.transactions.usages v.transactions.reserved → t.number ≡ v.log.used → v.job
+    ≡ Some (record { work = Reclaim anchors source written; stage = stage })
     → IsJobTurned slots.GateWritten t (record { work = Reclaim anchors source written; stage = stage }) v what new → Named v new
 reclaimed t anchors source written stage v new what out number there is = record {
   named = λ area k named. each area k named;
@@ -190,7 +224,8 @@ reclaimed t anchors source written stage v new what out number there is = record
     used : new.log.used ≡ v.log.used + 1
     used = ap (λ (s : StoreValue). s.log.used) is.2 ∙ ap (λ (n : ℕ). n + 1) number
 
-    of_heap : (k : ℕ) (place : IsInKept v k) (b : Bool) → nat_le (time_of v.transactions.times place.number) anchors.upto ≡ b → IsNamed new Heap k ⊎ IsGivenUpIn v new Heap k
+    of_heap : (k : ℕ) (place : IsInKept v k) (b : Bool) → nat_le (time_of v.transactions.times place.number) anchors.upto ≡ b → IsNamed new Heap k
+        ⊎ IsGivenUpIn v new Heap k
     of_heap k place true early = inr (record {
       anchors = anchors;
       source = source;
@@ -215,46 +250,74 @@ reclaimed t anchors source written stage v new what out number there is = record
     each Heap k named = of_heap k named (nat_le (time_of v.transactions.times named.number) anchors.upto) refl
     each Archive k named = inl (omega (arith, named, ap (λ (s : StoreValue). s.runs_end) is.2))
 
-archived : (t : TurnState) (run : Run) (writer : InWriting) (stage : JobStage) (v new : StoreValue) (what : JobDid) → t.number ≡ v.log.used → IsBehindRuns v.runs_end (ArchiveWork run writer)
+archived : (t : TurnState) (run : Run) (writer : InWriting) (stage : JobStage) (v new : StoreValue) (what : JobDid) → t.number ≡ v.log.used
+    → IsBehindRuns v.runs_end (ArchiveWork run writer)
     → IsJobTurned slots.GateWritten t (record { work = ArchiveWork run writer; stage = stage }) v what new → Named v new
 archived t run writer stage v new what number behind is = record {
-  named = λ area k named. inl (named_by v new (kept_same v.transactions.usages new.transactions.usages (ap (λ (s : StoreValue). s.transactions.usages) is.2)) (omega (arith, ap (λ (s : StoreValue). s.log.used) is.2, number)) (omega (arith, ap (λ (s : StoreValue). s.log.pieces) is.2))
+  named = λ area k named. inl
+      (named_by v new (kept_same v.transactions.usages new.transactions.usages (ap (λ (s : StoreValue). s.transactions.usages) is.2)) (omega (
+        arith,
+        ap (λ (s : StoreValue). s.log.used) is.2,
+        number,
+      )) (omega (arith, ap (λ (s : StoreValue). s.log.pieces) is.2))
       (let start = behind.0 in omega (arith, ap (λ (s : StoreValue). s.runs_end) is.2)) area k named);
   behind = behind_by new None (run.start + run.len) (ap (λ (s : StoreValue). s.job) is.2) (ap (λ (s : StoreValue). s.runs_end) is.2) tt;
 }
 
-floored : (t : TurnState) (scope : Option ℕ) (time : ℕ) (floors : FloorsValue) (stage : JobStage) (v new : StoreValue) (what : JobDid) → t.number ≡ v.log.used → IsJobTurned slots.GateWritten t (record { work = Floor scope time floors; stage = stage }) v what new → Named v new
+floored : (t : TurnState) (scope : Option ℕ) (time : ℕ) (floors : FloorsValue) (stage : JobStage) (v new : StoreValue) (what : JobDid) → t.number ≡ v.log.used
+    → IsJobTurned slots.GateWritten t (record { work = Floor scope time floors; stage = stage }) v what new → Named v new
 floored t scope time floors stage v new what number is = record {
-  named = λ area k named. inl (named_by v new (kept_same v.transactions.usages new.transactions.usages (ap (λ (s : StoreValue). s.transactions.usages) is.2)) (omega (arith, ap (λ (s : StoreValue). s.log.used) is.2, number)) (omega (arith, ap (λ (s : StoreValue). s.log.pieces) is.2))
+  named = λ area k named. inl
+      (named_by v new (kept_same v.transactions.usages new.transactions.usages (ap (λ (s : StoreValue). s.transactions.usages) is.2)) (omega (
+        arith,
+        ap (λ (s : StoreValue). s.log.used) is.2,
+        number,
+      )) (omega (arith, ap (λ (s : StoreValue). s.log.pieces) is.2))
       (omega (arith, ap (λ (s : StoreValue). s.runs_end) is.2)) area k named);
   behind = behind_by new None v.runs_end (ap (λ (s : StoreValue). s.job) is.2) (ap (λ (s : StoreValue). s.runs_end) is.2) tt;
 }
 
 -- a step on the way of the slot
-on_its_way : (v new : StoreValue) (job : Job) (t : TurnState) → IsBehindRuns v.runs_end job.work → new ≡ with_job v (record job { stage = stages.Turning t }) new → Named v new
+on_its_way : (v new : StoreValue) (job : Job) (t : TurnState) → IsBehindRuns v.runs_end job.work → new
+    ≡ with_job v (record job { stage = stages.Turning t }) new → Named v new
 on_its_way v new job t behind is = goes_on v new (record job { stage = stages.Turning t }) behind is
 
-turned : (at : SlotStage) (t : TurnState) (work : JobWork) (stage : JobStage) (v new : StoreValue) (what : JobDid) → AreOut v.transactions.usages v.transactions.reserved → t.number ≡ v.log.used → v.job ≡ Some (record { work = work; stage = stage }) → IsBehindRuns v.runs_end work
+turned : (at : SlotStage) (t : TurnState) (work : JobWork) (stage : JobStage) (v new : StoreValue) (what : JobDid)
+    → AreOut v.transactions.usages v.transactions.reserved → t.number ≡ v.log.used → v.job ≡ Some (record { work = work; stage = stage })
+    → IsBehindRuns v.runs_end work
     → IsJobTurned at t (record { work = work; stage = stage }) v what new → Named v new
-turned slots.Begun t work stage v new what out number there behind is = on_its_way v new (record { work = work; stage = stage }) (record t { stage = slots.BodyWritten }) behind is.1
-turned slots.BodyWritten t work stage v new what out number there behind is = on_its_way v new (record { work = work; stage = stage }) (record t { stage = slots.BodySynced }) behind is.1
-turned slots.BodySynced t work stage v new what out number there behind is = on_its_way v new (record { work = work; stage = stage }) (record t { stage = slots.GateWritten }) behind is.1
+turned slots.Begun t work stage v new what out number there behind is =
+    on_its_way v new (record { work = work; stage = stage }) (record t { stage = slots.BodyWritten }) behind is.1
+turned slots.BodyWritten t work stage v new what out number there behind is =
+    on_its_way v new (record { work = work; stage = stage }) (record t { stage = slots.BodySynced }) behind is.1
+turned slots.BodySynced t work stage v new what out number there behind is =
+    on_its_way v new (record { work = work; stage = stage }) (record t { stage = slots.GateWritten }) behind is.1
 turned slots.GateWritten t (ArchiveWork run writer) stage v new what out number there behind is = archived t run writer stage v new what number behind is
-turned slots.GateWritten t (Reclaim anchors source written) stage v new what out number there behind is = reclaimed t anchors source written stage v new what out number there is
+turned slots.GateWritten t (Reclaim anchors source written) stage v new what out number there behind is =
+    reclaimed t anchors source written stage v new what out number there is
 turned slots.GateWritten t (Floor scope time floors) stage v new what out number there behind is = floored t scope time floors stage v new what number is
 turned slots.GateWritten t (Grow growth) stage v new what out number there behind is = record {
-  named = λ area k named. inl (named_by v new (kept_same v.transactions.usages new.transactions.usages (ap (λ (s : StoreValue). s.transactions.usages) is.2)) (omega (arith, ap (λ (s : StoreValue). s.log.used) is.2, number)) (omega (arith, ap (λ (s : StoreValue). s.log.pieces) is.2))
+  named = λ area k named. inl
+      (named_by v new (kept_same v.transactions.usages new.transactions.usages (ap (λ (s : StoreValue). s.transactions.usages) is.2)) (omega (
+        arith,
+        ap (λ (s : StoreValue). s.log.used) is.2,
+        number,
+      )) (omega (arith, ap (λ (s : StoreValue). s.log.pieces) is.2))
       (omega (arith, ap (λ (s : StoreValue). s.runs_end) is.2)) area k named);
   behind = behind_by new None v.runs_end (ap (λ (s : StoreValue). s.job) is.2) (ap (λ (s : StoreValue). s.runs_end) is.2) tt;
 }
 turned slots.Opened t work stage v new what out number there behind is = absurd is
 
-answered : (t : TurnState) (work : JobWork) (stage : JobStage) (v new : StoreValue) (result : Result JobDid PumpFault) → AreOut v.transactions.usages v.transactions.reserved → t.number ≡ v.log.used → v.job ≡ Some (record { work = work; stage = stage }) → IsBehindRuns v.runs_end work
-    → MatchResult result (λ what. IsJobTurned t.stage t (record { work = work; stage = stage }) v what new) (λ why. JobTurnFails (record { work = work; stage = stage }) v why new) → Named v new
+answered : (t : TurnState) (work : JobWork) (stage : JobStage) (v new : StoreValue) (result : Result JobDid PumpFault)
+    → AreOut v.transactions.usages v.transactions.reserved → t.number ≡ v.log.used → v.job ≡ Some (record { work = work; stage = stage })
+    → IsBehindRuns v.runs_end work
+    → MatchResult result (λ what. IsJobTurned t.stage t (record { work = work; stage = stage }) v what new)
+    (λ why. JobTurnFails (record { work = work; stage = stage }) v why new) → Named v new
 answered t work stage v new (Ok what) out number there behind answer = turned t.stage t work stage v new what out number there behind answer
 answered t work stage v new (Err why) out number there behind answer = fails v new (record { work = work; stage = stages.Stored }) behind answer.1
 
-turns : (tells : Bool) (v new : StoreValue) (work : JobWork) (stage : JobStage) (t : TurnState) (result : Result JobDid PumpFault) → Goes tells v → t.number ≡ v.log.used → v.job ≡ Some (record { work = work; stage = stage }) → IsBehindRuns v.runs_end work
+turns : (tells : Bool) (v new : StoreValue) (work : JobWork) (stage : JobStage) (t : TurnState) (result : Result JobDid PumpFault) → Goes tells v → t.number
+    ≡ v.log.used → v.job ≡ Some (record { work = work; stage = stage }) → IsBehindRuns v.runs_end work
     → TurnsJob tells (record { work = work; stage = stage }) t v result new → Ends tells v new
 turns tells v new work stage t result goes number there behind s =
     let named = answered t work stage v new result goes.out number there behind s.answer in record {
@@ -280,10 +343,14 @@ record IsReady (v ready : StoreValue) : Type 0 where
   disk : ready.disk ≡ v.disk
 
 is_ready : (work : JobWork) (v : StoreValue) → IsReady v (slot_taken (made_ready work v))
-is_ready (ArchiveWork run writer) v = record { usages = refl; reserved = refl; times = refl; used = refl; slots = refl; pieces = refl; runs_end = refl; job = refl; disk = refl }
-is_ready (Reclaim anchors source written) v = record { usages = refl; reserved = refl; times = refl; used = refl; slots = refl; pieces = refl; runs_end = refl; job = refl; disk = refl }
-is_ready (Floor scope time floors) v = record { usages = refl; reserved = refl; times = refl; used = refl; slots = refl; pieces = refl; runs_end = refl; job = refl; disk = refl }
-is_ready (Grow growth) v = record { usages = refl; reserved = refl; times = refl; used = refl; slots = refl; pieces = refl; runs_end = refl; job = refl; disk = refl }
+is_ready (ArchiveWork run writer) v =
+    record { usages = refl; reserved = refl; times = refl; used = refl; slots = refl; pieces = refl; runs_end = refl; job = refl; disk = refl }
+is_ready (Reclaim anchors source written) v =
+    record { usages = refl; reserved = refl; times = refl; used = refl; slots = refl; pieces = refl; runs_end = refl; job = refl; disk = refl }
+is_ready (Floor scope time floors) v =
+    record { usages = refl; reserved = refl; times = refl; used = refl; slots = refl; pieces = refl; runs_end = refl; job = refl; disk = refl }
+is_ready (Grow growth) v =
+    record { usages = refl; reserved = refl; times = refl; used = refl; slots = refl; pieces = refl; runs_end = refl; job = refl; disk = refl }
 
 ready_goes : (tells : Bool) (v ready : StoreValue) → IsReady v ready → Goes tells v → Goes tells ready
 ready_goes tells v ready is goes = record {
@@ -294,7 +361,11 @@ ready_goes tells v ready is goes = record {
 }
 
 ready_named : (v ready : StoreValue) → IsReady v ready → (area : Area) (k : ℕ) → IsNamed v area k → IsNamed ready area k
-ready_named v ready is area k named = named_by v ready (kept_same v.transactions.usages ready.transactions.usages is.usages) (omega (arith, is.used)) (omega (arith, is.pieces)) (omega (arith, is.runs_end)) area k named
+ready_named v ready is area k named =
+    named_by v ready (kept_same v.transactions.usages ready.transactions.usages is.usages) (omega (arith, is.used)) (omega (arith, is.pieces)) (omega (
+      arith,
+      is.runs_end,
+    )) area k named
 
 ready_given : (v ready new : StoreValue) → IsReady v ready → (area : Area) (k : ℕ) → IsGivenUpIn ready new area k → IsGivenUpIn v new area k
 ready_given v ready new is Status k given = absurd given
@@ -307,14 +378,20 @@ ready_given v ready new is Heap k given = record {
   job = sym is.job ∙ given.job;
   slot = given.slot ∙ ap (λ (n : ℕ). n + 1) is.used;
   mark = given.mark;
-  place = record { number = (given.place).number; kept = kept_same ready.transactions.usages v.transactions.usages (sym is.usages) (given.place).number (given.place).kept; low = (given.place).low; high = (given.place).high };
+  place = record {
+    number = (given.place).number;
+    kept = kept_same ready.transactions.usages v.transactions.usages (sym is.usages) (given.place).number (given.place).kept;
+    low = (given.place).low;
+    high = (given.place).high;
+  };
   by = subst (λ (ts : List ℕ). time_of ts (given.place).number ≤ (given.anchors).upto) is.times given.by;
 }
 
 from_ready : (tells : Bool) (v ready new : StoreValue) → IsReady v ready → Ends tells ready new → Ends tells v new
 from_ready tells v ready new is ends = record {
   leaves = record {
-    left = λ told area k named. subst (λ (d : DiskState). IsLeft k (area_of d.areas area) (area_of new.disk.areas area)) is.disk ((ends.leaves).left told area k (ready_named v ready is area k named));
+    left = λ told area k named. subst (λ (d : DiskState). IsLeft k (area_of d.areas area) (area_of new.disk.areas area)) is.disk
+        ((ends.leaves).left told area k (ready_named v ready is area k named));
     named = λ area k named. either area k ((ends.leaves).named area k (ready_named v ready is area k named));
   };
   behind = ends.behind;
@@ -324,7 +401,8 @@ from_ready tells v ready new is ends = record {
     either area k (inl still) = inl still
     either area k (inr given) = inr (ready_given v ready new is area k given)
 
-begins : (tells b : Bool) (v new : StoreValue) (work : JobWork) (stage : JobStage) (result : Result JobDid PumpFault) → Goes tells v → WritesBehind v → v.job ≡ Some (record { work = work; stage = stage }) → IsBehindRuns v.runs_end work
+begins : (tells b : Bool) (v new : StoreValue) (work : JobWork) (stage : JobStage) (result : Result JobDid PumpFault) → Goes tells v → WritesBehind v → v.job
+    ≡ Some (record { work = work; stage = stage }) → IsBehindRuns v.runs_end work
     → MatchBool b ((result ≡ Err fault.Busy) × (new ≡ v)) (BeginsJobSlot tells (record { work = work; stage = stage }) v result new) → Ends tells v new
 begins tells true v new work stage result goes all there behind is = ends_same tells v new is.1 all
 begins tells false v new work stage result goes all there behind (inl short) = ends_same tells v new short.2 all
@@ -332,18 +410,24 @@ begins tells false v new work stage result goes all there behind (inr is) =
     let ready : StoreValue = slot_taken (made_ready work v) in
     let same : IsReady v ready = is_ready work v in
     from_ready tells v ready new same
-    (turns tells ready new work stage (first_turn v (record { work = work; stage = stage })) result (ready_goes tells v ready same goes) (sym same.used) (same.job ∙ there) (subst (λ (n : ℕ). IsBehindRuns n work) (sym same.runs_end) behind) is)
+    (turns tells ready new work stage (first_turn v (record { work = work; stage = stage })) result (ready_goes tells v ready same goes) (sym same.used)
+    (same.job ∙ there) (subst (λ (n : ℕ). IsBehindRuns n work) (sym same.runs_end) behind) is)
 
 -- ---- every step
 
-takes : (tells : Bool) (stage : JobStage) (v new : StoreValue) (work : JobWork) (result : Result JobDid PumpFault) → v.job ≡ Some (record { work = work; stage = stage }) → v.transactions.failed ≡ false → IsTyped tells v → WritesBehind v → Goes tells v → GrowsBehind work v.log → IsBehindRuns v.runs_end work
+takes : (tells : Bool) (stage : JobStage) (v new : StoreValue) (work : JobWork) (result : Result JobDid PumpFault) → v.job
+    ≡ Some (record { work = work; stage = stage }) → v.transactions.failed ≡ false → IsTyped tells v → WritesBehind v → Goes tells v → GrowsBehind work v.log
+    → IsBehindRuns v.runs_end work
     → TakesJobStep tells stage (record { work = work; stage = stage }) v result new → Ends tells v new
-takes tells stages.Writing v new work result is works typed all goes place behind takes_it = stores tells work stages.Writing v new result goes place behind takes_it
-takes tells stages.Stored v new work result is works typed all goes place behind takes_it = begins tells (is_some v.turn) v new work stages.Stored result goes all is behind takes_it
+takes tells stages.Writing v new work result is works typed all goes place behind takes_it =
+    stores tells work stages.Writing v new result goes place behind takes_it
+takes tells stages.Stored v new work result is works typed all goes place behind takes_it =
+    begins tells (is_some v.turn) v new work stages.Stored result goes all is behind takes_it
 takes tells (stages.Turning t) v new work result is works typed all goes place behind takes_it =
     let turn_is : turn_of v.job ≡ Some t = ap turn_of is in
     let slot : (t.number ≡ v.log.used) × IsOnItsWay t.stage × (v.turn ≡ None) =
-    subst (λ (o : Option TurnState). MatchOption o (Unit {0}) (λ x. (x.number ≡ v.log.used) × IsOnItsWay x.stage × (v.turn ≡ None))) turn_is ((typed.in_step).turns works).job in
+    subst (λ (o : Option TurnState). MatchOption o (Unit {0}) (λ x. (x.number ≡ v.log.used) × IsOnItsWay x.stage
+    × (v.turn ≡ None))) turn_is ((typed.in_step).turns works).job in
     turns tells v new work (stages.Turning t) t result goes slot.0 is behind takes_it
 
 -- the extents of a job are out
@@ -358,7 +442,8 @@ job_goes tells v typed = record {
   sound = typed.sound;
 }
 
-of_job : (tells : Bool) (o : Option Job) (v new : StoreValue) (result : Result JobDid PumpFault) → v.job ≡ o → v.transactions.failed ≡ false → IsTyped tells v → WritesBehind v
+of_job : (tells : Bool) (o : Option Job) (v new : StoreValue) (result : Result JobDid PumpFault) → v.job ≡ o → v.transactions.failed ≡ false → IsTyped tells v
+    → WritesBehind v
     → MatchOption o ((result ≡ Ok did.Idle) × (new ≡ v)) (λ job. TakesJobStep tells job.stage job v result new) → Ends tells v new
 of_job tells None v new result is works typed all takes_it = ends_same tells v new takes_it.1 all
 of_job tells (Some job) v new result is works typed all takes_it =
@@ -367,10 +452,12 @@ of_job tells (Some job) v new result is works typed all takes_it =
     takes tells job.stage v new job.work result is works typed all (job_goes tells v typed) place behind takes_it
 
 by_failed : (tells b : Bool) (v new : StoreValue) (result : Result JobDid PumpFault) → v.transactions.failed ≡ b → IsTyped tells v → WritesBehind v
-    → MatchBool b ((result ≡ Err fault.Failed) × (new ≡ v)) (MatchOption v.job ((result ≡ Ok did.Idle) × (new ≡ v)) (λ job. TakesJobStep tells job.stage job v result new)) → Ends tells v new
+    → MatchBool b ((result ≡ Err fault.Failed)
+    × (new ≡ v)) (MatchOption v.job ((result ≡ Ok did.Idle) × (new ≡ v)) (λ job. TakesJobStep tells job.stage job v result new)) → Ends tells v new
 by_failed tells true v new result failed typed all is = ends_same tells v new is.1 all
 by_failed tells false v new result works typed all is = of_job tells v.job v new result refl works typed all is
 
-pub job_pumped : (tells : Bool) (old new : StoreValue) (answer : Result JobDid PumpFault) → PumpsJob tells old answer new → IsTyped tells old → WritesBehind old → LeavesNamed tells old new × WritesBehind new
+pub job_pumped : (tells : Bool) (old new : StoreValue) (answer : Result JobDid PumpFault) → PumpsJob tells old answer new → IsTyped tells old → WritesBehind old
+    → LeavesNamed tells old new × WritesBehind new
 job_pumped tells old new answer pumps typed all =
     let ends = by_failed tells old.transactions.failed old new answer refl typed all pumps in (ends.leaves, ends.behind)

@@ -1,5 +1,6 @@
 -- What stays named.
-use Rattle.std.proofs.Common.{◌≡◌, ◌≢◌, ℕ, zero, suc, ◌+◌, ◌<◌, ◌≤◌, Bool, IsTrue, true, false, cond, nat_lt, ◌==◌, ◌&&◌, List, [], ◌∷◌, ◌++◌, map, length, take, min, slice_get, Option, Some, refl, sym, ap, subst, inl, inr, arith, MatchOption}
+use Rattle.std.proofs.Common.{◌≡◌, ◌≢◌, ℕ, zero, suc, ◌+◌, ◌<◌, ◌≤◌, Bool, IsTrue, true, false, cond, nat_lt, ◌==◌, ◌&&◌, List, [], ◌∷◌, ◌++◌, map, length}
+use Rattle.std.proofs.Common.{take, min, slice_get, Option, Some, refl, sym, ap, subst, inl, inr, arith, MatchOption}
 use Rattle.std.specs.List.{AllByRecursion, flat_map}
 use Rattle.std.proofs.lemmas.Bool.{cases_order}
 use Rattle.disk.specs.Areas.{IsApart, area_of}
@@ -31,9 +32,11 @@ kept_taken us [] n least kept = kept
 kept_taken us (m ∷ ms) n least kept = kept_taken (with_usage us m Out) ms n least.1 (used_stays us m n Out Kept (least.0).free (λ same. cc) kept)
 
 -- and where others, that are out, are published or given back
-pub kept_beside : (us : List Usage) (ns : List ℕ) (usage : Usage) (n : ℕ) → AllByRecursion (λ m. (1 ≤ m) × (n ≢ m)) ns → IsKept us n → IsKept (with_usages us ns usage) n
+pub kept_beside : (us : List Usage) (ns : List ℕ) (usage : Usage) (n : ℕ) → AllByRecursion (λ m. (1 ≤ m) × (n ≢ m)) ns → IsKept us n
+    → IsKept (with_usages us ns usage) n
 kept_beside us [] usage n others kept = kept
-kept_beside us (m ∷ ms) usage n others kept = kept_beside (with_usage us m usage) ms usage n others.1 (other_stays us m n usage Kept (others.0).0 (others.0).1 kept)
+kept_beside us (m ∷ ms) usage n others kept =
+    kept_beside (with_usage us m usage) ms usage n others.1 (other_stays us m n usage Kept (others.0).0 (others.0).1 kept)
 
 pub kept_published : (us : List Usage) (ns : List ℕ) (n : ℕ) → AllByRecursion (λ m. (1 ≤ m) × (n ≢ m)) ns → IsKept us n → IsKept (with_usages us ns Kept) n
 kept_published us ns n others kept = kept_beside us ns Kept n others kept
@@ -43,7 +46,8 @@ others_of us [] n out kept = tt
 others_of us (m ∷ ms) n out kept = (((out.0).low, are_apart us Kept Out n m (λ same. cc) kept out.0), others_of us ms n out.1 kept)
 
 -- an extent that is out lies apart from each that is kept
-pub heap_apart : (v : StoreValue) (k n : ℕ) (image : List ℕ) → IsOut v.transactions.usages n → length image ≡ 8192 → IsInKept v k → IsApart k (k + 1) (extent_start n, length image)
+pub heap_apart : (v : StoreValue) (k n : ℕ) (image : List ℕ) → IsOut v.transactions.usages n → length image ≡ 8192 → IsInKept v k
+    → IsApart k (k + 1) (extent_start n, length image)
 heap_apart v k n image out long is =
     let m : ℕ = is.number in
     let differ : m ≢ n = are_apart v.transactions.usages Kept Out m n (λ same. cc) is.kept out in
@@ -71,25 +75,29 @@ pub all_joined : (P : ℕ → Type 0) (xs ys : List ℕ) → AllByRecursion P xs
 all_joined P [] ys a b = b
 all_joined P (x ∷ xs) ys a b = (a.0, all_joined P xs ys a.1 b)
 
-out_stored : (us : List Usage) (stored : List StoredExtent) (e : ℕ) (s : StoredExtent) → AllByRecursion (IsOut us) (map (λ (x : StoredExtent). x.extent) stored) → slice_get stored e ≡ Some s → IsOut us s.extent
+out_stored : (us : List Usage) (stored : List StoredExtent) (e : ℕ) (s : StoredExtent) → AllByRecursion (IsOut us) (map (λ (x : StoredExtent). x.extent) stored)
+    → slice_get stored e ≡ Some s → IsOut us s.extent
 out_stored us [] e s all found = absurd cc
 out_stored us (x ∷ xs) zero s all found = let same : x ≡ s = cc in subst (λ (z : StoredExtent). IsOut us z.extent) same all.0
 out_stored us (x ∷ xs) (suc e) s all found = out_stored us xs e s all.1 found
 
-out_queued : (us : List Usage) (queue : List QueuedValue) (m e : ℕ) (s : StoredExtent) → AllByRecursion (IsOut us) (flat_map numbers_of queue) → extent_at (slice_get queue m) e ≡ Some s → IsOut us s.extent
+out_queued : (us : List Usage) (queue : List QueuedValue) (m e : ℕ) (s : StoredExtent) → AllByRecursion (IsOut us) (flat_map numbers_of queue)
+    → extent_at (slice_get queue m) e ≡ Some s → IsOut us s.extent
 out_queued us [] m e s all found = absurd cc
 out_queued us (q ∷ qs) zero e s all found = out_stored us q.stored e s (all_front (IsOut us) (numbers_of q) (flat_map numbers_of qs) all) found
 out_queued us (q ∷ qs) (suc m) e s all found = out_queued us qs m e s (all_back (IsOut us) (numbers_of q) (flat_map numbers_of qs) all) found
 
 -- the extent that is to be written is out
-pub out_next : (us : List Usage) (queue : List QueuedValue) (stage : GroupStage) (s : StoredExtent) → AllByRecursion (IsOut us) (flat_map numbers_of queue) → extent_of queue stage ≡ Some s → IsOut us s.extent
+pub out_next : (us : List Usage) (queue : List QueuedValue) (stage : GroupStage) (s : StoredExtent) → AllByRecursion (IsOut us) (flat_map numbers_of queue)
+    → extent_of queue stage ≡ Some s → IsOut us s.extent
 out_next us queue NoGroup s all found = absurd cc
 out_next us queue (Storing member extent) s all found = out_queued us queue member extent s all found
 out_next us queue Stored s all found = absurd cc
 out_next us queue Turning s all found = absurd cc
 
 -- and so are those of the first that wait
-pub out_first : (us : List Usage) (n : ℕ) (queue : List QueuedValue) → AllByRecursion (IsOut us) (flat_map numbers_of queue) → AllByRecursion (IsOut us) (flat_map numbers_of (take n queue))
+pub out_first : (us : List Usage) (n : ℕ) (queue : List QueuedValue) → AllByRecursion (IsOut us) (flat_map numbers_of queue)
+    → AllByRecursion (IsOut us) (flat_map numbers_of (take n queue))
 out_first us zero queue all = tt
 out_first us (suc n) [] all = tt
 out_first us (suc n) (q ∷ qs) all = all_joined (IsOut us) (numbers_of q) (flat_map numbers_of (take n qs))
@@ -98,9 +106,11 @@ out_first us (suc n) (q ∷ qs) all = all_joined (IsOut us) (numbers_of q) (flat
 -- ---- names
 
 pub slots_named : (old new : StoreValue) (k : ℕ) → old.log.used ≤ new.log.used → old.log.pieces ≤ new.log.pieces → IsNamed old Status k → IsNamed new Status k
-slots_named old new k used pieces is = (let low = is.0 in omega (arith, low, used), elim is.1 [ inl gate ↦ inl (omega (arith, gate, pieces)) | inr slot ↦ inr slot ])
+slots_named old new k used pieces is =
+    (let low = is.0 in omega (arith, low, used), elim is.1 [ inl gate ↦ inl (omega (arith, gate, pieces)) | inr slot ↦ inr slot ])
 
-pub named_by : (old new : StoreValue) → ((n : ℕ) → IsKept old.transactions.usages n → IsKept new.transactions.usages n) → old.log.used ≤ new.log.used → old.log.pieces ≤ new.log.pieces → old.runs_end ≤ new.runs_end
+pub named_by : (old new : StoreValue) → ((n : ℕ) → IsKept old.transactions.usages n → IsKept new.transactions.usages n) → old.log.used ≤ new.log.used
+    → old.log.pieces ≤ new.log.pieces → old.runs_end ≤ new.runs_end
     → (area : Area) (k : ℕ) → IsNamed old area k → IsNamed new area k
 named_by old new kept used pieces runs Status k is = slots_named old new k used pieces is
 named_by old new kept used pieces runs Heap k is = record { number = is.number; kept = kept is.number is.kept; low = is.low; high = is.high }
@@ -119,14 +129,17 @@ pub leaves_named : (tells : Bool) (old new : StoreValue) → LeavesAll tells old
 leaves_named tells old new all = record { left = all.left; named = λ area k is. inl (all.named area k is) }
 
 -- a store in whose place another stands, which names the same and has the same disk
-pub carried : (tells : Bool) (old middle new : StoreValue) → ((area : Area) (k : ℕ) → IsNamed old area k → IsNamed middle area k) → middle.disk ≡ old.disk → LeavesAll tells middle new → LeavesAll tells old new
+pub carried : (tells : Bool) (old middle new : StoreValue) → ((area : Area) (k : ℕ) → IsNamed old area k → IsNamed middle area k) → middle.disk ≡ old.disk
+    → LeavesAll tells middle new → LeavesAll tells old new
 carried tells old middle new named same leaves = record {
-  left = λ told area k is. subst (λ (d : DiskState). IsLeft k (area_of d.areas area) (area_of new.disk.areas area)) same (leaves.left told area k (named area k is));
+  left = λ told area k is. subst (λ (d : DiskState). IsLeft k (area_of d.areas area) (area_of new.disk.areas area)) same
+      (leaves.left told area k (named area k is));
   named = λ area k is. leaves.named area k (named area k is);
 }
 
 -- a store that keeps its disk and what its log names
-pub disk_stays : (tells : Bool) (old new : StoreValue) → ((area : Area) (k : ℕ) → IsNamed old area k → IsNamed new area k) → new.disk ≡ old.disk → LeavesAll tells old new
+pub disk_stays : (tells : Bool) (old new : StoreValue) → ((area : Area) (k : ℕ) → IsNamed old area k → IsNamed new area k) → new.disk ≡ old.disk
+    → LeavesAll tells old new
 disk_stays tells old new named same = record {
   left = λ told area k is. same_left k (area_of old.disk.areas area) (area_of new.disk.areas area) (ap (λ (d : DiskState). area_of d.areas area) same);
   named = named;
@@ -149,7 +162,11 @@ behind_kept old new keeps behind = behind_by new old.job old.runs_end keeps.job 
 
 -- a group that begins changes no usage
 pub grouped_usages : (v : TransactionsValue) → (grouped v).usages ≡ v.usages
-grouped_usages v = elim ((v.group == 0) && nat_lt 0 (length v.queue)) as (λ b. (cond b (record v { group = min (length v.queue) 16; stage = Storing 0 0 }) v).usages ≡ v.usages) [ true ↦ refl | false ↦ refl ]
+grouped_usages v =
+    elim ((v.group == 0) && nat_lt 0 (length v.queue)) as (λ b. (cond b (record v { group = min (length v.queue) 16; stage = Storing 0 0 }) v).usages
+    ≡ v.usages) [ true ↦ refl | false ↦ refl ]
 
 pub grouped_queue : (v : TransactionsValue) → (grouped v).queue ≡ v.queue
-grouped_queue v = elim ((v.group == 0) && nat_lt 0 (length v.queue)) as (λ b. (cond b (record v { group = min (length v.queue) 16; stage = Storing 0 0 }) v).queue ≡ v.queue) [ true ↦ refl | false ↦ refl ]
+grouped_queue v =
+    elim ((v.group == 0) && nat_lt 0 (length v.queue)) as (λ b. (cond b (record v { group = min (length v.queue) 16; stage = Storing 0 0 }) v).queue
+    ≡ v.queue) [ true ↦ refl | false ↦ refl ]

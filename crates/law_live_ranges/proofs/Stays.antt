@@ -18,7 +18,8 @@ use Rattle.recovery.specs.ReadsImage.{IsOpening}
 use Rattle.store.specs.Values.{StoreValue}
 use Rattle.store.specs.Opens.{Opens}
 use Rattle.law_live_ranges.specs.Named.{IsNamed, IsLeft, IsGivenUpIn, LeavesNamed, WritesBehind, IsTyped, bytes_in}
-use Rattle.law_live_ranges.specs.Laws.{IsCall, Began, Aborted, Submitting, Redeeming, Pumped, Archiving, Reclaiming, RaisingFloor, Growing, JobPumped, Viewed, AskedAt, AskedScan, AskedRows, AskedScanRows, AreCalls, end_of, IsGivenUpAmong, StaysNamed, HasNamed}
+use Rattle.law_live_ranges.specs.Laws.{IsCall, Began, Aborted, Submitting, Redeeming, Pumped, Archiving, Reclaiming, RaisingFloor, Growing, JobPumped, Viewed}
+use Rattle.law_live_ranges.specs.Laws.{AskedAt, AskedScan, AskedRows, AskedScanRows, AreCalls, end_of, IsGivenUpAmong, StaysNamed, HasNamed}
 use Rattle.law_live_ranges.proofs.Places.{same_left, left_twice}
 use Rattle.law_live_ranges.proofs.Naming.{LeavesAll, leaves_named, leaves_itself, behind_by}
 use Rattle.law_live_ranges.proofs.Calls.{began, aborted, redeemed, submitted, archiving, reclaiming, raising_floor, starting_growth, asked}
@@ -54,7 +55,8 @@ opened_names tells disk mark v opens told =
 
 -- ---- calls
 
-pub call_leaves : (tells : Bool) (old new : StoreValue) → IsTyped tells old → WritesBehind old → IsCall tells old new → LeavesNamed tells old new × WritesBehind new
+pub call_leaves : (tells : Bool) (old new : StoreValue) → IsTyped tells old → WritesBehind old → IsCall tells old new → LeavesNamed tells old new
+    × WritesBehind new
 call_leaves tells old new typed behind call = by_call call
   where
     all : LeavesAll tells old new × WritesBehind new → LeavesNamed tells old new × WritesBehind new
@@ -78,14 +80,21 @@ call_leaves tells old new typed behind call = by_call call
     by_call (AskedScanRows view relation a b answer is) = all (asked tells old new view a _ _ _ _ answer is behind)
 
 -- what a call leaves, and those after it
-then_stays : (tells : Bool) (v w : StoreValue) (ws : List StoreValue) (area : Area) (k : ℕ) → (IsTrue tells → IsLeft k (area_of v.disk.areas area) (area_of w.disk.areas area)) → StaysNamed tells w (end_of w ws) area k ⊎ IsGivenUpAmong w ws area k
+then_stays : (tells : Bool) (v w : StoreValue) (ws : List StoreValue) (area : Area) (k : ℕ)
+    → (IsTrue tells → IsLeft k (area_of v.disk.areas area) (area_of w.disk.areas area)) → StaysNamed tells w (end_of w ws) area k ⊎ IsGivenUpAmong w ws area k
     → StaysNamed tells v (end_of w ws) area k ⊎ IsGivenUpAmong v (w ∷ ws) area k
 then_stays tells v w ws area k left (inl stays) =
-    inl (record { left = λ told. left_twice k (area_of v.disk.areas area) (area_of w.disk.areas area) (area_of (end_of w ws).disk.areas area) (left told) (stays.left told); named = stays.named })
+    inl (record {
+      left = λ told. left_twice k (area_of v.disk.areas area) (area_of w.disk.areas area) (area_of (end_of w ws).disk.areas area) (left told)
+          (stays.left told);
+      named = stays.named;
+    })
 then_stays tells v w ws area k left (inr given) = inr (inr given)
 
 -- so it is of what is named still, and what the first gave up is given up
-first_stays : (tells : Bool) (v w : StoreValue) (ws : List StoreValue) (area : Area) (k : ℕ) → (IsTrue tells → IsLeft k (area_of v.disk.areas area) (area_of w.disk.areas area)) → (IsNamed w area k → StaysNamed tells w (end_of w ws) area k ⊎ IsGivenUpAmong w ws area k)
+first_stays : (tells : Bool) (v w : StoreValue) (ws : List StoreValue) (area : Area) (k : ℕ)
+    → (IsTrue tells → IsLeft k (area_of v.disk.areas area) (area_of w.disk.areas area))
+    → (IsNamed w area k → StaysNamed tells w (end_of w ws) area k ⊎ IsGivenUpAmong w ws area k)
     → IsNamed w area k ⊎ IsGivenUpIn v w area k → StaysNamed tells v (end_of w ws) area k ⊎ IsGivenUpAmong v (w ∷ ws) area k
 first_stays tells v w ws area k left rest (inl still) = then_stays tells v w ws area k left (rest still)
 first_stays tells v w ws area k left rest (inr given) = inr (inl given)
@@ -109,7 +118,8 @@ left_of areas image Heap left = left.heap
 left_of areas image Archive left = left.archive
 
 pub stop_leaves : (tells : Bool) (old new : StoreValue) (image : Image) → IsTyped tells old → IsTrue tells → LeavesImage new.disk.areas image
-    → (area : Area) (k : ℕ) → IsLeft k (area_of old.disk.areas area) (area_of new.disk.areas area) → k < (area_of old.disk.areas area).firm → IsUntouched k (k + 1) (area_of old.disk.areas area).loose
+    → (area : Area) (k : ℕ) → IsLeft k (area_of old.disk.areas area) (area_of new.disk.areas area) → k < (area_of old.disk.areas area).firm
+    → IsUntouched k (k + 1) (area_of old.disk.areas area).loose
     → slice_index (bytes_in image area) k ≡ slice_index (area_of old.disk.areas area).bytes k
 stop_leaves tells old new image typed told left area k is firm untouched =
     let sound : IsSound (area_of old.disk.areas area) = typed.sound told area in

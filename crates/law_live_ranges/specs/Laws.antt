@@ -62,10 +62,14 @@ pub data IsCall (tells : Bool) (old new : StoreValue) : Type 0 where
   -- a view, its end, or the times of a label
   Viewed : new ≡ old → IsCall tells old new
   -- a query of a view, which may read runs
-  AskedAt : (view : ViewValue) (key : Key) (time : ℕ) (answer : Result (Option Value) QueryFault) → AnswersAtView tells old view key time answer new → IsCall tells old new
-  AskedScan : (view : ViewValue) (relation time : ℕ) (answer : Result (Vec (ℕ × Value) Global) QueryFault) → AnswersScanAt tells old view relation time answer new → IsCall tells old new
-  AskedRows : (view : ViewValue) (key : Key) (a b : ℕ) (answer : Result (Vec (Version Value) Global) QueryFault) → AnswersRows tells old view key a b answer new → IsCall tells old new
-  AskedScanRows : (view : ViewValue) (relation a b : ℕ) (answer : Result (Vec (ℕ × Version Value) Global) QueryFault) → AnswersScanRows tells old view relation a b answer new → IsCall tells old new
+  AskedAt : (view : ViewValue) (key : Key) (time : ℕ) (answer : Result (Option Value) QueryFault) → AnswersAtView tells old view key time answer new
+      → IsCall tells old new
+  AskedScan : (view : ViewValue) (relation time : ℕ) (answer : Result (Vec (ℕ × Value) Global) QueryFault)
+      → AnswersScanAt tells old view relation time answer new → IsCall tells old new
+  AskedRows : (view : ViewValue) (key : Key) (a b : ℕ) (answer : Result (Vec (Version Value) Global) QueryFault) → AnswersRows tells old view key a b answer new
+      → IsCall tells old new
+  AskedScanRows : (view : ViewValue) (relation a b : ℕ) (answer : Result (Vec (ℕ × Version Value) Global) QueryFault)
+      → AnswersScanRows tells old view relation a b answer new → IsCall tells old new
 
 -- stores one after another, each by a call of the one before it
 abbrev pub AreCalls : Bool → StoreValue → List StoreValue → Type 0
@@ -107,7 +111,8 @@ OpenedNames = (tells : Bool) (disk : DiskState) (mark : ℕ) (v : StoreValue) �
 
 -- no call writes what the log names, and a job that it begins or goes on with will not
 abbrev pub CallLeavesNamed : Type 0
-CallLeavesNamed = (tells : Bool) (old new : StoreValue) → IsTyped tells old → WritesBehind old → IsCall tells old new → LeavesNamed tells old new × WritesBehind new
+CallLeavesNamed =
+    (tells : Bool) (old new : StoreValue) → IsTyped tells old → WritesBehind old → IsCall tells old new → LeavesNamed tells old new × WritesBehind new
 
 -- so it is of calls one after another: what the log named is as it was and is named still, but for what a reclaim among them gave up
 abbrev pub NamedStays : Type 0
@@ -117,7 +122,8 @@ NamedStays = (tells : Bool) (v : StoreValue) (ws : List StoreValue) → IsTyped 
 -- and whatever a stop may then leave has there what stood on the disk
 abbrev pub StopLeavesNamed : Type 0
 StopLeavesNamed = (tells : Bool) (old new : StoreValue) (image : Image) → IsTyped tells old → IsTrue tells → LeavesImage new.disk.areas image
-    → (area : Area) (k : ℕ) → IsLeft k (area_of old.disk.areas area) (area_of new.disk.areas area) → k < (area_of old.disk.areas area).firm → IsUntouched k (k + 1) (area_of old.disk.areas area).loose
+    → (area : Area) (k : ℕ) → IsLeft k (area_of old.disk.areas area) (area_of new.disk.areas area) → k < (area_of old.disk.areas area).firm
+    → IsUntouched k (k + 1) (area_of old.disk.areas area).loose
     → slice_index (bytes_in image area) k ≡ slice_index (area_of old.disk.areas area).bytes k
 
 -- ---- what is named more
@@ -129,7 +135,8 @@ pub record HasPublished (old : StoreValue) (count : ℕ) (new : StoreValue) : Ty
 
 -- where a group is published, its slot and the extents of its commits are named
 abbrev pub PublishedNamed : Type 0
-PublishedNamed = (tells : Bool) (old new : StoreValue) (count : ℕ) → IsTyped tells old → Pumps tells old (Ok (group.Published count)) new → HasPublished old count new
+PublishedNamed =
+    (tells : Bool) (old new : StoreValue) (count : ℕ) → IsTyped tells old → Pumps tells old (Ok (group.Published count)) new → HasPublished old count new
 
 -- the run of the job is named, by the slot that was opened
 pub record HasArchived (old : StoreValue) (job : ArchiveJob) (new : StoreValue) : Type 0 where
@@ -138,7 +145,9 @@ pub record HasArchived (old : StoreValue) (job : ArchiveJob) (new : StoreValue) 
 
 -- where an archive is done, its slot and its run are named
 abbrev pub ArchivedNamed : Type 0
-ArchivedNamed = (tells : Bool) (old new : StoreValue) (job : ArchiveJob) → IsTyped tells old → old.job ≡ Some (job_of job) → PumpsJob tells old (Ok did.JobDone) new → HasArchived old job new
+ArchivedNamed =
+    (tells : Bool) (old new : StoreValue) (job : ArchiveJob) → IsTyped tells old → old.job ≡ Some (job_of job) → PumpsJob tells old (Ok did.JobDone) new
+    → HasArchived old job new
 
 -- the extents of the anchors are named, by the slot that was opened
 pub record HasAnchored (old new : StoreValue) : Type 0 where
@@ -147,7 +156,9 @@ pub record HasAnchored (old new : StoreValue) : Type 0 where
 
 -- where a reclaim is done, its slot and the extents of its anchors are named
 abbrev pub AnchorsNamed : Type 0
-AnchorsNamed = (tells : Bool) (old new : StoreValue) (anchors : Anchors) (source : Sourced) (written : ℕ) (stage : JobStage) → IsTyped tells old → old.job ≡ Some (record { work = Reclaim anchors source written; stage = stage })
+AnchorsNamed =
+    (tells : Bool) (old new : StoreValue) (anchors : Anchors) (source : Sourced) (written : ℕ) (stage : JobStage) → IsTyped tells old → old.job
+    ≡ Some (record { work = Reclaim anchors source written; stage = stage })
     → PumpsJob tells old (Ok did.JobDone) new → HasAnchored old new
 
 -- a floor's slot names nothing, and nothing more is named but the slot itself
@@ -158,7 +169,9 @@ pub record NamesNoMore (old new : StoreValue) : Type 0 where
 
 -- where a floor is done, its slot is named and nothing more
 abbrev pub FloorNamesNoMore : Type 0
-FloorNamesNoMore = (tells : Bool) (old new : StoreValue) (scope : Option ℕ) (time : ℕ) (floors : FloorsValue) (stage : JobStage) → IsTyped tells old → old.job ≡ Some (record { work = Floor scope time floors; stage = stage })
+FloorNamesNoMore =
+    (tells : Bool) (old new : StoreValue) (scope : Option ℕ) (time : ℕ) (floors : FloorsValue) (stage : JobStage) → IsTyped tells old → old.job
+    ≡ Some (record { work = Floor scope time floors; stage = stage })
     → PumpsJob tells old (Ok did.JobDone) new → NamesNoMore old new
 
 -- a growth names nothing but its piece
@@ -170,5 +183,7 @@ pub record NamesPiece (old new : StoreValue) : Type 0 where
 
 -- where a growth is done, its piece is named and nothing more
 abbrev pub GrowthNamesPiece : Type 0
-GrowthNamesPiece = (tells : Bool) (old new : StoreValue) (growth : GrowthState) (stage : JobStage) → IsTyped tells old → old.job ≡ Some (record { work = Grow growth; stage = stage })
+GrowthNamesPiece =
+    (tells : Bool) (old new : StoreValue) (growth : GrowthState) (stage : JobStage) → IsTyped tells old → old.job
+    ≡ Some (record { work = Grow growth; stage = stage })
     → PumpsJob tells old (Ok did.JobDone) new → NamesPiece old new

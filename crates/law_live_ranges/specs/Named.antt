@@ -24,7 +24,8 @@ pub record IsInKept (v : StoreValue) (k : ℕ) : Type 0 where
   pub low : extent_start number ≤ k
   pub high : k < extent_start number + 8192
 
--- The log names this place of an area: of the status area the header, but for the gates of pieces that are not open, and the slots that are used, of the heap the extents of the live chains, which are those that its slots name but for what a reclaim gave up, of the archive all up to the end of the last run.
+-- The log names this place of an area: of the status area the header, but for the gates of pieces that are not open, and the slots that are used, of the heap
+-- the extents of the live chains, which are those that its slots name but for what a reclaim gave up, of the archive all up to the end of the last run.
 -- No call writes there, and none but the slot of a reclaim gives it up (the law call_leaves_named).
 abbrev pub IsNamed : StoreValue → Area → ℕ → Type 0
 IsNamed v Status k = (k < slot_start v.log.used) × ((k < 16 + v.log.pieces) ⊎ (512 ≤ k))

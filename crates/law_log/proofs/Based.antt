@@ -152,7 +152,7 @@ based-from old mark names before after (chain ∷ chains) le none so = based-fro
 
 -- ---- a log in two parts
 
-told-split : (mark : ℕ) (before : List Slot) (front back : List LogChain) → told_from mark before (front ++ back) ≡ told_from mark (told_from mark before front) back
+pub told-split : (mark : ℕ) (before : List Slot) (front back : List LogChain) → told_from mark before (front ++ back) ≡ told_from mark (told_from mark before front) back
 told-split mark before [] back = refl
 told-split mark before (chain ∷ chains) back = told-split mark (told_behind mark before chain) chains back
 
@@ -172,11 +172,11 @@ last-same : (s t : ℕ) (heads : List Head) → 0 < length heads → last_time_a
 last-same s t [] some = absurd (omega (arith, some))
 last-same s t (head ∷ heads) some = refl
 
-last-above : (last : ℕ) (heads : List Head) → 0 < length heads → AreRisingAfter last heads → last < last_time_after last heads
+pub last-above : (last : ℕ) (heads : List Head) → 0 < length heads → AreRisingAfter last heads → last < last_time_after last heads
 last-above last [] some up = absurd (omega (arith, some))
 last-above last (head ∷ heads) some up = omega (arith, up.0, last-rises head.time heads up.2)
 
-rising-lower : (s t : ℕ) (heads : List Head) → s ≤ t → AreRisingAfter t heads → AreRisingAfter s heads
+pub rising-lower : (s t : ℕ) (heads : List Head) → s ≤ t → AreRisingAfter t heads → AreRisingAfter s heads
 rising-lower s t [] le up = tt
 rising-lower s t (head ∷ heads) le up = (omega (arith, le, up.0), up.1, up.2)
 

@@ -171,3 +171,11 @@ pub record TakesPlace (front back : List LogChain) (b : Base) : Type 0 where
   pub marks : b.marks ≡ marks_of (told_from (reclaimed_by (front ++ back)) [] front)
   pub floors : (relation : ℕ) → floor_of (base_slots b) relation ≡ floor_of (told_from (reclaimed_by (front ++ back)) [] front) relation
   pub in_range : IsBase b
+
+-- ---- a group more
+
+-- the log with a group behind it
+pub record IsWithGroup (chains : List LogChain) (members : List Member) : Type 0 where
+  pub rules : KeepsChainRules (chains ++ OfGroup members ∷ [])
+  pub tells : told (chains ++ OfGroup members ∷ []) ≡ told chains ++ Commits (heads_in members) ∷ []
+  pub has : members_of (chains ++ OfGroup members ∷ []) ≡ members_of chains ++ members

@@ -1,5 +1,6 @@
 -- Parts of the heap while something else is written.
-use Rattle.std.proofs.Common.{◌≡◌, ◌≢◌, ℕ, ◌+◌, ◌<◌, ◌≤◌, ◌==◌, Bool, true, false, List, [], ◌∷◌, ◌++◌, length, refl, sym, ap, subst, ◌∙◌, arith, append_assoc, ⊎_elim, ◌⊎◌, inl, inr}
+use Rattle.std.proofs.Common.{◌≡◌, ◌≢◌, ℕ, ◌+◌, ◌<◌, ◌≤◌, ◌==◌, Bool, true, false, List, [], ◌∷◌, ◌++◌, length, refl, sym, ap, subst, ◌∙◌, arith, append_assoc}
+use Rattle.std.proofs.Common.{⊎_elim, ◌⊎◌, inl, inr}
 use Rattle.std.specs.Prelude.{slice_index}
 use Rattle.std.proofs.lemmas.Bool.Decides.{nat_tests}
 use Rattle.std.proofs.lemmas.List.{append-nil}
@@ -12,12 +13,14 @@ use Rattle.law_layout.proofs.SlotTurns.{read_first}
 use Rattle.law_log_layout.specs.Turns.{Part, HoldsAll, KeepsAll, open_gate, gate_part, IsClosed, KeepsClosed, ArePartsApart, AreApartFrom, AreInTurn}
 
 -- a write, in full or in part, keeps all that lies apart from it
-pub all-kept : (q : Part) (parts : List Part) (old new : AreaState) → IsSound old → AreApartFrom q parts → IsLoosened q.place (length q.bytes) old new → KeepsAll parts old → KeepsAll parts new
+pub all-kept : (q : Part) (parts : List Part) (old new : AreaState) → IsSound old → AreApartFrom q parts → IsLoosened q.place (length q.bytes) old new
+    → KeepsAll parts old → KeepsAll parts new
 all-kept q [] old new sound apart loose keeps = tt
 all-kept q (p ∷ parts) old new sound apart loose keeps =
     (kept_by_write q.place (length q.bytes) p.place p.bytes old new sound keeps.0 apart.0 loose, all-kept q parts old new sound apart.1 loose keeps.1)
 
-pub closed-kept : (q : Part) (place : ℕ) (old new : AreaState) → IsSound old → ArePartsApart (gate_part place 0) q → IsLoosened q.place (length q.bytes) old new → KeepsClosed place old → KeepsClosed place new
+pub closed-kept : (q : Part) (place : ℕ) (old new : AreaState) → IsSound old → ArePartsApart (gate_part place 0) q → IsLoosened q.place (length q.bytes) old new
+    → KeepsClosed place old → KeepsClosed place new
 closed-kept q place old new sound apart loose keeps = record {
   gate = keeps.gate;
   closed = keeps.closed;
@@ -63,7 +66,9 @@ one-of P (q ∷ done) p rest all = one-of P done p rest all.1
 pub byte-held : (place : ℕ) (content : List ℕ) (gate : ℕ) → place + 1 ≤ length content → slice_index content place ≡ gate → HoldsPart place (gate ∷ []) content
 byte-held place content gate inside is =
     held_again place (gate ∷ []) (overlaid content place (gate ∷ [])) content inside
-    (λ k low high. let same : k ≡ place = omega (arith, low, high) in ap (slice_index content) same ∙ is ∙ sym (ap (slice_index (overlaid content place (gate ∷ []))) same ∙ read_first content place gate))
+    (λ k low high. let same : k ≡ place =
+    omega (arith, low, high) in ap (slice_index content) same ∙ is
+    ∙ sym (ap (slice_index (overlaid content place (gate ∷ []))) same ∙ read_first content place gate))
     (written_part place (gate ∷ []) content)
 
 -- a gate is open or closed
@@ -74,6 +79,10 @@ gate-either place content inside =
     let all : (b : Bool) → Goal b =
     λ b. elim b as Goal [
       | true ↦ λ e. inr (byte-held place content open_gate inside (grind (arith, nat_tests, e)))
-      | false ↦ λ e. inl (record { gate = gate; closed = λ same. absurd (let no : false ≡ true = sym e ∙ grind (arith, nat_tests, same) in cc); held = byte-held place content gate inside refl })
+      | false ↦ λ e. inl (record {
+        gate = gate;
+        closed = λ same. absurd (let no : false ≡ true = sym e ∙ grind (arith, nat_tests, same) in cc);
+        held = byte-held place content gate inside refl;
+      })
     ] in
     all (gate == open_gate) refl

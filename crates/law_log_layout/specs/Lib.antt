@@ -1,3 +1,4 @@
 pub mod Turns
 pub mod Roots
+pub mod HeapLog
 pub mod Laws

@@ -87,7 +87,8 @@ pub record HoldsNew (log : List Part) (t : Turn) (content : List ℕ) : Type 0 w
 
 -- ---- stages
 
--- Where the chain is: some parts are written and others not yet, and behind the last one the gate where the log then ends is closed; all is to be synced; its gate is to be
+-- Where the chain is: some parts are written and others not yet, and behind the last one the gate where the log then ends is closed; all is to be synced; its
+-- gate is to be
 -- opened; that is to be synced; the chain is the log's.
 pub data Stage : Type 0 where
   Writing : List Part → List Part → Stage

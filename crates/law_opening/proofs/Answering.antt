@@ -23,6 +23,7 @@ use Rattle.law_refinement.specs.Homes.{GoesOn, IsSure}
 use Rattle.law_refinement.specs.Laws.{SaysAt}
 use Rattle.law_refinement.specs.Stands.{Stands}
 use Rattle.law_refinement.proofs.Answering.{times-of_label}
+use Rattle.law_refinement.proofs.Queries.{recent-answered}
 use Rattle.law_refinement.proofs.Views.{view-of-history, view-goes-on, at-answered, scan_at-answered, between-answered, scan_between-answered}
 use Rattle.law_opening.specs.Laws.{OpensAgain, IsKeptThen, AnswersBy}
 use Rattle.law_opening.proofs.Fronts.{front-says, by-change}
@@ -36,6 +37,7 @@ stands-answers tells v m stands = record {
       let of = view-of-history tells v view m stands is in at-answered tells asked new later view m.published m.floors key time answer now of.0 (view-goes-on tells v asked view m.published m.floors of.1 goes) says;
   scan_at = λ view asked new later relation time answer is now goes says.
       let of = view-of-history tells v view m stands is in scan_at-answered tells asked new later view m.published m.floors relation time answer now of.0 (view-goes-on tells v asked view m.published m.floors of.1 goes) says;
+  recent = λ view key time answer is says. recent-answered view m.published m.floors key time answer (view-of-history tells v view m stands is).0 says;
   between = λ view asked new later key a b answer is now goes says.
       let of = view-of-history tells v view m stands is in between-answered tells asked new later view m.published m.floors key a b answer now of.0 (view-goes-on tells v asked view m.published m.floors of.1 goes) says;
   scan_between = λ view asked new later relation a b answer is now goes says.

@@ -66,6 +66,7 @@ use Rattle.law_refinement.specs.Stands.{AreOfProfile, Stands, StandsStill}
 use Rattle.law_refinement.proofs.Growing.{as-still}
 use Rattle.law_refinement.proofs.HeapForgets.{heap-forgot}
 use Rattle.law_refinement.proofs.Held.{last-held}
+use Rattle.law_opening.specs.Laws.{IsOfHeader, ImageHasHeader}
 use Rattle.law_opening.proofs.Runs.{runs-hold, runs-end, marks-are}
 use Rattle.law_opening.proofs.Times.{opened-times, opened-long}
 use Rattle.law_opening.proofs.Versions.{latest-upto}
@@ -330,3 +331,25 @@ open-stands tells old mark v header h floors opens told sound image =
     let ordered : IsOrdered opens.recovered.chains = subst (λ (w : StoreValue). IsOrdered w.transactions.versions) opens.new_is opens.ordered in
     as-still tells v (opened h floors) (subst (λ (w : StoreValue). StandsStill tells w (opened h floors)) (sym opens.new_is)
     (opened-stands old mark v.disk opens.recovered v.archive header h floors (opens.read told) opens.unread image (opens.settled told) ordered sound tells))
+
+-- ---- the header
+
+-- a store that is opened on such an image has its header
+pub open-header : (tells : Bool) (old : DiskState) (mark : ℕ) (v : StoreValue) (header : Header) (h : History Value) (floors : ℕ → ℕ) → Opens tells old mark v
+    → IsTrue tells → IsImageOf header (image_of old.areas) h floors → IsOfHeader v header
+open-header tells old mark v header h floors opens told image =
+    let read = opens.read told in
+    let opening = stands_opening header (image_of old.areas) image.layout image.reading h floors image.laid image.held image.stands image.profile_built image.built in
+    let same : opens.recovered.header ≡ header =
+    (opens_once opens.recovered.header header (image_of old.areas) read.layout (unread_layout image.layout) read.reading (unread image.reading) read.opening.opens opening.opens).0 in
+    record {
+      profile = ap (λ (w : StoreValue). w.log.profile) opens.new_is ∙ ap (λ (x : Header). x.profile) same;
+      slots = ap (λ (w : StoreValue). w.log.slots) opens.new_is ∙ ap total same;
+      pieces = ap (λ (w : StoreValue). w.log.pieces) opens.new_is ∙ ap (λ (x : Header). x.pieces) same;
+    }
+
+pub image-header : ImageHasHeader
+image-header tells header image h floors told is = record {
+  reads = record { stands = is.held.log.header_is; built = is.profile_built };
+  recovered = λ disk mark again same opens. open-header tells disk mark again header h floors opens told (subst (λ (i : Image). IsImageOf header i h floors) (sym same) is);
+}

@@ -1,5 +1,5 @@
 -- What opening a store, formatting a disk and closing a store stand for.
-use Rattle.std.specs.Prelude.{ℕ, ◌≡◌, ◌≢◌, ◌+◌, ◌<◌, ◌≤◌, ◌++◌, take, Bool, IsTrue, List, [], Option, Result, MatchOption}
+use Rattle.std.specs.Prelude.{ℕ, ◌≡◌, ◌≢◌, ◌+◌, ◌<◌, ◌≤◌, ◌⊎◌, ◌++◌, take, Bool, IsTrue, List, [], Option, Result, MatchOption, MatchResult}
 use Rattle.disk.specs.Areas.{Areas, Image, AreSound, LeavesImage, LeavesNoMore, image_of}
 use Rattle.disk.specs.Calls.{DiskState, top}
 use Rattle.std.specs.List.{AllByRecursion}
@@ -20,8 +20,10 @@ use Rattle.recovery.specs.Format.{IsFormatted, LeavesShut}
 use Rattle.recovery.specs.Faults.{IsReadFault}
 use Rattle.recovery.specs.Settling.{Settles}
 use Rattle.recovery.specs.declared.fault.OpenFault.{OpenFault}
+use Rattle.history.specs.Time.{value_at}
+use Rattle.chains.specs.KeyWrites.{writes_of}
 use Rattle.group.specs.CommitOrder.{times_of}
-use Rattle.timequery.specs.View.{ViewValue}
+use Rattle.timequery.specs.View.{ViewValue, AnswersAt, RefusesRecent}
 use Rattle.timequery.specs.declared.fault.QueryFault.{QueryFault}
 use Rattle.group.specs.Calls.{order_of}
 use Rattle.store.specs.Values.{StoreValue}
@@ -30,7 +32,8 @@ use Rattle.store.specs.Opens.{Opens, OpenRefuses}
 use Rattle.law_refinement.specs.Laws.{SaysAt, SaysScanAt, SaysBetween, SaysScanBetween}
 use Rattle.law_refinement.specs.Homes.{GoesOn, IsSure}
 use Rattle.law_refinement.specs.OnDisk.{IsImageOf}
-use Rattle.law_refinement.specs.Stands.{Stands, LeavesFront}
+use Rattle.law_refinement.specs.Stands.{Stands, IsHeaderLeft, growth_of, may_have_grown}
+use Rattle.law_refinement.specs.Views.{SaysRecent}
 
 -- ---- opening
 
@@ -70,15 +73,39 @@ abbrev pub FormatOpens : Type 0
 FormatOpens = (tells : Bool) (slots : ℕ) (old new : Areas) (disk : DiskState) (mark : ℕ) (v : StoreValue)
     → IsFormatted slots old new → LeavesImage new (image_of disk.areas) → AreSound disk.areas → Opens tells disk mark v → IsTrue tells → Stands tells v (opened [] (λ relation. 0))
 
+-- ---- headers
+
+-- The store has this header: its profile, its slots and its open pieces.
+pub record IsOfHeader (v : StoreValue) (header : Header) : Type 0 where
+  pub profile : v.log.profile ≡ header.profile
+  pub slots : v.log.slots ≡ total header
+  pub pieces : v.log.pieces ≡ header.pieces
+
+-- What a stop leaves of the store has this header: the store's own or, once the gate of a piece may be open, that with the piece.
+abbrev pub IsHeaderLeftBy : StoreValue → Header → Type 0
+IsHeaderLeftBy v found = (header : Header) × IsOfHeader v header × IsHeaderLeft header (may_have_grown (growth_of v.job)) found
+
+-- An image has this header, and so has every store that is opened on it.
+pub record RecoversHeader (tells : Bool) (image : Image) (header : Header) : Type 0 where
+  pub reads : ReadsHeader image.status header
+  pub recovered : (disk : DiskState) (mark : ℕ) (again : StoreValue) → image_of disk.areas ≡ image → Opens tells disk mark again → IsOfHeader again header
+
+-- an image that stands for a history has the header by which it does
+abbrev pub ImageHasHeader : Type 0
+ImageHasHeader =
+    (tells : Bool) (header : Header) (image : Image) (h : History Value) (floors : ℕ → ℕ) → IsTrue tells → IsImageOf header image h floors
+    → RecoversHeader tells image header
+
 -- ---- closing, and opening again
 
--- whatever a stop may leave of these areas stands for a front of the commit order, by one header or, where a piece's gate may be open, by that with one piece more
-abbrev pub LeavesFronts : Areas → Machine Value → Type 0
-LeavesFronts areas m = (header : Header) × (grows : Bool) × ((image : Image) → LeavesImage areas image → LeavesFront header grows image m)
+-- whatever a stop may leave of these areas of a store has its header, with the piece in the making or without, and stands for a front of the commit order
+abbrev pub LeavesFronts : StoreValue → Areas → Machine Value → Type 0
+LeavesFronts v areas m = (image : Image) → LeavesImage areas image → (header : Header) × IsHeaderLeftBy v header × OnFront (IsImageOf header image) m
 
 -- so it is of the disk that closing hands back
 abbrev pub CloseLeaves : Type 0
-CloseLeaves = (tells : Bool) (v : StoreValue) (m : Machine Value) (disk : DiskState) → Stands tells v m → IsTrue tells → disk ≡ v.disk → LeavesFronts disk.areas m
+CloseLeaves =
+    (tells : Bool) (v : StoreValue) (m : Machine Value) (disk : DiskState) → Stands tells v m → IsTrue tells → disk ≡ v.disk → LeavesFronts v disk.areas m
 
 -- A store is opened again: the disk holds what a stop may have left of it.
 pub record OpensAgain (tells : Bool) (v : StoreValue) (disk : DiskState) (mark : ℕ) (again : StoreValue) : Type 0 where
@@ -91,6 +118,12 @@ abbrev pub ReopenStands : Type 0
 ReopenStands = (tells : Bool) (v : StoreValue) (m : Machine Value) (disk : DiskState) (mark : ℕ) (again : StoreValue)
     → Stands tells v m → IsTrue tells → OpensAgain tells v disk mark again → OnFront (λ h floors. Stands tells again (opened h floors)) m
 
+-- It has the slots that there were or, once the gate of a piece might be open, 256 more.
+abbrev pub ReopenHasSlots : Type 0
+ReopenHasSlots = (tells : Bool) (v : StoreValue) (m : Machine Value) (disk : DiskState) (mark : ℕ) (again : StoreValue)
+    → Stands tells v m → IsTrue tells → OpensAgain tells v disk mark again
+    → (again.log.slots ≡ v.log.slots) ⊎ (IsTrue (may_have_grown (growth_of v.job)) × (again.log.slots ≡ v.log.slots + 256))
+
 -- Where that is refused, the device or memory gave out, and the disk still holds what the stop left.
 abbrev pub ReopenRefuses : Type 0
 ReopenRefuses = (tells : Bool) (v : StoreValue) (m : Machine Value) (disk new : DiskState) (why : OpenFault)
@@ -99,17 +132,19 @@ ReopenRefuses = (tells : Bool) (v : StoreValue) (m : Machine Value) (disk new : 
 -- A stop while the store is opened again: where opening was refused, at whichever of its calls, it leaves nothing that it might not have left before, so a front of the commit order as that did.
 abbrev pub OpeningStops : Type 0
 OpeningStops = (tells : Bool) (v : StoreValue) (m : Machine Value) (disk new : DiskState) (why : OpenFault)
-    → Stands tells v m → IsTrue tells → LeavesNoMore v.disk.areas disk.areas → OpenRefuses tells disk why new → LeavesNoMore v.disk.areas new.areas × LeavesFronts new.areas m
+    → Stands tells v m → IsTrue tells → LeavesNoMore v.disk.areas disk.areas → OpenRefuses tells disk why new
+    → LeavesNoMore v.disk.areas new.areas × LeavesFronts v new.areas m
 
 -- A second stop, once it was opened again: so it is of the opened store.
 abbrev pub SecondStops : Type 0
 SecondStops = (tells : Bool) (v : StoreValue) (m : Machine Value) (disk : DiskState) (mark : ℕ) (again : StoreValue)
-    → Stands tells v m → IsTrue tells → LeavesNoMore v.disk.areas disk.areas → Opens tells disk mark again → LeavesNoMore v.disk.areas again.disk.areas × LeavesFronts again.disk.areas m
+    → Stands tells v m → IsTrue tells → LeavesNoMore v.disk.areas disk.areas → Opens tells disk mark again
+    → LeavesNoMore v.disk.areas again.disk.areas × LeavesFronts v again.disk.areas m
 
 -- At every moment while it is opened again, and whether that is refused or not, a stop leaves nothing that the first might not have left, so a front of the commit order too.
 abbrev pub OpeningMoments : Type 0
 OpeningMoments = (tells : Bool) (v : StoreValue) (m : Machine Value) (disk new : DiskState) → Stands tells v m → IsTrue tells → LeavesNoMore v.disk.areas disk.areas → (settles : Settles tells disk new)
-    → AllByRecursion (λ moment. LeavesNoMore v.disk.areas moment.areas × LeavesFronts moment.areas m) settles.moments
+    → AllByRecursion (λ moment. LeavesNoMore v.disk.areas moment.areas × LeavesFronts v moment.areas m) settles.moments
 
 -- the disk that a closed store hands back holds what a stop may have left, so it may be opened again
 abbrev pub ClosedIsLeft : Type 0
@@ -117,12 +152,19 @@ ClosedIsLeft = (v : StoreValue) (disk : DiskState) → disk ≡ v.disk → AreSo
 
 -- ---- queries
 
+-- what a view answers from memory alone, as its own clause says
+abbrev pub AnswersRecent : ViewValue → Key → ℕ → Result (Option Value) QueryFault → Type 0
+AnswersRecent view key time answer =
+    MatchResult answer (λ found. (view.reclaimed ≤ time) × AnswersAt view key.relation time found (value_at (writes_of view.state key) time)) (RefusesRecent view key.relation time)
+
 -- Every view that is taken of the store now is answered by this history, also when it is asked later, as long as the store goes on.
 pub record AnswersBy (tells : Bool) (v : StoreValue) (h : History Value) (floors : ℕ → ℕ) : Type 0 where
   pub at : (view : ViewValue) (asked new : StoreValue) (later : Machine Value) (key : Key) (time : ℕ) (answer : Result (Option Value) QueryFault)
       → IsViewOf v view → Stands tells asked later → GoesOn tells v asked → AnswersAtView tells asked view key time answer new → SaysAt (IsSure tells view.reclaimed time) (at_answer h floors key time) answer
   pub scan_at : (view : ViewValue) (asked new : StoreValue) (later : Machine Value) (relation time : ℕ) (answer : Result (Vec (ℕ × Value) Global) QueryFault)
       → IsViewOf v view → Stands tells asked later → GoesOn tells v asked → AnswersScanAt tells asked view relation time answer new → SaysScanAt (IsSure tells view.reclaimed time) h floors relation time answer
+  pub recent : (view : ViewValue) (key : Key) (time : ℕ) (answer : Result (Option Value) QueryFault) → IsViewOf v view → AnswersRecent view key time answer
+      → SaysRecent view time (at_answer h floors key time) answer
   pub between : (view : ViewValue) (asked new : StoreValue) (later : Machine Value) (key : Key) (a b : ℕ) (answer : Result (Vec (Version Value) Global) QueryFault)
       → IsViewOf v view → Stands tells asked later → GoesOn tells v asked → AnswersRows tells asked view key a b answer new → SaysBetween (IsSure tells view.reclaimed a) h floors key a b answer
   pub scan_between : (view : ViewValue) (asked new : StoreValue) (later : Machine Value) (relation a b : ℕ) (answer : Result (Vec (ℕ × Version Value) Global) QueryFault)

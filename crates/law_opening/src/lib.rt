@@ -1,7 +1,7 @@
 //! What opening a store, formatting a disk and closing a store stand for: laws, each as a function with nothing to do.
 #![tactic(auto)]
 
-ghost use Rattle.law_opening.specs.Laws.{OpenStands, OpenAnswers, OpenRefusesFor, FormatStands, FormatStops, FormatOpens, CloseLeaves, ReopenStands, ReopenRefuses, OpeningStops, SecondStops, OpeningMoments, ClosedIsLeft, StandsAnswers, KeptAnswers, AnswersStay, LabelsStay};
+ghost use Rattle.law_opening.specs.Laws.{OpenStands, OpenAnswers, OpenRefusesFor, FormatStands, FormatStops, FormatOpens, CloseLeaves, ReopenStands, ReopenRefuses, OpeningStops, SecondStops, OpeningMoments, ClosedIsLeft, ReopenHasSlots, ImageHasHeader, StandsAnswers, KeptAnswers, AnswersStay, LabelsStay};
 
 /// On an image that stands for a history an opened store stands for it, and there is one that
 /// opening answers. Where opening is refused, the device or memory gave out, the disk still holds the image, and a stop leaves nothing that it
@@ -25,7 +25,8 @@ pub fn close_leaves()
 {}
 
 /// A store that is opened again after a stop stands for a front of its commit order, with all that
-/// was published. So it does where it was closed. A stop at any moment while it is opened, refused
+/// was published, and has the slots that there were or, once the gate of a piece might be open, 256
+/// more. So it does where it was closed. A stop at any moment while it is opened, refused
 /// or not, and a second stop leave nothing that the first might not have left.
 pub fn reopen_stands()
     ensures opens { ReopenStands }
@@ -34,6 +35,8 @@ pub fn reopen_stands()
     ensures second { SecondStops }
     ensures moments { OpeningMoments }
     ensures closed { ClosedIsLeft }
+    ensures slots { ReopenHasSlots }
+    ensures header { ImageHasHeader }
 {}
 
 /// Views are answered by the history, and after a stop as before it. So are the times of a label.

@@ -1,5 +1,6 @@
 -- Tickets and labels answer as the machine does.
-use Rattle.std.proofs.Common.{◌≡◌, ℕ, zero, suc, ◌<◌, ◌≤◌, ◌==◌, ◌||◌, nat_le, Bool, true, false, cond, List, [], ◌∷◌, length, take, map, MatchBool, refl, arith, ap, sym, subst, ◌∙◌, inl, inr}
+use Rattle.std.proofs.Common.{◌≡◌, ℕ, zero, suc, ◌<◌, ◌≤◌, ◌==◌, ◌||◌, nat_le, Bool, true, false, cond, List, [], ◌∷◌, length, take, map, MatchBool, refl}
+use Rattle.std.proofs.Common.{arith, ap, sym, subst, ◌∙◌, inl, inr}
 use Rattle.std.specs.List.{list_any, filter}
 use Rattle.std.proofs.lemmas.Bool.{cases_eq}
 use Rattle.std.proofs.lemmas.Bool.Decides.{nat_tests}
@@ -35,7 +36,8 @@ awaited-later t time (x ∷ xs) rising waits =
           omega (arith, rising.0, awaited-later x.time time xs rising.2 rest)
     ]
 
-published-in : (t time n : ℕ) (heads : List CommitHead) → IsRisingAfter t heads → is_awaited time heads ≡ true → time ≤ last_time_after t (take n heads) → list_any (λ (head : CommitHead). head.time == time) (take n heads) ≡ true
+published-in : (t time n : ℕ) (heads : List CommitHead) → IsRisingAfter t heads → is_awaited time heads ≡ true → time ≤ last_time_after t (take n heads)
+    → list_any (λ (head : CommitHead). head.time == time) (take n heads) ≡ true
 published-in t time zero heads rising waits early = absurd (omega (arith, awaited-later t time heads rising waits, early))
 published-in t time (suc n) [] rising waits early = absurd cc
 published-in t time (suc n) (x ∷ xs) rising waits early =
@@ -52,7 +54,8 @@ last-least t zero heads rising = omega arith
 last-least t (suc n) [] rising = omega arith
 last-least t (suc n) (x ∷ xs) rising = omega (arith, rising.0, last-least x.time n xs rising.2)
 
-late-none : (t time n : ℕ) (heads : List CommitHead) → IsRisingAfter t heads → last_time_after t (take n heads) < time → list_any (λ (head : CommitHead). head.time == time) (take n heads) ≡ false
+late-none : (t time n : ℕ) (heads : List CommitHead) → IsRisingAfter t heads → last_time_after t (take n heads) < time
+    → list_any (λ (head : CommitHead). head.time == time) (take n heads) ≡ false
 late-none t time zero heads rising late = refl
 late-none t time (suc n) [] rising late = refl
 late-none t time (suc n) (x ∷ xs) rising late =
@@ -60,7 +63,8 @@ late-none t time (suc n) (x ∷ xs) rising late =
     let test : (x.time == time) ≡ false = let less : x.time < time = omega arith in grind (arith, nat_tests) in
     rw test (late-none x.time time n xs rising.2 late)
 
-named-any : (time : ℕ) (heads : List CommitHead) (h : History Value) → map name_at heads ≡ map name_of h → list_any (λ (head : CommitHead). head.time == time) heads ≡ list_any (λ (c : Commit Value). c.time == time) h
+named-any : (time : ℕ) (heads : List CommitHead) (h : History Value) → map name_at heads ≡ map name_of h
+    → list_any (λ (head : CommitHead). head.time == time) heads ≡ list_any (λ (c : Commit Value). c.time == time) h
 named-any time [] [] same = refl
 named-any time [] (c ∷ cs) same = absurd cc
 named-any time (x ∷ xs) [] same = absurd cc
@@ -68,10 +72,12 @@ named-any time (x ∷ xs) (c ∷ cs) same =
     let first : name_at x ≡ name_of c = cc in
     let rest : map name_at xs ≡ map name_of cs = cc in
     let times : x.time ≡ c.time = ap (λ (n : Name). n.time) first in
-    ap (λ (k : ℕ). (k == time) || list_any (λ (head : CommitHead). head.time == time) xs) times ∙ ap (λ (b : Bool). (c.time == time) || b) (named-any time xs cs rest)
+    ap (λ (k : ℕ). (k == time) || list_any (λ (head : CommitHead). head.time == time) xs) times
+    ∙ ap (λ (b : Bool). (c.time == time) || b) (named-any time xs cs rest)
 
 named-times : (label : ℕ) (heads : List CommitHead) (h : History Value) → map name_at heads ≡ map name_of h
-    → map (λ (head : CommitHead). head.time) (filter (λ (head : CommitHead). head.label == label) heads) ≡ map (λ (c : Commit Value). c.time) (filter (λ (c : Commit Value). c.label == label) h)
+    → map (λ (head : CommitHead). head.time) (filter (λ (head : CommitHead). head.label == label) heads)
+    ≡ map (λ (c : Commit Value). c.time) (filter (λ (c : Commit Value). c.label == label) h)
 named-times label [] [] same = refl
 named-times label [] (c ∷ cs) same = absurd cc
 named-times label (x ∷ xs) [] same = absurd cc
@@ -102,7 +108,8 @@ redeemed-names time (x ∷ xs) =
       | false ↦ ap (λ (ns : List Name). name_at x ∷ ns) (redeemed-names time xs)
     ]
 
-redeemed-stands : (v : TransactionsValue) (m : Machine Value) (time : ℕ) → StandsInMemory v m → StandsInMemory (record v { heads = orders.redeemed time v.heads }) m
+redeemed-stands : (v : TransactionsValue) (m : Machine Value) (time : ℕ) → StandsInMemory v m
+    → StandsInMemory (record v { heads = orders.redeemed time v.heads }) m
 redeemed-stands v m time stands = record {
   names = redeemed-names time v.heads ∙ stands.names;
   rising = redeemed-rising 0 time v.heads stands.rising;
@@ -119,48 +126,67 @@ redeemed-stands v m time stands = record {
   failed = stands.failed;
 }
 
-published-same : (v : TransactionsValue) (m : Machine Value) (time : ℕ) → StandsInMemory v m → list_any (λ (head : CommitHead). head.time == time) (take v.published v.heads) ≡ answers.is_published m time
+published-same : (v : TransactionsValue) (m : Machine Value) (time : ℕ) → StandsInMemory v m
+    → list_any (λ (head : CommitHead). head.time == time) (take v.published v.heads) ≡ answers.is_published m time
 published-same v m time stands =
     ap (λ (n : ℕ). list_any (λ (head : CommitHead). head.time == time) (take n v.heads)) stands.published
     ∙ named-any time (take (length m.published) v.heads) m.published (front-named v.heads m.published m.queue stands.names)
 
-published-parts : (a b : Bool) → cond a (cond b ticket_state.Published ticket_state.Waiting) ticket_state.Unknown ≡ ticket_state.Published → (a ≡ true) × (b ≡ true)
+published-parts : (a b : Bool) → cond a (cond b ticket_state.Published ticket_state.Waiting) ticket_state.Unknown ≡ ticket_state.Published → (a ≡ true)
+    × (b ≡ true)
 published-parts true true is = (refl, refl)
 published-parts true false is = absurd cc
 published-parts false b is = absurd cc
 
-waiting-parts : (a b : Bool) → cond a (cond b ticket_state.Published ticket_state.Waiting) ticket_state.Unknown ≡ ticket_state.Waiting → (a ≡ true) × (b ≡ false)
+waiting-parts : (a b : Bool) → cond a (cond b ticket_state.Published ticket_state.Waiting) ticket_state.Unknown ≡ ticket_state.Waiting → (a ≡ true)
+    × (b ≡ false)
 waiting-parts true true is = absurd cc
 waiting-parts true false is = (refl, refl)
 waiting-parts false b is = absurd cc
 
-by-standing : (old new : TransactionsValue) (ticket : TicketValue) (answer : Redeemed) (m : Machine Value) → StandsInMemory old m → (s : TicketState) → state_of_ticket ticket.time (calls.order_of old) ≡ s → calls.AnswersTicket old ticket s answer new
+by-standing : (old new : TransactionsValue) (ticket : TicketValue) (answer : Redeemed) (m : Machine Value) → StandsInMemory old m → (s : TicketState)
+    → state_of_ticket ticket.time (calls.order_of old) ≡ s → calls.AnswersTicket old ticket s answer new
     → RedeemsAs (answers.redeemed_by m ticket.time) answer × StandsInMemory new m
-by-standing old new ticket answer m stands ticket_state.Unknown is says =
-    (subst (λ (r : Redeemed). RedeemsAs (answers.redeemed_by m ticket.time) r) (sym says.0) tt, subst (λ (v : TransactionsValue). StandsInMemory v m) (sym says.1) stands)
+by-standing old new ticket answer m stands ticket_state.Unknown is says = (
+  subst (λ (r : Redeemed). RedeemsAs (answers.redeemed_by m ticket.time) r) (sym says.0) tt,
+  subst (λ (v : TransactionsValue). StandsInMemory v m) (sym says.1) stands,
+)
 by-standing old new ticket answer m stands ticket_state.Published is says =
     let parts = published-parts (is_awaited ticket.time old.heads) (nat_le ticket.time (last_published (calls.order_of old))) is in
     let early : ticket.time ≤ last_published (calls.order_of old) = let test = parts.1 in grind (arith, nat_tests) in
-    let there : answers.is_published m ticket.time ≡ true = sym (published-same old m ticket.time stands) ∙ published-in 0 ticket.time old.published old.heads stands.rising parts.0 early in
-    (subst (λ (r : Redeemed). RedeemsAs (answers.redeemed_by m ticket.time) r) (sym says.0) (rw there refl), subst (λ (v : TransactionsValue). StandsInMemory v m) (sym says.1) (redeemed-stands old m ticket.time stands))
+    let there : answers.is_published m ticket.time ≡ true =
+    sym (published-same old m ticket.time stands) ∙ published-in 0 ticket.time old.published old.heads stands.rising parts.0 early in (
+      subst (λ (r : Redeemed). RedeemsAs (answers.redeemed_by m ticket.time) r) (sym says.0) (rw there refl),
+      subst (λ (v : TransactionsValue). StandsInMemory v m) (sym says.1) (redeemed-stands old m ticket.time stands),
+    )
 by-standing old new ticket answer m stands ticket_state.Waiting is says =
     let parts = waiting-parts (is_awaited ticket.time old.heads) (nat_le ticket.time (last_published (calls.order_of old))) is in
     let late : last_published (calls.order_of old) < ticket.time = let test = parts.1 in grind (arith, nat_tests) in
-    let none : answers.is_published m ticket.time ≡ false = sym (published-same old m ticket.time stands) ∙ late-none 0 ticket.time old.published old.heads stands.rising late in
-    (subst (λ (r : Redeemed). RedeemsAs (answers.redeemed_by m ticket.time) r) (sym says.0) (by-failure old.failed stands.failed none), subst (λ (v : TransactionsValue). StandsInMemory v m) (sym says.1) stands)
+    let none : answers.is_published m ticket.time ≡ false =
+    sym (published-same old m ticket.time stands) ∙ late-none 0 ticket.time old.published old.heads stands.rising late in (
+      subst (λ (r : Redeemed). RedeemsAs (answers.redeemed_by m ticket.time) r) (sym says.0) (by-failure old.failed stands.failed none),
+      subst (λ (v : TransactionsValue). StandsInMemory v m) (sym says.1) stands,
+    )
   where
-    by-failure : (b : Bool) → b ≡ m.failed → answers.is_published m ticket.time ≡ false → RedeemsAs (answers.redeemed_by m ticket.time) (cond b redeemed.InDoubt (redeemed.Waiting ticket))
+    by-failure : (b : Bool) → b ≡ m.failed → answers.is_published m ticket.time ≡ false
+        → RedeemsAs (answers.redeemed_by m ticket.time) (cond b redeemed.InDoubt (redeemed.Waiting ticket))
     by-failure true failed none = rw (none, sym failed) refl
     by-failure false works none = rw (none, sym works) refl
 
-pub redeem-answered : (old new : TransactionsValue) (ticket : TicketValue) (answer : Redeemed) (m : Machine Value) → StandsInMemory old m → calls.Redeems old ticket answer new → RedeemsAs (answers.redeemed_by m ticket.time) answer × StandsInMemory new m
+pub redeem-answered : (old new : TransactionsValue) (ticket : TicketValue) (answer : Redeemed) (m : Machine Value) → StandsInMemory old m
+    → calls.Redeems old ticket answer new → RedeemsAs (answers.redeemed_by m ticket.time) answer × StandsInMemory new m
 redeem-answered old new ticket answer m stands redeems = by-mark (ticket.mark == old.mark) redeems
   where
-    by-mark : (b : Bool) → MatchBool b (calls.AnswersTicket old ticket (state_of_ticket ticket.time (calls.order_of old)) answer new) ((answer ≡ redeemed.Stranger) × (new ≡ old)) → RedeemsAs (answers.redeemed_by m ticket.time) answer × StandsInMemory new m
+    by-mark : (b : Bool) → MatchBool b (calls.AnswersTicket old ticket (state_of_ticket ticket.time (calls.order_of old)) answer new) ((answer
+        ≡ redeemed.Stranger) × (new ≡ old)) → RedeemsAs (answers.redeemed_by m ticket.time) answer × StandsInMemory new m
     by-mark true says = by-standing old new ticket answer m stands (state_of_ticket ticket.time (calls.order_of old)) refl says
-    by-mark false says = (subst (λ (r : Redeemed). RedeemsAs (answers.redeemed_by m ticket.time) r) (sym says.0) tt, subst (λ (v : TransactionsValue). StandsInMemory v m) (sym says.1) stands)
+    by-mark false says = (
+      subst (λ (r : Redeemed). RedeemsAs (answers.redeemed_by m ticket.time) r) (sym says.0) tt,
+      subst (λ (v : TransactionsValue). StandsInMemory v m) (sym says.1) stands,
+    )
 
-pub times-of_label : (v : TransactionsValue) (m : Machine Value) (label : ℕ) → StandsInMemory v m → orders.times_of label (calls.order_of v) ≡ answers.times_of m.published label
+pub times-of_label : (v : TransactionsValue) (m : Machine Value) (label : ℕ) → StandsInMemory v m → orders.times_of label (calls.order_of v)
+    ≡ answers.times_of m.published label
 times-of_label v m label stands =
     ap (λ (n : ℕ). map (λ (head : CommitHead). head.time) (filter (λ (head : CommitHead). head.label == label) (take n v.heads))) stands.published
     ∙ named-times label (take (length m.published) v.heads) m.published (front-named v.heads m.published m.queue stands.names)

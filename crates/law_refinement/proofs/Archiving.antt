@@ -1,5 +1,6 @@
 -- An archive begins: its run is the plan of an archive that may come next.
-use Rattle.std.proofs.Common.{◌≡◌, ℕ, ◌+◌, ◌-◌, ◌<◌, ◌≤◌, ◌^◌, ◌==◌, nat_lt, nat_le, Bool, true, false, cond, List, [], ◌∷◌, ◌++◌, length, map, take, drop, Option, None, Some, is_some, ◌||◌, Result, Ok, Err, MatchOption, refl, arith, ap, sym, subst, ◌∙◌, append_assoc}
+use Rattle.std.proofs.Common.{◌≡◌, ℕ, ◌+◌, ◌-◌, ◌<◌, ◌≤◌, ◌^◌, ◌==◌, nat_lt, nat_le, Bool, true, false, cond, List, [], ◌∷◌, ◌++◌, length, map, take, drop}
+use Rattle.std.proofs.Common.{Option, None, Some, is_some, ◌||◌, Result, Ok, Err, MatchOption, refl, arith, ap, sym, subst, ◌∙◌, append_assoc}
 use Rattle.std.specs.Prelude.{filter, slice_range}
 use Rattle.std.specs.List.{AllByRecursion, flat_map}
 use Rattle.std.proofs.lemmas.Bool.Decides.{nat_tests}
@@ -88,29 +89,42 @@ pub memory-in-range : (header : Header) (v : StoreValue) (m : Machine Value) →
     → AllByRecursion (λ (c : KeyWrites). IsRisingAfter 0 c.writes × AllByRecursion (IsInRange c.key) c.writes) v.transactions.versions
 memory-in-range header v m memory w =
     let rising = rises w.log.reading m.published m.floors w.log.stands in
-    each-chain (λ key ws. IsRisingAfter 0 ws × AllByRecursion (IsInRange key) ws) (λ key. (tt, tt)) v.transactions.versions memory.versions.ordered (λ key.
-    (rising-held memory.versions rising key, subst (λ (ws : List Write). AllByRecursion (IsInRange key) ws) (sym (w.heap.facts key)) (facts-in-range w.log.reading m.published m.floors key w.log.stands w.log.laid.heap.anchors_are.each)))
+    each-chain (λ key ws. IsRisingAfter 0 ws × AllByRecursion (IsInRange key) ws) (λ key. (tt, tt)) v.transactions.versions memory.versions.ordered (λ key. (
+      rising-held memory.versions rising key,
+      subst (λ (ws : List Write). AllByRecursion (IsInRange key) ws) (sym (w.heap.facts key))
+          (facts-in-range w.log.reading m.published m.floors key w.log.stands w.log.laid.heap.anchors_are.each),
+    ))
 
 -- ---- the records are in range
 
-filtered-in-range : (key : Key) (after upto : ℕ) (vs : List (Version Value)) → upto < 2 ^ 63 → AllByRecursion (λ (v : Version Value). IsKey key × IsValue v.value) vs
+filtered-in-range : (key : Key) (after upto : ℕ) (vs : List (Version Value)) → upto < 2 ^ 63
+    → AllByRecursion (λ (v : Version Value). IsKey key × IsValue v.value) vs
     → AllByRecursion IsArchiveRecord (map (archive_record key) (filter (ends_by upto) (filter (ends_after after) vs)))
 filtered-in-range key after upto [] low each = tt
 filtered-in-range key after upto (v ∷ vs) low each =
     let rest = filtered-in-range key after upto vs low each.1 in
-    elim (nat_lt after v.to) as (λ (b : Bool). AllByRecursion IsArchiveRecord (map (archive_record key) (filter (ends_by upto) (cond b (v ∷ filter (ends_after after) vs) (filter (ends_after after) vs))))) [
-      | true ↦ elim (nat_le v.to upto) as (λ (b : Bool). nat_le v.to upto ≡ b → AllByRecursion IsArchiveRecord (map (archive_record key) (cond b (v ∷ filter (ends_by upto) (filter (ends_after after) vs)) (filter (ends_by upto) (filter (ends_after after) vs))))) [
-        | true ↦ λ by. (record { key = (each.0).0; to = (let at : v.to ≤ upto = grind (arith, nat_tests) in omega (arith, at, low)); value = (each.0).1 }, rest)
-        | false ↦ λ by. rest
-      ] refl
+    elim (nat_lt after v.to) as
+    (λ (b : Bool). AllByRecursion IsArchiveRecord
+    (map (archive_record key) (filter (ends_by upto) (cond b (v ∷ filter (ends_after after) vs) (filter (ends_after after) vs))))) [
+      | true ↦ elim (nat_le v.to upto) as (λ (b : Bool). nat_le v.to upto ≡ b
+          → AllByRecursion IsArchiveRecord
+          (map (archive_record key) (cond b (v ∷ filter (ends_by upto) (filter (ends_after after) vs)) (filter (ends_by upto) (filter (ends_after after) vs))))) [
+            | true ↦ λ by. (
+              record { key = (each.0).0; to = (let at : v.to ≤ upto = grind (arith, nat_tests) in omega (arith, at, low)); value = (each.0).1 },
+              rest,
+            )
+            | false ↦ λ by. rest
+          ] refl
       | false ↦ rest
     ]
 
-records-in-range : (since : Since) (upto : ℕ) (m : List KeyWrites) → upto < 2 ^ 63 → AllByRecursion (λ (c : KeyWrites). AllByRecursion (IsInRange c.key) c.writes) m → AllByRecursion IsArchiveRecord (records_of since upto m)
+records-in-range : (since : Since) (upto : ℕ) (m : List KeyWrites) → upto < 2 ^ 63
+    → AllByRecursion (λ (c : KeyWrites). AllByRecursion (IsInRange c.key) c.writes) m → AllByRecursion IsArchiveRecord (records_of since upto m)
 records-in-range since upto [] low each = tt
 records-in-range since upto (c ∷ cs) low each =
     let after : ℕ = since_of since c.key.relation in
-    AllByRecursion-append IsArchiveRecord (key_records after upto c) (records_of since upto cs) (filtered-in-range c.key after upto (versions c.writes) low (versions-in-range c.key c.writes each.0)) (records-in-range since upto cs low each.1)
+    AllByRecursion-append IsArchiveRecord (key_records after upto c) (records_of since upto cs)
+    (filtered-in-range c.key after upto (versions c.writes) low (versions-in-range c.key c.writes each.0)) (records-in-range since upto cs low each.1)
 
 -- ---- the refusals
 
@@ -123,10 +137,15 @@ record MayBegin (v : StoreValue) (upto : ℕ) : Type 0 where
 
 may-begin : (v : StoreValue) (upto : ℕ) → refusal_now v upto ≡ None → MayBegin v upto
 may-begin v upto none =
-    by-tests v.transactions.failed refl (is_some v.job) refl (nat_le upto v.archived) refl (nat_lt (stores.last v) upto) refl (spare v.transactions == 0) refl none
+    by-tests v.transactions.failed refl (is_some v.job) refl (nat_le upto v.archived) refl (nat_lt (stores.last v) upto) refl (spare v.transactions == 0) refl
+    none
   where
-    by-tests : (a : Bool) → v.transactions.failed ≡ a → (b : Bool) → is_some v.job ≡ b → (c : Bool) → nat_le upto v.archived ≡ c → (d : Bool) → nat_lt (stores.last v) upto ≡ d → (e : Bool) → (spare v.transactions == 0) ≡ e
-        → Path (Option StartFault) (cond a (Some fault.Failed) (cond b (Some fault.JobBusy) (cond c (Some fault.NothingToDo) (cond d (Some (fault.NotYet (stores.last v))) (cond e (Some fault.StatusFull) None))))) None → MayBegin v upto
+    by-tests : (a : Bool) → v.transactions.failed ≡ a → (b : Bool) → is_some v.job ≡ b → (c : Bool) → nat_le upto v.archived ≡ c → (d : Bool)
+        → nat_lt (stores.last v) upto ≡ d → (e : Bool) → (spare v.transactions == 0) ≡ e
+        → Path (Option StartFault)
+        (cond a (Some fault.Failed)
+        (cond b (Some fault.JobBusy)
+        (cond c (Some fault.NothingToDo) (cond d (Some (fault.NotYet (stores.last v))) (cond e (Some fault.StatusFull) None))))) None → MayBegin v upto
     by-tests true a b c d e f g h i is = absurd cc
     by-tests false a true c d e f g h i is = absurd cc
     by-tests false a false c true e f g h i is = absurd cc
@@ -141,7 +160,8 @@ pub lent-memory : (v : TransactionsValue) (m : Machine Value) → StandsInMemory
 lent-memory v m stands = memory-beside v v.pending v.usages v.reserved (v.slots - 1) v.used m m.raising m.gate stands
 
 pub lent-order : (v : TransactionsValue) → 0 < spare v → IsInOrder v → IsInOrder (with_slot_lent v)
-lent-order v room order = order-beside v v.opened (v.slots - 1) v.used v.floors v.failed (omega (arith, order.room, room)) (omega (arith, order.slots_few)) order
+lent-order v room order =
+    order-beside v v.opened (v.slots - 1) v.used v.floors v.failed (omega (arith, order.room, room)) (omega (arith, order.slots_few)) order
 
 -- nothing is held at a place within the content
 none-held : (at : ℕ) (content : List ℕ) → at ≤ length content → HoldsPart at [] content
@@ -150,7 +170,8 @@ none-held at content within = record { inside = omega (arith, within); is = empt
     empty : slice_range content at (at + 0) ≡ []
     empty = (let none : at + 0 - at ≡ 0 = omega arith in ap (λ (n : ℕ). take n (drop at content)) none)
 
-module _ (header : Header) (v : StoreValue) (m : Machine Value) (memory : StandsInMemory v.transactions m) (machine : IsMachine IsValue m) (w : Works header v m)
+module _ (header : Header) (v : StoreValue) (m : Machine Value) (memory : StandsInMemory v.transactions m) (machine : IsMachine IsValue m)
+    (w : Works header v m)
     (upto : ℕ) (may : MayBegin v upto) (range : upto < 2 ^ 63 → IsRun (run_of upto v.runs_end (archive_of v upto))) where
   low : upto < 2 ^ 63
   low = omega (arith, may.by_last, last-is v.transactions m memory, last-range w.log.reading m.published m.floors w.log.stands)
@@ -162,7 +183,8 @@ module _ (header : Header) (v : StoreValue) (m : Machine Value) (memory : Stands
   in-memory = record {
     ordered = memory.versions.ordered;
     rising = all-rising v.transactions.versions
-        (weaker (λ (c : KeyWrites). IsRisingAfter 0 c.writes × AllByRecursion (IsInRange c.key) c.writes) (λ (c : KeyWrites). IsRisingAfter 0 c.writes) v.transactions.versions (λ c both. both.0) chains);
+        (weaker (λ (c : KeyWrites). IsRisingAfter 0 c.writes
+        × AllByRecursion (IsInRange c.key) c.writes) (λ (c : KeyWrites). IsRisingAfter 0 c.writes) v.transactions.versions (λ c both. both.0) chains);
   }
 
   next-run : IsNextRun w.log.layout w.log.reading m.published (record { entry = run_of upto v.runs_end (archive_of v upto); records = archive_of v upto })
@@ -175,7 +197,9 @@ module _ (header : Header) (v : StoreValue) (m : Machine Value) (memory : Stands
       length_is = ap (λ (l : List ℕ). length l) (sym (run-same (archive_of v upto)));
       records_are = refl;
       each = records-in-range (since_now v) upto v.transactions.versions low
-          (weaker (λ (c : KeyWrites). IsRisingAfter 0 c.writes × AllByRecursion (IsInRange c.key) c.writes) (λ (c : KeyWrites). AllByRecursion (IsInRange c.key) c.writes) v.transactions.versions (λ c both. both.1) chains);
+          (weaker (λ (c : KeyWrites). IsRisingAfter 0 c.writes
+          × AllByRecursion (IsInRange c.key) c.writes) (λ (c : KeyWrites). AllByRecursion (IsInRange c.key) c.writes) v.transactions.versions
+          (λ c both. both.1) chains);
     };
     behind = w.log.runs_end;
     in_range = range low;
@@ -200,13 +224,18 @@ module _ (header : Header) (v : StoreValue) (m : Machine Value) (memory : Stands
         whole = run-same (archive_of v upto);
         place = omega arith;
         held = none-held v.runs_end v.disk.areas.archive.bytes
-            (let within = row-within header w.log.layout w.log.reading v.disk.areas w.log.laid w.sound (keeps-parts header v m w).runs in omega (arith, within, w.log.runs_end));
+            (let within = row-within header w.log.layout w.log.reading v.disk.areas w.log.laid w.sound (keeps-parts header v m w).runs in omega (
+              arith,
+              within,
+              w.log.runs_end,
+            ));
       };
     };
     sound = w.sound;
   }
 
-pub archive-start-stands : (tells : Bool) (old new : StoreValue) (upto : ℕ) (answer : Result (Unit {0}) StartFault) (m : Machine Value) → Stands tells old m → StartsArchive old upto answer new → Stands tells new m
+pub archive-start-stands : (tells : Bool) (old new : StoreValue) (upto : ℕ) (answer : Result (Unit {0}) StartFault) (m : Machine Value) → Stands tells old m
+    → StartsArchive old upto answer new → Stands tells new m
 archive-start-stands tells old new upto answer m stands starts = by-refusal (refusal_now old upto) refl starts
   where
     begins : refusal_now old upto ≡ None → (answer : Result (Unit {0}) StartFault) → BeginsRun old upto answer new → Stands tells new m
@@ -248,6 +277,7 @@ archive-start-stands tells old new upto answer m stands starts = by-refusal (ref
               };
         })
 
-    by-refusal : (o : Option StartFault) → refusal_now old upto ≡ o → MatchOption o (BeginsRun old upto answer new) (λ why. (answer ≡ Err why) × (new ≡ old)) → Stands tells new m
+    by-refusal : (o : Option StartFault) → refusal_now old upto ≡ o → MatchOption o (BeginsRun old upto answer new) (λ why. (answer ≡ Err why) × (new ≡ old))
+        → Stands tells new m
     by-refusal None none is = begins none answer is
     by-refusal (Some why) some is = subst (λ (x : StoreValue). Stands tells x m) (sym is.1) stands

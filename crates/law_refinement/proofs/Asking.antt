@@ -20,7 +20,8 @@ use Rattle.law_refinement.proofs.RunsKept.{up_to-same}
 use Rattle.law_refinement.proofs.RunsStep.{goes-same, job-place-move, front-ends}
 
 -- a query changes the count of refusals alone
-pub after-is : {T : Type 0} (answer : Result T QueryFault) (disk : DiskState) → after_query answer disk ≡ record disk { refused = (after_query answer disk).refused }
+pub after-is : {T : Type 0} (answer : Result T QueryFault) (disk : DiskState) → after_query answer disk
+    ≡ record disk { refused = (after_query answer disk).refused }
 after-is (Ok found) disk = refl
 after-is (Err query.Device) disk = refl
 after-is (Err (query.BeforeKept floor)) disk = refl
@@ -53,7 +54,12 @@ module _ (tells : Bool) (v : StoreValue) (m : Machine Value) (stands : Stands te
     memory = stands.memory;
     machine = stands.machine;
     order = stands.order;
-    in_step = record { slots = stands.in_step.slots; used = stands.in_step.used; turns = λ on. let was = stands.in_step.turns on in record { turning = was.turning; writing = was.writing; turn = was.turn; job = was.job } };
+    in_step =
+        record {
+          slots = stands.in_step.slots;
+          used = stands.in_step.used;
+          turns = λ on. let was = stands.in_step.turns on in record { turning = was.turning; writing = was.writing; turn = was.turn; job = was.job };
+        };
     gate = stands.gate;
     raises = stands.raises;
     marks = stands.marks;
@@ -74,18 +80,27 @@ module _ (tells : Bool) (v : StoreValue) (m : Machine Value) (stands : Stands te
 
   asked-goes : GoesOn tells v asked
   unfolding asked
-  asked-goes = record { mark = refl; more = []; runs = sym (append-nil v.archive.runs); end = λ told. omega arith; bytes = λ told. up_to-same v.runs_end (archive_of v.disk) }
+  asked-goes =
+      record {
+        mark = refl;
+        more = [];
+        runs = sym (append-nil v.archive.runs);
+        end = λ told. omega arith;
+        bytes = λ told. up_to-same v.runs_end (archive_of v.disk);
+      }
 
 pub own-front : (a b : Bool) → (a && b) ≡ true → b ≡ true
 own-front true b is = is
 own-front false b is = absurd cc
 
-pub asks-stands : {T : Type 0} (tells : Bool) (v new : StoreValue) (m : Machine Value) (view : ViewValue) (answer : Result T QueryFault) → Stands tells v m → is_front view.runs v.archive.runs ≡ true → Asks tells v view answer new → Stands tells new m × GoesOn tells v new
+pub asks-stands : {T : Type 0} (tells : Bool) (v new : StoreValue) (m : Machine Value) (view : ViewValue) (answer : Result T QueryFault) → Stands tells v m
+    → is_front view.runs v.archive.runs ≡ true → Asks tells v view answer new → Stands tells new m × GoesOn tells v new
 unfolding asked
 asks-stands tells v new m view answer stands front asks =
     let kept = new.archive.kept in
     let refused = (after_query answer v.disk).refused in
-    let is : new ≡ record v { archive = record v.archive { kept = kept }; disk = record v.disk { refused = refused } } = asks.new_is ∙ ap (λ (d : DiskState). record v { archive = record v.archive { kept = kept }; disk = d }) (after-is answer v.disk) in
+    let is : new ≡ record v { archive = record v.archive { kept = kept }; disk = record v.disk { refused = refused } } =
+    asks.new_is ∙ ap (λ (d : DiskState). record v { archive = record v.archive { kept = kept }; disk = d }) (after-is answer v.disk) in
     let runs : IsTrue tells → RunsStand (record v { archive = record v.archive { kept = kept }; disk = record v.disk { refused = refused } }) m = λ told.
     let r = stands.runs told in
     let keeps = asks.kept v.runs_end (front-ends v.runs_end view.runs v.archive.runs front r.ends) in
@@ -99,17 +114,31 @@ asks-stands tells v new m view answer stands front asks =
       archived = r.archived;
       right = keeps.right told r.right;
       near = keeps.ends v.runs_end (omega arith) r.near;
-    } in
-    (subst (λ (x : StoreValue). Stands tells x m) (sym is) (asked-stands tells v m stands kept refused runs), subst (λ (x : StoreValue). GoesOn tells v x) (sym is) (asked-goes tells v m stands kept refused))
+    } in (
+      subst (λ (x : StoreValue). Stands tells x m) (sym is) (asked-stands tells v m stands kept refused runs),
+      subst (λ (x : StoreValue). GoesOn tells v x) (sym is) (asked-goes tells v m stands kept refused),
+    )
 
 -- a store that was asked, with a view of its own or a stranger's
-pub query-stands : {T : Type 0} (tells : Bool) (v new : StoreValue) (m : Machine Value) (view : ViewValue) (from : ℕ) (Refuses : QueryFault → Type 0) (Recent : T → Type 0) (OfHistory : History Value → T → Type 0) (Exact : Result T QueryFault → Type 0) (answer : Result T QueryFault) → Stands tells v m
+pub query-stands : {T : Type 0} (tells : Bool) (v new : StoreValue) (m : Machine Value) (view : ViewValue) (from : ℕ) (Refuses : QueryFault
+    → Type 0) (Recent : T → Type 0) (OfHistory : History Value → T → Type 0) (Exact : Result T QueryFault → Type 0) (answer : Result T QueryFault)
+    → Stands tells v m
     → OrStranger v view (Finds tells v view from Refuses Recent OfHistory Exact) answer new → Stands tells new m × GoesOn tells v new
 query-stands tells v new m view from Refuses Recent OfHistory Exact answer stands says = by-own (is_own v view) refl says
   where
-    by-own : (b : Bool) → is_own v view ≡ b → MatchBool b (Finds tells v view from Refuses Recent OfHistory Exact answer new) ((answer ≡ Err query.Stranger) × (new ≡ v)) → Stands tells new m × GoesOn tells v new
-    by-own true is finds = asks-stands tells v new m view answer stands (own-front (view.mark == v.transactions.mark) (is_front view.runs v.archive.runs) is) finds.asks
+    by-own : (b : Bool) → is_own v view ≡ b
+        → MatchBool b (Finds tells v view from Refuses Recent OfHistory Exact answer new) ((answer ≡ Err query.Stranger) × (new ≡ v)) → Stands tells new m
+        × GoesOn tells v new
+    by-own true is finds =
+        asks-stands tells v new m view answer stands (own-front (view.mark == v.transactions.mark) (is_front view.runs v.archive.runs) is) finds.asks
     by-own false is strange = (
       subst (λ (x : StoreValue). Stands tells x m) (sym strange.1) stands,
-      subst (λ (x : StoreValue). GoesOn tells v x) (sym strange.1) (goes-same tells v v (record { runs = refl; kept = refl; archived = refl; runs_end = refl; mark = refl }) (λ told. up_to-same v.runs_end (archive_of v.disk))),
+      subst (λ (x : StoreValue). GoesOn tells v x) (sym strange.1)
+          (goes-same tells v v (record {
+            runs = refl;
+            kept = refl;
+            archived = refl;
+            runs_end = refl;
+            mark = refl;
+          }) (λ told. up_to-same v.runs_end (archive_of v.disk))),
     )

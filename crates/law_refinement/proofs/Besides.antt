@@ -23,22 +23,31 @@ pub all-keep : (n : ℕ) (old new : AreaState) → IsBeside n old new → (es : 
 all-keep n old new beside [] apart keeps = tt
 all-keep n old new beside (e ∷ es) apart keeps = (beside.keeps e (apart.0).0 (apart.0).1 keeps.0, all-keep n old new beside es apart.1 keeps.1)
 
-pub all-hold : (n : ℕ) (old new : AreaState) → IsBeside n old new → (es : List Extent) → AreBeside n es → AllByRecursion (HoldsExtent old.bytes) es → AllByRecursion (HoldsExtent new.bytes) es
+pub all-hold : (n : ℕ) (old new : AreaState) → IsBeside n old new → (es : List Extent) → AreBeside n es → AllByRecursion (HoldsExtent old.bytes) es
+    → AllByRecursion (HoldsExtent new.bytes) es
 all-hold n old new beside [] apart held = tt
 all-hold n old new beside (e ∷ es) apart held = (beside.holds e (apart.0).0 (apart.0).1 held.0, all-hold n old new beside es apart.1 held.1)
 
 pub write-beside : (e : Extent) → IsExtent e → (old : AreaState) → IsSound old → IsBeside e.number old (written (extent_start e.number) (extent_bytes e) old)
 write-beside e is old sound = record {
   keeps = λ f are apart kept.
-      (others_kept e is (f ∷ []) (are, tt) (apart, tt) old (written (extent_start e.number) (extent_bytes e) old) sound (written_is (extent_start e.number) (extent_bytes e) old sound) (kept, tt)).0;
+      (others_kept e is (f ∷ []) (are, tt) (
+        apart,
+        tt,
+      ) old (written (extent_start e.number) (extent_bytes e) old) sound (written_is (extent_start e.number) (extent_bytes e) old sound) (kept, tt)).0;
   holds = λ f are apart held. (one_more_held e is (f ∷ []) (are, tt) (apart, tt) old.bytes (held, tt)).0;
 }
 
 -- so does one that is torn; it is read as before
-pub torn-beside : (e : Extent) → IsExtent e → (old : AreaState) → IsSound old → IsBeside e.number old (loosened (extent_start e.number) (length (extent_bytes e)) old.bytes old)
+pub torn-beside : (e : Extent) → IsExtent e → (old : AreaState) → IsSound old
+    → IsBeside e.number old (loosened (extent_start e.number) (length (extent_bytes e)) old.bytes old)
 torn-beside e is old sound = record {
   keeps = λ f are apart kept.
-      (others_kept e is (f ∷ []) (are, tt) (apart, tt) old (loosened (extent_start e.number) (length (extent_bytes e)) old.bytes old) sound (loosened_is (extent_start e.number) (length (extent_bytes e)) old) (kept, tt)).0;
+      (others_kept e is (f ∷ []) (are, tt) (
+        apart,
+        tt,
+      ) old (loosened (extent_start e.number) (length (extent_bytes e)) old.bytes old) sound
+      (loosened_is (extent_start e.number) (length (extent_bytes e)) old) (kept, tt)).0;
   holds = λ f are apart held. held;
 }
 
@@ -54,12 +63,14 @@ beside-none [] are = tt
 beside-none (e ∷ es) are = ((are.0, λ none. (let low = (are.0).low in absurd (omega (arith, low, none)))), beside-none es are.1)
 
 -- what is kept is beside what is out
-pub beside-out : (us : List Usage) (n : ℕ) → IsOut us n → (es : List Extent) → AllByRecursion IsExtent es → AllByRecursion (λ (e : Extent). IsKept us e.number) es → AreBeside n es
+pub beside-out : (us : List Usage) (n : ℕ) → IsOut us n → (es : List Extent) → AllByRecursion IsExtent es
+    → AllByRecursion (λ (e : Extent). IsKept us e.number) es → AreBeside n es
 beside-out us n out [] are kept = tt
 beside-out us n out (e ∷ es) are kept = ((are.0, are_apart us Kept Out e.number n (λ same. cc) kept.0 out), beside-out us n out es are.1 kept.1)
 
 -- and so are extents whose numbers are others
-pub beside-numbers : (n : ℕ) (es : List Extent) → AllByRecursion IsExtent es → AllByRecursion (λ (k : ℕ). k ≢ n) (map (λ (e : Extent). e.number) es) → AreBeside n es
+pub beside-numbers : (n : ℕ) (es : List Extent) → AllByRecursion IsExtent es → AllByRecursion (λ (k : ℕ). k ≢ n) (map (λ (e : Extent). e.number) es)
+    → AreBeside n es
 beside-numbers n [] are others = tt
 beside-numbers n (e ∷ es) are others = ((are.0, others.0), beside-numbers n es are.1 others.1)
 

@@ -1,5 +1,6 @@
 -- The chain of anchors that a reclaim makes: as it begins, and while its extents are filled one after the other.
-use Rattle.std.proofs.Common.{◌≡◌, ◌≢◌, ℕ, zero, suc, ◌+◌, ◌<◌, ◌≤◌, ◌^◌, nat_le, true, false, List, [], ◌∷◌, ◌++◌, length, map, take, drop, slice_get, None, Some, refl, arith, ap, sym, subst, ◌∙◌, ⊎_elim, inl, inr}
+use Rattle.std.proofs.Common.{◌≡◌, ◌≢◌, ℕ, zero, suc, ◌+◌, ◌<◌, ◌≤◌, ◌^◌, nat_le, true, false, List, [], ◌∷◌, ◌++◌, length, map, take, drop, slice_get, None}
+use Rattle.std.proofs.Common.{Some, refl, arith, ap, sym, subst, ◌∙◌, ⊎_elim, inl, inr}
 use Rattle.std.specs.List.{AllByRecursion}
 use Rattle.std.proofs.lemmas.Bool.{cases_lt, cases_eq}
 use Rattle.std.proofs.lemmas.Bool.Decides.{nat_tests}
@@ -54,7 +55,14 @@ stands-at (e ∷ es) zero number linked is =
     record { extent = e; there = refl; number_is = same; next_is = linked.0 ∙ sym (first-dropped zero es); rest = refl; front = refl }
 stands-at (e ∷ es) (suc place) number linked is =
     let at = stands-at es place number linked.1 is in
-    record { extent = at.extent; there = at.there; number_is = at.number_is; next_is = at.next_is; rest = at.rest; front = ap (λ (l : List Extent). e ∷ l) at.front }
+    record {
+      extent = at.extent;
+      there = at.there;
+      number_is = at.number_is;
+      next_is = at.next_is;
+      rest = at.rest;
+      front = ap (λ (l : List Extent). e ∷ l) at.front;
+    }
 
 -- what the next extent of a chain is, once it is filled
 pub record FilledNext (es : List Extent) (written number : ℕ) (image : List ℕ) (left : List Record) : Type 0 where
@@ -68,11 +76,14 @@ pub record FilledNext (es : List Extent) (written number : ℕ) (image : List �
   pub others : map (λ (e : Extent). e.body) (drop (written + 1) es) ≡ bodies (map spelling left)
 
 -- the extent that is filled is the chain's next one
-fill-at : (es : List Extent) (before after : List Record) (written behind number : ℕ) (image : List ℕ) (filled : FilledExtent) → behind ≡ written + 1 → StandsAt es written behind number
-    → bodies_in (drop written es) ≡ bodies (map spelling before) → IsFilled number (first_number (drop behind (numbers_in es))) before image filled after → FilledNext es written number image after
+fill-at : (es : List Extent) (before after : List Record) (written behind number : ℕ) (image : List ℕ) (filled : FilledExtent) → behind ≡ written + 1
+    → StandsAt es written behind number
+    → bodies_in (drop written es) ≡ bodies (map spelling before) → IsFilled number (first_number (drop behind (numbers_in es))) before image filled after
+    → FilledNext es written number image after
 fill-at es before after written behind number image filled next at so_far is =
     let whole : at.extent.body ∷ bodies_in (drop behind es) ≡ bodies (map spelling before) = sym (ap (λ (l : List Extent). bodies_in l) at.rest) ∙ so_far in
-    let some : before ≢ [] = λ none. let empty : at.extent.body ∷ bodies_in (drop behind es) ≡ [] = whole ∙ ap (λ (rs : List Record). bodies (map spelling rs)) none in cc in
+    let some : before ≢ [] = λ none. let empty : at.extent.body ∷ bodies_in (drop behind es) ≡ [] =
+    whole ∙ ap (λ (rs : List Record). bodies (map spelling rs)) none in cc in
     let both : at.extent.body ∷ bodies_in (drop behind es) ≡ is.body ∷ bodies (map spelling after) = whole ∙ is.first.packed some in
     let body : at.extent.body ≡ is.body = cc in
     let others : bodies_in (drop behind es) ≡ bodies (map spelling after) = cc in
@@ -88,8 +99,10 @@ fill-at es before after written behind number image filled next at so_far is =
       others = subst (λ (n : ℕ). bodies_in (drop n es) ≡ bodies (map spelling after)) next others;
     }
 
-pub fill-is : (a : StoredAnchors) (reserved : List ℕ) (source : Sourced) (written number : ℕ) (heap : AreaState) (image : List ℕ) (filled : FilledExtent) (left : List Record) → IsAnchorChain a.entry a.extents a.olds
-    → map (λ (e : Extent). e.number) a.extents ≡ reserved → IsFilling a source written heap → slice_get reserved written ≡ Some number → IsFilled number (first_number (drop (written + 1) reserved)) source.left image filled left
+pub fill-is : (a : StoredAnchors) (reserved : List ℕ) (source : Sourced) (written number : ℕ) (heap : AreaState) (image : List ℕ) (filled : FilledExtent)
+    (left : List Record) → IsAnchorChain a.entry a.extents a.olds
+    → map (λ (e : Extent). e.number) a.extents ≡ reserved → IsFilling a source written heap → slice_get reserved written ≡ Some number
+    → IsFilled number (first_number (drop (written + 1) reserved)) source.left image filled left
     → FilledNext a.extents written number image left
 fill-is a reserved source written number heap image filled left chain named filling found is =
     let next : suc written ≡ written + 1 = omega arith in
@@ -106,7 +119,8 @@ none-left [] (suc written) is = refl
 none-left (e ∷ es) zero is = absurd cc
 none-left (e ∷ es) (suc written) is = ap (λ (l : List Extent). e ∷ l) (none-left es written is)
 
-pub all-filled : (a : StoredAnchors) (reserved : List ℕ) (written : ℕ) → map (λ (e : Extent). e.number) a.extents ≡ reserved → slice_get reserved written ≡ None → take written a.extents ≡ a.extents
+pub all-filled : (a : StoredAnchors) (reserved : List ℕ) (written : ℕ) → map (λ (e : Extent). e.number) a.extents ≡ reserved → slice_get reserved written ≡ None
+    → take written a.extents ≡ a.extents
 all-filled a reserved written named none = none-left a.extents written (subst (λ (ns : List ℕ). slice_get ns written ≡ None) (sym named) none)
 
 -- ---- the chain of a reclaim that begins
@@ -139,7 +153,8 @@ no-records (r ∷ rs) none = absurd (omega (arith, none, some (spelling r) (map 
     some body [] = omega arith
     some body (p ∷ ps) = ⊎_elim
         (λ (over : 8176 < length body + length p). let no : nat_le (length body + length p) 8176 ≡ false = grind (arith, nat_tests) in rw no (omega arith))
-        (λ (room : length body + length p ≤ 8176). let yes : nat_le (length body + length p) 8176 ≡ true = grind (arith, nat_tests) in rw yes (some (body ++ p) ps))
+        (λ (room : length body + length p ≤ 8176). let yes : nat_le (length body + length p) 8176 ≡ true =
+        grind (arith, nat_tests) in rw yes (some (body ++ p) ps))
         (cases_lt 8176 (length body + length p))
 
 no-number : (ns : List ℕ) → length ns ≡ 0 → first_number ns ≡ 0
@@ -151,29 +166,45 @@ module _ (v : StoreValue) (numbers : List ℕ) (numbered : AllByRecursion IsNumb
   begun-named = chain-numbers numbers (anchor_bodies v) (sym many)
 
   -- nothing of it is written yet
-  pub begun-filling : (heap : AreaState) → IsFilling (begun v numbers) (record { all = olds_of v.archived v.transactions.versions; left = olds_of v.archived v.transactions.versions }) 0 heap
+  pub begun-filling : (heap : AreaState)
+      → IsFilling (begun v numbers) (record { all = olds_of v.archived v.transactions.versions; left = olds_of v.archived v.transactions.versions }) 0 heap
   begun-filling heap = record { rest = chain-bodies numbers (anchor_bodies v) (sym many); held = tt }
 
-  pub begun-chain : AllByRecursion IsOldRecord (anchors_of v.archived v.transactions.versions) → IsAnchorChain (begun v numbers).entry (begun v numbers).extents (begun v numbers).olds
+  pub begun-chain : AllByRecursion IsOldRecord (anchors_of v.archived v.transactions.versions)
+      → IsAnchorChain (begun v numbers).entry (begun v numbers).extents (begun v numbers).olds
   begun-chain each =
       let rs : List OldRecord = anchors_of v.archived v.transactions.versions in
       let packed = chain_packed numbers (map old_record_of rs) numbered many (old-records rs each) in record {
-        is_chain = subst (λ (l : List (List ℕ)). IsChain (first_number numbers) (length numbers) (length (map old_record_of rs)) (chain_of numbers (anchor_bodies v)) l) (old-bytes rs) packed;
+        is_chain =
+            subst (λ (l : List (List ℕ)). IsChain (first_number numbers) (length numbers) (length (map old_record_of rs)) (chain_of numbers (anchor_bodies v))
+            l) (old-bytes rs) packed;
         each = each;
       }
 
   -- its numbers are in range
-  pub begun-range : 0 < v.archived → v.archived < 2 ^ 63 → length numbers ≤ 65536 → length (olds_of v.archived v.transactions.versions) < 2 ^ 32 → AreAnchors (begun v numbers).entry
+  pub begun-range : 0 < v.archived → v.archived < 2 ^ 63 → length numbers ≤ 65536 → length (olds_of v.archived v.transactions.versions) < 2 ^ 32
+      → AreAnchors (begun v numbers).entry
   begun-range low high room few = (
     low,
     high,
     elim (cases_eq (length numbers) 0) [
-      | inl none ↦ inl (record { first = no-number numbers none; extents = none; records = no-records (olds_of v.archived v.transactions.versions) (omega (arith, many, none)) })
+      | inl none ↦ inl (record {
+        first = no-number numbers none;
+        extents = none;
+        records = no-records (olds_of v.archived v.transactions.versions) (omega (arith, many, none));
+      })
       | inr some ↦
           let first = first-in-range numbers (omega (arith, some)) numbered in
           let least = first.0 in
           let less = bodies-few (map spelling (olds_of v.archived v.transactions.versions)) in
           let mapped = length-mapped spelling (olds_of v.archived v.transactions.versions) in
-          inr (record { first_low = omega (arith, least); first_high = first.1; extents_low = omega (arith, some); extents_high = room; records_low = omega (arith, many, less, mapped); records_high = few })
+          inr (record {
+            first_low = omega (arith, least);
+            first_high = first.1;
+            extents_low = omega (arith, some);
+            extents_high = room;
+            records_low = omega (arith, many, less, mapped);
+            records_high = few;
+          })
     ],
   )

@@ -1,5 +1,6 @@
 -- Conflicts in memory are those of the commit order.
-use Rattle.std.proofs.Common.{◌≡◌, ℕ, ◌≤◌, ◌&&◌, ◌||◌, nat_lt, Bool, true, false, cond, List, [], ◌∷◌, ◌++◌, take, find, Option, None, Some, refl, arith, ap, sym, subst, ◌∙◌}
+use Rattle.std.proofs.Common.{◌≡◌, ℕ, ◌≤◌, ◌&&◌, ◌||◌, nat_lt, Bool, true, false, cond, List, [], ◌∷◌, ◌++◌, take, find, Option, None, Some, refl, arith, ap}
+use Rattle.std.proofs.Common.{sym, subst, ◌∙◌}
 use Rattle.std.proofs.lemmas.Bool.Decides.{nat_tests}
 use Rattle.history.specs.declared.key.Key.{Key}
 use Rattle.history.specs.Key.{write_in}
@@ -22,9 +23,11 @@ use Rattle.law_refinement.proofs.Packed.{wait-front}
 use Rattle.law_refinement.proofs.Waiting.{AreRising, kept-behind, ordered-behind, forgot-behind}
 
 -- the last write of a key is later than a time exactly where a commit later than it wrote the key
-later-written : (s before : ℕ) (h : History Value) (key : Key) → HasRisingTimes before h → nat_lt s (last_time_after before (histories.writes_of h key)) ≡ (nat_lt s before || is_written_after h s key)
+later-written : (s before : ℕ) (h : History Value) (key : Key) → HasRisingTimes before h → nat_lt s (last_time_after before (histories.writes_of h key))
+    ≡ (nat_lt s before || is_written_after h s key)
 later-written s before [] key rising = elim (nat_lt s before) as (λ b. b ≡ (b || false)) [ true ↦ refl | false ↦ refl ]
-later-written s before (c ∷ cs) key rising = by-write (write_in c.writes key) refl (λ up. later-written s before cs key up) (later-written s c.time cs key rising.2)
+later-written s before (c ∷ cs) key rising =
+    by-write (write_in c.writes key) refl (λ up. later-written s before cs key up) (later-written s c.time cs key rising.2)
   where
     lower : (t : ℕ) (h : History Value) → before ≤ t → HasRisingTimes t h → HasRisingTimes before h
     lower t [] le up = tt
@@ -45,7 +48,8 @@ later-written s before (c ∷ cs) key rising = by-write (write_in c.writes key) 
         → (HasRisingTimes before cs → nat_lt s (last_time_after before (histories.writes_of cs key)) ≡ (nat_lt s before || is_written_after cs s key))
         → nat_lt s (last_time_after c.time (histories.writes_of cs key)) ≡ (nat_lt s c.time || is_written_after cs s key)
         → nat_lt s (last_time_after before (histories.writes_of (c ∷ cs) key)) ≡ (nat_lt s before || is_written_after (c ∷ cs) s key)
-    by-write None none passed met = rw none (passed (lower c.time cs (omega (arith, rising.0)) rising.2) ∙ skip (nat_lt s before) (nat_lt s c.time) (is_written_after cs s key))
+    by-write None none passed met =
+        rw none (passed (lower c.time cs (omega (arith, rising.0)) rising.2) ∙ skip (nat_lt s before) (nat_lt s c.time) (is_written_after cs s key))
     by-write (Some w) some passed met =
         let order : nat_lt s before ≡ true → nat_lt s c.time ≡ true = λ early. let up = rising.0 in grind (arith, nat_tests) in
         rw some (met ∙ late (nat_lt s before) (nat_lt s c.time) (is_written_after cs s key) order)
@@ -67,7 +71,8 @@ find-same p q [] same = refl
 find-same p q (k ∷ ks) same = rw (same k) (ap (λ (o : Option Key). cond (q k) (Some k) o) (find-same p q ks same))
 
 -- versions that are ordered, and whether one of them was written later than a time from the mark on
-pub conflicts-same : (s : ℕ) (floors : ℕ → ℕ) (reclaimed : ℕ) (versions : List KeyWrites) (h : History Value) (keys : List Key) → HasRisingTimes 0 h → IsOrdered versions → AreRising versions → HasWrites floors reclaimed (forgotten reclaimed versions) h → reclaimed ≤ s
+pub conflicts-same : (s : ℕ) (floors : ℕ → ℕ) (reclaimed : ℕ) (versions : List KeyWrites) (h : History Value) (keys : List Key) → HasRisingTimes 0 h
+    → IsOrdered versions → AreRising versions → HasWrites floors reclaimed (forgotten reclaimed versions) h → reclaimed ≤ s
     → find (λ key. nat_lt s (last_time (writes_of versions key))) keys ≡ first_conflict h s keys
 conflicts-same s floors reclaimed versions h keys rising ordered rise has recent =
     find-same (λ key. nat_lt s (last_time (writes_of versions key))) (is_written_after h s) keys
@@ -78,7 +83,8 @@ conflicts-same s floors reclaimed versions h keys rising ordered rise has recent
     ∙ key-later s h key rising)
 
 -- what waits adds its writes, where the versions behind it have forgotten what ended by the mark
-pub writes-behind : (mark : ℕ) (versions : List KeyWrites) (qs : List QueuedValue) (cs : History Value) (key : Key) → HasForgotten mark versions → mark_after mark qs ≡ mark → AllWait mark versions qs cs
+pub writes-behind : (mark : ℕ) (versions : List KeyWrites) (qs : List QueuedValue) (cs : History Value) (key : Key) → HasForgotten mark versions
+    → mark_after mark qs ≡ mark → AllWait mark versions qs cs
     → writes_of (versions_after versions qs) key ≡ writes_of versions key ++ histories.writes_of cs key
 writes-behind mark versions qs cs key forgot fresh all =
     sym (subst (λ (n : ℕ). HasForgotten n (versions_after versions qs)) fresh (forgot-behind mark mark versions qs cs forgot all) key)
@@ -89,14 +95,18 @@ writes-behind mark versions qs cs key forgot fresh all =
 pub behind-group : (v : TransactionsValue) (m : Machine Value) → StandsInMemory v m → is_turning v.stage ≡ true → (key : Key)
     → writes_of (versions_after v.versions (take v.group v.queue)) key ≡ writes_of v.versions key ++ histories.writes_of (take v.group m.queue) key
 behind-group v m stands turning key =
-    writes-behind v.reclaimed v.versions (take v.group v.queue) (take v.group m.queue) key stands.forgot (stands.fresh turning) (wait-front v.group v.reclaimed v.versions v.queue m.queue stands.queue)
+    writes-behind v.reclaimed v.versions (take v.group v.queue) (take v.group m.queue) key stands.forgot (stands.fresh turning)
+    (wait-front v.group v.reclaimed v.versions v.queue m.queue stands.queue)
 
 -- the versions after some that wait are those of the commits, from the mark on
-pub ordered-has : (floors : ℕ → ℕ) (reclaimed : ℕ) (before : History Value) (versions : List KeyWrites) (qs : List QueuedValue) (cs : History Value) → HasWrites floors reclaimed versions before → HasForgotten reclaimed versions → AllWait reclaimed versions qs cs
-    → HasRisingTimes 0 (before ++ cs) → ((relation : ℕ) → floors relation ≤ last before) → HasWrites floors reclaimed (forgotten reclaimed (versions_after versions qs)) (before ++ cs)
+pub ordered-has : (floors : ℕ → ℕ) (reclaimed : ℕ) (before : History Value) (versions : List KeyWrites) (qs : List QueuedValue) (cs : History Value)
+    → HasWrites floors reclaimed versions before → HasForgotten reclaimed versions → AllWait reclaimed versions qs cs
+    → HasRisingTimes 0 (before ++ cs) → ((relation : ℕ) → floors relation ≤ last before)
+    → HasWrites floors reclaimed (forgotten reclaimed (versions_after versions qs)) (before ++ cs)
 ordered-has floors reclaimed before versions qs cs has forgot all rising reached =
     let ordered : IsOrdered (versions_after versions qs) = ordered-behind reclaimed versions qs cs has.ordered all in
-    many-more has (rising-front 0 before cs rising) (forgotten reclaimed (versions_after versions qs)) cs reached (rising-behind 0 before cs rising) (ordered-forgotten reclaimed (versions_after versions qs) ordered)
+    many-more has (rising-front 0 before cs rising) (forgotten reclaimed (versions_after versions qs)) cs reached (rising-behind 0 before cs rising)
+    (ordered-forgotten reclaimed (versions_after versions qs) ordered)
     (λ key.
     writes_of-forgotten reclaimed (versions_after versions qs) key ordered
     ∙ kept-behind reclaimed versions qs cs key all

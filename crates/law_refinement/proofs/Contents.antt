@@ -1,5 +1,6 @@
 -- A write in range is stored as a record in range.
-use Rattle.std.proofs.Common.{◌≡◌, ℕ, ◌+◌, ◌*◌, ◌<◌, ◌≤◌, ◌^◌, ◌==◌, ◌&&◌, Bool, true, false, cond, nat_lt, List, [], ◌∷◌, length, map, Option, None, Some, MatchOption, refl, arith, ap, sym, subst, ◌∙◌, pow_mono}
+use Rattle.std.proofs.Common.{◌≡◌, ℕ, ◌+◌, ◌*◌, ◌<◌, ◌≤◌, ◌^◌, ◌==◌, ◌&&◌, Bool, true, false, cond, nat_lt, List, [], ◌∷◌, length, map, Option, None, Some}
+use Rattle.std.proofs.Common.{MatchOption, refl, arith, ap, sym, subst, ◌∙◌, pow_mono}
 use Rattle.std.specs.Prelude.{bytes_eq, count_ones}
 use Rattle.std.specs.List.{AllByRecursion}
 use Rattle.std.specs.Simd.Lanes.{mask_l}
@@ -79,7 +80,8 @@ changed-is old new is =
 
 over-is : (old new : Value) → IsValue new → IsContent (content_of (stored_over old new))
 over-is old new is =
-    elim ((length old == length new) && nat_lt (delta_bytes (changed_of old new)) (anchor_bytes new)) as (λ (b : Bool). IsContent (content_of (cond b (Delta (mask_of old new) (changed_of old new)) (Anchor new)))) [
+    elim ((length old == length new) && nat_lt (delta_bytes (changed_of old new)) (anchor_bytes new)) as
+    (λ (b : Bool). IsContent (content_of (cond b (Delta (mask_of old new) (changed_of old new)) (Anchor new)))) [
       | true ↦ changed-is old new is
       | false ↦ is
     ]
@@ -92,6 +94,7 @@ content-is (Some old) (Some new) is = over-is old new is
 pub record-is : (before : Key → Option Value) (w : KeyWrite Value) → IsWrite IsValue w → IsRecord (stored_record before w)
 record-is before w is = record { key = is.key; content = content-is (before w.key) w.write is.value }
 
-pub records-are : (before : Key → Option Value) (ws : List (KeyWrite Value)) → AllByRecursion (IsWrite IsValue) ws → AllByRecursion IsRecord (map (stored_record before) ws)
+pub records-are : (before : Key → Option Value) (ws : List (KeyWrite Value)) → AllByRecursion (IsWrite IsValue) ws
+    → AllByRecursion IsRecord (map (stored_record before) ws)
 records-are before [] all = tt
 records-are before (w ∷ ws) all = (record-is before w all.0, records-are before ws all.1)

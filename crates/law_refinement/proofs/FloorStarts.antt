@@ -1,5 +1,6 @@
 -- A floor begins: it is one that may be raised, and may come next in the log. Or it is refused as the machine says.
-use Rattle.std.proofs.Common.{rules, ◌≡◌, ◌≢◌, ℕ, ◌+◌, ◌<◌, ◌≤◌, ◌==◌, min, nat_le, nat_lt, Bool, true, false, cond, List, [], ◌∷◌, Option, None, Some, is_some, ◌||◌, refl, arith, ap, sym, subst, ◌∙◌, ⊎_elim, inl, inr}
+use Rattle.std.proofs.Common.{rules, ◌≡◌, ◌≢◌, ℕ, ◌+◌, ◌<◌, ◌≤◌, ◌==◌, min, nat_le, nat_lt, Bool, true, false, cond, List, [], ◌∷◌, Option, None, Some, is_some}
+use Rattle.std.proofs.Common.{◌||◌, refl, arith, ap, sym, subst, ◌∙◌, ⊎_elim, inl, inr}
 use Rattle.std.specs.Prelude.{◌⊎◌, Contains, IsPermutation, IsTrue}
 use Rattle.std.specs.List.{AllByRecursion}
 use Rattle.std.proofs.lemmas.Bool.Decides.{nat_tests}
@@ -62,11 +63,15 @@ record Tests (v : StoreValue) (scope : Option ℕ) (floor : ℕ) (a w b c d : Bo
 
 abbrev Refusal : StoreValue → ℕ → Bool → Bool → Bool → Bool → Bool → Option StartFault
 Refusal v floor a w b c d =
-    cond a (Some fault.Failed) (cond w (Some fault.WrongProfile) (cond b (Some fault.JobBusy) (cond c (Some fault.NothingToDo) (cond d (Some (fault.NotYet (stores.last v))) (refusal_for_use v (below (oldest v.transactions) floor))))))
+    cond a (Some fault.Failed)
+    (cond w (Some fault.WrongProfile)
+    (cond b (Some fault.JobBusy)
+    (cond c (Some fault.NothingToDo) (cond d (Some (fault.NotYet (stores.last v))) (refusal_for_use v (below (oldest v.transactions) floor))))))
 
 may-begin : (v : StoreValue) (scope : Option ℕ) (floor : ℕ) → floor_refusal v scope floor ≡ None → MayBegin v scope floor
 may-begin v scope floor none =
-    by-tests v.transactions.failed (is_wrong_profile v.log.profile scope) (is_some v.job) (nat_le floor (floor_at (stores.floors v) (covered scope))) (nat_lt (stores.last v) floor)
+    by-tests v.transactions.failed (is_wrong_profile v.log.profile scope) (is_some v.job) (nat_le floor (floor_at (stores.floors v) (covered scope)))
+    (nat_lt (stores.last v) floor)
     (record { failed = refl; wrong = refl; busy = refl; low = refl; high = refl }) none
   where
     by-tests : (a w b c d : Bool) → Tests v scope floor a w b c d → Path (Option StartFault) (Refusal v floor a w b c d) None → MayBegin v scope floor
@@ -79,7 +84,15 @@ may-begin v scope floor none =
         let unused = not-in-use v (below (oldest v.transactions) floor) is in
         let low = tests.low in
         let high = tests.high in
-        record { works = tests.failed; scope_is = tests.wrong; free = none-there v.job tests.busy; rises = grind (arith, nat_tests); by_last = grind (arith, nat_tests); unused = unused.0; room = unused.1 }
+        record {
+          works = tests.failed;
+          scope_is = tests.wrong;
+          free = none-there v.job tests.busy;
+          rises = grind (arith, nat_tests);
+          by_last = grind (arith, nat_tests);
+          unused = unused.0;
+          room = unused.1;
+        }
 
 -- ---- the machine says so too
 
@@ -102,7 +115,8 @@ least-taken : (o : Option ℕ) (snapshot n : ℕ) → lesser o (Some snapshot) �
 least-taken None snapshot n is = inr cc
 least-taken (Some a) snapshot n is =
     let same : min a snapshot ≡ n = cc in
-    ⊎_elim (λ (low : a ≤ snapshot). inl (ap (λ (x : ℕ). Some x) (omega (arith, same, low)))) (λ (high : snapshot < a). inr (omega (arith, same, high))) (cases-le a snapshot)
+    ⊎_elim (λ (low : a ≤ snapshot). inl (ap (λ (x : ℕ). Some x) (omega (arith, same, low)))) (λ (high : snapshot < a). inr (omega (arith, same, high)))
+    (cases-le a snapshot)
   where
     cases-le : (x y : ℕ) → (x ≤ y) ⊎ (y < x)
     cases-le x y = ⊎_elim (λ (low : x < y + 1). inl (omega (arith, low))) (λ (high : y + 1 ≤ x). inr (omega (arith, high))) (cases_lt x (y + 1))
@@ -112,7 +126,8 @@ least-there [] o n is = inl is
 least-there (None ∷ places) None n is = least-there places None n is
 least-there (None ∷ places) (Some a) n is = least-there places (Some a) n is
 least-there (Some s ∷ places) o n is = ⊎_elim
-    (λ (early : lesser o (Some s) ≡ Some n). ⊎_elim (λ (before : o ≡ Some n). inl before) (λ (own : s ≡ n). inr (Contains-head s (snapshots_of places) n own)) (least-taken o s n early))
+    (λ (early : lesser o (Some s)
+    ≡ Some n). ⊎_elim (λ (before : o ≡ Some n). inl before) (λ (own : s ≡ n). inr (Contains-head s (snapshots_of places) n own)) (least-taken o s n early))
     (λ (later : Contains (snapshots_of places) n). inr (Contains-tail s (snapshots_of places) n later))
     (least-there places (lesser o (Some s)) n is)
 
@@ -138,7 +153,8 @@ machine-there s (t ∷ ss) = ⊎_elim
     (Contains-cons_cases (min s t) ss (least (min s t) ss) (machine-there (min s t) ss))
 
 -- where the store's least is below the floor, the machine's is it
-machine-least : (snapshots : List ℕ) (floor n : ℕ) → Contains snapshots n → ((x : ℕ) → Contains snapshots x → n ≤ x) → n < floor → in_use_refusal (in_use_below snapshots floor) ≡ Some (floors.InUse n)
+machine-least : (snapshots : List ℕ) (floor n : ℕ) → Contains snapshots n → ((x : ℕ) → Contains snapshots x → n ≤ x) → n < floor
+    → in_use_refusal (in_use_below snapshots floor) ≡ Some (floors.InUse n)
 machine-least [] floor n there low below = absurd (Contains-nil n there)
 machine-least (s ∷ ss) floor n there low below =
     let up = low (least s ss) (machine-there s ss) in
@@ -155,16 +171,22 @@ below-is (Some k) floor n is =
       | false ↦ λ test said. absurd cc
     ] refl is
 
-pub in-use : (places : List (Option ℕ)) (snapshots : List ℕ) (floor snapshot : ℕ) → IsPermutation snapshots (snapshots_of places) → below (least_open places) floor ≡ Some snapshot → in_use_refusal (in_use_below snapshots floor) ≡ Some (floors.InUse snapshot)
+pub in-use : (places : List (Option ℕ)) (snapshots : List ℕ) (floor snapshot : ℕ) → IsPermutation snapshots (snapshots_of places)
+    → below (least_open places) floor ≡ Some snapshot → in_use_refusal (in_use_below snapshots floor) ≡ Some (floors.InUse snapshot)
 in-use places snapshots floor snapshot same is =
     let least-is = below-is (least_open places) floor snapshot is in
-    let there : Contains (snapshots_of places) snapshot = ⊎_elim (λ (no : None ≡ Some snapshot). absurd cc) (λ (has : Contains (snapshots_of places) snapshot). has) (least-there places None snapshot least-is.0) in
-    machine-least snapshots floor snapshot (Contains-permutation (snapshots_of places) snapshots snapshot (IsPermutation-sym snapshots (snapshots_of places) same) there)
+    let there : Contains (snapshots_of places) snapshot =
+    ⊎_elim (λ (no : None ≡ Some snapshot). absurd cc) (λ (has : Contains (snapshots_of places) snapshot). has) (least-there places None snapshot least-is.0)
+    in
+    machine-least snapshots floor snapshot
+    (Contains-permutation (snapshots_of places) snapshots snapshot (IsPermutation-sym snapshots (snapshots_of places) same) there)
     (λ x has. least-is-low places snapshot x least-is.0 (Contains-permutation snapshots (snapshots_of places) x same has)) least-is.1
 
-pub refuses : (tells : Bool) (v : StoreValue) (scope : Option ℕ) (floor : ℕ) (m : Machine Value) → Stands tells v m → (why : StartFault) → floor_refusal v scope floor ≡ Some why → Refuses m (raising_to scope floor) why
+pub refuses : (tells : Bool) (v : StoreValue) (scope : Option ℕ) (floor : ℕ) (m : Machine Value) → Stands tells v m → (why : StartFault)
+    → floor_refusal v scope floor ≡ Some why → Refuses m (raising_to scope floor) why
 refuses tells v scope floor m stands why some =
-    by-tests v.transactions.failed (is_wrong_profile v.log.profile scope) (is_some v.job) (nat_le floor (floor_at (stores.floors v) (covered scope))) (nat_lt (stores.last v) floor)
+    by-tests v.transactions.failed (is_wrong_profile v.log.profile scope) (is_some v.job) (nat_le floor (floor_at (stores.floors v) (covered scope)))
+    (nat_lt (stores.last v) floor)
     (record { failed = refl; wrong = refl; busy = refl; low = refl; high = refl }) some
   where
     r : Raising
@@ -179,7 +201,8 @@ refuses tells v scope floor m stands why some =
     high-is : (b : Bool) → nat_lt (stores.last v) floor ≡ b → nat_lt (histories.last m.published) floor ≡ b
     high-is b is = ap (λ (n : ℕ). nat_lt n floor) (sym (last-is v.transactions m stands.memory)) ∙ is
 
-    by-use : (o : Option ℕ) → below (oldest v.transactions) floor ≡ o → nat_le floor (m.floors (covered scope)) ≡ false → nat_lt (histories.last m.published) floor ≡ false → m.failed ≡ false → refusal_for_use v o ≡ Some why → Refuses m r why
+    by-use : (o : Option ℕ) → below (oldest v.transactions) floor ≡ o → nat_le floor (m.floors (covered scope)) ≡ false
+        → nat_lt (histories.last m.published) floor ≡ false → m.failed ≡ false → refusal_for_use v o ≡ Some why → Refuses m r why
     by-use (Some snapshot) used low high works is =
         given (fault.InUse snapshot) (works, rw (low, high) (in-use v.transactions.opened m.snapshots floor snapshot stands.memory.snapshots used), refl) is
     by-use None used low high works is =
@@ -192,11 +215,16 @@ refuses tells v scope floor m stands why some =
     by-tests true w b c d tests is = given fault.Failed (sym stands.memory.failed ∙ tests.failed) is
     by-tests false true b c d tests is = given fault.WrongProfile tt is
     by-tests false false true c d tests is = given fault.JobBusy tt is
-    by-tests false false false true d tests is = (let low = low-is true tests.low in given fault.NothingToDo (sym stands.memory.failed ∙ tests.failed, rw low refl, refl) is)
+    by-tests false false false true d tests is =
+        (let low = low-is true tests.low in given fault.NothingToDo (sym stands.memory.failed ∙ tests.failed, rw low refl, refl) is)
     by-tests false false false false true tests is =
         let low = low-is false tests.low in
         let high = high-is true tests.high in
-        given (fault.NotYet (stores.last v)) (sym stands.memory.failed ∙ tests.failed, rw (low, high) (ap (λ (n : ℕ). Some (floors.NotYet n)) (sym (last-is v.transactions m stands.memory))), refl) is
+        given (fault.NotYet (stores.last v)) (
+          sym stands.memory.failed ∙ tests.failed,
+          rw (low, high) (ap (λ (n : ℕ). Some (floors.NotYet n)) (sym (last-is v.transactions m stands.memory))),
+          refl,
+        ) is
     by-tests false false false false false tests is =
         by-use (below (oldest v.transactions) floor) refl (low-is false tests.low) (high-is false tests.high) (sym stands.memory.failed ∙ tests.failed) is
 
@@ -216,7 +244,8 @@ of-relations profile None right named = grind (arith, nat_tests)
 of-relations profile (Some only) right named = (grind (arith, nat_tests), named)
 
 -- each floor that it covers is below it
-all-rise : (v : StoreValue) (m : Machine Value) (scope : Option ℕ) (floor : ℕ) → StandsInMemory v.transactions m → RaisesFloor v m → MayBegin v scope floor → (relation : ℕ) → IsTrue (covers scope relation) → m.floors relation < floor
+all-rise : (v : StoreValue) (m : Machine Value) (scope : Option ℕ) (floor : ℕ) → StandsInMemory v.transactions m → RaisesFloor v m → MayBegin v scope floor
+    → (relation : ℕ) → IsTrue (covers scope relation) → m.floors relation < floor
 all-rise v m None floor memory raises may relation covered =
     let other : v.log.profile ≢ 3 = of-relations v.log.profile None may.scope_is tt in
     let one = raises.of_profile other relation in
@@ -229,11 +258,19 @@ all-rise v m (Some only) floor memory raises may relation covered =
     let one : only ≡ relation = search (rules, covered) in
     subst (λ (r : ℕ). m.floors r < floor) one (omega (arith, same, above))
 
-module _ (header : Header) (v : StoreValue) (scope : Option ℕ) (floor : ℕ) (m : Machine Value) (memory : StandsInMemory v.transactions m) (raises : RaisesFloor v m) (may : MayBegin v scope floor) (named : IsRelation scope) (profile : v.log.profile ≡ header.profile) (w : Works header v m) where
+module _ (header : Header) (v : StoreValue) (scope : Option ℕ) (floor : ℕ) (m : Machine Value) (memory : StandsInMemory v.transactions m)
+    (raises : RaisesFloor v m) (may : MayBegin v scope floor) (named : IsRelation scope) (profile : v.log.profile ≡ header.profile) (w : Works header v m) where
   next : IsNextFloor w.log.reading m.published scope floor
   next = record {
-    scope_is = of-relations w.log.reading.profile scope (subst (λ (n : ℕ). is_wrong_profile n scope ≡ false) (profile ∙ sym w.log.laid.heap.profile_is) may.scope_is) named;
-    rises = λ relation covered. (let given = w.log.stands.opens.floors_given relation in let above = all-rise v m scope floor memory raises may relation covered in omega (arith, given, above));
+    scope_is =
+        of-relations w.log.reading.profile scope (subst (λ (n : ℕ). is_wrong_profile n scope ≡ false) (profile
+        ∙ sym w.log.laid.heap.profile_is) may.scope_is) named;
+    rises = λ relation covered.
+        (let given = w.log.stands.opens.floors_given relation in let above = all-rise v m scope floor memory raises may relation covered in omega (
+          arith,
+          given,
+          above,
+        ));
     by_last = omega (arith, may.by_last, last-is v.transactions m memory);
     in_range = omega (arith, may.by_last, last-is v.transactions m memory, last-range w.log.reading m.published m.floors w.log.stands);
   }
@@ -252,8 +289,10 @@ module _ (header : Header) (v : StoreValue) (scope : Option ℕ) (floor : ℕ) (
     sound = w.sound;
   }
 
-pub begins : (tells : Bool) (v : StoreValue) (scope : Option ℕ) (floor : ℕ) (m : Machine Value) → Stands tells v m → floor_refusal v scope floor ≡ None → IsRelation scope
-    → Step IsValue m (FloorStarted (raising_to scope floor)) (floor_started m (raising_to scope floor)) × Stands tells (with_floor v scope floor) (floor_started m (raising_to scope floor))
+pub begins : (tells : Bool) (v : StoreValue) (scope : Option ℕ) (floor : ℕ) (m : Machine Value) → Stands tells v m → floor_refusal v scope floor ≡ None
+    → IsRelation scope
+    → Step IsValue m (FloorStarted (raising_to scope floor)) (floor_started m (raising_to scope floor))
+    × Stands tells (with_floor v scope floor) (floor_started m (raising_to scope floor))
 begins tells v scope floor m stands none named =
     let r : Raising = raising_to scope floor in
     let may = may-begin v scope floor none in
@@ -261,7 +300,9 @@ begins tells v scope floor m stands none named =
     let raisable : MayRaise m r = record {
       rises = all-rise v m scope floor stands.memory stands.raises may;
       upto_last = omega (arith, may.by_last, last-is v.transactions m stands.memory);
-      in_use = all-reached m.snapshots floor (λ s there. none-reads-below v.transactions.opened floor may.unused s (Contains-permutation m.snapshots (snapshots_of v.transactions.opened) s stands.memory.snapshots there));
+      in_use = all-reached m.snapshots floor
+          (λ s there. none-reads-below v.transactions.opened floor may.unused s
+          (Contains-permutation m.snapshots (snapshots_of v.transactions.opened) s stands.memory.snapshots there));
     } in
     let step : Step IsValue m (FloorStarted r) (floor_started m r) = (works, stands.raises.is ∙ ap raising_of may.free, raisable, refl) in
     let free : lent_to v.job ≡ 0 = ap lent_to may.free in
@@ -283,8 +324,13 @@ begins tells v scope floor m stands none named =
         order = lent-order v.transactions may.room stands.order;
         in_step = in_step;
         gate = λ on. stands.gate on ∙ gate-beside v.turn v.job _ (ap job_gate may.free) refl;
-        raises = record { is = refl; scope = scope-of v.log.profile scope (of-relations v.log.profile scope may.scope_is named); of_profile = stands.raises.of_profile };
+        raises = record {
+          is = refl;
+          scope = scope-of v.log.profile scope (of-relations v.log.profile scope may.scope_is named);
+          of_profile = stands.raises.of_profile;
+        };
         marks = stands.marks;
         job = refl;
-      }) works refl refl refl (λ told. let c = working tells v m stands works told in begun-works c.header v scope floor m stands.memory stands.raises may named c.profile c.works),
+      }) works refl refl refl
+          (λ told. let c = working tells v m stands works told in begun-works c.header v scope floor m stands.memory stands.raises may named c.profile c.works),
     )

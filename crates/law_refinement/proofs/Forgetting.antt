@@ -1,5 +1,6 @@
 -- Memory that forgets what ended by a mark is that of the same history from the mark on.
-use Rattle.std.proofs.Common.{◌≡◌, ℕ, ◌<◌, ◌≤◌, ◌^◌, ◌&&◌, nat_le, nat_lt, Bool, true, false, cond, is_none, List, [], ◌∷◌, ◌++◌, Option, Some, None, refl, arith, ap, sym, ◌∙◌, ⊎_elim}
+use Rattle.std.proofs.Common.{◌≡◌, ℕ, ◌<◌, ◌≤◌, ◌^◌, ◌&&◌, nat_le, nat_lt, Bool, true, false, cond, is_none, List, [], ◌∷◌, ◌++◌, Option, Some, None, refl}
+use Rattle.std.proofs.Common.{arith, ap, sym, ◌∙◌, ⊎_elim}
 use Rattle.std.specs.Prelude.{filter}
 use Rattle.std.proofs.lemmas.Bool.{cases_lt}
 use Rattle.std.proofs.lemmas.List.Elements.{filter-append}
@@ -54,7 +55,8 @@ one-stands mark w low high =
     ])
     (cases_lt mark w.time)
 
-behind-stands : (mark : ℕ) (w : TimedWrite Value) (ws : Writes) → 0 < w.time → w.time < 2 ^ 63 → IsRisingAfter w.time ws → StandsBy mark (standing-behind mark w ws)
+behind-stands : (mark : ℕ) (w : TimedWrite Value) (ws : Writes) → 0 < w.time → w.time < 2 ^ 63 → IsRisingAfter w.time ws
+    → StandsBy mark (standing-behind mark w ws)
 unfolding standing-behind
 behind-stands mark w [] low high up = one-stands mark w low high
 behind-stands mark w (v ∷ vs) low high up =
@@ -70,7 +72,8 @@ stands-in mark [] up = record { rising = tt; early = omega arith }
 stands-in mark (w ∷ ws) up = behind-stands mark w ws up.0 up.1 up.2
 
 -- a write with later ones behind it
-one-kept : (mark : ℕ) (w : TimedWrite Value) (ws : Writes) → writes_after mark ws ≡ ws → from_standing mark w ws ≡ standing-one mark w ++ writes_after mark (w ∷ ws)
+one-kept : (mark : ℕ) (w : TimedWrite Value) (ws : Writes) → writes_after mark ws ≡ ws → from_standing mark w ws ≡ standing-one mark w
+    ++ writes_after mark (w ∷ ws)
 unfolding standing-one
 one-kept mark w ws whole =
     ⊎_elim
@@ -81,13 +84,15 @@ one-kept mark w ws whole =
     (λ (early : w.time ≤ mark).
     let yes : nat_le w.time mark ≡ true = is_le early in
     let no : nat_lt mark w.time ≡ false = not_lt early in
-    elim w.write as (λ (o : Option Value). cond (nat_le w.time mark && is_none o) ws (w ∷ ws) ≡ cond (nat_le w.time mark && is_none o) [] (cond (nat_le w.time mark) (w ∷ []) []) ++ writes_after mark (w ∷ ws)) [
+    elim w.write as (λ (o : Option Value). cond (nat_le w.time mark && is_none o) ws (w ∷ ws)
+    ≡ cond (nat_le w.time mark && is_none o) [] (cond (nat_le w.time mark) (w ∷ []) []) ++ writes_after mark (w ∷ ws)) [
       | None ↦ rw (yes, no, whole) refl
       | Some x ↦ rw (yes, no, whole) refl
     ])
     (cases_lt mark w.time)
 
-behind-kept : (mark : ℕ) (w : TimedWrite Value) (ws : Writes) → IsRisingAfter w.time ws → kept_behind mark w ws ≡ standing-behind mark w ws ++ writes_after mark (w ∷ ws)
+behind-kept : (mark : ℕ) (w : TimedWrite Value) (ws : Writes) → IsRisingAfter w.time ws → kept_behind mark w ws ≡ standing-behind mark w ws
+    ++ writes_after mark (w ∷ ws)
 unfolding standing-behind
 behind-kept mark w [] up = one-kept mark w [] refl
 behind-kept mark w (v ∷ vs) up =
@@ -121,14 +126,19 @@ none-later mark t (w ∷ ws) up low =
     rw gone (none-later mark w.time ws up.2 low)
 
 later-again : (early mark : ℕ) (ws : Writes) → early ≤ mark → writes_after mark (writes_after early ws) ≡ writes_after mark ws
-later-again early mark ws low = filter-filter (λ (w : TimedWrite Value). nat_lt mark w.time) (λ (w : TimedWrite Value). nat_lt early w.time) ws (λ w late. is_lt (let test = late in omega (arith, from-test w.time late)))
+later-again early mark ws low =
+    filter-filter (λ (w : TimedWrite Value). nat_lt mark w.time) (λ (w : TimedWrite Value). nat_lt early w.time) ws
+    (λ w late. is_lt (let test = late in omega (arith, from-test w.time late)))
   where
     from-test : (t : ℕ) → nat_lt mark t ≡ true → mark < t
-    from-test t test = ⊎_elim (λ (later : mark < t). later) (λ (other : t ≤ mark). absurd (let no : nat_lt mark t ≡ false = not_lt other in let both : true ≡ false = sym test ∙ no in cc)) (cases_lt mark t)
+    from-test t test =
+        ⊎_elim (λ (later : mark < t). later) (λ (other : t ≤ mark). absurd (let no : nat_lt mark t ≡ false = not_lt other in let both : true ≡ false = sym test
+        ∙ no in cc)) (cases_lt mark t)
 
 -- ---- memory
 
-pub forgets : (floors : ℕ → ℕ) (reclaimed mark : ℕ) (versions-in : List KeyWrites) (h : History Value) → HasWrites floors reclaimed versions-in h → HasRisingTimes 0 h → reclaimed ≤ mark → mark ≤ last h
+pub forgets : (floors : ℕ → ℕ) (reclaimed mark : ℕ) (versions-in : List KeyWrites) (h : History Value) → HasWrites floors reclaimed versions-in h
+    → HasRisingTimes 0 h → reclaimed ≤ mark → mark ≤ last h
     → HasWrites floors mark (forgotten mark versions-in) h
 forgets floors reclaimed mark versions-in h has up low reached = record {
   ordered = ordered-forgotten mark versions-in has.ordered;
@@ -156,5 +166,6 @@ forgets floors reclaimed mark versions-in h has up low reached = record {
         let early = has.early key in
         ap (λ (ws : Writes). writes_after mark ws) (has.writes key)
         ∙ filter-append (λ (w : TimedWrite Value). nat_lt mark w.time) (has.before key) (writes_after reclaimed (histories.writes_of h key))
-        ∙ ap (λ (ws : Writes). ws ++ writes_after mark (writes_after reclaimed (histories.writes_of h key))) (none-later mark 0 (has.before key) (has.rising key) (omega arith))
+        ∙ ap (λ (ws : Writes). ws
+        ++ writes_after mark (writes_after reclaimed (histories.writes_of h key))) (none-later mark 0 (has.before key) (has.rising key) (omega arith))
         ∙ later-again reclaimed mark (histories.writes_of h key) low

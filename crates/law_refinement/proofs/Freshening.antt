@@ -1,5 +1,6 @@
 -- Where the versions that a group leaves are made anew, nothing changes of what it stores.
-use Rattle.std.proofs.Common.{◌≡◌, ℕ, zero, suc, ◌-◌, nat_lt, slice_get, slice_set, Bool, true, false, cond, List, [], ◌∷◌, ◌++◌, length, take, map, Option, None, Some, refl, ap, sym, subst}
+use Rattle.std.proofs.Common.{◌≡◌, ℕ, zero, suc, ◌-◌, nat_lt, slice_get, slice_set, Bool, true, false, cond, List, [], ◌∷◌, ◌++◌, length, take, map, Option}
+use Rattle.std.proofs.Common.{None, Some, refl, ap, sym, subst}
 use Rattle.history.specs.Histories.{History}
 use Rattle.history.specs.Machine.{Machine}
 use Rattle.law_image.specs.Values.{Value}
@@ -42,10 +43,12 @@ module _ (after : List KeyWrites) (mark : ℕ) where
       → map (λ (p : QueuedValue). p.entry) (take n (slice_set qs place (anew q))) ≡ map (λ (p : QueuedValue). p.entry) (take n qs)
   set-entries zero qs place q found = refl
   set-entries (suc n) [] place q found = refl
-  set-entries (suc n) (x ∷ xs) zero q found = let same : x ≡ q = cc in ap (λ (z : QueuedValue). z.entry ∷ map (λ (p : QueuedValue). p.entry) (take n xs)) (sym same)
+  set-entries (suc n) (x ∷ xs) zero q found = let same : x ≡ q =
+      cc in ap (λ (z : QueuedValue). z.entry ∷ map (λ (p : QueuedValue). p.entry) (take n xs)) (sym same)
   set-entries (suc n) (x ∷ xs) (suc k) q found = ap (λ (l : List Entry). x.entry ∷ l) (set-entries n xs k q found)
 
-  set-packed : (before : History Value) (qs : List QueuedValue) (cs : History Value) (place : ℕ) (q : QueuedValue) → slice_get qs place ≡ Some q → AllPacked before qs cs → AllPacked before (slice_set qs place (anew q)) cs
+  set-packed : (before : History Value) (qs : List QueuedValue) (cs : History Value) (place : ℕ) (q : QueuedValue) → slice_get qs place ≡ Some q
+      → AllPacked before qs cs → AllPacked before (slice_set qs place (anew q)) cs
   set-packed before [] cs place q found all = all
   set-packed before (x ∷ xs) [] place q found all = absurd all
   set-packed before (x ∷ xs) (c ∷ cs) zero q found all =
@@ -56,7 +59,8 @@ module _ (after : List KeyWrites) (mark : ℕ) where
 
 -- what holds of a queue, also where one of it is made anew
 fresh-has : (P : List QueuedValue → Type 0) (mark place : ℕ) (queue : List QueuedValue) (o : Option QueuedValue) → slice_get queue place ≡ o → P queue
-    → ((q : QueuedValue) → slice_get queue place ≡ Some q → P (slice_set queue place (record q { after = forgotten mark q.after; reclaimed = mark }))) → P (fresh_at mark place queue o)
+    → ((q : QueuedValue) → slice_get queue place ≡ Some q → P (slice_set queue place (record q { after = forgotten mark q.after; reclaimed = mark })))
+    → P (fresh_at mark place queue o)
 fresh-has P mark place queue None at same made = same
 fresh-has P mark place queue (Some q) at same made =
     elim (nat_lt q.reclaimed mark) as (λ (b : Bool). P (cond b (slice_set queue place (record q { after = forgotten mark q.after; reclaimed = mark })) queue)) [
@@ -71,14 +75,17 @@ module _ (t : TransactionsValue) where
   abbrev place : ℕ
   place = t.group - 1
 
-  pub fresh-members : (before : History Value) (cs : History Value) → members_of before (take t.group (freshened t).queue) cs ≡ members_of before (take t.group t.queue) cs
+  pub fresh-members : (before : History Value) (cs : History Value) → members_of before (take t.group (freshened t).queue) cs
+      ≡ members_of before (take t.group t.queue) cs
   fresh-members before cs =
-      fresh-has (λ (qs : List QueuedValue). members_of before (take t.group qs) cs ≡ members_of before (take t.group t.queue) cs) t.reclaimed place t.queue (slice_get t.queue place) refl refl
+      fresh-has (λ (qs : List QueuedValue). members_of before (take t.group qs) cs
+      ≡ members_of before (take t.group t.queue) cs) t.reclaimed place t.queue (slice_get t.queue place) refl refl
       (λ q found. set-members (forgotten t.reclaimed q.after) t.reclaimed t.group before t.queue cs place q found)
 
   pub fresh-entries : groups.entries (freshened t) ≡ groups.entries t
   fresh-entries =
-      fresh-has (λ (qs : List QueuedValue). map (λ (p : QueuedValue). p.entry) (take t.group qs) ≡ map (λ (p : QueuedValue). p.entry) (take t.group t.queue)) t.reclaimed place t.queue (slice_get t.queue place) refl refl
+      fresh-has (λ (qs : List QueuedValue). map (λ (p : QueuedValue). p.entry) (take t.group qs)
+      ≡ map (λ (p : QueuedValue). p.entry) (take t.group t.queue)) t.reclaimed place t.queue (slice_get t.queue place) refl refl
       (λ q found. set-entries (forgotten t.reclaimed q.after) t.reclaimed t.group t.queue place q found)
 
   pub fresh-packed : (before : History Value) (cs : History Value) → AllPacked before t.queue cs → AllPacked before (freshened t).queue cs
@@ -101,9 +108,12 @@ module _ (t : TransactionsValue) where
 pub fresh-works : (header : Header) (v : StoreValue) (m : Machine Value) → v.transactions.stage ≡ Stored → Works header v m → Works header (freshly v) m
 fresh-works header v m stored w =
     let base : Areas = record v.disk.areas { status = w.group.rested } in
-    let was = subst (λ (s : GroupStage). IsAtStage header w.log.layout (group_of w.log.layout v.transactions m) v.transactions.queue s v.turn base) stored w.group.at in
+    let was =
+    subst (λ (s : GroupStage). IsAtStage header w.log.layout (group_of w.log.layout v.transactions m) v.transactions.queue s v.turn base) stored w.group.at
+    in
     let at : IsAtStage header w.log.layout (group_of w.log.layout (freshened v.transactions) m) (freshened v.transactions).queue Stored v.turn base =
-    subst (λ (g : Group). IsAtStage header w.log.layout g (freshened v.transactions).queue Stored v.turn base) (sym (fresh-group v.transactions w.log.layout m)) was in
+    subst (λ (g : Group). IsAtStage header w.log.layout g (freshened v.transactions).queue Stored v.turn base) (sym (fresh-group v.transactions w.log.layout m))
+    was in
     record {
       log = w.log;
       heap = w.heap;
@@ -111,7 +121,8 @@ fresh-works header v m stored w =
       group = record {
         rested = w.group.rested;
         rests = w.group.rests;
-        at = subst (λ (s : GroupStage). IsAtStage header w.log.layout (group_of w.log.layout (freshened v.transactions) m) (freshened v.transactions).queue s v.turn base) (sym stored) at;
+        at = subst (λ (s : GroupStage). IsAtStage header w.log.layout (group_of w.log.layout (freshened v.transactions) m) (freshened v.transactions).queue s
+            v.turn base) (sym stored) at;
       };
       job = w.job;
       sound = w.sound;

@@ -1,5 +1,6 @@
 -- The beginning of a growth, and its device calls.
-use Rattle.std.proofs.Common.{◌≡◌, ◌≢◌, ℕ, zero, suc, ◌+◌, ◌<◌, ◌≤◌, ◌==◌, ◌||◌, nat_lt, cond, Bool, true, false, IsTrue, is_some, List, length, take, Option, None, Some, Result, Err, MatchOption, refl, sym, ap, subst, ◌∙◌, inl, inr, arith}
+use Rattle.std.proofs.Common.{◌≡◌, ◌≢◌, ℕ, zero, suc, ◌+◌, ◌<◌, ◌≤◌, ◌==◌, ◌||◌, nat_lt, cond, Bool, true, false, IsTrue, is_some, List, length, take, Option}
+use Rattle.std.proofs.Common.{None, Some, Result, Err, MatchOption, refl, sym, ap, subst, ◌∙◌, inl, inr, arith}
 use Rattle.std.proofs.lemmas.Bool.Decides.{nat_tests}
 use Rattle.std.proofs.lemmas.List.{length-take, get_or-take, ext_get_or}
 use Rattle.std.proofs.lemmas.List.Elements.{All-take}
@@ -107,17 +108,20 @@ module _ (tells : Bool) (v : StoreValue) (m : Machine Value) (s : StandsStill te
   room-firm : slot_start (total header) ≤ v.disk.areas.status.firm
   room-firm =
       let image : Image = record { status = shortest; heap = v.disk.areas.heap.bytes; archive = v.disk.areas.archive.bytes } in
-      let left : LeavesImage v.disk.areas image = record { status = short-left; heap = MayLeave-read v.disk.areas.heap (sound Heap); archive = MayLeave-read v.disk.areas.archive (sound Archive) } in
+      let left : LeavesImage v.disk.areas image =
+      record { status = short-left; heap = MayLeave-read v.disk.areas.heap (sound Heap); archive = MayLeave-read v.disk.areas.archive (sound Archive) } in
       let front = (s.disk told).leaves image left in
       let room : slot_start (total header) ≤ length shortest =
-      front-any (slot_start (total header) ≤ length shortest) m (front-map (IsImageOf header image) (λ h floors. slot_start (total header) ≤ length shortest) m (λ h floors is. is.held.log.header_is.room) front) in
+      front-any (slot_start (total header) ≤ length shortest) m
+      (front-map (IsImageOf header image) (λ h floors. slot_start (total header) ≤ length shortest) m (λ h floors is. is.held.log.header_is.room) front) in
       omega (arith, room, short-long)
 
   numbers : HasNumbers header
   numbers =
       let image : Image = record { status = v.disk.areas.status.bytes; heap = v.disk.areas.heap.bytes; archive = v.disk.areas.archive.bytes } in
       let front = (s.disk told).leaves image (LeavesImage-read v.disk.areas sound) in
-      front-any (HasNumbers header) m (front-map (IsImageOf header image) (λ h floors. HasNumbers header) m (λ h floors is. is.held.log.header_is.front.numbers) front)
+      front-any (HasNumbers header) m
+      (front-map (IsImageOf header image) (λ h floors. HasNumbers header) m (λ h floors is. is.held.log.header_is.front.numbers) front)
 
   module _ (growth : GrowthState) (next : ComesNext v.log growth) where
     may-grow : MayGrow header
@@ -146,7 +150,8 @@ module _ (tells : Bool) (v : StoreValue) (m : Machine Value) (s : StandsStill te
         subst (λ (g : GrowthState). IsGrowing header g.stage v.disk.areas.status v.disk.areas.status) (sym next.is) first
 
 -- the growth has begun: without it the store is what it was
-begun-grows : (tells : Bool) (v new : StoreValue) (m : Machine Value) (growth : GrowthState) → StandsStill tells v m → m.failed ≡ false → v.job ≡ None → ComesNext v.log growth → new ≡ record v { job = Some (growing growth) } → Stands tells new m
+begun-grows : (tells : Bool) (v new : StoreValue) (m : Machine Value) (growth : GrowthState) → StandsStill tells v m → m.failed ≡ false → v.job ≡ None
+    → ComesNext v.log growth → new ≡ record v { job = Some (growing growth) } → Stands tells new m
 begun-grows tells v new m growth s works free next is =
     let made : StoreValue = record v { job = Some (growing growth) } in
     let still : StandsStill tells (without_growth made v.disk.areas.status) m = subst (λ (o : Option Job). StandsStill tells (record v { job = o }) m) free s in
@@ -160,7 +165,8 @@ begun-grows tells v new m growth s works free next is =
           let d = s.disk told in
           let sound = (d.works works).sound in
           let none = none-made tells v m s works told growth next in
-          subst (λ (h : Header). GrowsBeside h growth v.disk.areas.status made m) (sym (header-stays v (without_growth made v.disk.areas.status) m m d (still.disk told) refl refl refl)) (record {
+          subst (λ (h : Header). GrowsBeside h growth v.disk.areas.status made m)
+          (sym (header-stays v (without_growth made v.disk.areas.status) m m d (still.disk told) refl refl refl)) (record {
             may = may-grow tells v m s works told growth next;
             sound = sound Status;
             real = sound;
@@ -170,20 +176,25 @@ begun-grows tells v new m growth s works free next is =
     } in
     subst (λ (x : StoreValue). Stands tells x m) (sym is) (as-growing tells growth made m grows)
 
-pub grow-start-stands : (tells : Bool) (old new : StoreValue) (answer : Result (Unit {0}) StartFault) (m : Machine Value) → Stands tells old m → StartsGrowth old answer new → Stands tells new m
+pub grow-start-stands : (tells : Bool) (old new : StoreValue) (answer : Result (Unit {0}) StartFault) (m : Machine Value) → Stands tells old m
+    → StartsGrowth old answer new → Stands tells new m
 grow-start-stands tells old new answer m stands starts =
     by-kind tells old m (Stands tells new m) stands of-still
-    (λ growth s. kept tells old new m stands (bars (BeginsPiece old (next_piece old.log) answer new) old.transactions.failed (is_some old.job) None answer old new (busy-job tells growth old m s) starts).0)
+    (λ growth s. kept tells old new m stands
+    (bars (BeginsPiece old (next_piece old.log) answer new) old.transactions.failed (is_some old.job) None answer old new (busy-job tells growth old m s)
+    starts).0)
   where
     same : new ≡ old → Stands tells new m
     same is = kept tells old new m stands is
 
-    by-piece : StandsStill tells old m → old.transactions.failed ≡ false → old.job ≡ None → (o : Option GrowthState) → next_piece old.log ≡ o → BeginsPiece old o answer new → Stands tells new m
+    by-piece : StandsStill tells old m → old.transactions.failed ≡ false → old.job ≡ None → (o : Option GrowthState) → next_piece old.log ≡ o
+        → BeginsPiece old o answer new → Stands tells new m
     by-piece s works free None none said = same said.1
     by-piece s works free (Some growth) is said = begun-grows tells old new m growth s (sym s.memory.failed ∙ works) free (comes-next old.log growth is) said.1
 
     by-tests : StandsStill tells old m → (failed : Bool) → old.transactions.failed ≡ failed → (busy : Bool) → is_some old.job ≡ busy
-        → MatchOption (cond failed (Some start.Failed) (cond busy (Some start.JobBusy) None)) (BeginsPiece old (next_piece old.log) answer new) (λ why. (answer ≡ Err why) × (new ≡ old)) → Stands tells new m
+        → MatchOption (cond failed (Some start.Failed) (cond busy (Some start.JobBusy) None)) (BeginsPiece old (next_piece old.log) answer new) (λ why. (answer
+        ≡ Err why) × (new ≡ old)) → Stands tells new m
     by-tests s true failed busy is said = same said.1
     by-tests s false works true is said = same said.1
     by-tests s false works false is said = by-piece s works (none-there old.job is) (next_piece old.log) refl said

@@ -1,5 +1,6 @@
 -- The device calls of a piece, of a store that stands for a machine without it.
-use Rattle.std.proofs.Common.{◌≡◌, ℕ, ◌+◌, ◌≤◌, nat_lt, cond, Bool, true, false, IsTrue, List, Option, None, Some, Result, Ok, Err, MatchBool, MatchOption, MatchResult, refl, sym, ap, subst, ◌∙◌, arith}
+use Rattle.std.proofs.Common.{◌≡◌, ℕ, ◌+◌, ◌≤◌, nat_lt, cond, Bool, true, false, IsTrue, List, Option, None, Some, Result, Ok, Err, MatchBool, MatchOption}
+use Rattle.std.proofs.Common.{MatchResult, refl, sym, ap, subst, ◌∙◌, arith}
 use Rattle.disk.specs.Areas.{AreaState, Areas, Image, MayLeave, LeavesImage, IsSound, AreSound, synced}
 use Rattle.disk.specs.Calls.{DiskState, Syncs}
 use Rattle.disk.specs.Parts.{IsSettled}
@@ -64,7 +65,8 @@ use Rattle.law_refinement.proofs.GrowingSteps.{RoomFor, stage-synced, grown-work
 record Settles (old new : AreaState) : Type 0 where
   pub no_more : (content : List ℕ) → MayLeave new content → MayLeave old content
   pub sound : IsSound new
-  pub stage : (header : Header) (layout : Layout) (group : Group) (qs : List QueuedValue) (s : GroupStage) (turn : Option TurnState) (areas : Areas) → IsAtStage header layout group qs s turn (record areas { status = old })
+  pub stage : (header : Header) (layout : Layout) (group : Group) (qs : List QueuedValue) (s : GroupStage) (turn : Option TurnState) (areas : Areas)
+      → IsAtStage header layout group qs s turn (record areas { status = old })
       → IsAtStage header layout group qs s turn (record areas { status = new })
 
 settles-same : (a : AreaState) → IsSound a → Settles a a
@@ -85,7 +87,8 @@ calm-settles growths.GateWritten calm sound = settles-synced calm sound
 
 -- the store stands on the disk with the other area
 module _ (tells : Bool) (v : StoreValue) (m : Machine Value) (s : StandsStill tells v m) (free : v.job ≡ None) (d : DiskState)
-    (areas : IsTrue tells → d.areas ≡ record v.disk.areas { status = d.areas.status }) (settles : IsTrue tells → Settles v.disk.areas.status d.areas.status) (sound : IsTrue tells → AreSound d.areas) where
+    (areas : IsTrue tells → d.areas ≡ record v.disk.areas { status = d.areas.status }) (settles : IsTrue tells
+    → Settles v.disk.areas.status d.areas.status) (sound : IsTrue tells → AreSound d.areas) where
   no-more : (told : IsTrue tells) (image : Image) → LeavesImage d.areas image → LeavesImage v.disk.areas image
   no-more told image left = record {
     status = (settles told).no_more image.status left.status;
@@ -97,9 +100,12 @@ module _ (tells : Bool) (v : StoreValue) (m : Machine Value) (s : StandsStill te
   still-works told header w =
       let none : turn_of v.job ≡ None = ap turn_of free in
       let rests = resting header w.log.layout (turn_of v.job) w.group.rested v.disk.areas.status none w.group.rests in
-      let at : IsAtStage header w.log.layout (group_of w.log.layout v.transactions m) v.transactions.queue v.transactions.stage v.turn (record v.disk.areas { status = v.disk.areas.status }) =
-      subst (λ (a : AreaState). IsAtStage header w.log.layout (group_of w.log.layout v.transactions m) v.transactions.queue v.transactions.stage v.turn (record v.disk.areas { status = a })) (sym rests) w.group.at in
-      let now = (settles told).stage header w.log.layout (group_of w.log.layout v.transactions m) v.transactions.queue v.transactions.stage v.turn v.disk.areas at in
+      let at : IsAtStage header w.log.layout (group_of w.log.layout v.transactions m) v.transactions.queue v.transactions.stage v.turn
+      (record v.disk.areas { status = v.disk.areas.status }) =
+      subst (λ (a : AreaState). IsAtStage header w.log.layout (group_of w.log.layout v.transactions m) v.transactions.queue v.transactions.stage v.turn
+      (record v.disk.areas { status = a })) (sym rests) w.group.at in
+      let now =
+      (settles told).stage header w.log.layout (group_of w.log.layout v.transactions m) v.transactions.queue v.transactions.stage v.turn v.disk.areas at in
       record {
         log = w.log;
         heap = w.heap;
@@ -107,7 +113,8 @@ module _ (tells : Bool) (v : StoreValue) (m : Machine Value) (s : StandsStill te
         group = record {
           rested = d.areas.status;
           rests = rested-now header w.log.layout (turn_of v.job) d.areas.status none;
-          at = subst (λ (x : Areas). IsAtStage header w.log.layout (group_of w.log.layout v.transactions m) v.transactions.queue v.transactions.stage v.turn x) (sym (areas told)) now;
+          at = subst (λ (x : Areas). IsAtStage header w.log.layout (group_of w.log.layout v.transactions m) v.transactions.queue v.transactions.stage v.turn x)
+              (sym (areas told)) now;
         };
         job = subst (λ (o : Option Job). HasJob header w.log.layout w.log.reading m.published v.transactions.reserved o d.areas) (sym free) tt;
         sound = sound told;
@@ -156,7 +163,8 @@ module _ (tells : Bool) (v : StoreValue) (m : Machine Value) (s : StandsStill te
 
 -- ---- a call of the piece
 
-module _ (tells : Bool) (growth : GrowthState) (old new : StoreValue) (answer : Result JobDid PumpFault) (m : Machine Value) (s : StandsGrowing tells growth old m) (sound : IsTrue tells → AreSound new.disk.areas)
+module _ (tells : Bool) (growth : GrowthState) (old new : StoreValue) (answer : Result JobDid PumpFault) (m : Machine Value)
+    (s : StandsGrowing tells growth old m) (sound : IsTrue tells → AreSound new.disk.areas)
     (works : m.failed ≡ false) (pumps : PumpsJob tells old answer new) (does : Grows tells growth old answer new) where
   abbrev after : GrowthState
   after = growth_after growth
@@ -178,7 +186,8 @@ module _ (tells : Bool) (growth : GrowthState) (old new : StoreValue) (answer : 
   bare-working told = working tells (without_growth old s.calm) m bare-beside works told
 
   -- the call, of a piece behind the header's slots
-  call : (told : IsTrue tells) → IsGrowthCall growth.stage (total (s.still.disk told).header) (s.still.disk told).header.pieces (disk_answer answer) old.disk.areas new.disk.areas
+  call : (told : IsTrue tells)
+      → IsGrowthCall growth.stage (total (s.still.disk told).header) (s.still.disk told).header.pieces (disk_answer answer) old.disk.areas new.disk.areas
   call told =
       let d = s.still.disk told in
       let slots : growth.slots ≡ total d.header = s.slots ∙ d.slots in
@@ -190,7 +199,9 @@ module _ (tells : Bool) (growth : GrowthState) (old new : StoreValue) (answer : 
   way told = let b = s.beside told in growth_goes (s.still.disk told).header growth.stage s.calm old.disk.areas (b.growing works) b.sound b.real
 
   alone : (told : IsTrue tells) → new.disk.areas ≡ record old.disk.areas { status = new.disk.areas.status }
-  alone told = growth-alone growth.stage (total (s.still.disk told).header) (s.still.disk told).header.pieces (disk_answer answer) old.disk.areas new.disk.areas (call told)
+  alone told =
+      growth-alone growth.stage (total (s.still.disk told).header) (s.still.disk told).header.pieces (disk_answer answer) old.disk.areas new.disk.areas
+      (call told)
 
   -- what is known of the archive stays
   no-run : (run : WireRun) (writer : InWriting) → (stage : JobStage) → old.job ≡ Some (record { work = Archive run writer; stage = stage }) → ⊥
@@ -200,7 +211,10 @@ module _ (tells : Bool) (growth : GrowthState) (old new : StoreValue) (answer : 
   leaves to later =
       let whole = as-growing tells growth old m s in
       job_pump-leaves tells old new m to answer (machine-rises m s.still.machine) later whole.place whole.runs
-      (λ on told. record { behind = λ run writer is. absurd (no-run run writer Writing is); ready = λ run writer t is. absurd (no-run run writer (Turning t) is) }) pumps
+      (λ on told. record {
+        behind = λ run writer is. absurd (no-run run writer Writing is);
+        ready = λ run writer t is. absurd (no-run run writer (Turning t) is);
+      }) pumps
 
   -- ---- it is made, and is not the last
 
@@ -213,7 +227,9 @@ module _ (tells : Bool) (growth : GrowthState) (old new : StoreValue) (answer : 
       restill tells (without_growth old s.calm) m s.still refl d (λ told. ap (λ (x : Areas). record x { status = calm }) (alone told)) settles
       (λ told. sound-at new.disk.areas calm (sound told) (settles told).sound) in
       let leads : (told : IsTrue tells) → IsGrowing (s.still.disk told).header after.stage calm new.disk.areas.status = λ told.
-      (way told).leads new.disk.areas (subst (λ (r : Result (Unit {0}) DeviceFault). IsGrowthCall growth.stage (total (s.still.disk told).header) (s.still.disk told).header.pieces r old.disk.areas new.disk.areas) ok (call told)) in
+      (way told).leads new.disk.areas
+      (subst (λ (r : Result (Unit {0}) DeviceFault). IsGrowthCall growth.stage (total (s.still.disk told).header) (s.still.disk told).header.pieces r
+      old.disk.areas new.disk.areas) ok (call told)) in
       as-growing tells after new m (record {
         job = ap (λ (x : StoreValue). x.job) is;
         slots = s.slots ∙ sym (ap (λ (x : StoreValue). x.log.slots) is);
@@ -222,7 +238,9 @@ module _ (tells : Bool) (growth : GrowthState) (old new : StoreValue) (answer : 
         still = subst (λ (x : StoreValue). StandsStill tells (without_growth x calm) m) (sym is) still;
         beside = λ told.
             let on = s.still.disk told in
-            let same = header-stays (without_growth old s.calm) (without_growth new calm) m m on ((subst (λ (x : StoreValue). StandsStill tells (without_growth x calm) m) (sym is) still).disk told)
+            let same =
+            header-stays (without_growth old s.calm) (without_growth new calm) m m on
+            ((subst (λ (x : StoreValue). StandsStill tells (without_growth x calm) m) (sym is) still).disk told)
             (ap (λ (x : StoreValue). x.log.profile) is) (ap (λ (x : StoreValue). x.log.slots) is) (ap (λ (x : StoreValue). x.log.pieces) is) in
             subst (λ (h : Header). GrowsBeside h after calm new m) (sym same) (record {
               may = (s.beside told).may;
@@ -247,7 +265,9 @@ module _ (tells : Bool) (growth : GrowthState) (old new : StoreValue) (answer : 
       let same-gate : gate ≡ m.gate = ap job_gate_left (s.still.gate works) ∙ own-gate-left old.turn None refl ∙ sym (s.still.gate works) in
       let machine : IsMachine IsValue (steps.broken (steps.gated m gate)) = broken-machine m gate s.still.machine in
       let run : Run IsValue m (job_ends_in m (Err pump.Failed)) (steps.broken (steps.gated m gate)) = job-breaks m works m.gate refl in
-      let left = leaves (steps.broken (steps.gated m gate)) (run-later m (steps.broken (steps.gated m gate)) (job_ends_in m (Err pump.Failed)) s.still.machine machine run) in
+      let left =
+      leaves (steps.broken (steps.gated m gate))
+      (run-later m (steps.broken (steps.gated m gate)) (job_ends_in m (Err pump.Failed)) s.still.machine machine run) in
       let b : StandsBeside tells then (steps.broken (steps.gated m gate)) =
       goes-on-failed tells bare then m (steps.broken (steps.gated m gate)) bare-beside (record {
         memory = breaks old.transactions (steps.gated m gate) (regated old.transactions m gate s.still.memory);
@@ -275,7 +295,17 @@ module _ (tells : Bool) (growth : GrowthState) (old new : StoreValue) (answer : 
         place = tt;
         runs = λ told.
             let r = subst (λ (x : StoreValue). RunsStand x (steps.broken (steps.gated m gate))) is (left.runs told) in
-            record { lists = r.lists; held = r.held; ends = r.ends; mark = r.mark; marks = r.marks; by_last = r.by_last; archived = r.archived; right = r.right; near = r.near };
+            record {
+              lists = r.lists;
+              held = r.held;
+              ends = r.ends;
+              mark = r.mark;
+              marks = r.marks;
+              by_last = r.by_last;
+              archived = r.archived;
+              right = r.right;
+              near = r.near;
+            };
       } in
       as-growing tells after new (steps.broken (steps.gated m gate)) (record {
         job = ap (λ (x : StoreValue). x.job) is;
@@ -285,7 +315,9 @@ module _ (tells : Bool) (growth : GrowthState) (old new : StoreValue) (answer : 
         still = subst (λ (x : StoreValue). StandsStill tells (without_growth x s.calm) (steps.broken (steps.gated m gate))) (sym is) still;
         beside = λ told.
             let on = s.still.disk told in
-            let same = header-stays bare (without_growth new s.calm) m (steps.broken (steps.gated m gate)) on ((subst (λ (x : StoreValue). StandsStill tells (without_growth x s.calm) (steps.broken (steps.gated m gate))) (sym is) still).disk told)
+            let same =
+            header-stays bare (without_growth new s.calm) m (steps.broken (steps.gated m gate)) on
+            ((subst (λ (x : StoreValue). StandsStill tells (without_growth x s.calm) (steps.broken (steps.gated m gate))) (sym is) still).disk told)
             (ap (λ (x : StoreValue). x.log.profile) is) (ap (λ (x : StoreValue). x.log.slots) is) (ap (λ (x : StoreValue). x.log.pieces) is) in
             subst (λ (h : Header). GrowsBeside h after s.calm new (steps.broken (steps.gated m gate))) (sym same) (record {
               may = (s.beside told).may;
@@ -301,26 +333,31 @@ module _ (tells : Bool) (growth : GrowthState) (old new : StoreValue) (answer : 
   room-for : (told : IsTrue tells) → RoomFor (s.still.disk told).header ((s.still.disk told).works works).log.layout old.transactions.stage
   room-for told = by-stage old.transactions.stage s.still.order.stage_fits
     where
-      by-stage : (g : GroupStage) → StageFits g old.transactions.group old.transactions.queue → RoomFor (s.still.disk told).header ((s.still.disk told).works works).log.layout g
+      by-stage : (g : GroupStage) → StageFits g old.transactions.group old.transactions.queue
+          → RoomFor (s.still.disk told).header ((s.still.disk told).works works).log.layout g
       by-stage group_stage.NoGroup fits = tt
       by-stage (group_stage.Storing member extent) fits = tt
       by-stage group_stage.Stored fits = room-left (without_growth old s.calm) m (bare-working told) fits
       by-stage group_stage.Turning fits = room-left (without_growth old s.calm) m (bare-working told) fits
 
-  last-grows : growth.stage ≡ growths.GateWritten → (told : IsTrue tells) → disk_answer answer ≡ Ok tt → IsGrowing (s.still.disk told).header growths.GateWritten (synced s.calm) new.disk.areas.status × IsSettled new.disk.areas.status
+  last-grows : growth.stage ≡ growths.GateWritten → (told : IsTrue tells) → disk_answer answer ≡ Ok tt
+      → IsGrowing (s.still.disk told).header growths.GateWritten (synced s.calm) new.disk.areas.status × IsSettled new.disk.areas.status
   last-grows last told ok =
       let header : Header = (s.still.disk told).header in
       let b = s.beside told in
-      let then : IsGrowing header growths.GateWritten s.calm old.disk.areas.status = subst (λ (g : GrowthStage). IsGrowing header g s.calm old.disk.areas.status) last (b.growing works) in
+      let then : IsGrowing header growths.GateWritten s.calm old.disk.areas.status =
+      subst (λ (g : GrowthStage). IsGrowing header g s.calm old.disk.areas.status) last (b.growing works) in
       let made : Syncs Status (Ok tt) old.disk.areas new.disk.areas =
       subst (λ (r : Result (Unit {0}) DeviceFault). Syncs Status r old.disk.areas new.disk.areas) ok
       (subst (λ (g : GrowthStage). IsGrowthCall g (total header) header.pieces (disk_answer answer) old.disk.areas new.disk.areas) last (call told)) in
       let is : new.disk.areas.status ≡ synced old.disk.areas.status = ap (λ (x : Areas). x.status) made.synced in (
-        subst (λ (a : AreaState). IsGrowing header growths.GateWritten (synced s.calm) a) (sym is) (growing-synced header growths.GateWritten s.calm old.disk.areas.status b.sound (b.real Status) then),
+        subst (λ (a : AreaState). IsGrowing header growths.GateWritten (synced s.calm) a) (sym is)
+            (growing-synced header growths.GateWritten s.calm old.disk.areas.status b.sound (b.real Status) then),
         subst IsSettled (sym is) (record { firm = refl; loose = refl }),
       )
 
-  ends : growth.stage ≡ growths.GateWritten → disk_answer answer ≡ Ok tt → old.transactions.slots + 256 ≤ 65536 → new ≡ grown_store growth old new → Stands tells new m
+  ends : growth.stage ≡ growths.GateWritten → disk_answer answer ≡ Ok tt → old.transactions.slots + 256 ≤ 65536 → new ≡ grown_store growth old new
+      → Stands tells new m
   ends last ok few is =
       let made : StoreValue = grown_store growth old new in
       let left = leaves m (same-later m) in
@@ -340,7 +377,8 @@ module _ (tells : Bool) (growth : GrowthState) (old new : StoreValue) (answer : 
       } in
       let works-now : (told : IsTrue tells) → Works (grown (s.still.disk told).header) made m = λ told.
       let grows = last-grows last told ok in
-      grown-works (s.still.disk told).header growth old new m s.calm (s.beside told).may (s.still.disk told).profile_built ((s.still.disk told).works works) grows.0 (s.beside told).sound grows.1 (sound told) (alone told) (room-for told) in
+      grown-works (s.still.disk told).header growth old new m s.calm (s.beside told).may (s.still.disk told).profile_built ((s.still.disk told).works works)
+      grows.0 (s.beside told).sound grows.1 (sound told) (alone told) (room-for told) in
       let still : StandsStill tells made m = record {
         memory = inside.memory;
         machine = inside.machine;
@@ -362,7 +400,15 @@ module _ (tells : Bool) (growth : GrowthState) (old new : StoreValue) (answer : 
               profile_built = d.profile_built;
               works = works-now told;
             } in
-            record { header = c.header; profile = c.profile; slots = c.slots; pieces = c.pieces; profile_built = c.profile_built; leaves = works-leave made m c; works = λ _. works-now told };
+            record {
+              header = c.header;
+              profile = c.profile;
+              slots = c.slots;
+              pieces = c.pieces;
+              profile_built = c.profile_built;
+              leaves = works-leave made m c;
+              works = λ _. works-now told;
+            };
         place = tt;
         runs = λ told. subst (λ (x : StoreValue). RunsStand x m) is (left.runs told);
       } in
@@ -391,32 +437,47 @@ module _ (tells : Bool) (growth : GrowthState) (old new : StoreValue) (answer : 
   by-call growths.ZerosSynced at what said grown-so = is-next what said grown-so.1
   by-call growths.GateWritten at what said grown-so = subst Ends (sym said) (m, nothing-told what, ends at (ap disk_answer said) grown-so.1 grown-so.2)
 
-  by-answer : (r : Result JobDid PumpFault) → answer ≡ r → MatchResult r (λ what. HasGrown (grew_at growth.stage) growth old what new) (λ why. (why ≡ pump.Failed) × (new ≡ job_fails old (growing after) new)) → Ends answer
+  by-answer : (r : Result JobDid PumpFault) → answer ≡ r
+      → MatchResult r (λ what. HasGrown (grew_at growth.stage) growth old what new) (λ why. (why ≡ pump.Failed) × (new ≡ job_fails old (growing after) new))
+      → Ends answer
   unfolding broken-so
   by-answer (Ok what) said grown-so = by-call growth.stage refl what said grown-so
   by-answer (Err why) said failed =
-      subst Ends (sym (said ∙ ap (λ (e : PumpFault). Err e) failed.0)) (steps.broken (steps.gated m (job_gate_left m.gate)), job-breaks m works m.gate refl, fails failed.1 why said)
+      subst Ends (sym (said ∙ ap (λ (e : PumpFault). Err e) failed.0)) (
+        steps.broken (steps.gated m (job_gate_left m.gate)),
+        job-breaks m works m.gate refl,
+        fails failed.1 why said,
+      )
 
   pub piece-step : Ends answer
   piece-step = by-answer answer refl does.answer
 
 -- ---- every step of a job
 
-pub job-pump-stands : (tells : Bool) (old new : StoreValue) (answer : Result JobDid PumpFault) (m : Machine Value) → Stands tells old m → (IsTrue tells → AreSound new.disk.areas) → PumpsJob tells old answer new
-    → MatchBool m.failed ((answer ≡ Err pump.Failed) × Stands tells new m) ((to : Machine Value) × Run IsValue m (job_ends_in m answer) to × Stands tells new to)
+pub job-pump-stands : (tells : Bool) (old new : StoreValue) (answer : Result JobDid PumpFault) (m : Machine Value) → Stands tells old m
+    → (IsTrue tells → AreSound new.disk.areas) → PumpsJob tells old answer new
+    → MatchBool m.failed ((answer ≡ Err pump.Failed) × Stands tells new m) ((to : Machine Value) × Run IsValue m (job_ends_in m answer) to
+    × Stands tells new to)
 job-pump-stands tells old new answer m stands sound pumps =
-    by-kind tells old m (MatchBool m.failed ((answer ≡ Err pump.Failed) × Stands tells new m) ((to : Machine Value) × Run IsValue m (job_ends_in m answer) to × Stands tells new to)) stands
+    by-kind tells old m (MatchBool m.failed ((answer ≡ Err pump.Failed) × Stands tells new m) ((to : Machine Value) × Run IsValue m (job_ends_in m answer) to
+    × Stands tells new to)) stands
     (λ still. of-still m.failed (whole.job-pump-stands tells old new answer m still sound pumps))
     (λ growth s. grows growth s m.failed refl
-    (subst (λ (o : Option Job). MatchBool m.failed ((answer ≡ Err pump.Failed) × (new ≡ old)) (MatchOption o ((answer ≡ Ok did.Idle) × (new ≡ old)) (λ j. TakesJobStep tells j.stage j old answer new))) s.job
-    (subst (λ (b : Bool). MatchBool b ((answer ≡ Err pump.Failed) × (new ≡ old)) (MatchOption old.job ((answer ≡ Ok did.Idle) × (new ≡ old)) (λ j. TakesJobStep tells j.stage j old answer new))) stands.memory.failed pumps)))
+    (subst (λ (o : Option Job). MatchBool m.failed ((answer ≡ Err pump.Failed)
+    × (new ≡ old)) (MatchOption o ((answer ≡ Ok did.Idle) × (new ≡ old)) (λ j. TakesJobStep tells j.stage j old answer new))) s.job
+    (subst (λ (b : Bool). MatchBool b ((answer ≡ Err pump.Failed)
+    × (new ≡ old)) (MatchOption old.job ((answer ≡ Ok did.Idle) × (new ≡ old)) (λ j. TakesJobStep tells j.stage j old answer new))) stands.memory.failed
+    pumps)))
   where
-    of-still : (b : Bool) → MatchBool b ((answer ≡ Err pump.Failed) × StandsStill tells new m) ((to : Machine Value) × Run IsValue m (job_ends_in m answer) to × StandsStill tells new to)
+    of-still : (b : Bool)
+        → MatchBool b ((answer ≡ Err pump.Failed) × StandsStill tells new m) ((to : Machine Value) × Run IsValue m (job_ends_in m answer) to
+        × StandsStill tells new to)
         → MatchBool b ((answer ≡ Err pump.Failed) × Stands tells new m) ((to : Machine Value) × Run IsValue m (job_ends_in m answer) to × Stands tells new to)
     of-still true is = (is.0, as-still tells new m is.1)
     of-still false is = (is.0, is.1, as-still tells new is.0 is.2)
 
-    grows : (growth : GrowthState) → StandsGrowing tells growth old m → (b : Bool) → m.failed ≡ b → MatchBool b ((answer ≡ Err pump.Failed) × (new ≡ old)) (Grows tells growth old answer new)
+    grows : (growth : GrowthState) → StandsGrowing tells growth old m → (b : Bool) → m.failed ≡ b
+        → MatchBool b ((answer ≡ Err pump.Failed) × (new ≡ old)) (Grows tells growth old answer new)
         → MatchBool b ((answer ≡ Err pump.Failed) × Stands tells new m) ((to : Machine Value) × Run IsValue m (job_ends_in m answer) to × Stands tells new to)
     grows growth s true failed said = (said.0, subst (λ (x : StoreValue). Stands tells x m) (sym said.1) stands)
     grows growth s false works does = piece-step tells growth old new answer m s sound works pumps does

@@ -46,9 +46,11 @@ rests-synced : (header : Header) (ss : List Slot) (a : AreaState) → StatusRest
 rests-synced header ss a rests = record { settled = record { firm = refl; loose = refl }; log = rests.log }
 
 -- what is said of the area is said of it once it is synced
-status-synced : (header : Header) (ss : List Slot) (slot : Slot) (stage : SlotStage) (a : AreaState) → StatusAt header ss slot stage a → StatusAt header ss slot stage (synced a)
+status-synced : (header : Header) (ss : List Slot) (slot : Slot) (stage : SlotStage) (a : AreaState) → StatusAt header ss slot stage a
+    → StatusAt header ss slot stage (synced a)
 status-synced header ss slot slots.Begun a at = rests-synced header ss a at
-status-synced header ss slot slots.BodyWritten a at = record { log = at.log; body = at.body; left = λ content left. subst (λ (c : List ℕ). IsLog header c ss) (sym (MayLeave-synced a content left)) at.log }
+status-synced header ss slot slots.BodyWritten a at =
+    record { log = at.log; body = at.body; left = λ content left. subst (λ (c : List ℕ). IsLog header c ss) (sym (MayLeave-synced a content left)) at.log }
 status-synced header ss slot slots.BodySynced a at = record { rests = rests-synced header ss a at.rests; body = at.body }
 status-synced header ss slot slots.GateWritten a at = record {
   log = at.log;
@@ -59,18 +61,24 @@ status-synced header ss slot slots.Opened a at = rests-synced header (ss ++ slot
 parts-beside : (layout : Layout) (areas : Areas) (a : AreaState) → KeepsParts layout areas → KeepsParts layout (record areas { status = a })
 parts-beside layout areas a keeps = record { extents = keeps.extents; runs = keeps.runs }
 
-turn-synced : (header : Header) (old : Layout) (slot : Slot) (new : Layout) (stage : SlotStage) (areas : Areas) → IsTurnAt header old slot new stage areas → IsTurnAt header old slot new stage (record areas { status = synced areas.status })
+turn-synced : (header : Header) (old : Layout) (slot : Slot) (new : Layout) (stage : SlotStage) (areas : Areas) → IsTurnAt header old slot new stage areas
+    → IsTurnAt header old slot new stage (record areas { status = synced areas.status })
 turn-synced header old slot new stage areas at = record {
   status = status-synced header old.slots slot stage areas.status at.status;
   old_parts = parts-beside old areas (synced areas.status) at.old_parts;
   new_parts = parts-beside new areas (synced areas.status) at.new_parts;
 }
 
-pub stage-synced : (header : Header) (layout : Layout) (group : Group) (qs : List QueuedValue) (s : GroupStage) (turn : Option TurnState) (areas : Areas) → IsAtStage header layout group qs s turn areas
+pub stage-synced : (header : Header) (layout : Layout) (group : Group) (qs : List QueuedValue) (s : GroupStage) (turn : Option TurnState) (areas : Areas)
+    → IsAtStage header layout group qs s turn areas
     → IsAtStage header layout group qs s turn (record areas { status = synced areas.status })
-stage-synced header layout group qs NoGroup turn areas at = record { status = rests-synced header layout.slots areas.status at.status; parts = parts-beside layout areas (synced areas.status) at.parts }
+stage-synced header layout group qs NoGroup turn areas at =
+    record { status = rests-synced header layout.slots areas.status at.status; parts = parts-beside layout areas (synced areas.status) at.parts }
 stage-synced header layout group qs (Storing member extent) turn areas at = record {
-  rests = record { status = rests-synced header layout.slots areas.status at.rests.status; parts = parts-beside layout areas (synced areas.status) at.rests.parts };
+  rests = record {
+    status = rests-synced header layout.slots areas.status at.rests.status;
+    parts = parts-beside layout areas (synced areas.status) at.rests.parts;
+  };
   parts_are = at.parts_are;
   written = at.written;
 }
@@ -93,8 +101,10 @@ RoomFor header layout Stored = length layout.slots < total header
 RoomFor header layout Turning = length layout.slots < total header
 
 -- what is said of the calm area is so of the area, by the header with one piece more
-module _ (header : Header) (layout : Layout) (areas : Areas) (a : AreaState) (may : MayGrow header) (growing : IsGrowing header PieceWritten areas.status a) (sound : IsSound areas.status) (settled : IsSettled a) where
-  turn-grown : (slot : Slot) (new : Layout) (stage : SlotStage) → length layout.slots < total header → IsTurnAt header layout slot new stage areas → IsTurnAt (grown header) layout slot new stage (record areas { status = a })
+module _ (header : Header) (layout : Layout) (areas : Areas) (a : AreaState) (may : MayGrow header) (growing : IsGrowing header PieceWritten areas.status a)
+    (sound : IsSound areas.status) (settled : IsSettled a) where
+  turn-grown : (slot : Slot) (new : Layout) (stage : SlotStage) → length layout.slots < total header → IsTurnAt header layout slot new stage areas
+      → IsTurnAt (grown header) layout slot new stage (record areas { status = a })
   turn-grown slot new stage room at = record {
     status = grown_turns header layout.slots slot stage areas.status a may growing sound settled room at.status;
     old_parts = parts-beside layout areas a at.old_parts;
@@ -102,14 +112,17 @@ module _ (header : Header) (layout : Layout) (areas : Areas) (a : AreaState) (ma
   }
 
   rests-grown : RestsAs header layout areas → RestsAs (grown header) layout (record areas { status = a })
-  rests-grown at = record { status = grown_rests header layout.slots areas.status a may growing sound settled at.status; parts = parts-beside layout areas a at.parts }
+  rests-grown at =
+      record { status = grown_rests header layout.slots areas.status a may growing sound settled at.status; parts = parts-beside layout areas a at.parts }
 
-  pub stage-grown : (group : Group) (qs : List QueuedValue) (s : GroupStage) (turn : Option TurnState) → RoomFor header layout s → IsAtStage header layout group qs s turn areas → IsAtStage (grown header) layout group qs s turn (record areas { status = a })
+  pub stage-grown : (group : Group) (qs : List QueuedValue) (s : GroupStage) (turn : Option TurnState) → RoomFor header layout s
+      → IsAtStage header layout group qs s turn areas → IsAtStage (grown header) layout group qs s turn (record areas { status = a })
   stage-grown group qs NoGroup turn room at = rests-grown at
   stage-grown group qs (Storing member extent) turn room at = record { rests = rests-grown at.rests; parts_are = at.parts_are; written = at.written }
   stage-grown group qs Stored turn room at = turn-grown group.slot (laid_out layout group) slots.Begun room at
   stage-grown group qs Turning None room at = absurd at
-  stage-grown group qs Turning (Some t) room at = record { number = at.number; long = at.long; spelled = at.spelled; at = turn-grown group.slot (laid_out layout group) t.stage room at.at }
+  stage-grown group qs Turning (Some t) room at =
+      record { number = at.number; long = at.long; spelled = at.spelled; at = turn-grown group.slot (laid_out layout group) t.stage room at.at }
 
 -- ---- the transactions with more slots
 
@@ -122,15 +135,22 @@ more-order v count few order = order-beside v v.opened (v.slots + count) v.used 
 -- ---- the disk with a piece more
 
 -- the store's disk, where no job runs on it, has the same log with one piece more
-pub grown-works : (header : Header) (growth : GrowthState) (old new : StoreValue) (m : Machine Value) (calm : AreaState) → MayGrow header → IsTrue (is_built header.profile 1) → (w : Works header (without_growth old calm) m)
-    → IsGrowing header PieceWritten (synced calm) new.disk.areas.status → IsSound calm → IsSettled new.disk.areas.status → AreSound new.disk.areas → new.disk.areas ≡ record old.disk.areas { status = new.disk.areas.status }
+pub grown-works : (header : Header) (growth : GrowthState) (old new : StoreValue) (m : Machine Value) (calm : AreaState) → MayGrow header
+    → IsTrue (is_built header.profile 1) → (w : Works header (without_growth old calm) m)
+    → IsGrowing header PieceWritten (synced calm) new.disk.areas.status → IsSound calm → IsSettled new.disk.areas.status → AreSound new.disk.areas
+    → new.disk.areas ≡ record old.disk.areas { status = new.disk.areas.status }
     → RoomFor header w.log.layout old.transactions.stage → Works (grown header) (grown_store growth old new) m
 grown-works header growth old new m calm may profile_built w growing sound settled real alone room =
     let base : Areas = record old.disk.areas { status = calm } in
-    let at : IsAtStage header w.log.layout (group_of w.log.layout old.transactions m) old.transactions.queue old.transactions.stage old.turn (record old.disk.areas { status = calm }) =
-    subst (λ (a : AreaState). IsAtStage header w.log.layout (group_of w.log.layout old.transactions m) old.transactions.queue old.transactions.stage old.turn (record old.disk.areas { status = a })) (sym w.group.rests) w.group.at in
-    let settled-at = stage-synced header w.log.layout (group_of w.log.layout old.transactions m) old.transactions.queue old.transactions.stage old.turn base at in
-    let opened = stage-grown header w.log.layout (record old.disk.areas { status = synced calm }) new.disk.areas.status may growing (sound-synced calm sound) settled (group_of w.log.layout old.transactions m) old.transactions.queue old.transactions.stage old.turn room settled-at in
+    let at : IsAtStage header w.log.layout (group_of w.log.layout old.transactions m) old.transactions.queue old.transactions.stage old.turn
+    (record old.disk.areas { status = calm }) =
+    subst (λ (a : AreaState). IsAtStage header w.log.layout (group_of w.log.layout old.transactions m) old.transactions.queue old.transactions.stage old.turn
+    (record old.disk.areas { status = a })) (sym w.group.rests) w.group.at in
+    let settled-at =
+    stage-synced header w.log.layout (group_of w.log.layout old.transactions m) old.transactions.queue old.transactions.stage old.turn base at in
+    let opened =
+    stage-grown header w.log.layout (record old.disk.areas { status = synced calm }) new.disk.areas.status may growing (sound-synced calm sound) settled
+    (group_of w.log.layout old.transactions m) old.transactions.queue old.transactions.stage old.turn room settled-at in
     record {
       log = record {
         layout = w.log.layout;
@@ -151,7 +171,8 @@ grown-works header growth old new m calm may profile_built w growing sound settl
       group = record {
         rested = new.disk.areas.status;
         rests = refl;
-        at = subst (λ (x : Areas). IsAtStage (grown header) w.log.layout (group_of w.log.layout old.transactions m) old.transactions.queue old.transactions.stage old.turn x) (sym alone) opened;
+        at = subst (λ (x : Areas). IsAtStage (grown header) w.log.layout (group_of w.log.layout old.transactions m) old.transactions.queue
+            old.transactions.stage old.turn x) (sym alone) opened;
       };
       job = tt;
       sound = real;

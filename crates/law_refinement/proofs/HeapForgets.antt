@@ -31,20 +31,25 @@ other_key : (a b key : Key) → key_cmp a b ≡ Less → same_key a key ≡ true
 other_key a b key less same = grind (arith, nat_tests)
 
 -- a key has no anchor beyond one of its own
-none-beyond : (old : OldRecord) (olds : List OldRecord) (key : Key) → same_key old.key key ≡ true → AllByRecursion (λ k. key_cmp old.key k ≡ Less) (map (λ o. o.key) olds) → old_writes olds key ≡ []
+none-beyond : (old : OldRecord) (olds : List OldRecord) (key : Key) → same_key old.key key ≡ true
+    → AllByRecursion (λ k. key_cmp old.key k ≡ Less) (map (λ o. o.key) olds) → old_writes olds key ≡ []
 none-beyond old [] key same beyond = refl
 none-beyond old (o ∷ olds) key same beyond =
     let other : same_key o.key key ≡ false = other_key old.key o.key key beyond.0 same in
     rw other (none-beyond old olds key same beyond.1)
 
 -- a key has one anchor at most, a value of a time up to the mark, which is kept with all that is later
-old-kept : (mark : ℕ) (olds : List OldRecord) (key : Key) (later : List (TimedWrite Value)) → IsStrictlySortedBy key_cmp (map (λ old. old.key) olds) → IsRisingAfter mark later
+old-kept : (mark : ℕ) (olds : List OldRecord) (key : Key) (later : List (TimedWrite Value)) → IsStrictlySortedBy key_cmp (map (λ old. old.key) olds)
+    → IsRisingAfter mark later
     → kept_after mark (old_writes olds key ++ later) ≡ old_writes olds key ++ later
 unfolding IsStrictlySortedBy
 old-kept mark [] key later sorted up = kept-later mark later up
 old-kept mark (o ∷ olds) key later sorted up =
     let rest = old-kept mark olds key later sorted.1 up in
-    let Goal : Bool → Type 0 = λ b. same_key o.key key ≡ b → kept_after mark (cons_option (cond b (Some (record { time = o.from; write = Some o.value })) None) (old_writes olds key) ++ later) ≡ cons_option (cond b (Some (record { time = o.from; write = Some o.value })) None) (old_writes olds key) ++ later in
+    let Goal : Bool → Type 0 =
+    λ b. same_key o.key key ≡ b
+    → kept_after mark (cons_option (cond b (Some (record { time = o.from; write = Some o.value })) None) (old_writes olds key) ++ later)
+    ≡ cons_option (cond b (Some (record { time = o.from; write = Some o.value })) None) (old_writes olds key) ++ later in
     let all : (b : Bool) → Goal b =
     λ b. elim b as Goal [
       | true ↦ λ e. rw (none-beyond o olds key e sorted.0) (kept-value mark o.from o.value later up)
@@ -66,7 +71,8 @@ module _ (reading : Reading) (h : History Value) (floors : ℕ → ℕ) (stands 
     mark-range = omega (arith, archived-range reading h floors stands, last-range reading h floors stands)
 
     -- the value of each key at the archive mark is what the plan's records give
-    planned-value : (key : Key) → latest (old_writes olds key) ≡ value_after (latest (old_writes reading.anchors key)) (writes_of (heap_commits reading) key) (archived_upto reading)
+    planned-value : (key : Key) → latest (old_writes olds key)
+        ≡ value_after (latest (old_writes reading.anchors key)) (writes_of (heap_commits reading) key) (archived_upto reading)
     planned-value key =
         let a = archived_upto reading in
         let facts = heap_facts reading key in
@@ -75,12 +81,17 @@ module _ (reading : Reading) (h : History Value) (floors : ℕ → ℕ) (stands 
         ∙ standing_at-versions 0 a facts mark-range (facts-rise reading h floors stands key)
         ∙ value_after-append None (old_writes reading.anchors key) (writes_of (heap_commits reading) key) a
         ∙ ap (λ v. value_after v (writes_of (heap_commits reading) key) a)
-        (old_writes-latest (reclaimed_upto reading) a reading.anchors key None stands.homes.marks (omega (arith, stands.homes.marks, mark-range)) stands.opens.reads.anchor_times)
+        (old_writes-latest (reclaimed_upto reading) a reading.anchors key None stands.homes.marks (omega (
+          arith,
+          stands.homes.marks,
+          mark-range,
+        )) stands.opens.reads.anchor_times)
 
     -- the members that stay are the same commits
     later-commits : heap_commits (with_anchors reading olds) ≡ commits_after (archived_upto reading) (heap_commits reading)
     later-commits =
-        commits_from-after (reclaimed_upto reading) (archived_upto reading) (λ key. latest (old_writes reading.anchors key)) (λ key. latest (old_writes olds key)) reading.members
+        commits_from-after (reclaimed_upto reading) (archived_upto reading) (λ key. latest (old_writes reading.anchors key))
+        (λ key. latest (old_writes olds key)) reading.members
         (recent-rise reading h floors stands) planned-value
 
     -- with the chain of anchors, it forgets what ended by the archive mark
@@ -91,6 +102,7 @@ module _ (reading : Reading) (h : History Value) (floors : ℕ → ℕ) (stands 
         ∙ ap (λ l. map as_write (filter (stands_at a) (heap_versions reading key)) ++ l) (
         ap (λ c. writes_of c key) later-commits
         ∙ writes_of-commits_after a (heap_commits reading) key
-        ∙ ap (λ l. l ++ writes_after a (writes_of (heap_commits reading) key)) (sym (old_writes-past (reclaimed_upto reading) a reading.anchors key stands.homes.marks stands.opens.reads.anchor_times))
+        ∙ ap (λ l. l ++ writes_after a (writes_of (heap_commits reading) key))
+        (sym (old_writes-past (reclaimed_upto reading) a reading.anchors key stands.homes.marks stands.opens.reads.anchor_times))
         ∙ sym (filter-append (λ (w : TimedWrite Value). nat_lt a w.time) (old_writes reading.anchors key) (writes_of (heap_commits reading) key)))
         ∙ kept-standing a (heap_facts reading key) mark-range (facts-rise reading h floors stands key)

@@ -1,5 +1,6 @@
 -- What memory has of a history answers as the history does, from the reclaim mark and the floor on.
-use Rattle.std.proofs.Common.{◌≡◌, ℕ, ◌<◌, ◌≤◌, ◌^◌, nat_le, nat_lt, Bool, true, false, List, [], ◌∷◌, ◌++◌, Option, Some, None, refl, arith, ap, sym, subst, ◌∙◌, append_assoc, ⊎_elim, cond}
+use Rattle.std.proofs.Common.{◌≡◌, ℕ, ◌<◌, ◌≤◌, ◌^◌, nat_le, nat_lt, Bool, true, false, List, [], ◌∷◌, ◌++◌, Option, Some, None, refl, arith, ap, sym, subst}
+use Rattle.std.proofs.Common.{◌∙◌, append_assoc, ⊎_elim, cond}
 use Rattle.std.specs.Prelude.{filter}
 use Rattle.std.specs.List.{AllByRecursion}
 use Rattle.std.proofs.lemmas.Bool.{cases_lt}
@@ -83,16 +84,19 @@ written-by t s (c ∷ cs) key up low high =
     from-first b [] up = omega arith
     from-first b (d ∷ ds) up = let rest = from-first d.time ds up.2 in let one = up.0 in omega arith
 
-    by-write : (o : Option (Option Value)) → write_in c.writes key ≡ o → c.time ≤ t → AllUpto t (histories.writes_of cs key) → AllUpto t (histories.writes_of (c ∷ cs) key)
+    by-write : (o : Option (Option Value)) → write_in c.writes key ≡ o → c.time ≤ t → AllUpto t (histories.writes_of cs key)
+        → AllUpto t (histories.writes_of (c ∷ cs) key)
     by-write None none first rest = rw none rest
     by-write (Some w) some first rest = rw some (first, rest)
 
 -- whether the last write is later than a time does not change with writes up to that time
-later-same : (s mark a b : ℕ) (ws : Writes) → IsRisingAfter b ws → mark ≤ s → a ≤ s → b ≤ s → nat_lt s (last_time_after a (writes_after mark ws)) ≡ nat_lt s (last_time_after b ws)
+later-same : (s mark a b : ℕ) (ws : Writes) → IsRisingAfter b ws → mark ≤ s → a ≤ s → b ≤ s → nat_lt s (last_time_after a (writes_after mark ws))
+    ≡ nat_lt s (last_time_after b ws)
 later-same s mark a b [] up low la lb = not_lt la ∙ sym (not_lt lb)
 later-same s mark a b (w ∷ ws) up low la lb = ⊎_elim
     (λ (later : mark < w.time). ap (λ (l : Writes). nat_lt s (last_time_after a l)) (writes_after-all mark (w ∷ ws) (later, up.1, up.2)))
-    (λ (earlier : w.time ≤ mark). let dropped : nat_lt mark w.time ≡ false = not_lt earlier in rw dropped (later-same s mark a w.time ws up.2 low la (omega arith)))
+    (λ (earlier : w.time ≤ mark). let dropped : nat_lt mark w.time ≡ false =
+    not_lt earlier in rw dropped (later-same s mark a w.time ws up.2 low la (omega arith)))
     (cases_lt mark w.time)
 
 -- a commit's write of a key
@@ -105,7 +109,8 @@ written-is c key = by-write (write_in c.writes key) refl
 
 -- ---- one history
 
-module _ {floors : ℕ → ℕ} {reclaimed : ℕ} {versions-in : List KeyWrites} {h : History Value} (has : HasWrites floors reclaimed versions-in h) (up : HasRisingTimes 0 h) where
+module _ {floors : ℕ → ℕ} {reclaimed : ℕ} {versions-in : List KeyWrites} {h : History Value} (has : HasWrites floors reclaimed versions-in h)
+    (up : HasRisingTimes 0 h) where
   all-written : (key : Key) → AllUpto (last h) (histories.writes_of h key)
   all-written key = written-by (last h) 0 h key up (omega arith) (omega arith)
 
@@ -114,27 +119,34 @@ module _ {floors : ℕ → ℕ} {reclaimed : ℕ} {versions-in : List KeyWrites}
       let early = has.early key in
       subst (λ (l : Writes). IsRisingAfter 0 l) (sym (has.writes key))
       (rising-both 0 (has.before key) (writes_after reclaimed (histories.writes_of h key)) (has.rising key)
-      (rising_earlier (last_time (has.before key)) reclaimed (writes_after reclaimed (histories.writes_of h key)) early (after-rising reclaimed 0 (histories.writes_of h key) (writes_of-rising 0 h key up))))
+      (rising_earlier (last_time (has.before key)) reclaimed (writes_after reclaimed (histories.writes_of h key)) early
+      (after-rising reclaimed 0 (histories.writes_of h key) (writes_of-rising 0 h key up))))
 
   pub last-held : (key : Key) → last_time (writes_of versions-in key) ≤ last h
   last-held key =
       let early = has.early key in
       let marked = has.marked in
       let upto : last_time_after (last_time (has.before key)) (writes_after reclaimed (histories.writes_of h key)) ≤ last h =
-      last-upto (last h) (last_time (has.before key)) (writes_after reclaimed (histories.writes_of h key)) (omega arith) (after-upto (last h) reclaimed (histories.writes_of h key) (all-written key)) in
-      subst (λ (n : ℕ). n ≤ last h) (sym (ap (λ (l : Writes). last_time l) (has.writes key) ∙ last-of-both 0 (has.before key) (writes_after reclaimed (histories.writes_of h key)))) upto
+      last-upto (last h) (last_time (has.before key)) (writes_after reclaimed (histories.writes_of h key)) (omega arith)
+      (after-upto (last h) reclaimed (histories.writes_of h key) (all-written key)) in
+      subst (λ (n : ℕ). n ≤ last h) (sym (ap (λ (l : Writes). last_time l) (has.writes key)
+      ∙ last-of-both 0 (has.before key) (writes_after reclaimed (histories.writes_of h key)))) upto
 
   -- it is at home in the heap, with the rest of the history in an archive of its own
   homes-held : AreAtHome h floors reclaimed reclaimed (λ key. versions (writes_of versions-in key)) (λ key. filter (ends_by reclaimed) (versions_of h key))
   homes-held = record { marks = omega arith; in_heap = has.at_home; in_archive = λ key. refl }
 
-  pub state-held : (key : Key) (time : ℕ) → floors key.relation ≤ time → reclaimed ≤ time → time < 2 ^ 63 → value_at (writes_of versions-in key) time ≡ state h time key
+  pub state-held : (key : Key) (time : ℕ) → floors key.relation ≤ time → reclaimed ≤ time → time < 2 ^ 63 → value_at (writes_of versions-in key) time
+      ≡ state h time key
   state-held key time from recent before =
       sym (standing_at-versions 0 time (writes_of versions-in key) before (rising-held key))
-      ∙ at-recent h floors reclaimed reclaimed (λ k. versions (writes_of versions-in k)) (λ k. filter (ends_by reclaimed) (versions_of h k)) homes-held up key time from recent before
+      ∙ at-recent h floors reclaimed reclaimed (λ k. versions (writes_of versions-in k)) (λ k. filter (ends_by reclaimed) (versions_of h k)) homes-held up key
+      time from recent before
 
   pub rows-held : (key : Key) (a b : ℕ) → floors key.relation ≤ a → reclaimed ≤ a → rows (versions (writes_of versions-in key)) a b ≡ between h key a b
-  rows-held key a b from recent = between-recent h floors reclaimed reclaimed (λ k. versions (writes_of versions-in k)) (λ k. filter (ends_by reclaimed) (versions_of h k)) homes-held up key a b from recent
+  rows-held key a b from recent =
+      between-recent h floors reclaimed reclaimed (λ k. versions (writes_of versions-in k)) (λ k. filter (ends_by reclaimed) (versions_of h k)) homes-held up
+      key a b from recent
 
   -- the last value of a key
   pub latest-held : (key : Key) → floors key.relation ≤ last h → latest (writes_of versions-in key) ≡ latest (histories.writes_of h key)
@@ -142,7 +154,8 @@ module _ {floors : ℕ → ℕ} {reclaimed : ℕ} {versions-in : List KeyWrites}
       let range : last h < 2 ^ 63 = last_after-range 0 h (omega arith) up in
       let upto = upto-last 0 (writes_of versions-in key) (rising-held key) in
       let low = last-held key in
-      sym (value-stays None (last h) (2 ^ 63) (writes_of versions-in key) (omega arith) (earlier-upto (last_time (writes_of versions-in key)) (last h) (writes_of versions-in key) low upto.1))
+      sym (value-stays None (last h) (2 ^ 63) (writes_of versions-in key) (omega arith)
+      (earlier-upto (last_time (writes_of versions-in key)) (last h) (writes_of versions-in key) low upto.1))
       ∙ state-held key (last h) reached has.marked range
       ∙ value-stays None (last h) (2 ^ 63) (histories.writes_of h key) (omega arith) (all-written key)
     where
@@ -151,7 +164,8 @@ module _ {floors : ℕ → ℕ} {reclaimed : ℕ} {versions-in : List KeyWrites}
       earlier-upto n m (w ∷ ws) low upto = (let first = upto.0 in omega arith, earlier-upto n m ws low upto.1)
 
   -- whether a key was written after a time from the mark on
-  pub later-held : (key : Key) (time : ℕ) → reclaimed ≤ time → nat_lt time (last_time (writes_of versions-in key)) ≡ nat_lt time (last_time (histories.writes_of h key))
+  pub later-held : (key : Key) (time : ℕ) → reclaimed ≤ time → nat_lt time (last_time (writes_of versions-in key))
+      ≡ nat_lt time (last_time (histories.writes_of h key))
   later-held key time recent =
       let early = has.early key in
       ap (λ (l : Writes). nat_lt time (last_time l)) (has.writes key)
@@ -178,7 +192,8 @@ module _ {floors : ℕ → ℕ} {reclaimed : ℕ} {versions-in : List KeyWrites}
         ∙ ap (λ (l : Writes). writes_after reclaimed l) (sym (writes_of-append h next key)));
     at_home = λ key.
         ap (λ (l : Writes). filter (ends_after (floors key.relation)) (versions l)) (is key)
-        ∙ versions-more (floors key.relation) reclaimed (last h) (writes_of versions-in key) (histories.writes_of h key) (histories.writes_of next key) (reached key.relation) has.marked
+        ∙ versions-more (floors key.relation) reclaimed (last h) (writes_of versions-in key) (histories.writes_of h key) (histories.writes_of next key)
+        (reached key.relation) has.marked
         (last_after-range 0 h (omega arith) up) (rising-held key) (writes_of-rising 0 h key up) (writes_of-rising (last h) next key later) (has.at_home key)
         ∙ ap (λ (l : Writes). filter (ends_after (floors key.relation)) (filter (ends_after reclaimed) (versions l))) (sym (writes_of-append h next key));
   }
@@ -186,7 +201,8 @@ module _ {floors : ℕ → ℕ} {reclaimed : ℕ} {versions-in : List KeyWrites}
       kept : (key : Key) → writes_after reclaimed (histories.writes_of next key) ≡ histories.writes_of next key
       kept key =
           let marked = has.marked in
-          writes_after-all reclaimed (histories.writes_of next key) (rising_earlier reclaimed (last h) (histories.writes_of next key) marked (writes_of-rising (last h) next key later))
+          writes_after-all reclaimed (histories.writes_of next key)
+          (rising_earlier reclaimed (last h) (histories.writes_of next key) marked (writes_of-rising (last h) next key later))
 
 -- ---- where nothing is reclaimed
 
@@ -194,7 +210,8 @@ none-before : (ws : Writes) → IsRisingAfter 0 ws → last_time ws ≤ 0 → ws
 none-before [] up low = refl
 none-before (w ∷ ws) up low = let first = (upto-last w.time ws up.2).0 in let later = up.0 in absurd (omega arith)
 
-pub whole : {floors : ℕ → ℕ} {reclaimed : ℕ} {versions-in : List KeyWrites} {h : History Value} → HasWrites floors reclaimed versions-in h → HasRisingTimes 0 h → reclaimed ≡ 0 → (key : Key) → writes_of versions-in key ≡ histories.writes_of h key
+pub whole : {floors : ℕ → ℕ} {reclaimed : ℕ} {versions-in : List KeyWrites} {h : History Value} → HasWrites floors reclaimed versions-in h → HasRisingTimes 0 h
+    → reclaimed ≡ 0 → (key : Key) → writes_of versions-in key ≡ histories.writes_of h key
 whole {floors} {reclaimed} {versions-in} {h} has up none key =
     let early = has.early key in
     has.writes key

@@ -1,5 +1,6 @@
 -- The group that is being written may follow what is published, and what a stop may leave while it is written.
-use Rattle.std.proofs.Common.{◌≡◌, ◌≢◌, ℕ, zero, suc, ◌<◌, ◌≤◌, List, [], ◌∷◌, ◌++◌, length, take, drop, map, Option, Result, Ok, refl, arith, ap, sym, subst, ◌∙◌, inl, inr}
+use Rattle.std.proofs.Common.{◌≡◌, ◌≢◌, ℕ, zero, suc, ◌<◌, ◌≤◌, List, [], ◌∷◌, ◌++◌, length, take, drop, map, Option, Result, Ok, refl, arith, ap, sym, subst}
+use Rattle.std.proofs.Common.{◌∙◌, inl, inr}
 use Rattle.std.specs.Prelude.{IsTrue}
 use Rattle.std.specs.List.{AllByRecursion, flat_map}
 use Rattle.std.proofs.lemmas.List.Concat.{flat_map-append}
@@ -67,11 +68,13 @@ distinct-extents (e ∷ es) all = (apart es all.0, distinct-extents es all.1)
     apart (f ∷ fs) none = ((λ same. none.0 (sym same)), apart fs none.1)
 
 -- what is kept is none of what is out
-kept-apart : (us : List Usage) (e : Extent) (fs : List Extent) → IsKept us e.number → AllByRecursion (IsOut us) (map (λ (f : Extent). f.number) fs) → AllByRecursion (λ (f : Extent). e.number ≢ f.number) fs
+kept-apart : (us : List Usage) (e : Extent) (fs : List Extent) → IsKept us e.number → AllByRecursion (IsOut us) (map (λ (f : Extent). f.number) fs)
+    → AllByRecursion (λ (f : Extent). e.number ≢ f.number) fs
 kept-apart us e [] kept out = tt
 kept-apart us e (f ∷ fs) kept out = (are_apart us Kept Out e.number f.number (λ same. cc) kept out.0, kept-apart us e fs kept out.1)
 
-pub kept-cross : (us : List Usage) (es fs : List Extent) → AllByRecursion (λ (e : Extent). IsKept us e.number) es → AllByRecursion (IsOut us) (map (λ (f : Extent). f.number) fs) → AreCross es fs
+pub kept-cross : (us : List Usage) (es fs : List Extent) → AllByRecursion (λ (e : Extent). IsKept us e.number) es
+    → AllByRecursion (IsOut us) (map (λ (f : Extent). f.number) fs) → AreCross es fs
 kept-cross us [] fs kept out = tt
 kept-cross us (e ∷ es) fs kept out = (kept-apart us e fs kept.0 out, kept-cross us es fs kept.1 out)
 
@@ -95,7 +98,8 @@ length-taken (suc n) (x ∷ xs) low = ap suc (length-taken n xs (omega arith))
 
 -- ---- kinds
 
-pub built-more : (header : Header) (ss : List Slot) (s : Slot) → AreBuilt header ss → IsTrue (is_built header.profile (kind_of s.body)) → AreBuilt header (ss ++ s ∷ [])
+pub built-more : (header : Header) (ss : List Slot) (s : Slot) → AreBuilt header ss → IsTrue (is_built header.profile (kind_of s.body))
+    → AreBuilt header (ss ++ s ∷ [])
 built-more header [] s built new zero slot at = let same : s ≡ slot = cc in subst (λ (x : Slot). IsTrue (is_built header.profile (kind_of x.body))) same new
 built-more header [] s built new (suc n) slot at = absurd cc
 built-more header (x ∷ xs) s built new zero slot at = built zero slot at
@@ -162,10 +166,13 @@ module _ (store : StoreValue) (m : Machine Value) (c : Working store m) (some : 
   may : MayAllFollow IsValue m.published next
   may =
       let behind : MayAllFollow IsValue m.published m.queue = may_follow-behind IsValue [] m.published m.queue c.inside.machine.history in
-      may_follow-front IsValue m.published (take v.group m.queue) (drop v.group m.queue) (subst (λ (l : History Value). MayAllFollow IsValue m.published l) (sym (taken-and-rest v.group m.queue)) behind)
+      may_follow-front IsValue m.published (take v.group m.queue) (drop v.group m.queue)
+      (subst (λ (l : History Value). MayAllFollow IsValue m.published l) (sym (taken-and-rest v.group m.queue)) behind)
 
   pub out : AreOut v.usages (flat_map numbers_of taken)
-  out = out-front v.usages (flat_map numbers_of (take v.group v.queue)) (flat_map numbers_of (drop v.group v.queue)) (subst (λ (l : List ℕ). AreOut v.usages l) (numbers-split v.group v.queue) (out-front v.usages (flat_map numbers_of v.queue) v.reserved c.inside.order.out))
+  out = out-front v.usages (flat_map numbers_of (take v.group v.queue)) (flat_map numbers_of (drop v.group v.queue))
+      (subst (λ (l : List ℕ). AreOut v.usages l) (numbers-split v.group v.queue)
+      (out-front v.usages (flat_map numbers_of v.queue) v.reserved c.inside.order.out))
 
   pub in_range : AllByRecursion IsNumber (flat_map numbers_of taken)
   in_range = numbered v.usages (flat_map numbers_of taken) out.each
@@ -189,15 +196,22 @@ module _ (store : StoreValue) (m : Machine Value) (c : Working store m) (some : 
   is_group =
       subst (λ (ms : List Member). IsGroupOf reading m.published next ms)
       (ap (λ (f : Key → Option Value). stored_members f next) values ∙ sym (members-are v.reclaimed v.versions m.published taken next waits may))
-      (stored-is_group reading m.published m.floors c.works.log.stands next may (omega (arith, many, some)) (omega (arith, many, c.inside.order.group_few, most-least reading.profile)))
+      (stored-is_group reading m.published m.floors c.works.log.stands next may (omega (arith, many, some)) (omega (
+        arith,
+        many,
+        c.inside.order.group_few,
+        most-least reading.profile,
+      )))
 
   pub numbers : map (λ (e : Extent). e.number) (extents_of group.members) ≡ flat_map numbers_of taken
   numbers = extents-numbered m.published taken next each
 
   free : AreDistinct (live layout ++ extents_of group.members)
   free =
-      let outs : AllByRecursion (IsOut v.usages) (map (λ (e : Extent). e.number) (extents_of group.members)) = subst (AllByRecursion (IsOut v.usages)) (sym numbers) out.each in
-      distinct_join (live layout) (extents_of group.members) c.works.log.laid.heap.apart (distinct-extents (extents_of group.members) (subst usages.AreDistinct (sym numbers) out.distinct))
+      let outs : AllByRecursion (IsOut v.usages) (map (λ (e : Extent). e.number) (extents_of group.members)) =
+      subst (AllByRecursion (IsOut v.usages)) (sym numbers) out.each in
+      distinct_join (live layout) (extents_of group.members) c.works.log.laid.heap.apart
+      (distinct-extents (extents_of group.members) (subst usages.AreDistinct (sym numbers) out.distinct))
       (kept-cross v.usages (live layout) (extents_of group.members) c.works.heap.kept outs)
 
   pub joins : MayJoin header layout reading m.published next group
@@ -215,15 +229,34 @@ module _ (store : StoreValue) (m : Machine Value) (c : Working store m) (some : 
   body = spelling header.profile group.slot
 
   pub long : length body ≡ 511
-  long = spelling-long header.profile (length layout.slots) (map (λ (q : QueuedValue). q.entry) taken) (omega (arith, length-mapped (λ (q : QueuedValue). q.entry) taken, taken-many, c.inside.order.group_few))
+  long = spelling-long header.profile (length layout.slots) (map (λ (q : QueuedValue). q.entry) taken) (omega (
+    arith,
+    length-mapped (λ (q : QueuedValue). q.entry) taken,
+    taken-many,
+    c.inside.order.group_few,
+  ))
 
   pub spelled : IsSpelled header.profile (length layout.slots) body group.slot
-  spelled = slot-spelled header.profile (length layout.slots) v.reclaimed v.versions m.published taken next waits each may in_range (omega (arith, taken-many, some)) (omega (arith, taken-many, c.inside.order.group_few))
+  spelled =
+      slot-spelled header.profile (length layout.slots) v.reclaimed v.versions m.published taken next waits each may in_range (omega (
+        arith,
+        taken-many,
+        some,
+      )) (omega (arith, taken-many, c.inside.order.group_few))
 
   -- ---- images
 
   pub old_image : (image : Image) → HoldsLayout header image layout → IsImageOf header image m.published m.floors
-  old_image image held = record { layout = layout; reading = reading; laid = c.works.log.laid; held = held; stands = c.works.log.stands; profile_built = c.profile_built; built = c.works.log.built }
+  old_image image held =
+      record {
+        layout = layout;
+        reading = reading;
+        laid = c.works.log.laid;
+        held = held;
+        stands = c.works.log.stands;
+        profile_built = c.profile_built;
+        built = c.works.log.built;
+      }
 
   pub built_then : AreBuilt header (laid_out layout group).slots
   built_then = built-more header layout.slots group.slot c.works.log.built c.profile_built
@@ -236,14 +269,25 @@ module _ (store : StoreValue) (m : Machine Value) (c : Working store m) (some : 
 
   pub new_image : (image : Image) → HoldsLayout header image (laid_out layout group) → IsImageOf header image (m.published ++ next) m.floors
   new_image image held =
-      record { layout = laid_out layout group; reading = with_group reading (turns.members_of group); laid = laid_then; held = held; stands = stands_then; profile_built = c.profile_built; built = built_then }
+      record {
+        layout = laid_out layout group;
+        reading = with_group reading (turns.members_of group);
+        laid = laid_then;
+        held = held;
+        stands = stands_then;
+        profile_built = c.profile_built;
+        built = built_then;
+      }
 
   -- what is published with the whole group is a front, where the gate may be open
-  opened-front : (gate : Gate) → gate ≡ MayBeOpen OfGroup → (image : Image) → IsImageOf header image (m.published ++ next) m.floors → OnFront (IsImageOf header image) (gated m gate)
+  opened-front : (gate : Gate) → gate ≡ MayBeOpen OfGroup → (image : Image) → IsImageOf header image (m.published ++ next) m.floors
+      → OnFront (IsImageOf header image) (gated m gate)
   opened-front gate is image new =
-      inr (subst (λ (g : Gate). OnOpened (IsImageOf header image) (gated m g) g) (sym is) (subst (λ (n : ℕ). IsImageOf header image (m.published ++ take n m.queue) m.floors) c.inside.memory.group new))
+      inr (subst (λ (g : Gate). OnOpened (IsImageOf header image) (gated m g) g) (sym is)
+      (subst (λ (n : ℕ). IsImageOf header image (m.published ++ take n m.queue) m.floors) c.inside.memory.group new))
 
-  by-slot : (gate : Gate) (stage : SlotStage) (image : Image) → (MayOpen stage → gate ≡ MayBeOpen OfGroup) → MayAt stage (HoldsLayout header image layout) (HoldsLayout header image (laid_out layout group)) → OnFront (IsImageOf header image) (gated m gate)
+  by-slot : (gate : Gate) (stage : SlotStage) (image : Image) → (MayOpen stage → gate ≡ MayBeOpen OfGroup)
+      → MayAt stage (HoldsLayout header image layout) (HoldsLayout header image (laid_out layout group)) → OnFront (IsImageOf header image) (gated m gate)
   by-slot gate slots.Begun image open-is may_be = inl (old_image image may_be)
   by-slot gate slots.BodyWritten image open-is may_be = inl (old_image image may_be)
   by-slot gate slots.BodySynced image open-is may_be = inl (old_image image may_be)
@@ -251,7 +295,8 @@ module _ (store : StoreValue) (m : Machine Value) (c : Working store m) (some : 
   by-slot gate slots.GateWritten image open-is (inr new) = opened-front gate (open-is tt) image (new_image image new)
   by-slot gate slots.Opened image open-is may_be = opened-front gate (open-is tt) image (new_image image may_be)
 
-  within-slot : (gate : Gate) (stage : SlotStage) (image : Image) → (MayOpenWithin stage → gate ≡ MayBeOpen OfGroup) → MayWithin stage (HoldsLayout header image layout) (HoldsLayout header image (laid_out layout group)) → OnFront (IsImageOf header image) (gated m gate)
+  within-slot : (gate : Gate) (stage : SlotStage) (image : Image) → (MayOpenWithin stage → gate ≡ MayBeOpen OfGroup)
+      → MayWithin stage (HoldsLayout header image layout) (HoldsLayout header image (laid_out layout group)) → OnFront (IsImageOf header image) (gated m gate)
   within-slot gate slots.Begun image open-is may_be = inl (old_image image may_be)
   within-slot gate slots.BodyWritten image open-is may_be = inl (old_image image may_be)
   within-slot gate slots.BodySynced image open-is (inl old) = inl (old_image image old)
@@ -267,19 +312,28 @@ module _ (store : StoreValue) (m : Machine Value) (c : Working store m) (some : 
   group_are = group_extents_are group.members stored
 
   -- what a stop may leave before the next call of the group
-  pub leaves_at : (gate : Gate) (stage : Stage) (areas : Areas) (image : Image) → (MayOpenAt stage → gate ≡ MayBeOpen OfGroup) → IsAt header layout group stage areas → LeavesImage areas image → OnFront (IsImageOf header image) (gated m gate)
-  leaves_at gate (turns.Storing done rest) areas image open-is at left = inl (old_image image (group_holds header layout group room live_are group_are free (turns.Storing done rest) areas image at left))
-  leaves_at gate (turns.Turning stage) areas image open-is at left = by-slot gate stage image open-is (group_holds header layout group room live_are group_are free (turns.Turning stage) areas image at left)
+  pub leaves_at : (gate : Gate) (stage : Stage) (areas : Areas) (image : Image) → (MayOpenAt stage → gate ≡ MayBeOpen OfGroup)
+      → IsAt header layout group stage areas → LeavesImage areas image → OnFront (IsImageOf header image) (gated m gate)
+  leaves_at gate (turns.Storing done rest) areas image open-is at left =
+      inl (old_image image (group_holds header layout group room live_are group_are free (turns.Storing done rest) areas image at left))
+  leaves_at gate (turns.Turning stage) areas image open-is at left =
+      by-slot gate stage image open-is (group_holds header layout group room live_are group_are free (turns.Turning stage) areas image at left)
 
   -- and within it and after it, also where it is refused
-  pub leaves_within : (bytes : List ℕ) → length bytes ≡ 511 → IsSpelled header.profile (length layout.slots) bytes group.slot → (gate : Gate) (stage : Stage) (result : Result (Unit {0}) DeviceFault) (old new : Areas) (image : Image)
-      → (MayOpenInCall stage → gate ≡ MayBeOpen OfGroup) → IsAt header layout group stage old → AreSound old → IsCallOf layout bytes stage result old new → LeavesImage new image → OnFront (IsImageOf header image) (gated m gate)
+  pub leaves_within : (bytes : List ℕ) → length bytes ≡ 511 → IsSpelled header.profile (length layout.slots) bytes group.slot
+      → (gate : Gate) (stage : Stage) (result : Result (Unit {0}) DeviceFault) (old new : Areas) (image : Image)
+      → (MayOpenInCall stage → gate ≡ MayBeOpen OfGroup) → IsAt header layout group stage old → AreSound old → IsCallOf layout bytes stage result old new
+      → LeavesImage new image → OnFront (IsImageOf header image) (gated m gate)
   leaves_within bytes long spelled gate (turns.Storing done rest) result old new image open-is at sound call left =
-      inl (old_image image (group_call_holds header layout group room live_are group_are free bytes long spelled (turns.Storing done rest) result old new image at sound call left))
+      inl (old_image image (group_call_holds header layout group room live_are group_are free bytes long spelled (turns.Storing done rest) result old new image
+      at sound call left))
   leaves_within bytes long spelled gate (turns.Turning stage) result old new image open-is at sound call left =
-      within-slot gate stage image open-is (group_call_holds header layout group room live_are group_are free bytes long spelled (turns.Turning stage) result old new image at sound call left)
+      within-slot gate stage image open-is
+      (group_call_holds header layout group room live_are group_are free bytes long spelled (turns.Turning stage) result old new image at sound call left)
 
   -- where a call leads that is answered Ok
-  pub leads : (bytes : List ℕ) → length bytes ≡ 511 → IsSpelled header.profile (length layout.slots) bytes group.slot → (stage : Stage) (old new : Areas) → IsAt header layout group stage old → AreSound old
+  pub leads : (bytes : List ℕ) → length bytes ≡ 511 → IsSpelled header.profile (length layout.slots) bytes group.slot → (stage : Stage) (old new : Areas)
+      → IsAt header layout group stage old → AreSound old
       → IsCallOf layout bytes stage (Ok tt) old new → IsAt header layout group (stage_after stage) new
-  leads bytes long spelled stage old new at sound call = group_call_leads header layout group room live_are group_are free bytes long spelled stage old new at sound call
+  leads bytes long spelled stage old new at sound call =
+      group_call_leads header layout group room live_are group_are free bytes long spelled stage old new at sound call

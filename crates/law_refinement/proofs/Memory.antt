@@ -1,5 +1,6 @@
 -- The calls that ask nothing of the disk are steps of the machine.
-use Rattle.std.proofs.Common.{◌≡◌, ℕ, ◌<◌, ◌≤◌, ◌^◌, ◌==◌, Bool, true, false, List, [], ◌∷◌, length, take, Option, None, Some, Result, Ok, Err, MatchBool, cond, refl, arith, ap, sym, subst, ◌∙◌, ⊎_elim}
+use Rattle.std.proofs.Common.{◌≡◌, ℕ, ◌<◌, ◌≤◌, ◌^◌, ◌==◌, Bool, true, false, List, [], ◌∷◌, length, take, Option, None, Some, Result, Ok, Err, MatchBool, cond}
+use Rattle.std.proofs.Common.{refl, arith, ap, sym, subst, ◌∙◌, ⊎_elim}
 use Rattle.std.specs.Prelude.{◌⊎◌, IsPermutation, Contains}
 use Rattle.std.specs.List.{AllByRecursion, list_all}
 use Rattle.std.proofs.lemmas.Bool.Decides.{nat_tests}
@@ -30,7 +31,8 @@ use Rattle.law_refinement.proofs.Held.{state-held}
 -- the last published time is that of the published history
 pub last-is : (v : TransactionsValue) (m : Machine Value) → StandsInMemory v m → calls.last v ≡ last m.published
 last-is v m stands =
-    ap (λ (n : ℕ). last_time (take n v.heads)) stands.published ∙ last-named 0 (take (length m.published) v.heads) m.published (front-named v.heads m.published m.queue stands.names)
+    ap (λ (n : ℕ). last_time (take n v.heads)) stands.published
+    ∙ last-named 0 (take (length m.published) v.heads) m.published (front-named v.heads m.published m.queue stands.names)
 
 -- the commits of its memory rise
 pub published-rises : (v : TransactionsValue) (m : Machine Value) → StandsInMemory v m → HasRisingTimes 0 m.published
@@ -41,7 +43,8 @@ all-of P [] y all has = absurd (Contains-nil y has)
 all-of P (x ∷ xs) y all has = ⊎_elim (λ (is : x ≡ y). subst P is all.0) (λ (more : Contains xs y). all-of P xs y all.1 more) (Contains-cons_cases x xs y has)
 
 -- what memory has of a key at a kept time that is not forgotten is the history's
-pub sees-at : (v : TransactionsValue) (m : Machine Value) → StandsInMemory v m → (time : ℕ) → IsKeptSnapshot m.floors (last m.published) time → v.reclaimed ≤ time → (key : Key) → value_at (writes_of v.versions key) time ≡ state m.published time key
+pub sees-at : (v : TransactionsValue) (m : Machine Value) → StandsInMemory v m → (time : ℕ) → IsKeptSnapshot m.floors (last m.published) time
+    → v.reclaimed ≤ time → (key : Key) → value_at (writes_of v.versions key) time ≡ state m.published time key
 sees-at v m stands time kept recent key =
     let rising = published-rises v m stands in
     let range : last m.published < 2 ^ 63 = last_after-range 0 m.published (omega arith) rising in
@@ -49,25 +52,34 @@ sees-at v m stands time kept recent key =
     state-held stands.versions rising key time (kept.kept key.relation) recent (omega arith)
 
 -- so it is at the time of the last commit
-pub begun-sees : (v : TransactionsValue) (m : Machine Value) → StandsInMemory v m → IsMachine IsValue m → (snapshot : ℕ) → snapshot ≡ last m.published → (key : Key) → value_at (writes_of v.versions key) snapshot ≡ state m.published snapshot key
+pub begun-sees : (v : TransactionsValue) (m : Machine Value) → StandsInMemory v m → IsMachine IsValue m → (snapshot : ℕ) → snapshot ≡ last m.published
+    → (key : Key) → value_at (writes_of v.versions key) snapshot ≡ state m.published snapshot key
 begun-sees v m stands machine snapshot newest key =
     let marked = stands.versions.marked in
-    sees-at v m stands snapshot (record { published = omega arith; kept = λ relation. let reached = machine.floors_reached relation in omega arith }) (omega arith) key
+    sees-at v m stands snapshot (record {
+      published = omega arith;
+      kept = λ relation. let reached = machine.floors_reached relation in omega arith;
+    }) (omega arith) key
 
 -- the snapshots once one more is open, and once one is closed
-pub opened-were : (opened : List (Option ℕ)) (number snapshot : ℕ) → snapshot_of number opened ≡ None → (s : ℕ) → Contains (snapshots_of (with_opened opened number snapshot)) s → (snapshot ≡ s) ⊎ Contains (snapshots_of opened) s
+pub opened-were : (opened : List (Option ℕ)) (number snapshot : ℕ) → snapshot_of number opened ≡ None → (s : ℕ)
+    → Contains (snapshots_of (with_opened opened number snapshot)) s → (snapshot ≡ s) ⊎ Contains (snapshots_of opened) s
 opened-were opened number snapshot none s is =
     Contains-cons_cases snapshot (snapshots_of opened) s
     (Contains-permutation (snapshots_of (with_opened opened number snapshot)) (snapshot ∷ snapshots_of opened) s
     (IsPermutation-sym (snapshot ∷ snapshots_of opened) (snapshots_of (with_opened opened number snapshot)) (opened_one opened number snapshot none)) is)
 
-pub closed-were : (opened : List (Option ℕ)) (number snapshot : ℕ) → snapshot_of number opened ≡ Some snapshot → (s : ℕ) → Contains (snapshots_of (with_closed opened number)) s → Contains (snapshots_of opened) s
+pub closed-were : (opened : List (Option ℕ)) (number snapshot : ℕ) → snapshot_of number opened ≡ Some snapshot → (s : ℕ)
+    → Contains (snapshots_of (with_closed opened number)) s → Contains (snapshots_of opened) s
 closed-were opened number snapshot is s there =
     let rest = snapshots_of (with_closed opened number) in
-    Contains-permutation (snapshot ∷ rest) (snapshots_of opened) s (IsPermutation-sym (snapshots_of opened) (snapshot ∷ rest) (closed_one opened number snapshot is)) (Contains-tail snapshot rest s there)
+    Contains-permutation (snapshot
+    ∷ rest) (snapshots_of opened) s (IsPermutation-sym (snapshots_of opened) (snapshot
+    ∷ rest) (closed_one opened number snapshot is)) (Contains-tail snapshot rest s there)
 
 -- with one more open
-pub opens-one : (v : TransactionsValue) (m : Machine Value) (number snapshot : ℕ) → StandsInMemory v m → snapshot_of number v.opened ≡ None → snapshot ≡ last m.published
+pub opens-one : (v : TransactionsValue) (m : Machine Value) (number snapshot : ℕ) → StandsInMemory v m → snapshot_of number v.opened ≡ None → snapshot
+    ≡ last m.published
     → StandsInMemory (record v { opened = with_opened v.opened number snapshot }) (begun m)
 opens-one v m number snapshot stands fresh newest = record {
   names = stands.names;
@@ -77,7 +89,8 @@ opens-one v m number snapshot stands fresh newest = record {
   forgot = stands.forgot;
   recent = λ s is.
       let marked = stands.versions.marked in
-      ⊎_elim (λ (same : snapshot ≡ s). omega arith) (λ (old : Contains (snapshots_of v.opened) s). stands.recent s old) (opened-were v.opened number snapshot fresh s is);
+      ⊎_elim (λ (same : snapshot
+      ≡ s). omega arith) (λ (old : Contains (snapshots_of v.opened) s). stands.recent s old) (opened-were v.opened number snapshot fresh s is);
   queue = stands.queue;
   fresh = stands.fresh;
   group = stands.group;
@@ -89,12 +102,17 @@ opens-one v m number snapshot stands fresh newest = record {
   failed = stands.failed;
 }
 
-pub begin-step : (old new : TransactionsValue) (answer : Result TxnValue BeginFault) (m : Machine Value) → StandsInMemory old m → calls.Begins old answer new → BeginsAs m answer new
+pub begin-step : (old new : TransactionsValue) (answer : Result TxnValue BeginFault) (m : Machine Value) → StandsInMemory old m → calls.Begins old answer new
+    → BeginsAs m answer new
 begin-step old new (Ok txn) m stands begins =
-    let is : txn.snapshot ≡ last m.published = begins.snapshot ∙ last-is old m stands in
-    ((sym stands.failed ∙ begins.works, is, refl), subst (λ (v : TransactionsValue). StandsInMemory v (begun m)) (sym begins.new_is) (opens-one old m txn.number txn.snapshot stands begins.fresh is))
-begin-step old new (Err fault.NoMemory) m stands begins = ((sym stands.failed ∙ begins.0, refl), subst (λ (v : TransactionsValue). StandsInMemory v m) (sym begins.1) stands)
-begin-step old new (Err fault.Failed) m stands begins = ((sym stands.failed ∙ begins.0, refl), subst (λ (v : TransactionsValue). StandsInMemory v m) (sym begins.1) stands)
+    let is : txn.snapshot ≡ last m.published = begins.snapshot ∙ last-is old m stands in (
+      (sym stands.failed ∙ begins.works, is, refl),
+      subst (λ (v : TransactionsValue). StandsInMemory v (begun m)) (sym begins.new_is) (opens-one old m txn.number txn.snapshot stands begins.fresh is),
+    )
+begin-step old new (Err fault.NoMemory) m stands begins =
+    ((sym stands.failed ∙ begins.0, refl), subst (λ (v : TransactionsValue). StandsInMemory v m) (sym begins.1) stands)
+begin-step old new (Err fault.Failed) m stands begins =
+    ((sym stands.failed ∙ begins.0, refl), subst (λ (v : TransactionsValue). StandsInMemory v m) (sym begins.1) stands)
 
 -- with one less open
 pub closes-so : (v : TransactionsValue) (m : Machine Value) (number snapshot : ℕ) → StandsInMemory v m → snapshot_of number v.opened ≡ Some snapshot
@@ -126,17 +144,26 @@ closes-one : (v : TransactionsValue) (m : Machine Value) (number snapshot : ℕ)
 closes-one v m number snapshot stands is = let so = closes-so v m number snapshot stands is in (record m { snapshots = so.0 }, (so.0, so.1, refl), so.2)
 
 -- the snapshot of an open transaction is not forgotten
-pub recent-open : (v : TransactionsValue) (m : Machine Value) (number snapshot : ℕ) → StandsInMemory v m → snapshot_of number v.opened ≡ Some snapshot → v.reclaimed ≤ snapshot
+pub recent-open : (v : TransactionsValue) (m : Machine Value) (number snapshot : ℕ) → StandsInMemory v m → snapshot_of number v.opened ≡ Some snapshot
+    → v.reclaimed ≤ snapshot
 recent-open v m number snapshot stands is =
     let rest = snapshots_of (with_closed v.opened number) in
-    stands.recent snapshot (Contains-permutation (snapshot ∷ rest) (snapshots_of v.opened) snapshot (IsPermutation-sym (snapshots_of v.opened) (snapshot ∷ rest) (closed_one v.opened number snapshot is)) (Contains-head snapshot rest snapshot refl))
+    stands.recent snapshot (Contains-permutation (snapshot
+    ∷ rest) (snapshots_of v.opened) snapshot (IsPermutation-sym (snapshots_of v.opened) (snapshot
+    ∷ rest) (closed_one v.opened number snapshot is)) (Contains-head snapshot rest snapshot refl))
 
 -- and at the snapshot of an open transaction
-pub open-sees : (v : TransactionsValue) (m : Machine Value) → StandsInMemory v m → IsMachine IsValue m → (number snapshot : ℕ) → snapshot_of number v.opened ≡ Some snapshot → (key : Key) → value_at (writes_of v.versions key) snapshot ≡ state m.published snapshot key
+pub open-sees : (v : TransactionsValue) (m : Machine Value) → StandsInMemory v m → IsMachine IsValue m → (number snapshot : ℕ) → snapshot_of number v.opened
+    ≡ Some snapshot → (key : Key) → value_at (writes_of v.versions key) snapshot ≡ state m.published snapshot key
 open-sees v m stands machine number snapshot is key =
     let rest = snapshots_of (with_closed v.opened number) in
-    let there : Contains (snapshots_of v.opened) snapshot = Contains-permutation (snapshot ∷ rest) (snapshots_of v.opened) snapshot (IsPermutation-sym (snapshots_of v.opened) (snapshot ∷ rest) (closed_one v.opened number snapshot is)) (Contains-head snapshot rest snapshot refl) in
-    let kept = all-of (IsKeptSnapshot m.floors (last m.published)) m.snapshots snapshot machine.snapshots (Contains-permutation (snapshots_of v.opened) m.snapshots snapshot (IsPermutation-sym m.snapshots (snapshots_of v.opened) stands.snapshots) there) in
+    let there : Contains (snapshots_of v.opened) snapshot =
+    Contains-permutation (snapshot
+    ∷ rest) (snapshots_of v.opened) snapshot (IsPermutation-sym (snapshots_of v.opened) (snapshot
+    ∷ rest) (closed_one v.opened number snapshot is)) (Contains-head snapshot rest snapshot refl) in
+    let kept =
+    all-of (IsKeptSnapshot m.floors (last m.published)) m.snapshots snapshot machine.snapshots
+    (Contains-permutation (snapshots_of v.opened) m.snapshots snapshot (IsPermutation-sym m.snapshots (snapshots_of v.opened) stands.snapshots) there) in
     sees-at v m stands snapshot kept (stands.recent snapshot there) key
 
 -- a snapshot that is found is that of the number
@@ -146,14 +173,17 @@ found-snapshot (Some s) time is = let same : s ≡ time = grind (arith, nat_test
 
 -- the store's own transaction has its number and its snapshot there
 pub own-is : (v : TransactionsValue) (txn : TxnValue) → is_own v txn ≡ true → snapshot_of txn.number v.opened ≡ Some txn.snapshot
-own-is v txn own = found-snapshot (snapshot_of txn.number v.opened) txn.snapshot (middle (txn.mark == v.mark) (is_snapshot (snapshot_of txn.number v.opened) txn.snapshot) (list_all (is_of_value v.versions txn.snapshot) txn.writes) own)
+own-is v txn own =
+    found-snapshot (snapshot_of txn.number v.opened) txn.snapshot
+    (middle (txn.mark == v.mark) (is_snapshot (snapshot_of txn.number v.opened) txn.snapshot) (list_all (is_of_value v.versions txn.snapshot) txn.writes) own)
   where
     middle : (a b c : Bool) → cond a (cond b c false) false ≡ true → b ≡ true
     middle true true c h = refl
     middle true false c h = absurd cc
     middle false b c h = absurd cc
 
-abort-cases : (b : Bool) (old new : TransactionsValue) (txn : TxnValue) (m : Machine Value) → is_own old txn ≡ b → StandsInMemory old m → new ≡ cond b (over old txn.number) old
+abort-cases : (b : Bool) (old new : TransactionsValue) (txn : TxnValue) (m : Machine Value) → is_own old txn ≡ b → StandsInMemory old m → new
+    ≡ cond b (over old txn.number) old
     → MatchBool b ((after : Machine Value) × Step IsValue m (Aborted txn.snapshot) after × StandsInMemory new after) (StandsInMemory new m)
 abort-cases true old new txn m own stands is =
     let gives = closes-one old m txn.number txn.snapshot stands (own-is old txn own) in

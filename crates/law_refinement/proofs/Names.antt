@@ -16,7 +16,8 @@ last-named t (x ∷ xs) (c ∷ cs) same =
     let time : x.time ≡ c.time = ap (λ (n : Name). n.time) first in
     ap (λ (s : ℕ). last_time_after s xs) time ∙ last-named c.time xs cs rest
 
-pub front-named : (heads : List CommitHead) (h later : History Value) → map name_at heads ≡ map name_of (h ++ later) → map name_at (take (length h) heads) ≡ map name_of h
+pub front-named : (heads : List CommitHead) (h later : History Value) → map name_at heads ≡ map name_of (h ++ later) → map name_at (take (length h) heads)
+    ≡ map name_of h
 front-named heads [] later same = refl
 front-named [] (c ∷ cs) later same = absurd cc
 front-named (x ∷ xs) (c ∷ cs) later same =
@@ -32,5 +33,8 @@ rising-named t (x ∷ xs) [] same rising = absurd cc
 rising-named t (x ∷ xs) (c ∷ cs) same rising =
     let first : name_at x ≡ name_of c = cc in
     let rest : map name_at xs ≡ map name_of cs = cc in
-    let time : x.time ≡ c.time = ap (λ (n : Name). n.time) first in
-    (subst (λ (s : ℕ). t < s) time rising.0, subst (λ (s : ℕ). s < 2 ^ 63) time rising.1, subst (λ (s : ℕ). HasRisingTimes s cs) time (rising-named x.time xs cs rest rising.2))
+    let time : x.time ≡ c.time = ap (λ (n : Name). n.time) first in (
+      subst (λ (s : ℕ). t < s) time rising.0,
+      subst (λ (s : ℕ). s < 2 ^ 63) time rising.1,
+      subst (λ (s : ℕ). HasRisingTimes s cs) time (rising-named x.time xs cs rest rising.2),
+    )

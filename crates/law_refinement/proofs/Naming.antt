@@ -1,5 +1,6 @@
 -- The slot that names the commits of a group, and its one spelling.
-use Rattle.std.proofs.Common.{◌≡◌, ℕ, ◌+◌, ◌*◌, ◌<◌, ◌≤◌, ◌^◌, nat_le, true, false, List, [], ◌∷◌, ◌++◌, length, map, refl, arith, ap, sym, subst, ◌∙◌, ⊎_elim, length-append}
+use Rattle.std.proofs.Common.{◌≡◌, ℕ, ◌+◌, ◌*◌, ◌<◌, ◌≤◌, ◌^◌, nat_le, true, false, List, [], ◌∷◌, ◌++◌, length, map, refl, arith, ap, sym, subst, ◌∙◌, ⊎_elim}
+use Rattle.std.proofs.Common.{length-append}
 use Rattle.std.specs.List.{AllByRecursion, flat_map}
 use Rattle.std.proofs.lemmas.Bool.{cases_lt}
 use Rattle.std.proofs.lemmas.Bool.Decides.{nat_tests}
@@ -27,7 +28,8 @@ some-from body [] = omega arith
 some-from body (r ∷ rs) =
     ⊎_elim
     (λ (over : 8176 < length body + length r). let no : nat_le (length body + length r) 8176 ≡ false = grind (arith, nat_tests) in rw no (omega arith))
-    (λ (room : length body + length r ≤ 8176). let yes : nat_le (length body + length r) 8176 ≡ true = grind (arith, nat_tests) in rw yes (some-from (body ++ r) rs))
+    (λ (room : length body + length r ≤ 8176). let yes : nat_le (length body + length r) 8176 ≡ true =
+    grind (arith, nat_tests) in rw yes (some-from (body ++ r) rs))
     (cases_lt 8176 (length body + length r))
 
 few-from : (body : List ℕ) (rs : List (List ℕ)) → length (bodies_from body rs) ≤ 1 + length rs
@@ -61,12 +63,16 @@ first-in_range : (ns : List ℕ) → 0 < length ns → AllByRecursion IsNumber n
 first-in_range [] some all = absurd (omega (arith, some))
 first-in_range (n ∷ ns) some all = all.0
 
-entry-is : (reclaimed : ℕ) (versions : List KeyWrites) (before : History Value) (q : QueuedValue) (c : Commit Value) → Waits reclaimed versions q c → IsPacked before q c → MayFollow IsValue before c → AllByRecursion IsNumber (numbers_of q) → IsMember q.entry
+entry-is : (reclaimed : ℕ) (versions : List KeyWrites) (before : History Value) (q : QueuedValue) (c : Commit Value) → Waits reclaimed versions q c
+    → IsPacked before q c → MayFollow IsValue before c → AllByRecursion IsNumber (numbers_of q) → IsMember q.entry
 entry-is reclaimed versions before q c waits is may numbered =
     let many = records-many before c in
-    let some : 0 < length (packed before c) = bodies-some (map record_bytes (map (stored_record (values_in before)) c.writes)) (omega (arith, many, may.write_set.some)) in
-    let few : length (packed before c) ≤ length c.writes = omega (arith, bodies-few (map record_bytes (map (stored_record (values_in before)) c.writes)), many) in
-    let first : IsNumber q.entry.first = subst IsNumber (sym is.first) (first-in_range (numbers_of q) (omega (arith, length-numbers q, is.many, some)) numbered) in
+    let some : 0 < length (packed before c) =
+    bodies-some (map record_bytes (map (stored_record (values_in before)) c.writes)) (omega (arith, many, may.write_set.some)) in
+    let few : length (packed before c) ≤ length c.writes =
+    omega (arith, bodies-few (map record_bytes (map (stored_record (values_in before)) c.writes)), many) in
+    let first : IsNumber q.entry.first =
+    subst IsNumber (sym is.first) (first-in_range (numbers_of q) (omega (arith, length-numbers q, is.many, some)) numbered) in
     let low = first.0 in
     record {
       label = subst (λ (n : ℕ). n < 2 ^ 64) (sym waits.label) may.label;
@@ -88,7 +94,8 @@ last-one h c = go 0 h
     go t [] = refl
     go t (d ∷ ds) = go d.time ds
 
-entries-rise : (reclaimed : ℕ) (before : List KeyWrites) (h : History Value) (qs : List QueuedValue) (cs : History Value) → AllWait reclaimed before qs cs → AllPacked h qs cs → MayAllFollow IsValue h cs → AllByRecursion IsNumber (flat_map numbers_of qs)
+entries-rise : (reclaimed : ℕ) (before : List KeyWrites) (h : History Value) (qs : List QueuedValue) (cs : History Value) → AllWait reclaimed before qs cs
+    → AllPacked h qs cs → MayAllFollow IsValue h cs → AllByRecursion IsNumber (flat_map numbers_of qs)
     → Rises (last h) (map (λ (q : QueuedValue). q.entry) qs)
 entries-rise reclaimed before h [] [] all each may numbered = tt
 entries-rise reclaimed before h [] (c ∷ cs) all each may numbered = absurd all
@@ -110,16 +117,19 @@ unfolding u64_bytes u32_bytes
 members-long [] = refl
 members-long (m ∷ ms) = let rest = members-long ms in ap (λ (l : List ℕ). length l) (flat_map-cons member_bytes m ms) ∙ simp length-append (omega (arith, rest))
 
-front-long : (profile number : ℕ) (ms : List Entry) → length (front_of profile (record { number = number; body = CommitBody (record { items = ms }) })) ≡ 7 + 28 * length ms
+front-long : (profile number : ℕ) (ms : List Entry) → length (front_of profile (record { number = number; body = CommitBody (record { items = ms }) }))
+    ≡ 7 + 28 * length ms
 unfolding front_of fields_of u32_bytes
 front-long profile number ms = let rest = members-long ms in simp length-append (omega (arith, rest))
 
-pub spelling-long : (profile number : ℕ) (ms : List Entry) → length ms ≤ 16 → length (spelling profile (record { number = number; body = CommitBody (record { items = ms }) })) ≡ 511
+pub spelling-long : (profile number : ℕ) (ms : List Entry) → length ms ≤ 16
+    → length (spelling profile (record { number = number; body = CommitBody (record { items = ms }) })) ≡ 511
 unfolding spelling
 spelling-long profile number ms few = let front = front-long profile number ms in simp (length-append, length-replicate) (omega (arith, front, few))
 
 -- the slot of a group is spelled in one way
-pub slot-spelled : (profile number reclaimed : ℕ) (before : List KeyWrites) (h : History Value) (qs : List QueuedValue) (cs : History Value) → AllWait reclaimed before qs cs → AllPacked h qs cs → MayAllFollow IsValue h cs → AllByRecursion IsNumber (flat_map numbers_of qs)
+pub slot-spelled : (profile number reclaimed : ℕ) (before : List KeyWrites) (h : History Value) (qs : List QueuedValue) (cs : History Value)
+    → AllWait reclaimed before qs cs → AllPacked h qs cs → MayAllFollow IsValue h cs → AllByRecursion IsNumber (flat_map numbers_of qs)
     → 0 < length qs → length qs ≤ 16 → IsSpelled profile number (spelling profile (slot_for number qs)) (slot_for number qs)
 slot-spelled profile number reclaimed before h qs cs all each may numbered some few =
     let many = length-mapped (λ (q : QueuedValue). q.entry) qs in

@@ -10,8 +10,12 @@ use Rattle.group.specs.Values.{TransactionsValue, claimed}
 use Rattle.group.specs.Order.{IsInOrder}
 use Rattle.law_refinement.specs.Standing.{StandsInMemory}
 
-pub memory-beside : (v : TransactionsValue) (pending : Option (List KeyWrites)) (usages : List Usage) (reserved : List ℕ) (slots used : ℕ) (m : Machine Value) (raising : Option Raising) (gate : Gate) → StandsInMemory v m
-    → StandsInMemory (record v { pending = pending; usages = usages; reserved = reserved; slots = slots; used = used }) (record m { raising = raising; gate = gate })
+pub memory-beside : (v : TransactionsValue) (pending : Option (List KeyWrites)) (usages : List Usage) (reserved : List ℕ) (slots used : ℕ) (m : Machine Value)
+    (raising : Option Raising) (gate : Gate) → StandsInMemory v m
+    → StandsInMemory (record v { pending = pending; usages = usages; reserved = reserved; slots = slots; used = used }) (record m {
+      raising = raising;
+      gate = gate;
+    })
 memory-beside v pending usages reserved slots used m raising gate stands = record {
   names = stands.names;
   rising = stands.rising;
@@ -28,7 +32,8 @@ memory-beside v pending usages reserved slots used m raising gate stands = recor
   failed = stands.failed;
 }
 
-pub order-beside : (v : TransactionsValue) (opened : List (Option ℕ)) (slots used : ℕ) (floors : FloorsValue) (failed : Bool) → used + claimed v ≤ slots → slots ≤ 65536 → IsInOrder v
+pub order-beside : (v : TransactionsValue) (opened : List (Option ℕ)) (slots used : ℕ) (floors : FloorsValue) (failed : Bool) → used + claimed v ≤ slots
+    → slots ≤ 65536 → IsInOrder v
     → IsInOrder (record v { opened = opened; slots = slots; used = used; floors = floors; failed = failed })
 order-beside v opened slots used floors failed room few order = record {
   split = order.split;

@@ -1,5 +1,6 @@
 -- A reclaim begins: its chain of anchors is the plan of a reclaim that may come next.
-use Rattle.std.proofs.Common.{◌≡◌, ◌≢◌, ℕ, ◌-◌, ◌<◌, ◌≤◌, ◌^◌, ◌==◌, nat_lt, Bool, true, false, cond, List, [], ◌∷◌, length, Option, None, Some, is_some, ◌||◌, Result, Ok, Err, MatchOption, refl, arith, ap, sym, subst, ◌∙◌, ⊎_elim}
+use Rattle.std.proofs.Common.{◌≡◌, ◌≢◌, ℕ, ◌-◌, ◌<◌, ◌≤◌, ◌^◌, ◌==◌, nat_lt, Bool, true, false, cond, List, [], ◌∷◌, length, Option, None, Some, is_some, ◌||◌}
+use Rattle.std.proofs.Common.{Result, Ok, Err, MatchOption, refl, arith, ap, sym, subst, ◌∙◌, ⊎_elim}
 use Rattle.std.specs.Prelude.{Contains}
 use Rattle.std.specs.List.{AllByRecursion}
 use Rattle.std.proofs.lemmas.Bool.{cases_lt}
@@ -57,7 +58,8 @@ pub record MayReclaim (v : StoreValue) : Type 0 where
 pub not-in-use : (v : StoreValue) (o : Option ℕ) → refusal_for_use v o ≡ None → (o ≡ None) × (0 < spare v.transactions)
 not-in-use v (Some snapshot) is = absurd cc
 not-in-use v None is =
-    elim (spare v.transactions == 0) as (λ (b : Bool). (spare v.transactions == 0) ≡ b → Path (Option StartFault) (cond b (Some fault.StatusFull) None) None → Path (Option ℕ) None None × (0 < spare v.transactions)) [
+    elim (spare v.transactions == 0) as (λ (b : Bool). (spare v.transactions == 0) ≡ b → Path (Option StartFault) (cond b (Some fault.StatusFull) None) None
+    → Path (Option ℕ) None None × (0 < spare v.transactions)) [
       | true ↦ λ test said. absurd cc
       | false ↦ λ test said. (refl, grind (arith, nat_tests))
     ] refl is
@@ -66,13 +68,20 @@ pub may-reclaim : (v : StoreValue) → reclaim_refusal v ≡ None → MayReclaim
 may-reclaim v none = by-tests v.transactions.failed refl (is_some v.job) refl (v.archived == v.transactions.reclaimed) refl none
   where
     by-tests : (a : Bool) → v.transactions.failed ≡ a → (b : Bool) → is_some v.job ≡ b → (c : Bool) → (v.archived == v.transactions.reclaimed) ≡ c
-        → Path (Option StartFault) (cond a (Some fault.Failed) (cond b (Some fault.JobBusy) (cond c (Some fault.NothingToDo) (refusal_for_use v (below (oldest v.transactions) v.archived))))) None → MayReclaim v
+        → Path (Option StartFault)
+        (cond a (Some fault.Failed)
+        (cond b (Some fault.JobBusy) (cond c (Some fault.NothingToDo) (refusal_for_use v (below (oldest v.transactions) v.archived))))) None → MayReclaim v
     by-tests true a b c d e is = absurd cc
     by-tests false a true c d e is = absurd cc
     by-tests false a false c true e is = absurd cc
     by-tests false a false c false e is =
         let unused = not-in-use v (below (oldest v.transactions) v.archived) is in
-        record { free = none-there v.job c; other = λ same. (let test : (v.archived == v.transactions.reclaimed) ≡ true = grind (arith, nat_tests) in cc); none_below = unused.0; room = unused.1 }
+        record {
+          free = none-there v.job c;
+          other = λ same. (let test : (v.archived == v.transactions.reclaimed) ≡ true = grind (arith, nat_tests) in cc);
+          none_below = unused.0;
+          room = unused.1;
+        }
 
 -- ---- the open transactions
 
@@ -97,7 +106,8 @@ least-of : (places : List (Option ℕ)) (least : Option ℕ) (snapshot : ℕ) �
 least-of [] least snapshot there = absurd (Contains-nil snapshot there)
 least-of (None ∷ ps) least snapshot there = least-of ps (lesser least None) snapshot there
 least-of (Some s ∷ ps) least snapshot there = ⊎_elim
-    (λ (same : s ≡ snapshot). subst (λ (n : ℕ). AtMost (least_with (lesser least (Some s)) ps) n) same (least-by ps (lesser least (Some s)) s (lesser-own least s)))
+    (λ (same : s ≡ snapshot). subst (λ (n : ℕ). AtMost (least_with (lesser least (Some s)) ps) n) same
+    (least-by ps (lesser least (Some s)) s (lesser-own least s)))
     (λ (more : Contains (snapshots_of ps) snapshot). least-of ps (lesser least (Some s)) snapshot more)
     (Contains-cons_cases s (snapshots_of ps) snapshot there)
 
@@ -114,7 +124,8 @@ pub least-is-low : (places : List (Option ℕ)) (least snapshot : ℕ) → least
 least-is-low places least snapshot is there = subst (λ (o : Option ℕ). AtMost o snapshot) is (least-of places None snapshot there)
 
 -- where none is below the mark, no open transaction reads below it
-pub none-reads-below : (places : List (Option ℕ)) (mark : ℕ) → below (least_open places) mark ≡ None → (snapshot : ℕ) → Contains (snapshots_of places) snapshot → mark ≤ snapshot
+pub none-reads-below : (places : List (Option ℕ)) (mark : ℕ) → below (least_open places) mark ≡ None → (snapshot : ℕ) → Contains (snapshots_of places) snapshot
+    → mark ≤ snapshot
 none-reads-below places mark none snapshot there = not-below (least_open places) mark snapshot none (least-of places None snapshot there)
 
 -- ---- what is taken
@@ -128,7 +139,9 @@ few-anchors : (v : StoreValue) → reclaim_refusal v ≡ None → length (anchor
 few-anchors v none fits = ⊎_elim
     (λ (few : length (anchors_of v) < 2 ^ 32). few)
     (λ (many : 2 ^ 32 ≤ length (anchors_of v)).
-    let said = subst (λ (o : Option StartFault). MatchOption o (BeginsReclaim v (Err fault.HeapFull) v) (λ why. (Path (Result (Unit {0}) StartFault) (Err fault.HeapFull) (Err why)) × (v ≡ v))) none (too-full v (anchors_of v) none refl many) in
+    let said =
+    subst (λ (o : Option StartFault). MatchOption o (BeginsReclaim v (Err fault.HeapFull) v)
+    (λ why. (Path (Result (Unit {0}) StartFault) (Err fault.HeapFull) (Err why)) × (v ≡ v))) none (too-full v (anchors_of v) none refl many) in
     let test : nat_lt (free_count v.transactions) (length (anchor_bodies v)) ≡ true = said.0 in
     let less : free_count v.transactions < length (anchor_bodies v) = grind (arith, nat_tests) in
     absurd (omega (arith, less, fits)))
@@ -139,17 +152,25 @@ few-anchors v none fits = ⊎_elim
 begun-memory : (v : TransactionsValue) (numbers : List ℕ) (m : Machine Value) → StandsInMemory v m → StandsInMemory (with_slot_lent (with_reserved v numbers)) m
 begun-memory v numbers m stands = memory-beside v v.pending (with_reserved v numbers).usages numbers (v.slots - 1) v.used m m.raising m.gate stands
 
-pub begun-order : (v : TransactionsValue) (numbers : List ℕ) → 0 < spare v → AreLeastFree v.usages numbers → IsInOrder v → IsInOrder (with_slot_lent (with_reserved v numbers))
+pub begun-order : (v : TransactionsValue) (numbers : List ℕ) → 0 < spare v → AreLeastFree v.usages numbers → IsInOrder v
+    → IsInOrder (with_slot_lent (with_reserved v numbers))
 begun-order v numbers room least order =
-    order-beside (with_reserved v numbers) v.opened (v.slots - 1) v.used v.floors v.failed (omega (arith, order.room, room)) (omega (arith, order.slots_few)) (keeps-reserved v numbers order least)
+    order-beside (with_reserved v numbers) v.opened (v.slots - 1) v.used v.floors v.failed (omega (arith, order.room, room)) (omega (
+      arith,
+      order.slots_few,
+    )) (keeps-reserved v numbers order least)
 
-module _ (header : Header) (v : StoreValue) (m : Machine Value) (memory : StandsInMemory v.transactions m) (order : IsInOrder v.transactions) (marks : HasMarks v m) (w : Works header v m)
-    (none : reclaim_refusal v ≡ None) (numbers : List ℕ) (least : AreLeastFree v.transactions.usages numbers) (many : length numbers ≡ length (anchor_bodies v)) (fits : length (anchor_bodies v) ≤ free_count v.transactions) where
+module _ (header : Header) (v : StoreValue) (m : Machine Value) (memory : StandsInMemory v.transactions m) (order : IsInOrder v.transactions)
+    (marks : HasMarks v m) (w : Works header v m)
+    (none : reclaim_refusal v ≡ None) (numbers : List ℕ) (least : AreLeastFree v.transactions.usages numbers) (many : length numbers
+    ≡ length (anchor_bodies v)) (fits : length (anchor_bodies v) ≤ free_count v.transactions) where
   may : MayReclaim v
   may = may-reclaim v none
 
   later : v.transactions.reclaimed < v.archived
-  later = ⊎_elim (λ (less : v.transactions.reclaimed < v.archived). less) (λ (no : v.archived ≤ v.transactions.reclaimed). let low = marks.0 in absurd (may.other (omega (arith, no, low)))) (cases_lt v.transactions.reclaimed v.archived)
+  later = ⊎_elim (λ (less : v.transactions.reclaimed < v.archived). less)
+      (λ (no : v.archived ≤ v.transactions.reclaimed). let low = marks.0 in absurd (may.other (omega (arith, no, low))))
+      (cases_lt v.transactions.reclaimed v.archived)
 
   low : v.archived < 2 ^ 63
   low = let by = marks.1 in omega (arith, by, last-range w.log.reading m.published m.floors w.log.stands)
@@ -157,14 +178,17 @@ module _ (header : Header) (v : StoreValue) (m : Machine Value) (memory : Stands
   chains : AllByRecursion (λ (c : KeyWrites). IsRisingAfter 0 c.writes × AllByRecursion (IsInRange c.key) c.writes) v.transactions.versions
   chains =
       each-chain (λ key ws. IsRisingAfter 0 ws × AllByRecursion (IsInRange key) ws) (λ key. (tt, tt)) v.transactions.versions memory.versions.ordered (λ key.
-      subst (λ (ws : List Write). IsRisingAfter 0 ws × AllByRecursion (IsInRange key) ws) (sym (w.heap.facts key))
-      (facts-rise w.log.reading m.published m.floors w.log.stands key, facts-in-range w.log.reading m.published m.floors key w.log.stands w.log.laid.heap.anchors_are.each))
+      subst (λ (ws : List Write). IsRisingAfter 0 ws × AllByRecursion (IsInRange key) ws) (sym (w.heap.facts key)) (
+        facts-rise w.log.reading m.published m.floors w.log.stands key,
+        facts-in-range w.log.reading m.published m.floors key w.log.stands w.log.laid.heap.anchors_are.each,
+      ))
 
   in-memory : AreInMemory v.transactions.versions
   in-memory = record {
     ordered = memory.versions.ordered;
     rising = all-rising v.transactions.versions
-        (weaker (λ (c : KeyWrites). IsRisingAfter 0 c.writes × AllByRecursion (IsInRange c.key) c.writes) (λ (c : KeyWrites). IsRisingAfter 0 c.writes) v.transactions.versions (λ c both. both.0) chains);
+        (weaker (λ (c : KeyWrites). IsRisingAfter 0 c.writes
+        × AllByRecursion (IsInRange c.key) c.writes) (λ (c : KeyWrites). IsRisingAfter 0 c.writes) v.transactions.versions (λ c both. both.0) chains);
   }
 
   numbered : AllByRecursion IsNumber numbers
@@ -173,12 +197,15 @@ module _ (header : Header) (v : StoreValue) (m : Machine Value) (memory : Stands
   -- the chain of its anchors may come next
   pub next-chain : IsNextChain w.log.reading (begun v numbers)
   next-chain = record {
-    plan = reclaim_plan-is w.log.reading v.transactions.versions in-memory (λ key. ap (λ (ws : List (TimedWrite Value)). versions ws) (sym (w.heap.facts key))) v.archived (sym w.log.archived);
+    plan = reclaim_plan-is w.log.reading v.transactions.versions in-memory (λ key. ap (λ (ws : List (TimedWrite Value)). versions ws) (sym (w.heap.facts key)))
+        v.archived (sym w.log.archived);
     upto = w.log.archived;
     later = omega (arith, w.log.archived, w.log.reclaimed, later);
     chain = begun-chain v numbers numbered many
         (anchors-in-range v.archived v.transactions.versions low
-        (weaker (λ (c : KeyWrites). IsRisingAfter 0 c.writes × AllByRecursion (IsInRange c.key) c.writes) (λ (c : KeyWrites). AllByRecursion (IsInRange c.key) c.writes) v.transactions.versions (λ c both. both.1) chains));
+        (weaker (λ (c : KeyWrites). IsRisingAfter 0 c.writes
+        × AllByRecursion (IsInRange c.key) c.writes) (λ (c : KeyWrites). AllByRecursion (IsInRange c.key) c.writes) v.transactions.versions
+        (λ c both. both.1) chains));
     in_range = begun-range v numbers numbered many (omega (arith, later)) low (omega (arith, many, fits)) (few-anchors v none fits);
   }
 
@@ -197,11 +224,17 @@ module _ (header : Header) (v : StoreValue) (m : Machine Value) (memory : Stands
       rests = subst (λ (o : Option Job). IsRested header w.log.layout (turn_of o) w.group.rested v.disk.areas.status) may.free w.group.rests;
       at = w.group.at;
     };
-    job = record { product = OfAnchors (begun v numbers); made = (refl, begun-named v numbers numbered many); next = next-chain; at = begun-filling v numbers numbered many v.disk.areas.heap };
+    job = record {
+      product = OfAnchors (begun v numbers);
+      made = (refl, begun-named v numbers numbered many);
+      next = next-chain;
+      at = begun-filling v numbers numbered many v.disk.areas.heap;
+    };
     sound = w.sound;
   }
 
-pub reclaim-start-stands : (tells : Bool) (old new : StoreValue) (answer : Result (Unit {0}) StartFault) (m : Machine Value) → Stands tells old m → StartsReclaim old answer new → Stands tells new m
+pub reclaim-start-stands : (tells : Bool) (old new : StoreValue) (answer : Result (Unit {0}) StartFault) (m : Machine Value) → Stands tells old m
+    → StartsReclaim old answer new → Stands tells new m
 reclaim-start-stands tells old new answer m stands starts = by-refusal (reclaim_refusal old) refl starts
   where
     begins : reclaim_refusal old ≡ None → (answer : Result (Unit {0}) StartFault) → BeginsReclaim old answer new → Stands tells new m
@@ -222,7 +255,8 @@ reclaim-start-stands tells old new answer m stands starts = by-refusal (reclaim_
               };
         } in
         let recent = none-reads-below old.transactions.opened old.archived may.none_below in
-        let job : Reclaims old.archived old.archived false old.transactions.opened old.transactions.pending old.transactions.versions = record { is = refl; recent = recent; made = λ turning. absurd cc } in
+        let job : Reclaims old.archived old.archived false old.transactions.opened old.transactions.pending old.transactions.versions =
+        record { is = refl; recent = recent; made = λ turning. absurd cc } in
         subst (λ (x : StoreValue). Stands tells x m) (sym is.1.new_is) (record {
           memory = begun-memory old.transactions ns m stands.memory;
           machine = stands.machine;
@@ -244,6 +278,7 @@ reclaim-start-stands tells old new answer m stands starts = by-refusal (reclaim_
               };
         })
 
-    by-refusal : (o : Option StartFault) → reclaim_refusal old ≡ o → MatchOption o (BeginsReclaim old answer new) (λ why. (answer ≡ Err why) × (new ≡ old)) → Stands tells new m
+    by-refusal : (o : Option StartFault) → reclaim_refusal old ≡ o → MatchOption o (BeginsReclaim old answer new) (λ why. (answer ≡ Err why) × (new ≡ old))
+        → Stands tells new m
     by-refusal None none is = begins none answer is
     by-refusal (Some why) some is = subst (λ (x : StoreValue). Stands tells x m) (sym is.1) stands

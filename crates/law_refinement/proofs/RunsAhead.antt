@@ -50,7 +50,8 @@ pub record RunReady (v : StoreValue) (m : Machine Value) (run : Run) : Type 0 wh
   pub start : run.start ≡ v.runs_end
   pub later : v.archived < run.upto
   pub by_last : run.upto ≤ last m.published
-  pub adds : (key : Key) → filter (ends_after (m.floors key.relation)) (filter (ends_by v.archived) (versions_of m.published key)) ++ filter (ends_after (m.floors key.relation)) (run_versions key «records»)
+  pub adds : (key : Key) → filter (ends_after (m.floors key.relation)) (filter (ends_by v.archived) (versions_of m.published key))
+      ++ filter (ends_after (m.floors key.relation)) (run_versions key «records»)
       ≡ filter (ends_after (m.floors key.relation)) (filter (ends_by run.upto) (versions_of m.published key))
 
 module _ (header : Header) (v : StoreValue) (m : Machine Value) (w : Works header v m) (run : Run) (writer : InWriting) where
@@ -61,12 +62,14 @@ module _ (header : Header) (v : StoreValue) (m : Machine Value) (w : Works heade
     pub next : IsNextRun w.log.layout w.log.reading m.published stored
     pub at : P stored
 
-  own-run : (stage : JobStage) → v.job ≡ Some (record { work = Archive run writer; stage = stage }) → OwnRun (λ stored. IsAtJob header w.log.layout (Archive run writer) (OfRun stored) stage v.disk.areas)
+  own-run : (stage : JobStage) → v.job ≡ Some (record { work = Archive run writer; stage = stage })
+      → OwnRun (λ stored. IsAtJob header w.log.layout (Archive run writer) (OfRun stored) stage v.disk.areas)
   own-run stage is =
       let own = subst (λ (o : Option Job). HasJob header w.log.layout w.log.reading m.published v.transactions.reserved o v.disk.areas) is w.job in
       by-product own.product own.made own.next own.at
     where
-      by-product : (p : Product) → IsMadeBy v.transactions.reserved (Archive run writer) p → MayBeNext w.log.layout w.log.reading m.published p → IsAtJob header w.log.layout (Archive run writer) p stage v.disk.areas
+      by-product : (p : Product) → IsMadeBy v.transactions.reserved (Archive run writer) p → MayBeNext w.log.layout w.log.reading m.published p
+          → IsAtJob header w.log.layout (Archive run writer) p stage v.disk.areas
           → OwnRun (λ stored. IsAtJob header w.log.layout (Archive run writer) (OfRun stored) stage v.disk.areas)
       by-product (OfRun stored) made next at = record { stored = stored; entry = made; next = next; at = at }
       by-product (OfAnchors a) made next at = absurd made
@@ -85,7 +88,8 @@ module _ (header : Header) (v : StoreValue) (m : Machine Value) (w : Works heade
   pub run-ready : (t : TurnState) → v.job ≡ Some (record { work = Archive run writer; stage = stages.Turning t }) → RunReady v m run
   run-ready t is =
       let own = own-run (stages.Turning t) is in
-      let keeps : KeepsRun v.disk.areas.archive own.stored = (all_of_back (KeepsRun v.disk.areas.archive) w.log.layout.runs (own.stored ∷ []) own.at.at.new_parts.runs).0 in
+      let keeps : KeepsRun v.disk.areas.archive own.stored =
+      (all_of_back (KeepsRun v.disk.areas.archive) w.log.layout.runs (own.stored ∷ []) own.at.at.new_parts.runs).0 in
       subst (λ (r : Run). RunReady v m r) own.entry (ready own.stored own.next keeps)
     where
       ready : (s : StoredRun) → IsNextRun w.log.layout w.log.reading m.published s → KeepsRun v.disk.areas.archive s → RunReady v m s.entry
@@ -94,8 +98,10 @@ module _ (header : Header) (v : StoreValue) (m : Machine Value) (w : Works heade
           let read = read_part s.entry.start (run_bytes s.records) v.disk.areas.archive (w.sound areas.Archive) keeps in
           let marked : archived_upto w.log.reading ≡ v.archived = sym w.log.archived in
           let rules : IsRun v.archived m.floors s.entry.upto s.records = record {
-            each = weaker (IsArchived (archived_upto w.log.reading) (floor_of w.log.reading.log) s.entry.upto) (IsArchived v.archived m.floors s.entry.upto) s.records
-                (λ r is. let floor = w.log.stands.opens.floors_given r.key.relation in let after = is.after_floor in let mark = is.after_mark in record { lasts = is.lasts; after_mark = omega arith; after_floor = omega arith; by_upto = is.by_upto }) next.plan.is_run.each;
+            each = weaker (IsArchived (archived_upto w.log.reading) (floor_of w.log.reading.log) s.entry.upto) (IsArchived v.archived m.floors s.entry.upto)
+                s.records
+                (λ r is. let floor = w.log.stands.opens.floors_given r.key.relation in let after = is.after_floor in let mark = is.after_mark in record
+                { lasts = is.lasts; after_mark = omega arith; after_floor = omega arith; by_upto = is.by_upto }) next.plan.is_run.each;
             in_order = next.plan.is_run.in_order;
           } in
           record {
@@ -112,15 +118,18 @@ module _ (header : Header) (v : StoreValue) (m : Machine Value) (w : Works heade
           }
         where
           adds-to : (s : StoredRun) → IsNextRun w.log.layout w.log.reading m.published s → (key : Key)
-              → filter (ends_after (m.floors key.relation)) (filter (ends_by v.archived) (versions_of m.published key)) ++ filter (ends_after (m.floors key.relation)) (run_versions key s.records)
+              → filter (ends_after (m.floors key.relation)) (filter (ends_by v.archived) (versions_of m.published key))
+              ++ filter (ends_after (m.floors key.relation)) (run_versions key s.records)
               ≡ filter (ends_after (m.floors key.relation)) (filter (ends_by s.entry.upto) (versions_of m.published key))
           adds-to s next key =
               let f = m.floors key.relation in
               let a = archived_upto w.log.reading in
               let up = rises w.log.reading m.published m.floors w.log.stands in
               let plan : run_versions key s.records ≡ filter (ends_by s.entry.upto) (filter (ends_after (max a f)) (heap_versions w.log.reading key)) =
-              next.plan.each key ∙ ap (λ (n : ℕ). filter (ends_by s.entry.upto) (filter (ends_after (max a n)) (heap_versions w.log.reading key))) (w.log.stands.opens.floors_given key.relation) in
+              next.plan.each key ∙ ap (λ (n : ℕ). filter (ends_by s.entry.upto) (filter (ends_after (max a n)) (heap_versions w.log.reading key)))
+              (w.log.stands.opens.floors_given key.relation) in
               let later = next.later in
               (λ i. filter (ends_after f) (filter (ends_by (w.log.archived i)) (versions_of m.published key)) ++ filter (ends_after f) (plan i))
-              ∙ joined f (reclaimed_upto w.log.reading) a s.entry.upto _ (heap_versions w.log.reading key) (versions_of m.published key) w.log.stands.homes.marks (omega arith)
+              ∙ joined f (reclaimed_upto w.log.reading) a s.entry.upto _ (heap_versions w.log.reading key) (versions_of m.published key)
+              w.log.stands.homes.marks (omega arith)
               (versions-apart 0 (writes_of m.published key) (writes_of-rising 0 m.published key up)) (w.log.stands.homes.in_heap key)

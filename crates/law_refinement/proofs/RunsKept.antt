@@ -1,5 +1,6 @@
 -- The runs of a store go on standing in the archive's bytes, whatever the store does.
-use Rattle.std.proofs.Common.{◌≡◌, ℕ, zero, suc, ◌<◌, ◌≤◌, ◌^◌, List, [], ◌∷◌, ◌++◌, length, filter, Result, Ok, Err, refl, arith, ap, sym, subst, ◌∙◌, inl, ⊎_elim}
+use Rattle.std.proofs.Common.{◌≡◌, ℕ, zero, suc, ◌<◌, ◌≤◌, ◌^◌, List, [], ◌∷◌, ◌++◌, length, filter, Result, Ok, Err, refl, arith, ap, sym, subst, ◌∙◌, inl}
+use Rattle.std.proofs.Common.{⊎_elim}
 use Rattle.std.proofs.lemmas.Bool.Decides.{nat_tests}
 use Rattle.std.proofs.lemmas.List.{append-nil}
 use Rattle.disk.specs.Areas.{Areas}
@@ -15,7 +16,8 @@ use Rattle.history.specs.Machine.{Machine, IsMachine}
 use Rattle.history.specs.Steps.{Event, Run}
 use Rattle.history.proofs.Appending.{ends_by-append}
 use Rattle.history.proofs.Filters.{filter-filter}
-use Rattle.history.proofs.Histories.{rising-from_following, writes_of-append, writes_of-rising, last_after-append, last_after-range, may_follow-front, may_follow-behind}
+use Rattle.history.proofs.Histories.{rising-from_following, writes_of-append, writes_of-rising, last_after-append, last_after-range, may_follow-front}
+use Rattle.history.proofs.Histories.{may_follow-behind}
 use Rattle.history.proofs.Machines.{run-floors}
 use Rattle.history.proofs.Orders.{is_lt}
 use Rattle.history.proofs.Runs.{last-later, run-shows}
@@ -53,13 +55,19 @@ up_to-in_part end at n old new past made =
     made
 
 -- what is done to another area leaves this one as it is
-pub heap-written : (at : ℕ) (bytes : List ℕ) (result : Result (Unit {0}) DeviceFault) (old new : Areas) → Writes Heap at bytes result old new → new.archive.bytes ≡ old.archive.bytes
+pub heap-written : (at : ℕ) (bytes : List ℕ) (result : Result (Unit {0}) DeviceFault) (old new : Areas) → Writes Heap at bytes result old new
+    → new.archive.bytes ≡ old.archive.bytes
 heap-written at bytes result old new writes =
-    ⊎_elim (λ (same : new ≡ old). ap (λ (a : Areas). a.archive.bytes) same) (λ (torn : Tears Heap at (length bytes) old new). ap (λ (a : Areas). a.archive.bytes) torn.areas) writes.in_part
+    ⊎_elim (λ (same : new
+    ≡ old). ap (λ (a : Areas). a.archive.bytes) same) (λ (torn : Tears Heap at (length bytes) old new). ap (λ (a : Areas). a.archive.bytes) torn.areas)
+    writes.in_part
 
-pub status-written : (at : ℕ) (bytes : List ℕ) (result : Result (Unit {0}) DeviceFault) (old new : Areas) → Writes Status at bytes result old new → new.archive.bytes ≡ old.archive.bytes
+pub status-written : (at : ℕ) (bytes : List ℕ) (result : Result (Unit {0}) DeviceFault) (old new : Areas) → Writes Status at bytes result old new
+    → new.archive.bytes ≡ old.archive.bytes
 status-written at bytes result old new writes =
-    ⊎_elim (λ (same : new ≡ old). ap (λ (a : Areas). a.archive.bytes) same) (λ (torn : Tears Status at (length bytes) old new). ap (λ (a : Areas). a.archive.bytes) torn.areas) writes.in_part
+    ⊎_elim (λ (same : new
+    ≡ old). ap (λ (a : Areas). a.archive.bytes) same) (λ (torn : Tears Status at (length bytes) old new). ap (λ (a : Areas). a.archive.bytes) torn.areas)
+    writes.in_part
 
 -- a sync changes no byte
 pub status-synced : (result : Result (Unit {0}) DeviceFault) (old new : Areas) → Syncs Status result old new → new.archive.bytes ≡ old.archive.bytes
@@ -74,7 +82,8 @@ pub archive-synced : (result : Result (Unit {0}) DeviceFault) (old new : Areas) 
 archive-synced (Ok done) old new syncs = ap (λ (a : Areas). a.archive.bytes) syncs.synced
 archive-synced (Err why) old new syncs = ap (λ (a : Areas). a.archive.bytes) syncs.same
 
-pub slot-called : (number : ℕ) (body : List ℕ) (stage : SlotStage) (result : Result (Unit {0}) DeviceFault) (old new : Areas) → IsSlotCall number body stage result old new → new.archive.bytes ≡ old.archive.bytes
+pub slot-called : (number : ℕ) (body : List ℕ) (stage : SlotStage) (result : Result (Unit {0}) DeviceFault) (old new : Areas)
+    → IsSlotCall number body stage result old new → new.archive.bytes ≡ old.archive.bytes
 slot-called number body slots.Begun result old new call = status-written _ body result old new call
 slot-called number body slots.BodyWritten result old new call = status-synced result old new call
 slot-called number body slots.BodySynced result old new call = status-written _ _ result old new call
@@ -83,19 +92,29 @@ slot-called number body slots.Opened result old new call = absurd call
 
 -- ---- runs in them
 
-pub run-kept : (end : ℕ) (old new : List ℕ) (run : RunEntry) (records : List ArchiveRecord) → KeepsUpTo end old new → run_end run ≤ end → HoldsRun old run records → HoldsRun new run records
+pub run-kept : (end : ℕ) (old new : List ℕ) (run : RunEntry) (records : List ArchiveRecord) → KeepsUpTo end old new → run_end run ≤ end
+    → HoldsRun old run records → HoldsRun new run records
 run-kept end old new run records keeps low holds =
     let long = holds.length_is in
-    record { held = keeps run.slot.start (run_bytes records) (omega arith) holds.held; length_is = holds.length_is; records_are = holds.records_are; each = holds.each; rules = holds.rules }
+    record {
+      held = keeps run.slot.start (run_bytes records) (omega arith) holds.held;
+      length_is = holds.length_is;
+      records_are = holds.records_are;
+      each = holds.each;
+      rules = holds.rules;
+    }
 
-pub runs-held : (end : ℕ) (old new : List ℕ) (runs : List RunEntry) (lists : List (List ArchiveRecord)) → KeepsUpTo end old new → RunsEndBy end runs → HoldRuns old runs lists → HoldRuns new runs lists
+pub runs-held : (end : ℕ) (old new : List ℕ) (runs : List RunEntry) (lists : List (List ArchiveRecord)) → KeepsUpTo end old new → RunsEndBy end runs
+    → HoldRuns old runs lists → HoldRuns new runs lists
 runs-held end old new [] [] keeps ends held = tt
 runs-held end old new [] (l ∷ ls) keeps ends held = absurd held
 runs-held end old new (r ∷ rs) [] keeps ends held = absurd held
-runs-held end old new (r ∷ rs) (l ∷ ls) keeps ends held = (run-kept end old new r l keeps (ends 0 r refl) held.0, runs-held end old new rs ls keeps (λ n run at. ends (suc n) run at) held.1)
+runs-held end old new (r ∷ rs) (l ∷ ls) keeps ends held =
+    (run-kept end old new r l keeps (ends 0 r refl) held.0, runs-held end old new rs ls keeps (λ n run at. ends (suc n) run at) held.1)
 
 -- one more
-pub runs-more : (area : List ℕ) (runs : List RunEntry) (lists : List (List ArchiveRecord)) (run : RunEntry) (records : List ArchiveRecord) → HoldRuns area runs lists → HoldsRun area run records → HoldRuns area (runs ++ run ∷ []) (lists ++ records ∷ [])
+pub runs-more : (area : List ℕ) (runs : List RunEntry) (lists : List (List ArchiveRecord)) (run : RunEntry) (records : List ArchiveRecord)
+    → HoldRuns area runs lists → HoldsRun area run records → HoldRuns area (runs ++ run ∷ []) (lists ++ records ∷ [])
 runs-more area [] [] run records held one = (one, tt)
 runs-more area [] (l ∷ ls) run records held one = absurd held
 runs-more area (r ∷ rs) [] run records held one = absurd held
@@ -122,10 +141,12 @@ right-kept end old new kept keeps near right = record {
 -- ---- what they have of the history
 
 after-higher : (low high : ℕ) (vs : List (Version Value)) → low ≤ high → filter (ends_after high) (filter (ends_after low) vs) ≡ filter (ends_after high) vs
-after-higher low high vs le = filter-filter (ends_after high) (ends_after low) vs (λ v is. let past : high < v.to = grind (arith, nat_tests) in is_lt (omega arith))
+after-higher low high vs le =
+    filter-filter (ends_after high) (ends_after low) vs (λ v is. let past : high < v.to = grind (arith, nat_tests) in is_lt (omega arith))
 
 -- it is what they have of a later one with higher floors
-pub archived-later : (h more : History Value) (floors raised : ℕ → ℕ) (mark : ℕ) (lists : List (List ArchiveRecord)) → HasRisingTimes 0 h → HasRisingTimes (last h) more → ((relation : ℕ) → floors relation ≤ raised relation) → mark ≤ last h
+pub archived-later : (h more : History Value) (floors raised : ℕ → ℕ) (mark : ℕ) (lists : List (List ArchiveRecord)) → HasRisingTimes 0 h
+    → HasRisingTimes (last h) more → ((relation : ℕ) → floors relation ≤ raised relation) → mark ≤ last h
     → AreArchived h floors mark lists → AreArchived (h ++ more) raised mark lists
 archived-later h more floors raised mark lists up later higher by_last are = λ key.
     let low = floors key.relation in
@@ -134,7 +155,8 @@ archived-later h more floors raised mark lists up later higher by_last are = λ 
     let range : last h < 2 ^ 63 = last_after-range 0 h (omega arith) up in
     let same : filter (ends_by mark) (versions_of (h ++ more) key) ≡ filter (ends_by mark) (versions_of h key) =
     ap (λ (l : List _). filter (ends_by mark) (versions l)) (writes_of-append h more key)
-    ∙ ends_by-append 0 mark (writes_of h key) (writes_of more key) (omega arith) (writes_of-rising 0 h key up) (rising_earlier mark (last h) (writes_of more key) by_last (writes_of-rising (last h) more key later)) in
+    ∙ ends_by-append 0 mark (writes_of h key) (writes_of more key) (omega arith) (writes_of-rising 0 h key up)
+    (rising_earlier mark (last h) (writes_of more key) by_last (writes_of-rising (last h) more key later)) in
     sym (after-higher low high vs (higher key.relation))
     ∙ ap (filter (ends_after high)) (are key)
     ∙ after-higher low high (filter (ends_by mark) (versions_of h key)) (higher key.relation)
@@ -152,12 +174,18 @@ pub record IsLater (old new : Machine Value) : Type 0 where
 pub machine-rises : (m : Machine Value) → IsMachine IsValue m → HasRisingTimes 0 m.published
 machine-rises m machine = rising-from_following IsValue [] m.published (may_follow-front IsValue [] m.published m.queue machine.history)
 
-pub run-later : (old new : Machine Value) (events : List (Event Value)) → IsMachine IsValue old → IsMachine IsValue new → Run IsValue old events new → IsLater old new
+pub run-later : (old new : Machine Value) (events : List (Event Value)) → IsMachine IsValue old → IsMachine IsValue new → Run IsValue old events new
+    → IsLater old new
 run-later old new events was machine run =
     let shows = run-shows IsValue old new events run in
     let front = may_follow-front IsValue [] new.published new.queue machine.history in
     let behind = may_follow-behind IsValue [] old.published shows.0 (subst (λ (h : History Value). MayFollow h) shows.1 front) in
-    record { more = shows.0; published = shows.1; rising = rising-from_following IsValue old.published shows.0 behind; floors = λ relation. run-floors IsValue old new events relation was run }
+    record {
+      more = shows.0;
+      published = shows.1;
+      rising = rising-from_following IsValue old.published shows.0 behind;
+      floors = λ relation. run-floors IsValue old new events relation was run;
+    }
   where
     MayFollow : History Value → Type 0
     MayFollow h = Rattle.history.specs.Histories.MayAllFollow IsValue [] h

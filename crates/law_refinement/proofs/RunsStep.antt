@@ -1,5 +1,6 @@
 -- The runs of a store, and what its views need of them, are kept by each call.
-use Rattle.std.proofs.Common.{◌≡◌, ℕ, zero, suc, ◌+◌, ◌≤◌, ◌==◌, ◌&&◌, Bool, true, false, IsTrue, List, [], ◌∷◌, ◌++◌, filter, Option, None, Some, MatchOption, slice_get, refl, arith, ap, sym, subst, ◌∙◌}
+use Rattle.std.proofs.Common.{◌≡◌, ℕ, zero, suc, ◌+◌, ◌≤◌, ◌==◌, ◌&&◌, Bool, true, false, IsTrue, List, [], ◌∷◌, ◌++◌, filter, Option, None, Some, MatchOption}
+use Rattle.std.proofs.Common.{slice_get, refl, arith, ap, sym, subst, ◌∙◌}
 use Rattle.std.specs.Prelude.{Contains}
 use Rattle.std.proofs.lemmas.Bool.Decides.{nat_tests}
 use Rattle.std.proofs.lemmas.List.{append-nil}
@@ -43,7 +44,8 @@ pub record KeepsArchive (old new : StoreValue) : Type 0 where
   pub runs_end : new.runs_end ≡ old.runs_end
   pub mark : new.transactions.mark ≡ old.transactions.mark
 
-pub runs-move : (old new : StoreValue) (m after : Machine Value) → HasRisingTimes 0 m.published → IsLater m after → KeepsArchive old new → new.transactions.reclaimed ≤ old.archived
+pub runs-move : (old new : StoreValue) (m after : Machine Value) → HasRisingTimes 0 m.published → IsLater m after → KeepsArchive old new
+    → new.transactions.reclaimed ≤ old.archived
     → KeepsUpTo old.runs_end (archive_of old.disk) (archive_of new.disk) → RunsStand old m → RunsStand new after
 runs-move old new m after up later keeps marks bytes stand =
     let archived = keeps.archived in
@@ -54,7 +56,8 @@ runs-move old new m after up later keeps marks bytes stand =
     let by_last = stand.by_last in
     record {
       lists = stand.lists;
-      held = subst (λ (rs : List RunEntry). HoldRuns (archive_of new.disk) rs stand.lists) (sym runs) (runs-held old.runs_end (archive_of old.disk) (archive_of new.disk) old.archive.runs stand.lists bytes stand.ends stand.held);
+      held = subst (λ (rs : List RunEntry). HoldRuns (archive_of new.disk) rs stand.lists) (sym runs)
+          (runs-held old.runs_end (archive_of old.disk) (archive_of new.disk) old.archive.runs stand.lists bytes stand.ends stand.held);
       ends = λ n run at. subst (λ (e : ℕ). run_end run ≤ e) (sym end) (stand.ends n run (ap (λ (rs : List RunEntry). slice_get rs n) (sym runs) ∙ at));
       mark = ap mark_of runs ∙ stand.mark ∙ sym archived;
       marks = omega arith;
@@ -62,11 +65,13 @@ runs-move old new m after up later keeps marks bytes stand =
       archived = subst (λ (a : ℕ). AreArchived after.published after.floors a stand.lists) (sym archived)
           (subst (λ (h : History Value). AreArchived h after.floors old.archived stand.lists) (sym later.published)
           (archived-later m.published later.more m.floors after.floors old.archived stand.lists up later.rising later.floors stand.by_last stand.archived));
-      right = subst (λ (parts : List (ℕ × List ℕ)). IsRight parts (archive_of new.disk)) (sym kept) (right-kept old.runs_end (archive_of old.disk) (archive_of new.disk) old.archive.kept bytes stand.near stand.right);
+      right = subst (λ (parts : List (ℕ × List ℕ)). IsRight parts (archive_of new.disk)) (sym kept)
+          (right-kept old.runs_end (archive_of old.disk) (archive_of new.disk) old.archive.kept bytes stand.near stand.right);
       near = subst (λ (e : ℕ). EndBy e new.archive.kept) (sym end) (subst (λ (parts : List (ℕ × List ℕ)). EndBy old.runs_end parts) (sym kept) stand.near);
     }
 
-pub goes-same : (tells : Bool) (old new : StoreValue) → KeepsArchive old new → (IsTrue tells → KeepsUpTo old.runs_end (archive_of old.disk) (archive_of new.disk)) → GoesOn tells old new
+pub goes-same : (tells : Bool) (old new : StoreValue) → KeepsArchive old new
+    → (IsTrue tells → KeepsUpTo old.runs_end (archive_of old.disk) (archive_of new.disk)) → GoesOn tells old new
 goes-same tells old new keeps bytes = record {
   mark = keeps.mark;
   more = [];
@@ -76,21 +81,31 @@ goes-same tells old new keeps bytes = record {
 }
 
 -- the place of a run that is made
-pub place-move : (work : JobWork) (old new : StoreValue) (m after : Machine Value) → ((relation : ℕ) → m.floors relation ≤ after.floors relation) → new.archive.runs ≡ old.archive.runs → new.archive.next ≡ old.archive.next → new.archived ≡ old.archived → HasPlace work old m → HasPlace work new after
-place-move (Archive run writer) old new m after higher runs next archived has =
-    (has.0, has.1, has.2 ∙ sym archived, (λ relation. let low = has.3 relation in let high = higher relation in omega arith), next ∙ has.4 ∙ ap (λ (rs : List RunEntry). rs ++ has.0 ∷ []) (sym runs))
+pub place-move : (work : JobWork) (old new : StoreValue) (m after : Machine Value) → ((relation : ℕ) → m.floors relation ≤ after.floors relation)
+    → new.archive.runs ≡ old.archive.runs → new.archive.next ≡ old.archive.next → new.archived ≡ old.archived → HasPlace work old m → HasPlace work new after
+place-move (Archive run writer) old new m after higher runs next archived has = (
+  has.0,
+  has.1,
+  has.2 ∙ sym archived,
+  (λ relation. let low = has.3 relation in let high = higher relation in omega arith),
+  next ∙ has.4
+      ∙ ap (λ (rs : List RunEntry). rs ++ has.0 ∷ []) (sym runs),
+)
 place-move (Reclaim anchors source written) old new m after higher runs next archived has = let low : anchors.upto ≤ old.archived = has in omega arith
 place-move (Floor scope floor floors) old new m after higher runs next archived has = tt
 place-move (Grow growth) old new m after higher runs next archived has = tt
 
-pub job-place-move : (o : Option Job) (old new : StoreValue) (m after : Machine Value) → ((relation : ℕ) → m.floors relation ≤ after.floors relation) → new.archive.runs ≡ old.archive.runs → new.archive.next ≡ old.archive.next → new.archived ≡ old.archived
+pub job-place-move : (o : Option Job) (old new : StoreValue) (m after : Machine Value) → ((relation : ℕ) → m.floors relation ≤ after.floors relation)
+    → new.archive.runs ≡ old.archive.runs → new.archive.next ≡ old.archive.next → new.archived ≡ old.archived
     → MatchOption o (Unit {0}) (λ job. HasPlace job.work old m) → MatchOption o (Unit {0}) (λ job. HasPlace job.work new after)
 job-place-move None old new m after higher runs next archived has = tt
 job-place-move (Some job) old new m after higher runs next archived has = place-move job.work old new m after higher runs next archived has
 
-pub place-same : (old new : StoreValue) (m after : Machine Value) → ((relation : ℕ) → m.floors relation ≤ after.floors relation) → new.job ≡ old.job → new.archive.runs ≡ old.archive.runs → new.archive.next ≡ old.archive.next → new.archived ≡ old.archived → JobHasPlace old m → JobHasPlace new after
+pub place-same : (old new : StoreValue) (m after : Machine Value) → ((relation : ℕ) → m.floors relation ≤ after.floors relation) → new.job ≡ old.job
+    → new.archive.runs ≡ old.archive.runs → new.archive.next ≡ old.archive.next → new.archived ≡ old.archived → JobHasPlace old m → JobHasPlace new after
 place-same old new m after higher job runs next archived has =
-    subst (λ (o : Option Job). MatchOption o (Unit {0}) (λ j. HasPlace j.work new after)) (sym job) (job-place-move old.job old new m after higher runs next archived has)
+    subst (λ (o : Option Job). MatchOption o (Unit {0}) (λ j. HasPlace j.work new after)) (sym job)
+    (job-place-move old.job old new m after higher runs next archived has)
 
 -- ---- where the run that was made is one of the log's
 
@@ -98,9 +113,11 @@ pub mark-more : (mark : ℕ) (runs : List RunEntry) (run : RunEntry) → mark_af
 mark-more mark [] run = refl
 mark-more mark (r ∷ rs) run = mark-more r.slot.upto rs run
 
-pub runs-done : (old new : StoreValue) (m after : Machine Value) (run : Run) (entry : RunEntry) → HasRisingTimes 0 m.published → IsLater m after → RunsStand old m → RunReady old m run
+pub runs-done : (old new : StoreValue) (m after : Machine Value) (run : Run) (entry : RunEntry) → HasRisingTimes 0 m.published → IsLater m after
+    → RunsStand old m → RunReady old m run
     → entry.slot ≡ run → entry.mark ≡ old.archived → ((relation : ℕ) → floor_at entry.floors relation ≤ m.floors relation)
-    → new.archive.runs ≡ old.archive.runs ++ entry ∷ [] → new.archive.kept ≡ old.archive.kept → new.archived ≡ run.upto → new.runs_end ≡ run.start + run.len → new.transactions.reclaimed ≡ old.transactions.reclaimed
+    → new.archive.runs ≡ old.archive.runs ++ entry ∷ [] → new.archive.kept ≡ old.archive.kept → new.archived ≡ run.upto → new.runs_end ≡ run.start + run.len
+    → new.transactions.reclaimed ≡ old.transactions.reclaimed
     → archive_of new.disk ≡ archive_of old.disk → RunsStand new after
 runs-done old new m after run entry up later stand ready slot mark floor runs kept archived end reclaimed same =
     let past = last-rises m after later in
@@ -122,9 +139,14 @@ runs-done old new m after run entry up later stand ready slot mark floor runs ke
       by_last = omega arith;
       archived = subst (λ (a : ℕ). AreArchived after.published after.floors a (stand.lists ++ ready.records ∷ [])) (sym archived)
           (subst (λ (h : History Value). AreArchived h after.floors run.upto (stand.lists ++ ready.records ∷ [])) (sym later.published)
-          (archived-later m.published later.more m.floors after.floors run.upto (stand.lists ++ ready.records ∷ []) up later.rising later.floors ready.by_last (λ key. both key)));
-      right = subst (λ (area : List ℕ). IsRight new.archive.kept area) (sym same) (subst (λ (parts : List (ℕ × List ℕ)). IsRight parts (archive_of old.disk)) (sym kept) stand.right);
-      near = record { each = λ from bytes there. let low = stand.near.each from bytes (subst (λ (parts : List (ℕ × List ℕ)). Contains parts (from, bytes)) kept there) in omega arith };
+          (archived-later m.published later.more m.floors after.floors run.upto (stand.lists ++ ready.records
+          ∷ []) up later.rising later.floors ready.by_last (λ key. both key)));
+      right = subst (λ (area : List ℕ). IsRight new.archive.kept area) (sym same)
+          (subst (λ (parts : List (ℕ × List ℕ)). IsRight parts (archive_of old.disk)) (sym kept) stand.right);
+      near = record {
+        each = λ from bytes there. let low = stand.near.each from bytes
+            (subst (λ (parts : List (ℕ × List ℕ)). Contains parts (from, bytes)) kept there) in omega arith;
+      };
     }
   where
     one : HoldsRun (archive_of old.disk) entry ready.records
@@ -146,10 +168,12 @@ runs-done old new m after run entry up later stand ready slot mark floor runs ke
       };
     }
 
-    both : (key : Key) → filter (ends_after (m.floors key.relation)) (versions_in key (stand.lists ++ ready.records ∷ [])) ≡ filter (ends_after (m.floors key.relation)) (filter (ends_by run.upto) (versions_of m.published key))
+    both : (key : Key) → filter (ends_after (m.floors key.relation)) (versions_in key (stand.lists ++ ready.records ∷ []))
+        ≡ filter (ends_after (m.floors key.relation)) (filter (ends_by run.upto) (versions_of m.published key))
     both key =
         let f = m.floors key.relation in
-        ap (filter (ends_after f)) (flat_map-append (run_versions key) stand.lists (ready.records ∷ []) ∙ ap (λ (l : List (Version Value)). versions_in key stand.lists ++ l) (append-nil (run_versions key ready.records)))
+        ap (filter (ends_after f)) (flat_map-append (run_versions key) stand.lists (ready.records ∷ [])
+        ∙ ap (λ (l : List (Version Value)). versions_in key stand.lists ++ l) (append-nil (run_versions key ready.records)))
         ∙ filter-append (ends_after f) (versions_in key stand.lists) (run_versions key ready.records)
         ∙ ap (λ (l : List (Version Value)). l ++ filter (ends_after f) (run_versions key ready.records)) (stand.archived key)
         ∙ ready.adds key
@@ -160,7 +184,8 @@ equal : (n : ℕ) → (n == n) ≡ true
 equal n = grind (arith, nat_tests)
 
 same-self : (run : RunEntry) → same_run run run ≡ true
-same-self run = rw (equal run.slot.upto) (rw (equal run.slot.start) (rw (equal run.slot.len) (rw (equal run.slot.records) (rw (equal run.mark) (same-floors run.floors)))))
+same-self run =
+    rw (equal run.slot.upto) (rw (equal run.slot.start) (rw (equal run.slot.len) (rw (equal run.slot.records) (rw (equal run.mark) (same-floors run.floors)))))
 
 pub front-self : (runs : List RunEntry) → is_front runs runs ≡ true
 front-self [] = refl

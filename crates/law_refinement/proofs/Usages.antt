@@ -17,12 +17,17 @@ kept-taken us (m ∷ ms) n least kept = kept-taken (with_usage us m Out) ms n le
 kept-stays : (us : List Usage) (ns : List ℕ) (n : ℕ) → AreOut us ns → IsKept us n → IsKept (with_usages us ns Kept) n
 kept-stays us [] n out kept = kept
 kept-stays us (m ∷ ms) n out kept =
-    kept-stays (with_usage us m Kept) ms n (first_changed us ms m Kept out) (other_stays us m n Kept Kept (out.each.0).low (are_apart us Kept Out n m (λ same. cc) kept out.each.0) kept)
+    kept-stays (with_usage us m Kept) ms n (first_changed us ms m Kept out)
+    (other_stays us m n Kept Kept (out.each.0).low (are_apart us Kept Out n m (λ same. cc) kept out.each.0) kept)
 
 published-kept : (us : List Usage) (ns : List ℕ) → AreOut us ns → AllByRecursion (IsKept (with_usages us ns Kept)) ns
 published-kept us [] out = tt
 published-kept us (m ∷ ms) out =
-    let next = first_changed us ms m Kept out in (kept-stays (with_usage us m Kept) ms m next (now_has us m Kept Out (λ same. cc) out.each.0), published-kept (with_usage us m Kept) ms next)
+    let next =
+    first_changed us ms m Kept out in (
+      kept-stays (with_usage us m Kept) ms m next (now_has us m Kept Out (λ same. cc) out.each.0),
+      published-kept (with_usage us m Kept) ms next,
+    )
 
 abbrev pub AllKept : List Usage → List Extent → Type 0
 AllKept us es = AllByRecursion (λ (e : Extent). IsKept us e.number) es
@@ -44,6 +49,8 @@ both us [] ys a b = b
 both us (x ∷ xs) ys a b = (a.0, both us xs ys a.1 b)
 
 -- the group's extents are kept, beside those that were
-pub all-published : (us : List Usage) (ns : List ℕ) (xs ys : List Extent) → AreOut us ns → map (λ (e : Extent). e.number) ys ≡ ns → AllKept us xs → AllKept (with_usages us ns Kept) (xs ++ ys)
+pub all-published : (us : List Usage) (ns : List ℕ) (xs ys : List Extent) → AreOut us ns → map (λ (e : Extent). e.number) ys ≡ ns → AllKept us xs
+    → AllKept (with_usages us ns Kept) (xs ++ ys)
 all-published us ns xs ys out named kept =
-    both (with_usages us ns Kept) xs ys (all-stay us ns xs out kept) (by-numbers (with_usages us ns Kept) ys (subst (AllByRecursion (IsKept (with_usages us ns Kept))) (sym named) (published-kept us ns out)))
+    both (with_usages us ns Kept) xs ys (all-stay us ns xs out kept)
+    (by-numbers (with_usages us ns Kept) ys (subst (AllByRecursion (IsKept (with_usages us ns Kept))) (sym named) (published-kept us ns out)))

@@ -1,5 +1,6 @@
 -- A view of what is published, and what a query of it leaves.
-use Rattle.std.proofs.Common.{◌≡◌, ℕ, ◌≤◌, ◌==◌, ◌&&◌, Bool, true, false, IsTrue, List, [], filter, Option, Result, Err, Vec, MatchBool, refl, arith, ap, sym, subst, ◌∙◌, inl, inr, ⊎_elim}
+use Rattle.std.proofs.Common.{◌≡◌, ℕ, ◌≤◌, ◌==◌, ◌&&◌, Bool, true, false, IsTrue, List, [], filter, Option, Result, Err, Vec, MatchBool, refl, arith, ap, sym}
+use Rattle.std.proofs.Common.{subst, ◌∙◌, inl, inr, ⊎_elim}
 use Rattle.std.specs.declared.alloc.Global.{Global}
 use Rattle.std.proofs.lemmas.Bool.Decides.{nat_tests}
 use Rattle.history.specs.declared.key.Key.{Key}
@@ -29,7 +30,8 @@ use Rattle.law_refinement.proofs.RunsStep.{front-self, front-more}
 
 -- ---- a view that is taken
 
-pub view-of-history : (tells : Bool) (v : StoreValue) (view : ViewValue) (m : Machine Value) → Stands tells v m → stores.IsViewOf v view → ViewStands view m.published m.floors × ViewReads tells v view m.published m.floors
+pub view-of-history : (tells : Bool) (v : StoreValue) (view : ViewValue) (m : Machine Value) → Stands tells v m → stores.IsViewOf v view
+    → ViewStands view m.published m.floors × ViewReads tells v view m.published m.floors
 view-of-history tells v view m stands is = subst (λ (w : ViewValue). ViewStands w m.published m.floors × ViewReads tells v w m.published m.floors) (sym is) (
   record {
     last_is = last-is v.transactions m stands.memory;
@@ -56,7 +58,8 @@ view-of-history tells v view m stands is = subst (λ (w : ViewValue). ViewStands
 
 -- ---- it goes on
 
-pub view-goes-on : (tells : Bool) (old new : StoreValue) (view : ViewValue) (h : History Value) (floors : ℕ → ℕ) → ViewReads tells old view h floors → GoesOn tells old new → ViewReads tells new view h floors
+pub view-goes-on : (tells : Bool) (old new : StoreValue) (view : ViewValue) (h : History Value) (floors : ℕ → ℕ) → ViewReads tells old view h floors
+    → GoesOn tells old new → ViewReads tells new view h floors
 view-goes-on tells old new view h floors reads goes = record {
   mark = reads.mark ∙ sym goes.mark;
   front = ap (is_front view.runs) goes.runs ∙ front-more view.runs old.archive.runs goes.more reads.front;
@@ -72,10 +75,12 @@ view-goes-on tells old new view h floors reads goes = record {
 
 -- ---- it is answered
 
-floor-moved : (a b : ℕ) (xs ys : List (Version Value)) → a ≡ b → filter (ends_after b) xs ≡ filter (ends_after b) ys → filter (ends_after a) xs ≡ filter (ends_after a) ys
+floor-moved : (a b : ℕ) (xs ys : List (Version Value)) → a ≡ b → filter (ends_after b) xs ≡ filter (ends_after b) ys → filter (ends_after a) xs
+    ≡ filter (ends_after a) ys
 floor-moved a b xs ys is same = subst (λ (f : ℕ). filter (ends_after f) xs ≡ filter (ends_after f) ys) (sym is) same
 
-reads-history : (tells : Bool) (v : StoreValue) (m : Machine Value) (view : ViewValue) (h : History Value) (floors : ℕ → ℕ) → Stands tells v m → ViewStands view h floors → ViewReads tells v view h floors → (told : IsTrue tells) → ReadsHistory tells v.archive.kept v.disk view h
+reads-history : (tells : Bool) (v : StoreValue) (m : Machine Value) (view : ViewValue) (h : History Value) (floors : ℕ → ℕ) → Stands tells v m
+    → ViewStands view h floors → ViewReads tells v view h floors → (told : IsTrue tells) → ReadsHistory tells v.archive.kept v.disk view h
 reads-history tells v m view h floors stands of reads told =
     let r = reads.runs told in
     record {
@@ -94,8 +99,11 @@ reads-history tells v m view h floors stands of reads told =
       };
     }
 
-knows-it : (tells : Bool) (v : StoreValue) (m : Machine Value) (view : ViewValue) (h : History Value) (floors : ℕ → ℕ) (from : ℕ) → Stands tells v m → ViewStands view h floors → ViewReads tells v view h floors → Knows tells v view h from (IsSure tells view.reclaimed from)
-knows-it tells v m view h floors from stands of reads = λ sure. ⊎_elim (λ (told : IsTrue tells). inl (reads-history tells v m view h floors stands of reads told)) (λ (recent : view.reclaimed ≤ from). inr recent) sure
+knows-it : (tells : Bool) (v : StoreValue) (m : Machine Value) (view : ViewValue) (h : History Value) (floors : ℕ → ℕ) (from : ℕ) → Stands tells v m
+    → ViewStands view h floors → ViewReads tells v view h floors → Knows tells v view h from (IsSure tells view.reclaimed from)
+knows-it tells v m view h floors from stands of reads =
+    λ sure. ⊎_elim (λ (told : IsTrue tells). inl (reads-history tells v m view h floors stands of reads told)) (λ (recent : view.reclaimed ≤ from). inr recent)
+    sure
 
 own-is : (tells : Bool) (v : StoreValue) (view : ViewValue) (h : History Value) (floors : ℕ → ℕ) → ViewReads tells v view h floors → is_own v view ≡ true
 own-is tells v view h floors reads =
@@ -106,60 +114,83 @@ own-found : (P R : Type 0) (b : Bool) → b ≡ true → MatchBool b P R → P
 own-found P R true mine says = says
 own-found P R false mine says = absurd cc
 
-pub at-answered : (tells : Bool) (v new : StoreValue) (m : Machine Value) (view : ViewValue) (h : History Value) (floors : ℕ → ℕ) (key : Key) (time : ℕ) (answer : Result (Option Value) QueryFault)
-    → Stands tells v m → ViewStands view h floors → ViewReads tells v view h floors → stores.AnswersAtView tells v view key time answer new → SaysAt (IsSure tells view.reclaimed time) (answers.at_answer h floors key time) answer
+pub at-answered : (tells : Bool) (v new : StoreValue) (m : Machine Value) (view : ViewValue) (h : History Value) (floors : ℕ
+    → ℕ) (key : Key) (time : ℕ) (answer : Result (Option Value) QueryFault)
+    → Stands tells v m → ViewStands view h floors → ViewReads tells v view h floors → stores.AnswersAtView tells v view key time answer new
+    → SaysAt (IsSure tells view.reclaimed time) (answers.at_answer h floors key time) answer
 at-answered tells v new m view h floors key time answer stands of reads says =
-    at-found (IsSure tells view.reclaimed time) tells v new view h floors key time answer of (knows-it tells v m view h floors _ stands of reads) (own-found _ _ (is_own v view) (own-is tells v view h floors reads) says)
+    at-found (IsSure tells view.reclaimed time) tells v new view h floors key time answer of (knows-it tells v m view h floors _ stands of reads)
+    (own-found _ _ (is_own v view) (own-is tells v view h floors reads) says)
 
-pub scan_at-answered : (tells : Bool) (v new : StoreValue) (m : Machine Value) (view : ViewValue) (h : History Value) (floors : ℕ → ℕ) (relation time : ℕ) (answer : Result (Vec (ℕ × Value) Global) QueryFault)
-    → Stands tells v m → ViewStands view h floors → ViewReads tells v view h floors → stores.AnswersScanAt tells v view relation time answer new → SaysScanAt (IsSure tells view.reclaimed time) h floors relation time answer
+pub scan_at-answered : (tells : Bool) (v new : StoreValue) (m : Machine Value) (view : ViewValue) (h : History Value) (floors : ℕ
+    → ℕ) (relation time : ℕ) (answer : Result (Vec (ℕ × Value) Global) QueryFault)
+    → Stands tells v m → ViewStands view h floors → ViewReads tells v view h floors → stores.AnswersScanAt tells v view relation time answer new
+    → SaysScanAt (IsSure tells view.reclaimed time) h floors relation time answer
 scan_at-answered tells v new m view h floors relation time answer stands of reads says =
-    scan_at-found (IsSure tells view.reclaimed time) tells v new view h floors relation time answer of (knows-it tells v m view h floors _ stands of reads) (own-found _ _ (is_own v view) (own-is tells v view h floors reads) says)
+    scan_at-found (IsSure tells view.reclaimed time) tells v new view h floors relation time answer of (knows-it tells v m view h floors _ stands of reads)
+    (own-found _ _ (is_own v view) (own-is tells v view h floors reads) says)
 
-pub between-answered : (tells : Bool) (v new : StoreValue) (m : Machine Value) (view : ViewValue) (h : History Value) (floors : ℕ → ℕ) (key : Key) (a b : ℕ) (answer : Result (Vec (Version Value) Global) QueryFault)
-    → Stands tells v m → ViewStands view h floors → ViewReads tells v view h floors → stores.AnswersRows tells v view key a b answer new → SaysBetween (IsSure tells view.reclaimed a) h floors key a b answer
+pub between-answered : (tells : Bool) (v new : StoreValue) (m : Machine Value) (view : ViewValue) (h : History Value) (floors : ℕ
+    → ℕ) (key : Key) (a b : ℕ) (answer : Result (Vec (Version Value) Global) QueryFault)
+    → Stands tells v m → ViewStands view h floors → ViewReads tells v view h floors → stores.AnswersRows tells v view key a b answer new
+    → SaysBetween (IsSure tells view.reclaimed a) h floors key a b answer
 between-answered tells v new m view h floors key a b answer stands of reads says =
-    between-found (IsSure tells view.reclaimed a) tells v new view h floors key a b answer of (knows-it tells v m view h floors _ stands of reads) (own-found _ _ (is_own v view) (own-is tells v view h floors reads) says)
+    between-found (IsSure tells view.reclaimed a) tells v new view h floors key a b answer of (knows-it tells v m view h floors _ stands of reads)
+    (own-found _ _ (is_own v view) (own-is tells v view h floors reads) says)
 
-pub scan_between-answered : (tells : Bool) (v new : StoreValue) (m : Machine Value) (view : ViewValue) (h : History Value) (floors : ℕ → ℕ) (relation a b : ℕ) (answer : Result (Vec (ℕ × Version Value) Global) QueryFault)
-    → Stands tells v m → ViewStands view h floors → ViewReads tells v view h floors → stores.AnswersScanRows tells v view relation a b answer new → SaysScanBetween (IsSure tells view.reclaimed a) h floors relation a b answer
+pub scan_between-answered : (tells : Bool) (v new : StoreValue) (m : Machine Value) (view : ViewValue) (h : History Value) (floors : ℕ
+    → ℕ) (relation a b : ℕ) (answer : Result (Vec (ℕ × Version Value) Global) QueryFault)
+    → Stands tells v m → ViewStands view h floors → ViewReads tells v view h floors → stores.AnswersScanRows tells v view relation a b answer new
+    → SaysScanBetween (IsSure tells view.reclaimed a) h floors relation a b answer
 scan_between-answered tells v new m view h floors relation a b answer stands of reads says =
-    scan_between-found (IsSure tells view.reclaimed a) tells v new view h floors relation a b answer of (knows-it tells v m view h floors _ stands of reads) (own-found _ _ (is_own v view) (own-is tells v view h floors reads) says)
+    scan_between-found (IsSure tells view.reclaimed a) tells v new view h floors relation a b answer of (knows-it tells v m view h floors _ stands of reads)
+    (own-found _ _ (is_own v view) (own-is tells v view h floors reads) says)
 
 -- ---- by any store that takes it for its own, from its reclaim mark on
 
-pub at-recently : (tells : Bool) (v new : StoreValue) (view : ViewValue) (h : History Value) (floors : ℕ → ℕ) (key : Key) (time : ℕ) (answer : Result (Option Value) QueryFault) → ViewStands view h floors → stores.AnswersAtView tells v view key time answer new
+pub at-recently : (tells : Bool) (v new : StoreValue) (view : ViewValue) (h : History Value) (floors : ℕ
+    → ℕ) (key : Key) (time : ℕ) (answer : Result (Option Value) QueryFault) → ViewStands view h floors → stores.AnswersAtView tells v view key time answer new
     → MatchBool (is_own v view) (SaysAt (view.reclaimed ≤ time) (answers.at_answer h floors key time) answer) (answer ≡ Err query.Stranger)
 at-recently tells v new view h floors key time answer of says =
     by-strange (is_own v view) says
   where
-    by-strange : (b : Bool) → MatchBool b (stores.FindsAt tells v view key time answer new) ((answer ≡ Err query.Stranger) × (new ≡ v)) → MatchBool b (SaysAt (view.reclaimed ≤ time) (answers.at_answer h floors key time) answer) (answer ≡ Err query.Stranger)
+    by-strange : (b : Bool) → MatchBool b (stores.FindsAt tells v view key time answer new) ((answer ≡ Err query.Stranger) × (new ≡ v))
+        → MatchBool b (SaysAt (view.reclaimed ≤ time) (answers.at_answer h floors key time) answer) (answer ≡ Err query.Stranger)
     by-strange true finds = at-found (view.reclaimed ≤ time) tells v new view h floors key time answer of (λ sure. inr sure) finds
     by-strange false strange = strange.0
 
-pub scan_at-recently : (tells : Bool) (v new : StoreValue) (view : ViewValue) (h : History Value) (floors : ℕ → ℕ) (relation time : ℕ) (answer : Result (Vec (ℕ × Value) Global) QueryFault) → ViewStands view h floors → stores.AnswersScanAt tells v view relation time answer new
+pub scan_at-recently : (tells : Bool) (v new : StoreValue) (view : ViewValue) (h : History Value) (floors : ℕ
+    → ℕ) (relation time : ℕ) (answer : Result (Vec (ℕ × Value) Global) QueryFault) → ViewStands view h floors
+    → stores.AnswersScanAt tells v view relation time answer new
     → MatchBool (is_own v view) (SaysScanAt (view.reclaimed ≤ time) h floors relation time answer) (answer ≡ Err query.Stranger)
 scan_at-recently tells v new view h floors relation time answer of says =
     by-strange (is_own v view) says
   where
-    by-strange : (b : Bool) → MatchBool b (stores.FindsScanAt tells v view relation time answer new) ((answer ≡ Err query.Stranger) × (new ≡ v)) → MatchBool b (SaysScanAt (view.reclaimed ≤ time) h floors relation time answer) (answer ≡ Err query.Stranger)
+    by-strange : (b : Bool) → MatchBool b (stores.FindsScanAt tells v view relation time answer new) ((answer ≡ Err query.Stranger) × (new ≡ v))
+        → MatchBool b (SaysScanAt (view.reclaimed ≤ time) h floors relation time answer) (answer ≡ Err query.Stranger)
     by-strange true finds = scan_at-found (view.reclaimed ≤ time) tells v new view h floors relation time answer of (λ sure. inr sure) finds
     by-strange false strange = strange.0
 
-pub between-recently : (tells : Bool) (v new : StoreValue) (view : ViewValue) (h : History Value) (floors : ℕ → ℕ) (key : Key) (a b : ℕ) (answer : Result (Vec (Version Value) Global) QueryFault) → ViewStands view h floors → stores.AnswersRows tells v view key a b answer new
+pub between-recently : (tells : Bool) (v new : StoreValue) (view : ViewValue) (h : History Value) (floors : ℕ
+    → ℕ) (key : Key) (a b : ℕ) (answer : Result (Vec (Version Value) Global) QueryFault) → ViewStands view h floors
+    → stores.AnswersRows tells v view key a b answer new
     → MatchBool (is_own v view) (SaysBetween (view.reclaimed ≤ a) h floors key a b answer) (answer ≡ Err query.Stranger)
 between-recently tells v new view h floors key a b answer of says =
     by-strange (is_own v view) says
   where
-    by-strange : (own : Bool) → MatchBool own (stores.FindsRows tells v view key a b answer new) ((answer ≡ Err query.Stranger) × (new ≡ v)) → MatchBool own (SaysBetween (view.reclaimed ≤ a) h floors key a b answer) (answer ≡ Err query.Stranger)
+    by-strange : (own : Bool) → MatchBool own (stores.FindsRows tells v view key a b answer new) ((answer ≡ Err query.Stranger) × (new ≡ v))
+        → MatchBool own (SaysBetween (view.reclaimed ≤ a) h floors key a b answer) (answer ≡ Err query.Stranger)
     by-strange true finds = between-found (view.reclaimed ≤ a) tells v new view h floors key a b answer of (λ sure. inr sure) finds
     by-strange false strange = strange.0
 
-pub scan_between-recently : (tells : Bool) (v new : StoreValue) (view : ViewValue) (h : History Value) (floors : ℕ → ℕ) (relation a b : ℕ) (answer : Result (Vec (ℕ × Version Value) Global) QueryFault) → ViewStands view h floors → stores.AnswersScanRows tells v view relation a b answer new
+pub scan_between-recently : (tells : Bool) (v new : StoreValue) (view : ViewValue) (h : History Value) (floors : ℕ
+    → ℕ) (relation a b : ℕ) (answer : Result (Vec (ℕ × Version Value) Global) QueryFault) → ViewStands view h floors
+    → stores.AnswersScanRows tells v view relation a b answer new
     → MatchBool (is_own v view) (SaysScanBetween (view.reclaimed ≤ a) h floors relation a b answer) (answer ≡ Err query.Stranger)
 scan_between-recently tells v new view h floors relation a b answer of says =
     by-strange (is_own v view) says
   where
-    by-strange : (own : Bool) → MatchBool own (stores.FindsScanRows tells v view relation a b answer new) ((answer ≡ Err query.Stranger) × (new ≡ v)) → MatchBool own (SaysScanBetween (view.reclaimed ≤ a) h floors relation a b answer) (answer ≡ Err query.Stranger)
+    by-strange : (own : Bool) → MatchBool own (stores.FindsScanRows tells v view relation a b answer new) ((answer ≡ Err query.Stranger) × (new ≡ v))
+        → MatchBool own (SaysScanBetween (view.reclaimed ≤ a) h floors relation a b answer) (answer ≡ Err query.Stranger)
     by-strange true finds = scan_between-found (view.reclaimed ≤ a) tells v new view h floors relation a b answer of (λ sure. inr sure) finds
     by-strange false strange = strange.0

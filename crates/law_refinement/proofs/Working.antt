@@ -46,7 +46,8 @@ pub record Working (v : StoreValue) (m : Machine Value) : Type 0 where
   pub works : Works header v m
 
 abbrev pub inside : (tells : Bool) (v : StoreValue) (m : Machine Value) → StandsBeside tells v m → Inside v m
-inside tells v m s = record { memory = s.memory; machine = s.machine; order = s.order; in_step = s.in_step; gate = s.gate; raises = s.raises; marks = s.marks; job = s.job }
+inside tells v m s =
+    record { memory = s.memory; machine = s.machine; order = s.order; in_step = s.in_step; gate = s.gate; raises = s.raises; marks = s.marks; job = s.job }
 
 abbrev pub working : (tells : Bool) (v : StoreValue) (m : Machine Value) → StandsBeside tells v m → m.failed ≡ false → IsTrue tells → Working v m
 working tells v m s on told = record {
@@ -77,7 +78,8 @@ still-shut (Some j) still = by-stage j.stage still
     by-stage (job.Turning t) still = absurd cc
 
 -- beside such jobs it is that of the group alone
-pub gate-beside : (turn : Option TurnState) (before after : Option Job) → job_gate before ≡ Shut → job_gate after ≡ Shut → gate_of turn before ≡ gate_of turn after
+pub gate-beside : (turn : Option TurnState) (before after : Option Job) → job_gate before ≡ Shut → job_gate after ≡ Shut → gate_of turn before
+    ≡ gate_of turn after
 gate-beside None before after shut still = shut ∙ sym still
 gate-beside (Some t) before after shut still = refl
 

@@ -45,27 +45,37 @@ BeginsOn tells m answer new = BeginsTo (Stands tells) m answer new
 
 -- a begin is a step of the machine, and the store stands for the machine after it
 abbrev pub BeginStands : Type 0
-BeginStands = (tells : Bool) (old new : StoreValue) (answer : Result TxnValue BeginFault) (m : Machine Value) → Stands tells old m → stores.Begins old answer new → BeginsOn tells m answer new
+BeginStands =
+    (tells : Bool) (old new : StoreValue) (answer : Result TxnValue BeginFault) (m : Machine Value) → Stands tells old m → stores.Begins old answer new
+    → BeginsOn tells m answer new
 
 -- an own transaction is given up, and a stranger changes nothing
 abbrev pub AbortStands : Type 0
 AbortStands = (tells : Bool) (old new : StoreValue) (txn : TxnValue) (m : Machine Value) → Stands tells old m → stores.Aborts old txn new
-    → MatchBool (is_own old.transactions txn) ((after : Machine Value) × Step IsValue m (Aborted txn.snapshot) after × Stands tells new after) (Stands tells new m)
+    → MatchBool (is_own old.transactions txn) ((after : Machine Value) × Step IsValue m (Aborted txn.snapshot) after
+    × Stands tells new after) (Stands tells new m)
 
 -- a submit of an own transaction is a step of the machine, and a stranger's changes nothing
 abbrev pub SubmitStands : Type 0
-SubmitStands = (tells : Bool) (old new : StoreValue) (txn : TxnValue) (label now : ℕ) (answer : Result Submitted SubmitFault) (m : Machine Value) → Stands tells old m
+SubmitStands =
+    (tells : Bool) (old new : StoreValue) (txn : TxnValue) (label now : ℕ) (answer : Result Submitted SubmitFault) (m : Machine Value) → Stands tells old m
     → AreTxnWrites txn.state txn.snapshot txn.writes → label < 2 ^ 64 → stores.Submits old txn label now answer new
-    → MatchBool (is_own old.transactions txn) ((after : Machine Value) × Step IsValue m (event_of m (submission_of txn label now) answer) after × Stands tells new after) (Stands tells new m)
+    → MatchBool (is_own old.transactions txn) ((after : Machine Value) × Step IsValue m (event_of m (submission_of txn label now) answer) after
+    × Stands tells new after) (Stands tells new m)
 
 -- a disk that tells its bytes is sound at any time
 abbrev pub PumpStands : Type 0
-PumpStands = (tells : Bool) (old new : StoreValue) (answer : Result Did PumpFault) (m : Machine Value) → Stands tells old m → (IsTrue tells → AreSound new.disk.areas) → Pumps tells old answer new
-    → MatchBool m.failed ((answer ≡ Err pump.Failed) × Stands tells new m) ((after : Machine Value) × Run IsValue m (begins_in m ++ ends_in m.gate answer) after × Stands tells new after)
+PumpStands =
+    (tells : Bool) (old new : StoreValue) (answer : Result Did PumpFault) (m : Machine Value) → Stands tells old m → (IsTrue tells → AreSound new.disk.areas)
+    → Pumps tells old answer new
+    → MatchBool m.failed ((answer ≡ Err pump.Failed) × Stands tells new m) ((after : Machine Value) × Run IsValue m (begins_in m ++ ends_in m.gate answer) after
+    × Stands tells new after)
 
 -- a ticket is answered as the machine does, or as a stranger's, and nothing of the machine's changes
 abbrev pub RedeemStands : Type 0
-RedeemStands = (tells : Bool) (old new : StoreValue) (ticket : TicketValue) (answer : Redeemed) (m : Machine Value) → Stands tells old m → stores.Redeems old ticket answer new
+RedeemStands =
+    (tells : Bool) (old new : StoreValue) (ticket : TicketValue) (answer : Redeemed) (m : Machine Value) → Stands tells old m
+    → stores.Redeems old ticket answer new
     → RedeemsAs (answers.redeemed_by m ticket.time) answer × Stands tells new m
 
 -- an archive begins, or it is refused: nothing of the machine's happens
@@ -82,7 +92,8 @@ ReclaimStartStands = (tells : Bool) (old new : StoreValue) (answer : Result (Uni
 abbrev pub raising_to : Option ℕ → ℕ → Raising
 raising_to scope floor = record { scope = scope; floor = floor }
 
--- A floor begins, or it is refused as the machine says; or another job runs, the log has no slot for it, or the store's profile no such floors. One of one relation may want for memory.
+-- A floor begins, or it is refused as the machine says; or another job runs, the log has no slot for it, or the store's profile no such floors. One of one
+-- relation may want for memory.
 abbrev pub StartsTo : (StoreValue → Machine Value → Type 0) → Machine Value → Raising → Result (Unit {0}) StartFault → StoreValue → Type 0
 StartsTo S m r (Ok done) new = Step IsValue m (FloorStarted r) (floor_started m r) × S new (floor_started m r)
 StartsTo S m r (Err start.NothingToDo) new = Step IsValue m (FloorRefused r floors.NothingToDo) m × S new m
@@ -103,13 +114,18 @@ StartsOn tells m r answer new = StartsTo (Stands tells) m r answer new
 
 -- a floor begins or is refused so, and the store stands for the machine after it
 abbrev pub FloorStartStands : Type 0
-FloorStartStands = (tells : Bool) (old new : StoreValue) (scope : Option ℕ) (floor : ℕ) (answer : Result (Unit {0}) StartFault) (m : Machine Value) → Stands tells old m
+FloorStartStands =
+    (tells : Bool) (old new : StoreValue) (scope : Option ℕ) (floor : ℕ) (answer : Result (Unit {0}) StartFault) (m : Machine Value) → Stands tells old m
     → StartsFloor old scope floor answer new → StartsOn tells m (raising_to scope floor) answer new
 
--- Of a job's steps a floor's alone are the machine's: its gate is due, is written, and the floor is raised. Where the device refuses one the machine has failed.
+-- Of a job's steps a floor's alone are the machine's: its gate is due, is written, and the floor is raised. Where the device refuses one the machine has
+-- failed.
 abbrev pub JobPumpStands : Type 0
-JobPumpStands = (tells : Bool) (old new : StoreValue) (answer : Result JobDid PumpFault) (m : Machine Value) → Stands tells old m → (IsTrue tells → AreSound new.disk.areas) → PumpsJob tells old answer new
-    → MatchBool m.failed ((answer ≡ Err pump.Failed) × Stands tells new m) ((after : Machine Value) × Run IsValue m (job_ends_in m answer) after × Stands tells new after)
+JobPumpStands =
+    (tells : Bool) (old new : StoreValue) (answer : Result JobDid PumpFault) (m : Machine Value) → Stands tells old m → (IsTrue tells → AreSound new.disk.areas)
+    → PumpsJob tells old answer new
+    → MatchBool m.failed ((answer ≡ Err pump.Failed) × Stands tells new m) ((after : Machine Value) × Run IsValue m (job_ends_in m answer) after
+    × Stands tells new after)
 
 -- a growth begins, or it is refused: nothing of the machine's happens
 abbrev pub GrowStartStands : Type 0

@@ -25,12 +25,14 @@ use Rattle.law_refinement.specs.Standing.{HasWrites}
 -- runs of these records have, of the versions that end after the floor, those that ended by a mark
 abbrev pub AreArchived : History Value → (ℕ → ℕ) → ℕ → List (List ArchiveRecord) → Type 0
 AreArchived h floors mark lists =
-    (key : Key) → filter (ends_after (floors key.relation)) (versions_in key lists) ≡ filter (ends_after (floors key.relation)) (filter (ends_by mark) (versions_of h key))
+    (key : Key) → filter (ends_after (floors key.relation)) (versions_in key lists)
+    ≡ filter (ends_after (floors key.relation)) (filter (ends_by mark) (versions_of h key))
 
 -- The run that a job makes has its place behind the others. A reclaim goes no further than the archive does.
 abbrev pub HasPlace : JobWork → StoreValue → Machine Value → Type 0
 HasPlace (Archive run writer) v m =
-    (entry : RunEntry) × (entry.slot ≡ run) × (entry.mark ≡ v.archived) × ((relation : ℕ) → floor_at entry.floors relation ≤ m.floors relation) × (v.archive.next ≡ v.archive.runs ++ entry ∷ [])
+    (entry : RunEntry) × (entry.slot ≡ run) × (entry.mark ≡ v.archived) × ((relation : ℕ) → floor_at entry.floors relation ≤ m.floors relation)
+    × (v.archive.next ≡ v.archive.runs ++ entry ∷ [])
 HasPlace (Reclaim anchors source written) v m = anchors.upto ≤ v.archived
 HasPlace (Floor scope floor floors) v m = Unit {0}
 HasPlace (Grow growth) v m = Unit {0}

@@ -10,7 +10,8 @@ use Rattle.history.specs.Machine.{Machine, Gate, Shut, Due, MayBeOpen, OfGroup, 
 use Rattle.history.specs.Answers as answers
 use Rattle.history.specs.Submissions as submissions
 use Rattle.history.specs.Submissions.{Submission, Decision, commit_made}
-use Rattle.history.specs.Steps.{Event, Step, Run, Began, BeginRefused, Aborted, Decided, Refused, GroupBegan, Published, FloorPublished, GateDue, GateWritten, Broke, begun}
+use Rattle.history.specs.Steps.{Event, Step, Run, Began, BeginRefused, Aborted, Decided, Refused, GroupBegan, Published, FloorPublished, GateDue, GateWritten}
+use Rattle.history.specs.Steps.{Broke, begun}
 use Rattle.history.specs.Steps as steps
 use Rattle.law_image.specs.Values.{Value, IsValue}
 use Rattle.chains.specs.KeyWrites.{KeyWrites, forgotten}
@@ -132,11 +133,13 @@ RedeemsAs said redeemed.Stranger = Unit {0}
 
 -- the times of a label that memory tells are those of the published history
 abbrev pub TimesAreOfLabel : Type 0
-TimesAreOfLabel = (v : TransactionsValue) (m : Machine Value) (label : ℕ) → StandsInMemory v m → orders.times_of label (calls.order_of v) ≡ answers.times_of m.published label
+TimesAreOfLabel =
+    (v : TransactionsValue) (m : Machine Value) (label : ℕ) → StandsInMemory v m → orders.times_of label (calls.order_of v) ≡ answers.times_of m.published label
 
 -- ---- queries
 
--- An answer to a query is that of the history; where something is found it is for sure where that is known. Or memory or a read was refused, or a run that is not known was damaged, where the history has a value or none.
+-- An answer to a query is that of the history; where something is found it is for sure where that is known. Or memory or a read was refused, or a run that is
+-- not known was damaged, where the history has a value or none.
 abbrev pub SaysAt : Type 0 → Result (Option Value) answers.QueryRefusal → Result (Option Value) QueryFault → Type 0
 SaysAt Sure said (Ok value) = Sure → said ≡ Ok value
 SaysAt Sure said (Err (query.BeforeKept floor)) = said ≡ Err (answers.BeforeKept floor)
@@ -162,19 +165,24 @@ Says Sure held Is (Err query.Stranger) = ⊥
 
 -- so the values of a relation at a time, the rows of a key and those of a relation
 abbrev pub SaysScanAt : Type 0 → History Value → (ℕ → ℕ) → ℕ → ℕ → Result (Vec (ℕ × Value) Global) QueryFault → Type 0
-SaysScanAt Sure h floors relation time answer = Says Sure (λ (found : Vec (ℕ × Value) Global). found.items) (answers.IsScanAtAnswer h floors relation time) answer
+SaysScanAt Sure h floors relation time answer =
+    Says Sure (λ (found : Vec (ℕ × Value) Global). found.items) (answers.IsScanAtAnswer h floors relation time) answer
 
 -- an answer with the rows of a key from a to b is that of the history, where that is known
 abbrev pub SaysBetween : Type 0 → History Value → (ℕ → ℕ) → Key → ℕ → ℕ → Result (Vec (Version Value) Global) QueryFault → Type 0
-SaysBetween Sure h floors key a b answer = Says Sure (λ (rows : Vec (Version Value) Global). rows.items) (λ said. answers.between_answer h floors key a b ≡ said) answer
+SaysBetween Sure h floors key a b answer =
+    Says Sure (λ (rows : Vec (Version Value) Global). rows.items) (λ said. answers.between_answer h floors key a b ≡ said) answer
 
 -- an answer with the rows of a relation from a to b is that of the history, where that is known
 abbrev pub SaysScanBetween : Type 0 → History Value → (ℕ → ℕ) → ℕ → ℕ → ℕ → Result (Vec (ℕ × Version Value) Global) QueryFault → Type 0
-SaysScanBetween Sure h floors relation a b answer = Says Sure (λ (rows : Vec (ℕ × Version Value) Global). rows.items) (answers.IsScanBetweenAnswer h floors relation a b) answer
+SaysScanBetween Sure h floors relation a b answer =
+    Says Sure (λ (rows : Vec (ℕ × Version Value) Global). rows.items) (answers.IsScanBetweenAnswer h floors relation a b) answer
 
 -- ---- what a reclaim makes memory forget
 
 -- memory that forgets what ended by a mark is that of the same history, from the mark on
 abbrev pub ForgottenHolds : Type 0
-ForgottenHolds = (floors : ℕ → ℕ) (reclaimed mark : ℕ) (versions : List KeyWrites) (h : History Value) → HasWrites floors reclaimed versions h → HasRisingTimes 0 h → reclaimed ≤ mark → mark ≤ last h
+ForgottenHolds =
+    (floors : ℕ → ℕ) (reclaimed mark : ℕ) (versions : List KeyWrites) (h : History Value) → HasWrites floors reclaimed versions h → HasRisingTimes 0 h
+    → reclaimed ≤ mark → mark ≤ last h
     → HasWrites floors mark (forgotten mark versions) h

@@ -45,7 +45,8 @@ PumpLeaves = (tells : Bool) (old new : StoreValue) (answer : Result Did PumpFaul
 
 -- the start of an archive leaves the transactions so
 abbrev pub ArchiveStartLeaves : Type 0
-ArchiveStartLeaves = (old new : StoreValue) (upto : ℕ) (answer : Result (Unit {0}) StartFault) → StartsArchive old upto answer new → Leaves old.transactions new.transactions
+ArchiveStartLeaves =
+    (old new : StoreValue) (upto : ℕ) (answer : Result (Unit {0}) StartFault) → StartsArchive old upto answer new → Leaves old.transactions new.transactions
 
 -- the start of a reclaim leaves the transactions so
 abbrev pub ReclaimStartLeaves : Type 0
@@ -53,7 +54,9 @@ ReclaimStartLeaves = (old new : StoreValue) (answer : Result (Unit {0}) StartFau
 
 -- the start of a floor leaves the transactions so
 abbrev pub FloorStartLeaves : Type 0
-FloorStartLeaves = (old new : StoreValue) (scope : Option ℕ) (floor : ℕ) (answer : Result (Unit {0}) StartFault) → StartsFloor old scope floor answer new → Leaves old.transactions new.transactions
+FloorStartLeaves =
+    (old new : StoreValue) (scope : Option ℕ) (floor : ℕ) (answer : Result (Unit {0}) StartFault) → StartsFloor old scope floor answer new
+    → Leaves old.transactions new.transactions
 
 -- the start of a growth leaves the transactions so
 abbrev pub GrowStartLeaves : Type 0
@@ -61,11 +64,13 @@ GrowStartLeaves = (old new : StoreValue) (answer : Result (Unit {0}) StartFault)
 
 -- a step of a job leaves the transactions so
 abbrev pub JobPumpLeaves : Type 0
-JobPumpLeaves = (tells : Bool) (old new : StoreValue) (answer : Result JobDid PumpFault) → PumpsJob tells old answer new → Leaves old.transactions new.transactions
+JobPumpLeaves =
+    (tells : Bool) (old new : StoreValue) (answer : Result JobDid PumpFault) → PumpsJob tells old answer new → Leaves old.transactions new.transactions
 
 -- ---- submits
 
--- The transactions after a submit of an own one, which is over by then: what only reads tells its snapshot, a ticket has the store's mark, and the head of its time and label is the last.
+-- The transactions after a submit of an own one, which is over by then: what only reads tells its snapshot, a ticket has the store's mark, and the head of its
+-- time and label is the last.
 abbrev pub LeftBySubmit : TransactionsValue → TxnValue → ℕ → Result Submitted SubmitFault → TransactionsValue → Type 0
 LeftBySubmit v t label (Ok (submitted.ReadOnly snapshot)) new = (snapshot ≡ t.snapshot) × (new ≡ v)
 LeftBySubmit v t label (Ok (submitted.Queued ticket)) new = (ticket.mark ≡ v.mark) × JoinsQueue v label ticket.time t.writes new
@@ -74,18 +79,25 @@ LeftBySubmit v t label (Err why) new = new ≡ v
 
 -- a submit of an own transaction leaves the transactions so
 abbrev pub SubmitLeaves : Type 0
-SubmitLeaves = (v new : TransactionsValue) (t : TxnValue) (label now : ℕ) (answer : Result Submitted SubmitFault) → SubmitsOwn v t label now answer new → LeftBySubmit v t label answer new
+SubmitLeaves =
+    (v new : TransactionsValue) (t : TxnValue) (label now : ℕ) (answer : Result Submitted SubmitFault) → SubmitsOwn v t label now answer new
+    → LeftBySubmit v t label answer new
 
 -- the time of a ticket is that of the machine's commit
 abbrev pub TicketTells : Type 0
-TicketTells = (v new : TransactionsValue) (m after : Machine Value) (t : TxnValue) (label now : ℕ) (ticket : TicketValue) → JoinsQueue v label ticket.time t.writes new → StandsInMemory new after
-    → Step IsValue m (event_of m (submission_of t label now) (Ok (submitted.Queued ticket))) after → ticket.time ≡ (commit_made m (submission_of t label now)).time
+TicketTells =
+    (v new : TransactionsValue) (m after : Machine Value) (t : TxnValue) (label now : ℕ) (ticket : TicketValue) → JoinsQueue v label ticket.time t.writes new
+    → StandsInMemory new after
+    → Step IsValue m (event_of m (submission_of t label now) (Ok (submitted.Queued ticket))) after → ticket.time
+    ≡ (commit_made m (submission_of t label now)).time
 
 -- ---- tickets
 
--- The transactions after a ticket was shown: Done tells of its time, whose head was awaited and is published, and is awaited no more. Who is a stranger has no head that is awaited.
+-- The transactions after a ticket was shown: Done tells of its time, whose head was awaited and is published, and is awaited no more. Who is a stranger has no
+-- head that is awaited.
 abbrev pub LeftByRedeem : TransactionsValue → TicketValue → Redeemed → TransactionsValue → Type 0
-LeftByRedeem old k (redeemed.Done time) new = (time ≡ k.time) × (orders.is_awaited k.time old.heads ≡ true) × (k.time ≤ calls.last old) × (new ≡ record old { heads = orders.redeemed k.time old.heads })
+LeftByRedeem old k (redeemed.Done time) new =
+    (time ≡ k.time) × (orders.is_awaited k.time old.heads ≡ true) × (k.time ≤ calls.last old) × (new ≡ record old { heads = orders.redeemed k.time old.heads })
 LeftByRedeem old k (redeemed.Waiting back) new = (back ≡ k) × (new ≡ old)
 LeftByRedeem old k redeemed.InDoubt new = new ≡ old
 LeftByRedeem old k redeemed.Stranger new = (new ≡ old) × (k.mark ≡ old.mark → orders.is_awaited k.time old.heads ≡ true → ⊥)

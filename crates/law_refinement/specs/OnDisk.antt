@@ -109,7 +109,8 @@ slot_for number qs = record { number = number; body = CommitBody (record { items
 
 -- the group, which is the first of the commits that wait
 abbrev pub group_of : Layout → TransactionsValue → Machine Value → Group
-group_of layout v m = record { members = members_of m.published (take v.group v.queue) (take v.group m.queue); slot = slot_for (length layout.slots) (take v.group v.queue) }
+group_of layout v m =
+    record { members = members_of m.published (take v.group v.queue) (take v.group m.queue); slot = slot_for (length layout.slots) (take v.group v.queue) }
 
 -- how many extents of the group are written before this one of this member
 abbrev pub written_before : List QueuedValue → ℕ → ℕ → ℕ
@@ -130,7 +131,8 @@ IsTurnOf header layout group t areas = IsTurn header layout group.slot (laid_out
 abbrev pub IsAtStage : Header → Layout → Group → List QueuedValue → GroupStage → Option TurnState → Areas → Type 0
 IsAtStage header layout group qs NoGroup turn areas = RestsAs header layout areas
 IsAtStage header layout group qs (Storing member extent) turn areas =
-    IsStoring header layout group (take (written_before qs member extent) (extents_of group.members)) (drop (written_before qs member extent) (extents_of group.members)) areas
+    IsStoring header layout group (take (written_before qs member extent) (extents_of group.members))
+    (drop (written_before qs member extent) (extents_of group.members)) areas
 IsAtStage header layout group qs Stored turn areas = IsTurnAt header layout group.slot (laid_out layout group) Begun areas
 IsAtStage header layout group qs Turning turn areas = MatchOption turn ⊥ (λ t. IsTurnOf header layout group t areas)
 
@@ -299,7 +301,8 @@ pub record HasHeap (layout : Layout) (reading : Reading) (usages : List Usage) (
   pub facts : (key : Key) → writes_of versions key ≡ heap_facts reading key
 
 -- what is written of the group, on areas whose status area is as it would rest
-pub record HasGroup (header : Header) (layout : Layout) (group : Group) (qs : List QueuedValue) (stage : GroupStage) (turn other : Option TurnState) (areas : Areas) : Type 0 where
+pub record HasGroup (header : Header) (layout : Layout) (group : Group) (qs : List QueuedValue) (stage : GroupStage) (turn other : Option TurnState)
+    (areas : Areas) : Type 0 where
   pub rested : AreaState
   pub rests : IsRested header layout other rested areas.status
   pub at : IsAtStage header layout group qs stage turn (record areas { status = rested })
@@ -313,7 +316,8 @@ pub record Works (header : Header) (v : StoreValue) (m : Machine Value) : Type 0
   pub job : HasJob header log.layout log.reading m.published v.transactions.reserved v.job v.disk.areas
   pub sound : AreSound v.disk.areas
 
--- Whatever a stop may leave stands for a front of the commit order: for what is published, or, once the gate of the group may be open, for that or for what is published with the whole group.
+-- Whatever a stop may leave stands for a front of the commit order: for what is published, or, once the gate of the group may be open, for that or for what is
+-- published with the whole group.
 pub record StandsOnDisk (v : StoreValue) (m : Machine Value) : Type 0 where
   pub header : Header
   pub profile : v.log.profile ≡ header.profile

@@ -30,7 +30,8 @@ name_of c = record { time = c.time; label = c.label }
 abbrev pub name_at : CommitHead → Name
 name_at head = record { time = head.time; label = head.label }
 
--- What memory has of a history, the keys in their order: of each key the writes later than the reclaim mark, behind those that came before it. The versions that end after the floor are just those that end after the mark.
+-- What memory has of a history, the keys in their order: of each key the writes later than the reclaim mark, behind those that came before it. The versions
+-- that end after the floor are just those that end after the mark.
 pub record HasWrites (floors : ℕ → ℕ) (reclaimed : ℕ) (versions : List KeyWrites) (h : History Value) : Type 0 where
   pub ordered : IsOrdered versions
   pub marked : reclaimed ≤ histories.last h
@@ -38,13 +39,15 @@ pub record HasWrites (floors : ℕ → ℕ) (reclaimed : ℕ) (versions : List K
   pub rising : (key : Key) → IsRisingWrites 0 (before key)
   pub early : (key : Key) → last_time (before key) ≤ reclaimed
   pub writes : (key : Key) → writes_of versions key ≡ before key ++ writes_after reclaimed (histories.writes_of h key)
-  pub at_home : (key : Key) → filter (ends_after (floors key.relation)) (versions_in (writes_of versions key)) ≡ filter (ends_after (floors key.relation)) (filter (ends_after reclaimed) (histories.versions_of h key))
+  pub at_home : (key : Key) → filter (ends_after (floors key.relation)) (versions_in (writes_of versions key))
+      ≡ filter (ends_after (floors key.relation)) (filter (ends_after reclaimed) (histories.versions_of h key))
 
 -- these versions have forgotten what ended by a mark
 abbrev pub HasForgotten : ℕ → List KeyWrites → Type 0
 HasForgotten mark versions = (key : Key) → kept_after mark (writes_of versions key) ≡ writes_of versions key
 
--- A commit waits behind these versions: from the reclaim mark on, the versions after it say what these say, and what it writes. They have forgotten what ended by a mark of their own, the one of their making.
+-- A commit waits behind these versions: from the reclaim mark on, the versions after it say what these say, and what it writes. They have forgotten what ended
+-- by a mark of their own, the one of their making.
 pub record Waits (reclaimed : ℕ) (before : List KeyWrites) (q : QueuedValue) (c : Commit Value) : Type 0 where
   pub time : q.entry.time ≡ c.time
   pub label : q.entry.label ≡ c.label
@@ -95,8 +98,10 @@ pub record StandsInMemory (v : TransactionsValue) (m : Machine Value) : Type 0 w
   pub floors : (relation : ℕ) → floor_at v.floors relation ≡ m.floors relation
   pub failed : v.failed ≡ m.failed
 
--- A reclaim up to the archive mark is being made: no open transaction reads what is to be forgotten, and while its slot is in the writing, what memory is to be once it is done is made.
-pub record Reclaims (archived upto : ℕ) (turning : Bool) (opened : List (Option ℕ)) (pending : Option (List KeyWrites)) (versions : List KeyWrites) : Type 0 where
-  pub is : upto ≡ archived
-  pub recent : (snapshot : ℕ) → Contains (snapshots_of opened) snapshot → upto ≤ snapshot
-  pub made : turning ≡ true → pending ≡ Some (forgotten upto versions)
+-- A reclaim up to the archive mark is being made: no open transaction reads what is to be forgotten, and while its slot is in the writing, what memory is to be
+-- once it is done is made.
+pub record Reclaims (archived upto : ℕ) (turning : Bool) (opened : List (Option ℕ)) (pending : Option (List KeyWrites)) (versions : List KeyWrites) : Type 0
+  where
+    pub is : upto ≡ archived
+    pub recent : (snapshot : ℕ) → Contains (snapshots_of opened) snapshot → upto ≤ snapshot
+    pub made : turning ≡ true → pending ≡ Some (forgotten upto versions)

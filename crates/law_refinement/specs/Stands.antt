@@ -96,10 +96,12 @@ RaisesFloor v m = IsRaising v.job v.log.profile m.raising m.floors
 abbrev pub HasMarks : StoreValue → Machine Value → Type 0
 HasMarks v m = (v.transactions.reclaimed ≤ v.archived) × (v.archived ≤ histories.last m.published)
 
--- what memory keeps of a job, whose archive is up to a published time; of a floor the floors that are to stand; a store that grows is told of without its growth
+-- what memory keeps of a job, whose archive is up to a published time; of a floor the floors that are to stand; a store that grows is told of without its
+-- growth
 abbrev pub KeepsWork : JobWork → JobStage → (archived last : ℕ) → List (Option ℕ) → Option (List KeyWrites) → List KeyWrites → FloorsValue → Type 0
 KeepsWork (Archive run writer) stage archived last opened pending versions standing = (archived ≤ run.upto) × (run.upto ≤ last)
-KeepsWork (Reclaim anchors source written) stage archived last opened pending versions standing = Reclaims archived anchors.upto (is_some (turn_in stage)) opened pending versions
+KeepsWork (Reclaim anchors source written) stage archived last opened pending versions standing =
+    Reclaims archived anchors.upto (is_some (turn_in stage)) opened pending versions
 KeepsWork (Floor scope floor floors) stage archived last opened pending versions standing = floors ≡ raised_in scope floor standing
 KeepsWork (Grow growth) stage archived last opened pending versions standing = ⊥
 
@@ -110,7 +112,8 @@ KeepsJobOf (Some job) archived last opened pending versions standing = KeepsWork
 
 -- what the store's memory keeps of its job, beside this machine
 abbrev pub KeepsJobIn : StoreValue → Machine Value → Type 0
-KeepsJobIn v m = KeepsJobOf v.job v.archived (histories.last m.published) v.transactions.opened v.transactions.pending v.transactions.versions v.transactions.floors
+KeepsJobIn v m =
+    KeepsJobOf v.job v.archived (histories.last m.published) v.transactions.opened v.transactions.pending v.transactions.versions v.transactions.floors
 
 -- What is said of the disk is said where it tells its bytes. Nothing is said of the runs of the archive.
 pub record StandsBeside (tells : Bool) (v : StoreValue) (m : Machine Value) : Type 0 where

@@ -10,8 +10,9 @@ use Rattle.history.specs.Histories.{History}
 use Rattle.history.specs.Machine.{Machine, Gate, Shut, Due, MayBeOpen, OfGroup, OfFloor, opened}
 use Rattle.law_image.specs.Values.{Value}
 use Rattle.recovery.specs.declared.fault.OpenFault.{OpenFault}
-use Rattle.law_opening.proofs.Opened.{open-stands}
-use Rattle.law_opening.proofs.Reopened.{closed-left, reopen-refuses}
+use Rattle.law_opening.specs.Laws.{IsHeaderLeftBy}
+use Rattle.law_opening.proofs.Opened.{open-header, open-stands}
+use Rattle.law_opening.proofs.Reopened.{closed-left, left-by, reopen-refuses}
 use Rattle.session.specs.Session.{State, AbortsAll, Closes, Reopens, DoesNotReopen, fresh}
 use Rattle.session.specs.declared.names.OpenName.{OpenName}
 use Rattle.session.specs.declared.names.TicketName.{TicketName}
@@ -29,11 +30,12 @@ use Rattle.run.proofs.Acknowledging.{more-have}
 use Rattle.run.proofs.Runs.{started-world}
 use Rattle.run.proofs.Steps.{abort-goes}
 use Rattle.run.proofs.Survival.{moment-leaves}
+use Rattle.run.proofs.Linking.{links}
 use Rattle.law_script.specs.ScriptMoments.{ScriptMoment, held_of, transaction_of, moment_of}
 use Rattle.law_script.specs.Keeps.{Closed, KeepsByOpening, KeepsUnopened}
 use Rattle.law_script.proofs.Among.{Among, all, spent-first}
 use Rattle.law_script.proofs.Names.{held_in}
-use Rattle.law_script.proofs.Leading.{IsScriptMoment, link-one, same-few}
+use Rattle.law_script.proofs.Leading.{IsScriptMoment, same-few}
 
 -- ---- what is open is aborted
 
@@ -52,7 +54,7 @@ abort-all tells (o ∷ os) ks v v' xs at is among aborts =
     let i : ℕ = among.at 0 in
     let here : slice_get xs i ≡ Some (held.Transaction o.txn) = among.same 0 (transaction_of o) refl in
     let ys : List Held = slice_set xs i held.Nothing ++ held.Nothing ∷ [] in
-    let did = link-one tells v aborts.0 xs ys (call.Abort i) answer.Abort at is (abort-goes tells v aborts.0 xs i o.txn here aborts.1 aborts.2) (same-few v aborts.0 aborts.2.rest.disk) in
+    let did = links tells v aborts.0 xs ys (call.Abort i) answer.Abort at is (abort-goes tells v aborts.0 xs i o.txn here aborts.1 aborts.2) (same-few v aborts.0 aborts.2.rest.disk) in
     let rest = abort-all tells os ks aborts.0 v' ys did.0 did.2 (spent-first (transaction_of o) (held_in os ks) xs held.Nothing held.Nothing among) aborts.3 in
     record { places = i ∷ rest.places; each = ap suc rest.each; end = rest.end; held = rest.held; chain = (did.0, did.1, rest.chain); is = rest.is; done = rest.done ∙ did.1.acknowledges }
 
@@ -109,7 +111,7 @@ pub record OpensTo (tells : Bool) (before : ScriptMoment) (state : State) : Type
   pub is : IsScriptMoment tells after
 
 opened-moment : (tells : Bool) (v : StoreValue) (h : History Value) (floors : ℕ → ℕ) (done : List ℕ) → Stands tells v (opened h floors) → AllByRecursion (HasCommitAt h) done → IsScriptMoment tells (record { state = fresh v; machine = opened h floors; done = done })
-opened-moment tells v h floors done stands published = record { store = refl; world = started-world tells v (opened h floors) stands; published = published }
+opened-moment tells v h floors done stands has = record { store = refl; places = refl; world = started-world tells v (opened h floors) stands; published = has }
 
 pub first-script : (tells : Bool) (v : StoreValue) (h : History Value) (floors : ℕ → ℕ) → Stands tells v (opened h floors) → IsScriptMoment tells (record { state = fresh v; machine = opened h floors; done = [] })
 first-script tells v h floors stands = opened-moment tells v h floors [] stands tt
@@ -133,6 +135,7 @@ reopen-keeps tells told m is r new reopens =
         given = given;
         closed = c.closed;
         stops = reopens.opens.left told;
+        header = (on.found, subst (λ (s : StoreValue). IsHeaderLeftBy s on.found) (sym c.is.store) (left-by c.store machine (c.is.world.stands.disk told) on.found on.is_found), open-header tells given 1 reopens.opened on.found h floors reopens.opens told image);
         front = into (λ h' floors'. (opened h floors ≡ opened h' floors') × AllByRecursion (HasCommitAt h') m.done) (refl, has);
         done = refl;
         leaves = moment-leaves tells reopens.opened [] (moment_of after) at;

@@ -42,6 +42,7 @@ pub settled : (tells : Bool) (v : StoreValue) (xs : List Held) (end : Moment) (n
     → IsScriptMoment tells (record { state = new; machine = end.world.machine; done = end.done })
 settled tells v xs end new at same among = record {
   store = refl;
+  places = refl;
   world = subst (λ (s : StoreValue). IsWorld tells s (held_of new) (record { machine = end.world.machine; places = map place_of (held_of new) })) (sym same) (record {
     stands = at.world.stands;
     places = renumbered v.transactions end.world.machine.published xs end.world.places (held_of new) (held-no_view new.opened new.tickets) among at.world.places;
@@ -68,15 +69,10 @@ by-chain tells m is l r made says end chain v xs at acknowledges new same among 
   is = settled tells v xs end new at same among;
 }
 
--- one call, from a moment of a store
-pub link-one : (tells : Bool) (v v' : StoreValue) (xs ys : List Held) (c : Call) (a : Answer) (at : Moment) → IsAtMoment tells v xs at → Goes tells v xs c a v' ys → v'.disk.made ≤ v.disk.made + 1
-    → (after : Moment) × Link tells c a at after × IsAtMoment tells v' ys after
-link-one tells v v' xs ys c a at is goes few = let did = goes at.world is.world in links tells v v' xs ys c a at is did.0 did.1 did.2 did.3 few
-
 pub by-call : (tells : Bool) (m : ScriptMoment) → IsScriptMoment tells m → (l : Line) (r : Reply) (c : Call) (a : Answer) → Says m l (one_call c a) r → with_answer a m.done ≡ with_reply r m.done
     → (v : StoreValue) (ys : List Held) → Goes tells m.state.store (held_of m.state) c a v ys → v.disk.made ≤ m.state.store.disk.made + 1 → (new : State) → new.store ≡ v → Among (held_of new) ys → LeadsTo tells l r m new
 by-call tells m is l r c a says acknowledges v ys goes few new same among =
-    let did = link-one tells m.state.store v (held_of m.state) ys c a (moment_of m) is goes few in
+    let did = links tells m.state.store v (held_of m.state) ys c a (moment_of m) is goes few in
     by-chain tells m is l r (one_call c a) says did.0 (did.0, did.1, refl) v ys did.2 (did.1.acknowledges ∙ acknowledges) new same among
 
 -- no call is made

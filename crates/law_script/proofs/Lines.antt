@@ -38,11 +38,12 @@ use Rattle.run.proofs.FloorCalls.{floor-goes, floor-few}
 use Rattle.run.proofs.GrowCalls.{grow-goes, grow-few}
 use Rattle.run.proofs.Pumping.{pump-goes, pump-few}
 use Rattle.run.proofs.Views.{asked-few, view-goes, at-goes, scan_at-goes, between-goes, end-goes, times-goes}
+use Rattle.run.proofs.Linking.{links}
 use Rattle.law_script.specs.ScriptMoments.{ScriptMoment, held_of, moment_of, with_reply}
 use Rattle.law_script.specs.Says.{Exchange, Says, LacksView, by_view}
 use Rattle.law_script.proofs.Among.{Among, all, wider, through, front-of, viewed, get-end, get-front}
 use Rattle.law_script.proofs.Names.{as-state}
-use Rattle.law_script.proofs.Leading.{IsScriptMoment, LeadsTo, silent, by-call, by-chain, link-one, same-few}
+use Rattle.law_script.proofs.Leading.{IsScriptMoment, LeadsTo, silent, by-call, by-chain, same-few}
 
 -- the names stand for what they did
 kept : (m : ScriptMoment) (new : State) → KeepsNames m.state new → Among (held_of new) (held_of m.state)
@@ -81,12 +82,12 @@ group-chain : (tells : Bool) (steps : List Did) (v mid v' : StoreValue) (ended :
     → Stepped tells (group_calls steps) (group_answers steps ended) at v' xs
 group-chain tells [] v mid v' ended xs at is takes last =
     let first : StepsGroup tells v ended v' = subst (λ (s : StoreValue). StepsGroup tells s ended v') takes last in
-    let did = link-one tells v v' xs (xs ++ held.Nothing ∷ []) call.Pump (answer.Pump ended) at is (pump-goes tells v v' xs ended first.sound first.is) (pump-few tells v v' ended first.is) in
+    let did = links tells v v' xs (xs ++ held.Nothing ∷ []) call.Pump (answer.Pump ended) at is (pump-goes tells v v' xs ended first.sound first.is) (pump-few tells v v' ended first.is) in
     record { end = did.0; held = xs ++ held.Nothing ∷ []; chain = (did.0, did.1, refl); is = did.2; among = front-of xs (held.Nothing ∷ []); done = did.1.acknowledges }
 group-chain tells (step ∷ steps) v mid v' ended xs at is takes last =
     let next : StoreValue = takes.0 in
     let ys : List Held = xs ++ held.Nothing ∷ [] in
-    let did = link-one tells v next xs ys call.Pump (answer.Pump (Ok step)) at is (pump-goes tells v next xs (Ok step) takes.1.sound takes.1.is) (pump-few tells v next (Ok step) takes.1.is) in
+    let did = links tells v next xs ys call.Pump (answer.Pump (Ok step)) at is (pump-goes tells v next xs (Ok step) takes.1.sound takes.1.is) (pump-few tells v next (Ok step) takes.1.is) in
     let rest = group-chain tells steps next mid v' ended ys did.0 did.2 takes.3 last in
     record { end = rest.end; held = rest.held; chain = (did.0, did.1, rest.chain); is = rest.is; among = through xs ys rest.held (front-of xs (held.Nothing ∷ [])) rest.among; done = rest.done ∙ did.1.acknowledges }
 
@@ -148,12 +149,12 @@ job-chain : (tells : Bool) (steps : List JobDid) (v mid v' : StoreValue) (ended 
     → Stepped tells (job_calls steps) (job_answers steps ended) at v' xs
 job-chain tells [] v mid v' ended xs at is takes last =
     let first : StepsJob tells v ended v' = subst (λ (s : StoreValue). StepsJob tells s ended v') takes last in
-    let did = link-one tells v v' xs (xs ++ held.Nothing ∷ []) call.JobPump (answer.JobPump ended) at is (pumped-goes tells v v' xs ended first.sound first.is) (pumped-few tells v v' ended first.is) in
+    let did = links tells v v' xs (xs ++ held.Nothing ∷ []) call.JobPump (answer.JobPump ended) at is (pumped-goes tells v v' xs ended first.sound first.is) (pumped-few tells v v' ended first.is) in
     record { end = did.0; held = xs ++ held.Nothing ∷ []; chain = (did.0, did.1, refl); is = did.2; among = front-of xs (held.Nothing ∷ []); done = did.1.acknowledges }
 job-chain tells (step ∷ steps) v mid v' ended xs at is takes last =
     let next : StoreValue = takes.0 in
     let ys : List Held = xs ++ held.Nothing ∷ [] in
-    let did = link-one tells v next xs ys call.JobPump (answer.JobPump (Ok step)) at is (pumped-goes tells v next xs (Ok step) takes.1.sound takes.1.is) (pumped-few tells v next (Ok step) takes.1.is) in
+    let did = links tells v next xs ys call.JobPump (answer.JobPump (Ok step)) at is (pumped-goes tells v next xs (Ok step) takes.1.sound takes.1.is) (pumped-few tells v next (Ok step) takes.1.is) in
     let rest = job-chain tells steps next mid v' ended ys did.0 did.2 takes.3 last in
     record { end = rest.end; held = rest.held; chain = (did.0, did.1, rest.chain); is = rest.is; among = through xs ys rest.held (front-of xs (held.Nothing ∷ [])) rest.among; done = rest.done ∙ did.1.acknowledges }
 
@@ -188,9 +189,9 @@ by-a-view tells m is l r new view c a says acknowledges quiet of goes asked name
     let ws : List Held = slice_set zs n held.Nothing ++ held.Nothing ∷ [] in
     let there = get-front ys n (held.View view) held.Nothing (get-end xs (held.View view)) in
     let few = same-few v v refl in
-    let one = link-one tells v v xs ys call.View (answer.View (Ok tt)) (moment_of m) is (view-goes tells v xs (Ok view) of) few in
-    let two = link-one tells v after ys zs c a one.0 one.2 goes asked in
-    let three = link-one tells after after zs ws (call.End n) answer.End two.0 two.2 (end-goes tells after after zs n view there refl) (same-few after after refl) in
+    let one = links tells v v xs ys call.View (answer.View (Ok tt)) (moment_of m) is (view-goes tells v xs (Ok view) of) few in
+    let two = links tells v after ys zs c a one.0 one.2 goes asked in
+    let three = links tells after after zs ws (call.End n) answer.End two.0 two.2 (end-goes tells after after zs n view there refl) (same-few after after refl) in
     let done_one : one.0.done ≡ m.done = one.1.acknowledges in
     let done_two : two.0.done ≡ m.done = two.1.acknowledges ∙ ap (λ (times : List ℕ). with_answer a times) done_one ∙ quiet in
     by-chain tells m is l r (by_view n c a) says three.0 (one.0, one.1, (two.0, two.1, (three.0, three.1, refl))) after ws three.2 (three.1.acknowledges ∙ done_two ∙ acknowledges)

@@ -7,6 +7,8 @@ use Rattle.history.specs.Fronts.{OnFront}
 use Rattle.history.specs.Machine.{opened}
 use Rattle.recovery.specs.Faults.{IsReadFault}
 use Rattle.recovery.specs.declared.fault.OpenFault.{OpenFault}
+use Rattle.status.specs.declared.header.Header.{Header}
+use Rattle.law_opening.specs.Laws.{IsHeaderLeftBy, IsOfHeader}
 use Rattle.script.specs.declared.line.Line.{Line}
 use Rattle.script.specs.declared.line.Line.TheVariants as line
 use Rattle.session.specs.Session.{Step}
@@ -39,11 +41,12 @@ pub record Closed (tells : Bool) (before : ScriptMoment) (given : DiskState) : T
   pub disk : end.store.disk ≡ given
   pub done : end.done ≡ before.done
 
--- It is closed and opened again, on a history that has every commit of which `done` was written. While it is opened a stop leaves nothing that it might not have left before.
+-- It is closed and opened again, with the slots that there were or those of a piece in the making too, on a history that has every commit of which `done` was written. While it is opened a stop leaves nothing that it might not have left before.
 pub record KeepsByOpening (tells : Bool) (before after : ScriptMoment) : Type 0 where
   pub given : DiskState
   pub closed : Closed tells before given
   pub stops : LeavesNoMore given.areas after.state.store.disk.areas
+  pub header : (header : Header) × IsHeaderLeftBy closed.end.store header × IsOfHeader after.state.store header
   pub front : OnFront (λ h floors. (after.machine ≡ opened h floors) × AllByRecursion (HasCommitAt h) before.done) closed.end.world.machine
   pub done : after.done ≡ before.done
   pub leaves : Leaves tells (moment_of after)

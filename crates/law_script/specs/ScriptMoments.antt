@@ -44,7 +44,8 @@ place_of (held.View view) = Free
 
 -- the moment of the calls before a line
 abbrev pub moment_of : ScriptMoment → Moment
-moment_of m = record { store = m.state.store; world = record { machine = m.machine; places = map place_of (held_of m.state) }; done = m.done }
+moment_of m =
+    record { store = m.state.store; held = held_of m.state; world = record { machine = m.machine; places = map place_of (held_of m.state) }; done = m.done }
 
 -- what is acknowledged once this is written too: `done` names the time of its commit
 abbrev pub with_reply : Reply → List ℕ → List ℕ

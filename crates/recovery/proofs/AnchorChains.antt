@@ -1,5 +1,6 @@
 -- The chain of the anchors that is read, and the one that the heap holds.
-use Rattle.std.proofs.Common.{◌≡◌, ℕ, ◌^◌, ◌<◌, ◌≤◌, Bool, true, false, cond, List, [], ◌∷◌, ◌++◌, map, length, replicate, Some, None, refl, sym, ap, subst, ◌∙◌, append_assoc, arith}
+use Rattle.std.proofs.Common.{◌≡◌, ℕ, ◌^◌, ◌<◌, ◌≤◌, Bool, true, false, cond, List, [], ◌∷◌, ◌++◌, map, length, replicate, Some, None, refl, sym, ap, subst}
+use Rattle.std.proofs.Common.{◌∙◌, append_assoc, arith}
 use Rattle.std.specs.Prelude.{find}
 use Rattle.std.specs.List.{AllByRecursion, cons_option}
 use Rattle.std.specs.List.Sorted.{IsStrictlySortedBy}
@@ -67,13 +68,15 @@ unfolding old_bytes
 spelled_of [] = refl
 spelled_of (o ∷ olds) = ap (λ l. spelling (old_record_of o) ∷ l) (spelled_of olds)
 
-old_in_range : (mark : ℕ) (key : Key) (c : Content) → mark < 2 ^ 63 → IsKey key → IsPermitted (OfAnchors mark) c → deltas.IsContent c → IsOldRecord (record { key = key; from = from_of c; value = value_of c })
+old_in_range : (mark : ℕ) (key : Key) (c : Content) → mark < 2 ^ 63 → IsKey key → IsPermitted (OfAnchors mark) c → deltas.IsContent c
+    → IsOldRecord (record { key = key; from = from_of c; value = value_of c })
 old_in_range mark key (Anchor value) low is ok range = absurd ok
 old_in_range mark key (Delta mask changed) low is ok range = absurd ok
 old_in_range mark key Gone low is ok range = absurd ok
 old_in_range mark key (Old from value) low is ok range = let upto = ok.1 in record { key = is; from = omega arith; value = range.1 }
 
-each_again : (mark : ℕ) (rs : List Record) → mark < 2 ^ 63 → ArePermitted mark rs → AllByRecursion deltas.IsRecord rs → AllByRecursion IsOldRecord (map old_record rs)
+each_again : (mark : ℕ) (rs : List Record) → mark < 2 ^ 63 → ArePermitted mark rs → AllByRecursion deltas.IsRecord rs
+    → AllByRecursion IsOldRecord (map old_record rs)
 each_again mark [] low ok each = tt
 each_again mark (r ∷ rs) low ok each = (old_in_range mark r.key r.content low (each.0).key ok.0 (each.0).content, each_again mark rs low ok.1 each.1)
 
@@ -105,7 +108,8 @@ keys_of (o ∷ olds) = ap (λ l. o.key ∷ l) (keys_of olds)
 
 -- ---- the writes of each key
 
-above_anchors : (key : Key) (rs : List Record) → AllByRecursion (λ k. key_cmp key k ≡ Less) (map (λ (r : Record). r.key) rs) → AllAbove key (map anchor_writes rs)
+above_anchors : (key : Key) (rs : List Record) → AllByRecursion (λ k. key_cmp key k ≡ Less) (map (λ (r : Record). r.key) rs)
+    → AllAbove key (map anchor_writes rs)
 above_anchors key [] above = tt
 above_anchors key (r ∷ rs) above = (key_lt-from_less key r.key above.0, above_anchors key rs above.1)
 
@@ -118,19 +122,23 @@ pub latest_anchors : (mark : ℕ) (rs : List Record) → ArePermitted mark rs �
 latest_anchors mark [] ok = omega arith
 latest_anchors mark (r ∷ rs) ok = let first = (old_upto mark r.content ok.0).1 in let rest = latest_anchors mark rs ok.1 in omega arith
 
-none_beyond : (k key : Key) (rs : List Record) → same_key k key ≡ true → AllByRecursion (λ y. key_cmp k y ≡ Less) (map (λ (r : Record). r.key) rs) → old_writes (map old_record rs) key ≡ []
+none_beyond : (k key : Key) (rs : List Record) → same_key k key ≡ true → AllByRecursion (λ y. key_cmp k y ≡ Less) (map (λ (r : Record). r.key) rs)
+    → old_writes (map old_record rs) key ≡ []
 none_beyond k key [] same above = refl
 none_beyond k key (r ∷ rs) same above =
     let lt : key_lt k r.key ≡ true = key_lt-from_less k r.key above.0 in
     let other : same_key r.key key ≡ false = grind (arith, nat_tests) in
     rw other (none_beyond k key rs same above.1)
 
-pub anchored_writes : (rs : List Record) (key : Key) → IsStrictlySortedBy key_cmp (map (λ (r : Record). r.key) rs) → writes_of (map anchor_writes rs) key ≡ old_writes (map old_record rs) key
+pub anchored_writes : (rs : List Record) (key : Key) → IsStrictlySortedBy key_cmp (map (λ (r : Record). r.key) rs) → writes_of (map anchor_writes rs) key
+    ≡ old_writes (map old_record rs) key
 unfolding IsStrictlySortedBy
 anchored_writes [] key rising = refl
 anchored_writes (r ∷ rs) key rising =
     let write : TimedWrite Value = record { time = from_of r.content; write = Some (value_of r.content) } in
-    let Goal : Bool → Type 0 = λ b. same_key r.key key ≡ b → writes_in (cond b (Some (anchor_writes r)) (find (is_of key) (map anchor_writes rs))) ≡ cons_option (cond b (Some write) None) (old_writes (map old_record rs) key) in
+    let Goal : Bool → Type 0 =
+    λ b. same_key r.key key ≡ b → writes_in (cond b (Some (anchor_writes r)) (find (is_of key) (map anchor_writes rs)))
+    ≡ cons_option (cond b (Some write) None) (old_writes (map old_record rs) key) in
     let all : (b : Bool) → Goal b =
     λ b. elim b as Goal [
       | true ↦ λ same. ap (λ (l : List (TimedWrite Value)). write ∷ l) (sym (none_beyond r.key key rs same rising.0))
@@ -151,14 +159,16 @@ free_each [] numbered = tt
 free_each (e ∷ es) numbered = (free_all e.number (numbered.0).0 (numbered.0).1, free_each es numbered.1)
 
 module _ (heap : List ℕ) (anchors : Anchors) where
-  pub anchors_found : (records : List Record) → anchors.upto < 2 ^ 63 → HasRecords heap (length heap) (replicate 65536 Free) (anchors_name anchors) (OfAnchors anchors.upto) records → IsFoundAnchors heap anchors records
+  pub anchors_found : (records : List Record) → anchors.upto < 2 ^ 63
+      → HasRecords heap (length heap) (replicate 65536 Free) (anchors_name anchors) (OfAnchors anchors.upto) records → IsFoundAnchors heap anchors records
   anchors_found records low right =
       let held = right.held in
       let chain : List Extent = held.chain in
       let is_chain = held.is_chain in
       let are = held.are_records in
       let walked = walk_finds heap anchors.first anchors.extents chain is_chain.first_is is_chain.extents_are is_chain.linked is_chain.each held.images_are in
-      let can : AreClaimable (length heap) (replicate 65536 Free) (numbers_in chain) = subst (AreClaimable (length heap) (replicate 65536 Free)) walked.0 right.claimable in
+      let can : AreClaimable (length heap) (replicate 65536 Free) (numbers_in chain) =
+      subst (AreClaimable (length heap) (replicate 65536 Free)) walked.0 right.claimable in
       record {
         has = record {
           chain = chain;
@@ -178,16 +188,19 @@ module _ (heap : List ℕ) (anchors : Anchors) where
         numbers = walked.0;
       }
 
-  pub anchors_right : HasAnchors heap anchors.upto anchors → (records : List Record) × HasRecords heap (length heap) (replicate 65536 Free) (anchors_name anchors) (OfAnchors anchors.upto) records
+  pub anchors_right : HasAnchors heap anchors.upto anchors → (records : List Record)
+      × HasRecords heap (length heap) (replicate 65536 Free) (anchors_name anchors) (OfAnchors anchors.upto) records
   anchors_right has =
       let chain : List Extent = has.chain in
       let live = has.are in
       let is_chain = live.is_chain.is_chain in
       let stands : AllByRecursion (StandsAt heap) chain = both IsExtent (HoldsExtent heap) (StandsAt heap) chain (stands_held heap) is_chain.each live.held in
-      let there : AllByRecursion (λ e. IsThere (length heap) e.number) chain = both IsExtent (HoldsExtent heap) (λ e. IsThere (length heap) e.number) chain (there_held heap) is_chain.each live.held in
+      let there : AllByRecursion (λ e. IsThere (length heap) e.number) chain =
+      both IsExtent (HoldsExtent heap) (λ e. IsThere (length heap) e.number) chain (there_held heap) is_chain.each live.held in
       let walked : numbers_at heap anchors.first anchors.extents ≡ numbers_in chain =
       subst (λ (n : ℕ). numbers_at heap n anchors.extents ≡ numbers_in chain) is_chain.first_is
-      (subst (λ (n : ℕ). numbers_at heap (first_of chain) n ≡ numbers_in chain) is_chain.extents_are (walk_is heap chain is_chain.linked is_chain.each stands)) in
+      (subst (λ (n : ℕ). numbers_at heap (first_of chain) n
+      ≡ numbers_in chain) is_chain.extents_are (walk_is heap chain is_chain.linked is_chain.each stands)) in
       let can : AreClaimable (length heap) (replicate 65536 Free) (numbers_in chain) =
       distinct_claimable (length heap) (replicate 65536 Free) chain there (free_each chain (numbered_of chain is_chain.each)) live.apart in (
         map old_record_of has.olds,
@@ -213,14 +226,17 @@ none_left [] none = refl
 none_left (x ∷ xs) none = absurd (omega arith)
 
 -- one anchor more is behind the others
-pub next_ordered : (chains : List KeyWrites) (all : List Record) (r : Record) (rs : List Record) → chains ++ map anchor_writes (r ∷ rs) ≡ map anchor_writes all → IsStrictlySortedBy key_cmp (map (λ (r : Record). r.key) all)
+pub next_ordered : (chains : List KeyWrites) (all : List Record) (r : Record) (rs : List Record) → chains ++ map anchor_writes (r ∷ rs) ≡ map anchor_writes all
+    → IsStrictlySortedBy key_cmp (map (λ (r : Record). r.key) all)
     → IsOrdered (chains ++ anchor_writes r ∷ [])
 next_ordered chains all r rs are rising =
     ordered-front (chains ++ anchor_writes r ∷ []) (map anchor_writes rs)
     (subst IsOrdered (sym (append_assoc chains (anchor_writes r ∷ []) (map anchor_writes rs) ∙ are)) (ordered_anchors all rising))
 
-module _ (heap : List ℕ) (len : ℕ) (anchors : Anchors) (usages : List Usage) (name : ChainName) (whole : len ≡ length heap) (all_free : usages ≡ replicate 65536 Free) (named : name ≡ anchors_name anchors) where
-  pub anchors_held : (new : List Usage) (read : ReadRecords) (out : HeapRead) → anchors.upto < 2 ^ 63 → AreReadRecords heap len usages name (OfAnchors anchors.upto) new read → out.extents ≡ new → out.live.items ≡ []
+module _ (heap : List ℕ) (len : ℕ) (anchors : Anchors) (usages : List Usage) (name : ChainName) (whole : len ≡ length heap) (all_free : usages
+    ≡ replicate 65536 Free) (named : name ≡ anchors_name anchors) where
+  pub anchors_held : (new : List Usage) (read : ReadRecords) (out : HeapRead) → anchors.upto < 2 ^ 63
+      → AreReadRecords heap len usages name (OfAnchors anchors.upto) new read → out.extents ≡ new → out.live.items ≡ []
       → out.chains ≡ map anchor_writes read.records.items → out.last ≡ anchors.upto → HoldsAnchors heap anchors out
   anchors_held new read out low are extents live chains last_is =
       let kinds = OfAnchors anchors.upto in

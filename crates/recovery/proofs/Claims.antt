@@ -24,7 +24,8 @@ now_kept usages n low high = record {
   high = high;
   is = elim (cases_lt (n - 1) (length usages)) [
     | inl lt ↦ get_or-set_at usages (n - 1) (n - 1) Kept Kept refl lt
-    | inr le ↦ get_or_past (with_usage usages n Kept) (n - 1) Kept (let same : length (with_usage usages n Kept) ≡ length usages = length-set usages (n - 1) Kept in omega arith)
+    | inr le ↦ get_or_past (with_usage usages n Kept) (n - 1) Kept (let same : length (with_usage usages n Kept)
+        ≡ length usages = length-set usages (n - 1) Kept in omega arith)
   ];
 }
 
@@ -39,10 +40,12 @@ IsNumbered e = (1 ≤ e.number) × (e.number ≤ 65536)
 
 kept_behind : (usages : List Usage) (es : List Extent) (n : ℕ) → AllByRecursion IsNumbered es → IsKept usages n → IsKept (claimed usages (numbers_in es)) n
 kept_behind usages [] n numbered kept = kept
-kept_behind usages (e ∷ es) n numbered kept = kept_behind (with_usage usages e.number Kept) es n numbered.1 (still_kept usages e.number n (numbered.0).0 (numbered.0).1 kept)
+kept_behind usages (e ∷ es) n numbered kept =
+    kept_behind (with_usage usages e.number Kept) es n numbered.1 (still_kept usages e.number n (numbered.0).0 (numbered.0).1 kept)
 
 -- all that were kept are
-pub kept_all : (usages : List Usage) (es : List Extent) → AllByRecursion IsNumbered es → AllByRecursion (λ e. IsKept (claimed usages (numbers_in es)) e.number) es
+pub kept_all : (usages : List Usage) (es : List Extent) → AllByRecursion IsNumbered es
+    → AllByRecursion (λ e. IsKept (claimed usages (numbers_in es)) e.number) es
 kept_all usages [] numbered = tt
 kept_all usages (e ∷ es) numbered = (
   kept_behind (with_usage usages e.number Kept) es e.number numbered.1 (now_kept usages e.number (numbered.0).0 (numbered.0).1),
@@ -50,13 +53,16 @@ kept_all usages (e ∷ es) numbered = (
 )
 
 -- the others are free as before
-pub still_free : (usages : List Usage) (es : List Extent) (n : ℕ) → AllByRecursion IsNumbered es → AllByRecursion (λ e. n ≢ e.number) es → IsFree usages n → IsFree (claimed usages (numbers_in es)) n
+pub still_free : (usages : List Usage) (es : List Extent) (n : ℕ) → AllByRecursion IsNumbered es → AllByRecursion (λ e. n ≢ e.number) es → IsFree usages n
+    → IsFree (claimed usages (numbers_in es)) n
 still_free usages [] n numbered apart free = free
-still_free usages (e ∷ es) n numbered apart free = still_free (with_usage usages e.number Kept) es n numbered.1 apart.1 (other_stays usages e.number n Kept Free (numbered.0).0 apart.0 free)
+still_free usages (e ∷ es) n numbered apart free =
+    still_free (with_usage usages e.number Kept) es n numbered.1 apart.1 (other_stays usages e.number n Kept Free (numbered.0).0 apart.0 free)
 
 -- ---- claimable, and distinct
 
-none_is_kept : (len : ℕ) (usages : List Usage) (es : List Extent) (n : ℕ) → IsKept usages n → AreClaimable len usages (numbers_in es) → AllByRecursion (λ e. n ≢ e.number) es
+none_is_kept : (len : ℕ) (usages : List Usage) (es : List Extent) (n : ℕ) → IsKept usages n → AreClaimable len usages (numbers_in es)
+    → AllByRecursion (λ e. n ≢ e.number) es
 none_is_kept len usages [] n kept can = tt
 none_is_kept len usages (e ∷ es) n kept can = (
   are_apart usages Kept Free n e.number (λ same. cc) kept can.1,
@@ -70,16 +76,20 @@ claimable_distinct len usages (e ∷ es) can = (
   claimable_distinct len (with_usage usages e.number Kept) es can.2,
 )
 
-pub claimable_cross : (len : ℕ) (usages : List Usage) (taken es : List Extent) → AllByRecursion (λ e. IsKept usages e.number) taken → AreClaimable len usages (numbers_in es) → AreCross taken es
+pub claimable_cross : (len : ℕ) (usages : List Usage) (taken es : List Extent) → AllByRecursion (λ e. IsKept usages e.number) taken
+    → AreClaimable len usages (numbers_in es) → AreCross taken es
 claimable_cross len usages [] es kept can = tt
 claimable_cross len usages (t ∷ taken) es kept can = (none_is_kept len usages es t.number kept.0 can, claimable_cross len usages taken es kept.1 can)
 
-free_beside : (usages : List Usage) (e : Extent) (es : List Extent) → 1 ≤ e.number → AllByRecursion (λ f. e.number ≢ f.number) es → AllByRecursion (λ f. IsFree usages f.number) es
+free_beside : (usages : List Usage) (e : Extent) (es : List Extent) → 1 ≤ e.number → AllByRecursion (λ f. e.number ≢ f.number) es
+    → AllByRecursion (λ f. IsFree usages f.number) es
     → AllByRecursion (λ f. IsFree (with_usage usages e.number Kept) f.number) es
 free_beside usages e [] low apart free = tt
-free_beside usages e (f ∷ es) low apart free = (other_stays usages e.number f.number Kept Free low (λ same. apart.0 (sym same)) free.0, free_beside usages e es low apart.1 free.1)
+free_beside usages e (f ∷ es) low apart free =
+    (other_stays usages e.number f.number Kept Free low (λ same. apart.0 (sym same)) free.0, free_beside usages e es low apart.1 free.1)
 
-pub distinct_claimable : (len : ℕ) (usages : List Usage) (es : List Extent) → AllByRecursion (λ e. IsThere len e.number) es → AllByRecursion (λ e. IsFree usages e.number) es → AreDistinct es → AreClaimable len usages (numbers_in es)
+pub distinct_claimable : (len : ℕ) (usages : List Usage) (es : List Extent) → AllByRecursion (λ e. IsThere len e.number) es
+    → AllByRecursion (λ e. IsFree usages e.number) es → AreDistinct es → AreClaimable len usages (numbers_in es)
 distinct_claimable len usages [] there free distinct = tt
 distinct_claimable len usages (e ∷ es) there free distinct = (
   there.0,

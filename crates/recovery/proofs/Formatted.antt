@@ -12,7 +12,8 @@ pub has_numbers : (slots : ℕ) → IsSlotCount slots → HasNumbers (new_header
 has_numbers slots is = record { lowest = omega arith; highest = omega arith; some = is.0; whole = λ one. refl; total = let few = is.1 in omega arith }
 
 module _ (slots : ℕ) (front file : List ℕ) (is : IsSlotCount slots) (long : length front ≡ 512) (front_is : IsFront (new_header 3 slots) front)
-    (behind : (k : ℕ) → 16 ≤ k → slice_index front k ≡ 0) (room : slot_start slots ≤ length file) (zeros : (k : ℕ) → 512 ≤ k → k < slot_start slots → slice_index file k ≡ 0) where
+    (behind : (k : ℕ) → 16 ≤ k → slice_index front k ≡ 0) (room : slot_start slots ≤ length file) (zeros : (k : ℕ) → 512 ≤ k → k < slot_start slots
+    → slice_index file k ≡ 0) where
   bytes : List ℕ
   bytes = overlaid file 0 front
 
@@ -46,14 +47,18 @@ module _ (slots : ℕ) (front file : List ℕ) (is : IsSlotCount slots) (long : 
     opens = opens_none;
     closed = λ n low below. shut n (omega arith);
     pieces_closed = λ i low high opened.
-        let zero : piece_gate (take 512 (overlaid file 0 front)) i ≡ 0 = ap (λ (f : List ℕ). slice_index f (16 + i)) front-bytes ∙ behind (16 + i) (omega arith) in
+        let zero : piece_gate (take 512 (overlaid file 0 front)) i ≡ 0 =
+        ap (λ (f : List ℕ). slice_index f (16 + i)) front-bytes ∙ behind (16 + i) (omega arith) in
         let both : ◌≡◌ {A = ℕ} 0xC7 0 = sym opened ∙ zero in
         absurd (omega arith);
   }
 
-  pub formatted : (before old new : Areas) → HasZeroSlots slots before old → old.status.bytes ≡ file → new ≡ record old { status = synced (written 0 front old.status) } → IsFormatted slots before new
+  pub formatted : (before old new : Areas) → HasZeroSlots slots before old → old.status.bytes ≡ file → new
+      ≡ record old { status = synced (written 0 front old.status) } → IsFormatted slots before new
   formatted before old new has is_file now = record {
-    others = now ∙ ap (λ (a : Areas). record a { status = synced (written 0 front old.status) }) has.others ∙ ap (λ (a : AreaState). record before { status = a }) (sym (ap (λ (a : Areas). a.status) now));
+    others = now ∙ ap (λ (a : Areas). record a { status = synced (written 0 front old.status) }) has.others
+        ∙ ap (λ (a : AreaState). record before { status = a }) (sym (ap (λ (a : Areas). a.status) now));
     settled = rw now (record { firm = refl; loose = refl });
-    log = subst (λ (b : List ℕ). IsLog (new_header 3 slots) b []) (sym (ap (λ (a : Areas). a.status.bytes) now ∙ ap (λ (f : List ℕ). overlaid f 0 front) is_file)) formatted_log;
+    log = subst (λ (b : List ℕ). IsLog (new_header 3 slots) b []) (sym (ap (λ (a : Areas). a.status.bytes) now
+        ∙ ap (λ (f : List ℕ). overlaid f 0 front) is_file)) formatted_log;
   }

@@ -1,5 +1,6 @@
 -- The times of a log's commits.
-use Rattle.std.proofs.Common.{◌≡◌, ◌≤◌, ◌<◌, ◌^◌, ℕ, nat_lt, Bool, true, false, cond, ⊎_elim, arith, length, get_or, List, [], ◌∷◌, ◌++◌, map, refl, sym, ap, subst, ◌∙◌}
+use Rattle.std.proofs.Common.{◌≡◌, ◌≤◌, ◌<◌, ◌^◌, ℕ, nat_lt, Bool, true, false, cond, ⊎_elim, arith, length, get_or, List, [], ◌∷◌, ◌++◌, map, refl, sym, ap}
+use Rattle.std.proofs.Common.{subst, ◌∙◌}
 use Rattle.std.specs.Prelude.{filter}
 use Rattle.std.proofs.lemmas.Bool.{cases_lt}
 use Rattle.std.proofs.lemmas.List.{append-nil, map-append}
@@ -23,7 +24,8 @@ rising_join t (x ∷ xs) ys a b = (a.0, a.1, rising_join x.time xs ys a.2 b)
 -- the last time behind one slot more
 last-commits : (before : List Slot) (heads : List Head) → last_time (before ++ Commits heads ∷ []) ≡ last_time_after (last_time before) heads
 last-commits before heads =
-    ap (last_time_after 0) (heads_of-append before (Commits heads ∷ []) ∙ ap (λ l. heads_of before ++ l) (append-nil heads)) ∙ last_time_after-append 0 (heads_of before) heads
+    ap (last_time_after 0) (heads_of-append before (Commits heads ∷ []) ∙ ap (λ l. heads_of before ++ l) (append-nil heads))
+    ∙ last_time_after-append 0 (heads_of before) heads
 
 last-other : (before : List Slot) (slot : Slot) → heads_of (slot ∷ []) ≡ [] → last_time (before ++ slot ∷ []) ≡ last_time before
 last-other before slot none = ap (last_time_after 0) (heads_of-append before (slot ∷ []) ∙ ap (λ l. heads_of before ++ l) none ∙ append-nil (heads_of before))
@@ -38,9 +40,11 @@ log_rises profile before (Archived upto ∷ log) may =
 log_rises profile before (Reclaimed upto ∷ log) may =
     subst (λ (t : ℕ). AreRisingAfter t (heads_of log)) (last-other before (Reclaimed upto) refl) (log_rises profile (before ++ Reclaimed upto ∷ []) log may.1)
 log_rises profile before (Floor scope floor ∷ log) may =
-    subst (λ (t : ℕ). AreRisingAfter t (heads_of log)) (last-other before (Floor scope floor) refl) (log_rises profile (before ++ Floor scope floor ∷ []) log may.1)
+    subst (λ (t : ℕ). AreRisingAfter t (heads_of log)) (last-other before (Floor scope floor) refl) (log_rises profile (before ++ Floor scope floor
+    ∷ []) log may.1)
 
-heads_in : (body : Body) (slots : List Wired) → map head_of (entries_of slots) ≡ heads_of (log_of slots) → map head_of (entries_in body ++ entries_of slots) ≡ heads_of (slot_of body ∷ log_of slots)
+heads_in : (body : Body) (slots : List Wired) → map head_of (entries_of slots) ≡ heads_of (log_of slots) → map head_of (entries_in body ++ entries_of slots)
+    ≡ heads_of (slot_of body ∷ log_of slots)
 heads_in (bodies.Commit members) slots rest = map-append head_of members.items (entries_of slots) ∙ ap (λ l. map head_of members.items ++ l) rest
 heads_in (bodies.Archived run) slots rest = rest
 heads_in (bodies.Reclaimed anchors) slots rest = rest
@@ -55,19 +59,22 @@ pub entries_rise : (profile : ℕ) (slots : List Wired) → KeepsRules profile s
 entries_rise profile slots rules = subst (AreRisingAfter 0) (sym (entry_heads slots)) (log_rises profile [] (log_of slots) (rules_say profile slots rules).0)
 
 -- the archive mark is not later than the last commit that the slots name
-pub archived_upto_last : (profile : ℕ) (slots : List Wired) → KeepsRules profile slots → archive_mark (log_of slots) ≤ last_time_after 0 (map head_of (entries_of slots))
+pub archived_upto_last : (profile : ℕ) (slots : List Wired) → KeepsRules profile slots
+    → archive_mark (log_of slots) ≤ last_time_after 0 (map head_of (entries_of slots))
 archived_upto_last profile slots rules =
     subst (λ (heads : List Head). archive_mark (log_of slots) ≤ last_time_after 0 heads) (sym (entry_heads slots))
     (marked-all profile [] (log_of slots) marked-none (rules_say profile slots rules).0).archived
 
 -- neither is a floor
-pub floor_upto_last : (profile : ℕ) (slots : List Wired) (relation : ℕ) → KeepsRules profile slots → floor_of (log_of slots) relation ≤ last_time_after 0 (map head_of (entries_of slots))
+pub floor_upto_last : (profile : ℕ) (slots : List Wired) (relation : ℕ) → KeepsRules profile slots
+    → floor_of (log_of slots) relation ≤ last_time_after 0 (map head_of (entries_of slots))
 floor_upto_last profile slots relation rules =
     subst (λ (heads : List Head). floor_of (log_of slots) relation ≤ last_time_after 0 heads) (sym (entry_heads slots))
     ((marked-all profile [] (log_of slots) marked-none (rules_say profile slots rules).0).floors relation)
 
 -- neither is the reclaim mark, which is in range
-pub reclaimed_upto_last : (profile : ℕ) (slots : List Wired) → KeepsRules profile slots → reclaim_mark (log_of slots) ≤ last_time_after 0 (map head_of (entries_of slots))
+pub reclaimed_upto_last : (profile : ℕ) (slots : List Wired) → KeepsRules profile slots
+    → reclaim_mark (log_of slots) ≤ last_time_after 0 (map head_of (entries_of slots))
 reclaimed_upto_last profile slots rules =
     let marks = (marked-all profile [] (log_of slots) marked-none (rules_say profile slots rules).0).reclaimed in
     let archived = archived_upto_last profile slots rules in
@@ -83,7 +90,8 @@ reclaimed_in_range profile slots rules =
 
 -- ---- the commits later than a mark
 
-anchored_in : (before : Anchors) (body : Body) (log : List Slot) → reclaim_mark_after before.upto (slot_of body ∷ log) ≡ reclaim_mark_after (anchors_in before body).upto log
+anchored_in : (before : Anchors) (body : Body) (log : List Slot) → reclaim_mark_after before.upto (slot_of body ∷ log)
+    ≡ reclaim_mark_after (anchors_in before body).upto log
 anchored_in before (bodies.Commit members) log = refl
 anchored_in before (bodies.Archived run) log = refl
 anchored_in before (bodies.Reclaimed anchors) log = refl
@@ -101,41 +109,57 @@ all_later : (mark time : ℕ) (entries : List Member) → mark ≤ time → AreR
 all_later mark time [] low rising = refl
 all_later mark time (e ∷ entries) low rising =
     let late : nat_lt mark e.time ≡ true = is_lt (let up = rising.0 in omega arith) in
-    ap (λ b. cond b (e ∷ later_than mark entries) (later_than mark entries)) late ∙ ap (λ l. e ∷ l) (all_later mark e.time entries (let up = rising.0 in omega arith) rising.2)
+    ap (λ b. cond b (e ∷ later_than mark entries) (later_than mark entries)) late
+    ∙ ap (λ l. e ∷ l) (all_later mark e.time entries (let up = rising.0 in omega arith) rising.2)
 
 -- from the first that is later on, all are
-pub later_from : (mark time : ℕ) (e : Member) (entries : List Member) → mark < e.time → AreRisingAfter time (map head_of (e ∷ entries)) → later_than mark (e ∷ entries) ≡ e ∷ entries
+pub later_from : (mark time : ℕ) (e : Member) (entries : List Member) → mark < e.time → AreRisingAfter time (map head_of (e ∷ entries))
+    → later_than mark (e ∷ entries) ≡ e ∷ entries
 later_from mark time e entries late rising =
-    ap (λ b. cond b (e ∷ later_than mark entries) (later_than mark entries)) (is_lt late) ∙ ap (λ l. e ∷ l) (all_later mark e.time entries (omega arith) rising.2)
+    ap (λ b. cond b (e ∷ later_than mark entries) (later_than mark entries)) (is_lt late)
+    ∙ ap (λ l. e ∷ l) (all_later mark e.time entries (omega arith) rising.2)
 
 pub earlier_out : (mark : ℕ) (e : Member) (entries : List Member) → e.time ≤ mark → later_than mark (e ∷ entries) ≡ later_than mark entries
 earlier_out mark e entries early = ap (λ b. cond b (e ∷ later_than mark entries) (later_than mark entries)) (not_lt early)
 
 -- they rise from the mark on
-pub later_rise : (mark time : ℕ) (entries : List Member) → AreRisingAfter time (map head_of entries) → AreRisingAfter mark (map head_of (later_than mark entries))
+pub later_rise : (mark time : ℕ) (entries : List Member) → AreRisingAfter time (map head_of entries)
+    → AreRisingAfter mark (map head_of (later_than mark entries))
 later_rise mark time [] rising = tt
 later_rise mark time (e ∷ entries) rising = ⊎_elim
-    (λ (late : mark < e.time). subst (λ (l : List Member). AreRisingAfter mark (map head_of l)) (sym (later_from mark time e entries late rising)) (late, rising.1, rising.2))
-    (λ (early : e.time ≤ mark). subst (λ (l : List Member). AreRisingAfter mark (map head_of l)) (sym (earlier_out mark e entries early)) (later_rise mark e.time entries rising.2))
+    (λ (late : mark < e.time). subst (λ (l : List Member). AreRisingAfter mark (map head_of l)) (sym (later_from mark time e entries late rising)) (
+      late,
+      rising.1,
+      rising.2,
+    ))
+    (λ (early : e.time ≤ mark). subst (λ (l : List Member). AreRisingAfter mark (map head_of l)) (sym (earlier_out mark e entries early))
+    (later_rise mark e.time entries rising.2))
     (cases_lt mark e.time)
 
 -- and the last of them, or the mark where there is none, is the last of all
-pub later_last : (mark time : ℕ) (entries : List Member) → AreRisingAfter time (map head_of entries) → time ≤ mark → mark ≤ last_time_after time (map head_of entries)
+pub later_last : (mark time : ℕ) (entries : List Member) → AreRisingAfter time (map head_of entries) → time ≤ mark
+    → mark ≤ last_time_after time (map head_of entries)
     → last_time_after mark (map head_of (later_than mark entries)) ≡ last_time_after time (map head_of entries)
 later_last mark time [] rising low high = omega arith
 later_last mark time (e ∷ entries) rising low high = ⊎_elim
     (λ (late : mark < e.time). ap (λ (l : List Member). last_time_after mark (map head_of l)) (later_from mark time e entries late rising))
-    (λ (early : e.time ≤ mark). ap (λ (l : List Member). last_time_after mark (map head_of l)) (earlier_out mark e entries early) ∙ later_last mark e.time entries rising.2 early high)
+    (λ (early : e.time ≤ mark). ap (λ (l : List Member). last_time_after mark (map head_of l)) (earlier_out mark e entries early)
+    ∙ later_last mark e.time entries rising.2 early high)
     (cases_lt mark e.time)
 
-pub later_heads : (mark : ℕ) (entries : List Member) → map head_of (later_than mark entries) ≡ filter (λ (head : Head). nat_lt mark head.time) (map head_of entries)
+pub later_heads : (mark : ℕ) (entries : List Member) → map head_of (later_than mark entries)
+    ≡ filter (λ (head : Head). nat_lt mark head.time) (map head_of entries)
 later_heads mark [] = refl
 later_heads mark (e ∷ entries) =
     let rest = later_heads mark entries in
-    let Goal : Bool → Type 0 = λ b. map head_of (cond b (e ∷ later_than mark entries) (later_than mark entries)) ≡ cond b (head_of e ∷ filter (λ (head : Head). nat_lt mark head.time) (map head_of entries)) (filter (λ (head : Head). nat_lt mark head.time) (map head_of entries)) in
+    let Goal : Bool → Type 0 =
+    λ b. map head_of (cond b (e ∷ later_than mark entries) (later_than mark entries))
+    ≡ cond b (head_of e ∷ filter (λ (head : Head). nat_lt mark head.time) (map head_of entries))
+    (filter (λ (head : Head). nat_lt mark head.time) (map head_of entries)) in
     elim (nat_lt mark e.time) as Goal [ true ↦ ap (λ l. head_of e ∷ l) rest | false ↦ rest ]
 
 -- where the first of commits is later than the mark, they all are
-pub later_here : (mark time : ℕ) (rest : List Member) (d : Member) → 1 ≤ length rest → mark < (get_or rest 0 d).time → AreRisingAfter time (map head_of rest) → rest ≡ later_than mark rest
+pub later_here : (mark time : ℕ) (rest : List Member) (d : Member) → 1 ≤ length rest → mark < (get_or rest 0 d).time → AreRisingAfter time (map head_of rest)
+    → rest ≡ later_than mark rest
 later_here mark time [] d some late rising = absurd (omega arith)
 later_here mark time (e ∷ entries) d some late rising = sym (later_from mark time e entries late rising)

@@ -1,5 +1,6 @@
 -- One member after another, over the anchors.
-use Rattle.std.proofs.Common.{◌≡◌, inl, inr, ℕ, ◌^◌, ◌<◌, nat_le, true, cond, List, [], ◌∷◌, ◌++◌, map, length, replicate, Option, Some, None, refl, sym, ap, subst, append_assoc, ◌∙◌, arith}
+use Rattle.std.proofs.Common.{◌≡◌, inl, inr, ℕ, ◌^◌, ◌<◌, nat_le, true, cond, List, [], ◌∷◌, ◌++◌, map, length, replicate, Option, Some, None, refl, sym, ap}
+use Rattle.std.proofs.Common.{subst, append_assoc, ◌∙◌, arith}
 use Rattle.std.specs.Prelude.{option_map, option_to_list, unwrap_or}
 use Rattle.std.specs.List.{AllByRecursion, cons_option}
 use Rattle.std.proofs.lemmas.List.{append-nil, map-append}
@@ -44,12 +45,16 @@ use Rattle.recovery.proofs.RightChains.{numbered_of, member_of, right_found, liv
 -- ---- values
 
 -- the last value after commits is what they make of the values before them
-value_applied : (s : ℕ) (before : Key → Option Value) (h : History Value) (key : Key) → HasRisingTimes s h → value_after (before key) (writes_of h key) (2 ^ 63) ≡ applied before h key
+value_applied : (s : ℕ) (before : Key → Option Value) (h : History Value) (key : Key) → HasRisingTimes s h → value_after (before key) (writes_of h key) (2 ^ 63)
+    ≡ applied before h key
 value_applied s before [] key rising = refl
 value_applied s before (c ∷ cs) key rising =
     let early : nat_le c.time (2 ^ 63) ≡ true = is_le (omega (arith, rising.1)) in
     let first : value_after (before key) (writes_of (c ∷ cs) key) (2 ^ 63) ≡ value_after (values_after before c key) (writes_of cs key) (2 ^ 63) =
-    elim (write_in c.writes key) as (λ (o : Option (Option Value)). value_after (before key) (cons_option (option_map (λ (write : Option Value). record { time = c.time; write = write }) o) (writes_of cs key)) (2 ^ 63) ≡ value_after (unwrap_or o (before key)) (writes_of cs key) (2 ^ 63)) [
+    elim (write_in c.writes key) as
+    (λ (o : Option (Option Value)). value_after (before key)
+    (cons_option (option_map (λ (write : Option Value). record { time = c.time; write = write }) o) (writes_of cs key)) (2 ^ 63)
+    ≡ value_after (unwrap_or o (before key)) (writes_of cs key) (2 ^ 63)) [
       | None ↦ refl
       | Some w ↦ ap (λ b. value_after (cond b w (before key)) (writes_of cs key) (2 ^ 63)) early
     ] in
@@ -60,11 +65,14 @@ abbrev values_over : List OldRecord → List StoredMember → Key → Option Val
 values_over olds members key = value_after (values_of olds key) (writes_of (commits_of olds members) key) (2 ^ 63)
 
 -- those that were read are these
-before_over : (heap : List ℕ) (mark : ℕ) (chain : List Extent) (olds : List OldRecord) (members : List StoredMember) (read : HeapRead) → HoldsMembers heap mark chain olds members read → before_of read.chains ≡ values_over olds members
-before_over heap mark chain olds members read holds = fun_ext (λ key. ap latest (holds.writes key) ∙ value_after-append None (old_writes olds key) (writes_of (commits_of olds members) key) (2 ^ 63))
+before_over : (heap : List ℕ) (mark : ℕ) (chain : List Extent) (olds : List OldRecord) (members : List StoredMember) (read : HeapRead)
+    → HoldsMembers heap mark chain olds members read → before_of read.chains ≡ values_over olds members
+before_over heap mark chain olds members read holds =
+    fun_ext (λ key. ap latest (holds.writes key) ∙ value_after-append None (old_writes olds key) (writes_of (commits_of olds members) key) (2 ^ 63))
 
 -- and they are the values that the members leave
-before_is : (heap : List ℕ) (mark : ℕ) (chain : List Extent) (olds : List OldRecord) (members : List StoredMember) (read : HeapRead) → HoldsMembers heap mark chain olds members read
+before_is : (heap : List ℕ) (mark : ℕ) (chain : List Extent) (olds : List OldRecord) (members : List StoredMember) (read : HeapRead)
+    → HoldsMembers heap mark chain olds members read
     → before_of read.chains ≡ values_behind (values_of olds) members
 unfolding values_behind
 before_is heap mark chain olds members read holds =
@@ -72,15 +80,20 @@ before_is heap mark chain olds members read holds =
 
 -- ---- extents
 
-pub numbered_live : (heap : List ℕ) (taken : List Extent) (before : Key → Option Value) (members : List StoredMember) → AreLive heap taken before members → AllByRecursion IsNumbered (extents_of members)
+pub numbered_live : (heap : List ℕ) (taken : List Extent) (before : Key → Option Value) (members : List StoredMember) → AreLive heap taken before members
+    → AllByRecursion IsNumbered (extents_of members)
 numbered_live heap taken before [] live = tt
 numbered_live heap taken before (m ∷ members) live =
-    AllByRecursion-append IsNumbered m.extents (extents_of members) (numbered_of m.extents (live.0).stored.chain.each) (numbered_live heap (taken ++ m.extents) (values_left before m) members live.1)
+    AllByRecursion-append IsNumbered m.extents (extents_of members) (numbered_of m.extents (live.0).stored.chain.each) (numbered_live heap (taken
+    ++ m.extents) (values_left before m) members live.1)
 
-pub numbered_all : (heap : List ℕ) (chain : List Extent) (before : Key → Option Value) (members : List StoredMember) → AllByRecursion IsNumbered chain → AreLive heap chain before members → AllByRecursion IsNumbered (chain ++ extents_of members)
-numbered_all heap chain before members numbered live = AllByRecursion-append IsNumbered chain (extents_of members) numbered (numbered_live heap chain before members live)
+pub numbered_all : (heap : List ℕ) (chain : List Extent) (before : Key → Option Value) (members : List StoredMember) → AllByRecursion IsNumbered chain
+    → AreLive heap chain before members → AllByRecursion IsNumbered (chain ++ extents_of members)
+numbered_all heap chain before members numbered live =
+    AllByRecursion-append IsNumbered chain (extents_of members) numbered (numbered_live heap chain before members live)
 
-distinct_live : (heap : List ℕ) (chain : List Extent) (before : Key → Option Value) (members : List StoredMember) → AreDistinct chain → AreLive heap chain before members → AreDistinct (chain ++ extents_of members)
+distinct_live : (heap : List ℕ) (chain : List Extent) (before : Key → Option Value) (members : List StoredMember) → AreDistinct chain
+    → AreLive heap chain before members → AreDistinct (chain ++ extents_of members)
 distinct_live heap chain before members distinct live = (parts_of_live heap chain before members distinct live).apart
 
 -- ---- one more
@@ -103,7 +116,8 @@ written-one c key =
       | Some w ↦ refl
     ]
 
-module _ (heap : List ℕ) (len mark : ℕ) (chain : List Extent) (olds : List OldRecord) (distinct : AreDistinct chain) (numbered : AllByRecursion IsNumbered chain)
+module _ (heap : List ℕ) (len mark : ℕ) (chain : List Extent) (olds : List OldRecord) (distinct : AreDistinct chain)
+    (numbered : AllByRecursion IsNumbered chain)
     (members : List StoredMember) (read : HeapRead) (entry : Member) (whole : len ≡ length heap) (holds : HoldsMembers heap mark chain olds members read) where
   usages : List Usage
   usages = claimed (replicate 65536 Free) (numbers_in (chain ++ extents_of members))
@@ -112,14 +126,16 @@ module _ (heap : List ℕ) (len mark : ℕ) (chain : List Extent) (olds : List O
   before_members = before_is heap mark chain olds members read holds
 
   -- a right chain in terms of the members
-  right_of : (records : List Record) → IsRightChain heap len read.extents (before_of read.chains) entry records → IsRightChain heap (length heap) usages (values_behind (values_of olds) members) entry records
+  right_of : (records : List Record) → IsRightChain heap len read.extents (before_of read.chains) entry records
+      → IsRightChain heap (length heap) usages (values_behind (values_of olds) members) entry records
   unfolding usages
   right_of records right =
       subst (λ (n : ℕ). IsRightChain heap n usages (values_behind (values_of olds) members) entry records) whole
       (subst (λ (us : List Usage). IsRightChain heap len us (values_behind (values_of olds) members) entry records) holds.extents
       (subst (λ (before : Key → Option Value). IsRightChain heap len read.extents before entry records) before_members right))
 
-  of_right : (records : List Record) → IsRightChain heap (length heap) usages (values_behind (values_of olds) members) entry records → IsRightChain heap len read.extents (before_of read.chains) entry records
+  of_right : (records : List Record) → IsRightChain heap (length heap) usages (values_behind (values_of olds) members) entry records
+      → IsRightChain heap len read.extents (before_of read.chains) entry records
   unfolding usages
   of_right records right =
       subst (λ (n : ℕ). IsRightChain heap n read.extents (before_of read.chains) entry records) (sym whole)
@@ -134,7 +150,10 @@ module _ (heap : List ℕ) (len mark : ℕ) (chain : List Extent) (olds : List O
       → (s : StoredMember) × (s.entry ≡ entry) × HoldsMembers heap mark chain olds (members ++ s ∷ []) next
   unfolding member_of usages
   member_added next ranges later adds =
-      let found = right_found heap (chain ++ extents_of members) (values_behind (values_of olds) members) entry ranges (distinct_live heap chain (values_of olds) members distinct holds.are) numbered_now adds.records (right_of adds.records adds.right) in
+      let found =
+      right_found heap (chain
+      ++ extents_of members) (values_behind (values_of olds) members) entry ranges (distinct_live heap chain (values_of olds) members distinct holds.are)
+      numbered_now adds.records (right_of adds.records adds.right) in
       let s : StoredMember = member_of entry found.extents adds.records in
       let same : before_of read.chains ≡ values_over olds members = before_over heap mark chain olds members read holds in
       let c : Commit Value = commit_read (values_over olds members) s.member in
@@ -149,7 +168,8 @@ module _ (heap : List ℕ) (len mark : ℕ) (chain : List Extent) (olds : List O
               ∙ ap (λ (us : List Usage). claimed us (numbers_of heap entry)) holds.extents
               ∙ ap (λ (ns : List ℕ). claimed (claimed (replicate 65536 Free) (numbers_in (chain ++ extents_of members))) ns) found.numbers
               ∙ sym (claimed-append (replicate 65536 Free) (numbers_in (chain ++ extents_of members)) (numbers_in found.extents))
-              ∙ ap (λ (ns : List ℕ). claimed (replicate 65536 Free) ns) (sym (map-append (λ (e : Extent). e.number) (chain ++ extents_of members) found.extents))
+              ∙ ap (λ (ns : List ℕ). claimed (replicate 65536 Free) ns)
+              (sym (map-append (λ (e : Extent). e.number) (chain ++ extents_of members) found.extents))
               ∙ ap (λ (es : List Extent). claimed (replicate 65536 Free) (numbers_in es)) (append_assoc chain (extents_of members) found.extents)
               ∙ ap (λ (es : List Extent). claimed (replicate 65536 Free) (numbers_in (chain ++ es))) (sym (extents-push members s));
           live =
@@ -160,13 +180,16 @@ module _ (heap : List ℕ) (len mark : ℕ) (chain : List Extent) (olds : List O
           writes = λ key.
               adds.chains key
               ∙ ap (λ (ws : List (TimedWrite Value)). ws ++ written entry.time (commit_read (before_of read.chains) s.member).writes key) (holds.writes key)
-              ∙ append_assoc (old_writes olds key) (writes_of (commits_of olds members) key) (written entry.time (commit_read (before_of read.chains) s.member).writes key)
-              ∙ ap (λ (b : Key → Option Value). old_writes olds key ++ (writes_of (commits_of olds members) key ++ written entry.time (commit_read b s.member).writes key)) same
+              ∙ append_assoc (old_writes olds key) (writes_of (commits_of olds members) key)
+              (written entry.time (commit_read (before_of read.chains) s.member).writes key)
+              ∙ ap (λ (b : Key → Option Value). old_writes olds key
+              ++ (writes_of (commits_of olds members) key ++ written entry.time (commit_read b s.member).writes key)) same
               ∙ ap (λ (ws : List (TimedWrite Value)). old_writes olds key ++ (writes_of (commits_of olds members) key ++ ws)) (sym (written-one c key))
               ∙ ap (λ (ws : List (TimedWrite Value)). old_writes olds key ++ ws) (sym (writes_of-append (commits_of olds members) (c ∷ []) key))
               ∙ ap (λ (h : History Value). old_writes olds key ++ writes_of h key) (sym commits);
           rising =
-              subst (HasRisingTimes mark) (sym commits) (rising-append mark (commits_of olds members) (c ∷ []) holds.rising (subst (λ (n : ℕ). n < entry.time) holds.last_is later, high, tt));
+              subst (HasRisingTimes mark) (sym commits) (rising-append mark (commits_of olds members) (c
+              ∷ []) holds.rising (subst (λ (n : ℕ). n < entry.time) holds.last_is later, high, tt));
           last_is = adds.last ∙ sym (last_after-append mark (commits_of olds members) (c ∷ [])) ∙ ap (λ (h : History Value). last_after mark h) (sym commits);
         },
       )
@@ -190,7 +213,8 @@ pub record IsUnderWay (heap : List ℕ) (mark : ℕ) (anchors : Anchors) (entrie
   pub all : map (λ s. s.entry) members ++ rest ≡ entries
   pub holds : HoldsMembers heap mark anchored.chain anchored.olds members read
 
-pub way_begins : (heap : List ℕ) (anchors : Anchors) (entries : List Member) (read : HeapRead) → HoldsAnchors heap anchors read → IsUnderWay heap anchors.upto anchors entries entries read
+pub way_begins : (heap : List ℕ) (anchors : Anchors) (entries : List Member) (read : HeapRead) → HoldsAnchors heap anchors read
+    → IsUnderWay heap anchors.upto anchors entries entries read
 way_begins heap anchors entries read holds = record {
   anchored = holds.has;
   members = [];
@@ -205,11 +229,14 @@ way_begins heap anchors entries read holds = record {
   };
 }
 
-pub way_goes_on : (heap : List ℕ) (len mark : ℕ) (anchors : Anchors) (entries : List Member) (entry : Member) (rest : List Member) (read next : HeapRead) → len ≡ length heap → IsMember entry → read.last < entry.time
+pub way_goes_on : (heap : List ℕ) (len mark : ℕ) (anchors : Anchors) (entries : List Member) (entry : Member) (rest : List Member) (read next : HeapRead) → len
+    ≡ length heap → IsMember entry → read.last < entry.time
     → IsUnderWay heap mark anchors entries (entry ∷ rest) read → AddsChain heap len entry read next → IsUnderWay heap mark anchors entries rest next
 way_goes_on heap len mark anchors entries entry rest read next whole ranges later way adds =
     let has = way.anchored in
-    let added = member_added heap len mark has.chain has.olds has.are.apart (numbered_anchors heap mark anchors has) way.members read entry whole way.holds next ranges later adds in
+    let added =
+    member_added heap len mark has.chain has.olds has.are.apart (numbered_anchors heap mark anchors has) way.members read entry whole way.holds next ranges
+    later adds in
     let same : added.0.entry ≡ entry = added.1 in
     record {
       anchored = has;
@@ -222,11 +249,18 @@ way_goes_on heap len mark anchors entries entry rest read next whole ranges late
       holds = added.2;
     }
 
-pub way_ends : (heap : List ℕ) (mark : ℕ) (anchors : Anchors) (entries : List Member) (read : HeapRead) → IsUnderWay heap mark anchors entries [] read → HoldsEntries heap mark anchors entries read
+pub way_ends : (heap : List ℕ) (mark : ℕ) (anchors : Anchors) (entries : List Member) (read : HeapRead) → IsUnderWay heap mark anchors entries [] read
+    → HoldsEntries heap mark anchors entries read
 way_ends heap mark anchors entries read way =
-    record { anchored = way.anchored; members = way.members; entries_are = sym (append-nil (map (λ (s : StoredMember). s.entry) way.members)) ∙ way.all; holds = way.holds }
+    record {
+      anchored = way.anchored;
+      members = way.members;
+      entries_are = sym (append-nil (map (λ (s : StoredMember). s.entry) way.members)) ∙ way.all;
+      holds = way.holds;
+    }
 
-pub way_fails : (heap : List ℕ) (len mark : ℕ) (anchors : Anchors) (entries : List Member) (entry : Member) (rest : List Member) (read : HeapRead) → len ≡ length heap → IsUnderWay heap mark anchors entries (entry ∷ rest) read
+pub way_fails : (heap : List ℕ) (len mark : ℕ) (anchors : Anchors) (entries : List Member) (entry : Member) (rest : List Member) (read : HeapRead) → len
+    ≡ length heap → IsUnderWay heap mark anchors entries (entry ∷ rest) read
     → HasNoChain heap len read entry → FailsChains heap mark anchors entries entry.first
 way_fails heap len mark anchors entries entry rest read whole way none =
     let has = way.anchored in
@@ -234,5 +268,9 @@ way_fails heap len mark anchors entries entry rest read whole way none =
       has,
       subst (λ (l : List Member). FailsAt heap has.chain (values_of has.olds) l entry.first) way.all
           (fails_behind heap has.chain (values_of has.olds) way.members (entry ∷ rest) entry.first way.holds.are
-          (inl (refl, member_fails heap len mark has.chain has.olds has.are.apart (numbered_anchors heap mark anchors has) way.members read entry whole way.holds none))),
+          (inl (
+            refl,
+            member_fails heap len mark has.chain has.olds has.are.apart (numbered_anchors heap mark anchors has) way.members read entry whole
+                way.holds none,
+          ))),
     )

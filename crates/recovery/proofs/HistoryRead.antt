@@ -1,5 +1,6 @@
 -- What is read of an image that stands for a history.
-use Rattle.std.proofs.Common.{◌≡◌, ℕ, ◌<◌, ◌≤◌, nat_lt, Bool, true, false, cond, IsTrue, List, [], ◌∷◌, ◌++◌, Some, None, refl, sym, ap, subst, ◌∙◌, arith, ⊎_elim}
+use Rattle.std.proofs.Common.{◌≡◌, ℕ, ◌<◌, ◌≤◌, nat_lt, Bool, true, false, cond, IsTrue, List, [], ◌∷◌, ◌++◌, Some, None, refl, sym, ap, subst, ◌∙◌, arith}
+use Rattle.std.proofs.Common.{⊎_elim}
 use Rattle.std.specs.Prelude.{filter}
 use Rattle.std.specs.List.{AllByRecursion, cons_option}
 use Rattle.std.proofs.lemmas.Bool.{cases_lt}
@@ -44,7 +45,8 @@ not_before t [] rising = omega arith
 not_before t (w ∷ ws) rising = let rest = not_before w.time ws rising.2 in let later = rising.0 in omega arith
 
 -- where the last one is later than the mark, it is the last of those later than it
-last_later : (mark before other : ℕ) (ws : List (TimedWrite Value)) → IsRisingAfter before ws → before ≤ mark → mark < last_time_after before ws → last_time_after other (writes_after mark ws) ≡ last_time_after before ws
+last_later : (mark before other : ℕ) (ws : List (TimedWrite Value)) → IsRisingAfter before ws → before ≤ mark → mark < last_time_after before ws
+    → last_time_after other (writes_after mark ws) ≡ last_time_after before ws
 last_later mark before other [] rising early late = absurd (omega arith)
 last_later mark before other (w ∷ ws) rising early late = ⊎_elim
     (λ (later : mark < w.time).
@@ -65,7 +67,8 @@ none_later mark before (w ∷ ws) rising early =
     ap (λ b. cond b (w ∷ writes_after mark ws) (writes_after mark ws)) dropped ∙ none_later mark w.time ws rising.2 early
 
 -- the anchors' times are not later than the mark
-pub anchors_upto : (mark before : ℕ) (olds : List OldRecord) (key : Key) → AllByRecursion (IsAnchorUpto mark) olds → before ≤ mark → last_time_after before (old_writes olds key) ≤ mark
+pub anchors_upto : (mark before : ℕ) (olds : List OldRecord) (key : Key) → AllByRecursion (IsAnchorUpto mark) olds → before ≤ mark
+    → last_time_after before (old_writes olds key) ≤ mark
 anchors_upto mark before [] key upto early = early
 anchors_upto mark before (o ∷ olds) key upto early =
     let write : TimedWrite Value = record { time = o.from; write = Some o.value } in
@@ -77,7 +80,8 @@ anchors_upto mark before (o ∷ olds) key upto early =
 -- ---- the history
 
 module _ (header : Header) (image : Image) (layout : Layout) (reading : Reading) (h : History Value) (floors : ℕ → ℕ)
-    (laid : IsLayoutOf header layout reading) (held : HoldsLayout header image layout) (stands : StandsFor reading h floors) (built : IsTrue (is_built header.profile 1)) (all_built : AreBuilt header layout.slots) where
+    (laid : IsLayoutOf header layout reading) (held : HoldsLayout header image layout) (stands : StandsFor reading h floors)
+    (built : IsTrue (is_built header.profile 1)) (all_built : AreBuilt header layout.slots) where
   pub stands_opening : IsOpening header image (unread_layout layout) (unread reading)
   stands_opening = record { built = built; opens = held_opens header image layout reading h floors laid held stands all_built }
 
@@ -100,8 +104,10 @@ module _ (header : Header) (image : Image) (layout : Layout) (reading : Reading)
       let same : last_time (heap_facts reading key) ≡ last_time (old_writes reading.anchors key) =
       ap (λ (l : List (TimedWrite Value)). last_time l) (facts_are key)
       ∙ last-append 0 (old_writes reading.anchors key) (writes_after (reclaimed_upto reading) (writes_of h key))
-      ∙ ap (λ (l : List (TimedWrite Value)). last_time_after (last_time (old_writes reading.anchors key)) l) (none_later (reclaimed_upto reading) 0 (writes_of h key) (rising_writes key) early) in
-      subst (λ (n : ℕ). n ≤ reclaimed_upto reading) (sym same) (anchors_upto (reclaimed_upto reading) 0 reading.anchors key stands.opens.reads.anchor_times (omega arith))
+      ∙ ap (λ (l : List (TimedWrite Value)). last_time_after (last_time (old_writes reading.anchors key)) l)
+      (none_later (reclaimed_upto reading) 0 (writes_of h key) (rising_writes key) early) in
+      subst (λ (n : ℕ). n ≤ reclaimed_upto reading) (sym same)
+      (anchors_upto (reclaimed_upto reading) 0 reading.anchors key stands.opens.reads.anchor_times (omega arith))
 
   pub history_read : (r : Recovered) → IsReadFrom image r → IsHistoryRead h floors r
   history_read r reads =
@@ -111,15 +117,20 @@ module _ (header : Header) (image : Image) (layout : Layout) (reading : Reading)
       let mark : r.reclaimed ≡ reclaimed_upto reading = is.reclaimed in
       record {
         commits = is.commits ∙ stands.opens.commits;
-        floors_are = λ relation. ap (λ (f : FloorsValue). floor_at f relation) is.floors ∙ kept-of (unread reading).log relation ∙ stands.opens.floors_given relation;
-        marks = let upto = stands.homes.marks in subst (λ (n : ℕ). n ≤ r.archived) (sym mark) (subst (λ (n : ℕ). reclaimed_upto reading ≤ n) (sym is.archived) upto);
+        floors_are =
+            λ relation. ap (λ (f : FloorsValue). floor_at f relation) is.floors ∙ kept-of (unread reading).log relation ∙ stands.opens.floors_given relation;
+        marks = let upto =
+            stands.homes.marks in subst (λ (n : ℕ). n ≤ r.archived) (sym mark) (subst (λ (n : ℕ). reclaimed_upto reading ≤ n) (sym is.archived) upto);
         last_is = is.last_is ∙ ap (λ l. log.last_time_after 0 l) stands.opens.commits ∙ last_time-heads 0 h;
         versions_are = λ key.
             ap (λ (l : List (TimedWrite Value)). filter (ends_after (floors key.relation)) (versions l)) (is.writes key)
             ∙ stands.homes.in_heap key
             ∙ ap (λ (n : ℕ). filter (ends_after (floors key.relation)) (filter (ends_after n) (versions_of h key))) (sym mark);
-        last_writes = λ key late. ap (λ (l : List (TimedWrite Value)). last_time l) (is.writes key) ∙ last_fact key (subst (λ (n : ℕ). n < last_time (writes_of h key)) mark late);
+        last_writes =
+            λ key late. ap (λ (l : List (TimedWrite Value)). last_time l) (is.writes key)
+            ∙ last_fact key (subst (λ (n : ℕ). n < last_time (writes_of h key)) mark late);
         earlier_writes = λ key early.
             subst (λ (n : ℕ). last_time (chains.writes_of r.chains key) ≤ n) (sym mark)
-            (subst (λ (l : List (TimedWrite Value)). last_time l ≤ reclaimed_upto reading) (sym (is.writes key)) (early_fact key (subst (λ (n : ℕ). last_time (writes_of h key) ≤ n) mark early)));
+            (subst (λ (l : List (TimedWrite Value)). last_time l ≤ reclaimed_upto reading) (sym (is.writes key))
+            (early_fact key (subst (λ (n : ℕ). last_time (writes_of h key) ≤ n) mark early)));
       }

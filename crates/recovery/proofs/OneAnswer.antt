@@ -48,7 +48,8 @@ not_damaged header status slots n holds damaged = only_log one_slot header statu
 same_log : (header : Header) (status : List ℕ) (a b : List Slot) → HoldsLog header status a → HoldsLog header status b → a ≡ b
 same_log header status a b holds_a holds_b = one_log one_slot header status b a holds_b holds_a
 
-agree : (header : Header) (status : List ℕ) (a b : List Slot) → OpensWith header status a → OpensWith header status b → (n : ℕ) (x y : Slot) → slice_get a n ≡ Some x → slice_get b n ≡ Some y → x ≡ y
+agree : (header : Header) (status : List ℕ) (a b : List Slot) → OpensWith header status a → OpensWith header status b → (n : ℕ) (x y : Slot) → slice_get a n
+    ≡ Some x → slice_get b n ≡ Some y → x ≡ y
 agree header status a b opens_a opens_b n x y is_x is_y =
     let within : n < length a = slice_get_within a n x is_x in
     let fits = opens_a.fits in
@@ -68,7 +69,8 @@ no_earlier header status m n a b earlier =
     let long_a = a.number in
     let long_b = b.number in
     let slot = slot_within b.before m (omega arith) in
-    let front : take (length a.before) b.before ≡ a.before = same_front a.before b.before (omega arith) (agree header status a.before b.before a.opens b.opens) in
+    let front : take (length a.before) b.before ≡ a.before =
+    same_front a.before b.before (omega arith) (agree header status a.before b.before a.opens b.opens) in
     let may = b.rules m slot.0 slot.1 in
     a.bad.no_slot slot.0 (b.opens.each_spelled m slot.0 slot.1)
     (subst (λ (before : List Slot). MayFollow header.profile before slot.0) (sym (ap (λ (k : ℕ). take k b.before) long_a) ∙ front) may)
@@ -105,7 +107,8 @@ one_heap image m n a b =
 one_archive : (image : Image) (m n : ℕ) → FailsArchiveAt image m → FailsArchiveAt image n → m ≡ n
 one_archive image m n a b =
     let same = same_status image.status b.header a.header b.slots a.slots b.reads a.reads in
-    one.one_run_fault (length image.archive) (runs_of a.slots) m n a.fails (subst (λ (l : List Slot). FailsRuns (length image.archive) (runs_of l) n) same b.fails)
+    one.one_run_fault (length image.archive) (runs_of a.slots) m n a.fails
+    (subst (λ (l : List Slot). FailsRuns (length image.archive) (runs_of l) n) same b.fails)
 
 heap_or_archive : {X : Type 0} (image : Image) (m n : ℕ) → FailsHeapAt image m → FailsArchiveAt image n → X
 heap_or_archive image m n a b =
@@ -138,26 +141,31 @@ one_fault image (Damaged Archive m) (Damaged Archive n) fails_a fails_b = inr (i
 
 -- ---- an image that opens
 
-opening_reads : (header : Header) (image : Image) (layout : Layout) (reading : Reading) → IsOpening header image layout reading → ReadsStatus image.status header layout.slots
+opening_reads : (header : Header) (image : Image) (layout : Layout) (reading : Reading) → IsOpening header image layout reading
+    → ReadsStatus image.status header layout.slots
 opening_reads header image layout reading opening = record {
   header_reads = record { stands = opening.opens.log.header_is; built = opening.built };
   log = record { opens = opening.opens.log.opens; rules = opening.opens.log.rules; ended = opening.opens.log.ended };
 }
 
-pub opening_only : (header : Header) (image : Image) (layout : Layout) (reading : Reading) (fault : OpenFault) → IsOpening header image layout reading → IsImageFault image fault → IsReadFault fault
+pub opening_only : (header : Header) (image : Image) (layout : Layout) (reading : Reading) (fault : OpenFault) → IsOpening header image layout reading
+    → IsImageFault image fault → IsReadFault fault
 opening_only header image layout reading NotAStore opening fails = fails header (opening_reads header image layout reading opening).header_reads
-opening_only header image layout reading (Damaged Status n) opening fails = status_or_more image.status n header layout.slots fails (opening_reads header image layout reading opening)
+opening_only header image layout reading (Damaged Status n) opening fails =
+    status_or_more image.status n header layout.slots fails (opening_reads header image layout reading opening)
 opening_only header image layout reading (Damaged Heap n) opening fails =
     let same = same_status image.status fails.header header fails.slots layout.slots fails.reads (opening_reads header image layout reading opening) in
     (one.opens_no_fault header image layout reading n opening.opens).0 (subst (λ (l : List Slot). FailsHeap image.heap l n) same fails.fails)
 opening_only header image layout reading (Damaged Archive n) opening fails =
     let same = same_status image.status fails.header header fails.slots layout.slots fails.reads (opening_reads header image layout reading opening) in
-    (one.opens_no_fault header image layout reading n opening.opens).1 (subst (λ (l : List Slot). FailsRuns (length image.archive) (runs_of l) n) same fails.fails)
+    (one.opens_no_fault header image layout reading n opening.opens).1
+    (subst (λ (l : List Slot). FailsRuns (length image.archive) (runs_of l) n) same fails.fails)
 opening_only header image layout reading Device opening fails = tt
 opening_only header image layout reading NoMemory opening fails = tt
 
 -- so the answer to it is Ok, unless the device or memory gave out
-pub opening_answer : {T : Type 0} (header : Header) (image : Image) (layout : Layout) (reading : Reading) (result : Result T OpenFault) → IsOpening header image layout reading → IfErr result (IsImageFault image) → IfErr result IsReadFault
+pub opening_answer : {T : Type 0} (header : Header) (image : Image) (layout : Layout) (reading : Reading) (result : Result T OpenFault)
+    → IsOpening header image layout reading → IfErr result (IsImageFault image) → IfErr result IsReadFault
 opening_answer header image layout reading (Ok x) opening fails = tt
 opening_answer header image layout reading (Err fault) opening fails = opening_only header image layout reading fault opening fails
 
@@ -191,12 +199,14 @@ free_too us vs numbers n keeps_u keeps_v free = elim (one_or_none (IsKept us) nu
 
 pub same_read : (image : Image) (r s : Recovered) → IsReadFrom image r → IsReadFrom image s → SaySame r s
 same_read image r s reads_r reads_s =
-    let same = one.opens_once r.header s.header image reads_r.layout reads_s.layout reads_r.reading reads_s.reading reads_r.opening.opens reads_s.opening.opens in
+    let same =
+    one.opens_once r.header s.header image reads_r.layout reads_s.layout reads_r.reading reads_s.reading reads_r.opening.opens reads_s.opening.opens in
     let is_r = reads_r.is in
     let is_s = reads_s.is in
     let layout : reads_s.layout ≡ reads_r.layout = sym same.1 in
     let reading : reads_s.reading ≡ reads_r.reading = sym same.2 in
-    let keeps_s : KeepsOnly s.extents (numbers_in (live reads_r.layout)) = subst (λ (l : Layout). KeepsOnly s.extents (numbers_in (live l))) layout is_s.extents in
+    let keeps_s : KeepsOnly s.extents (numbers_in (live reads_r.layout)) =
+    subst (λ (l : Layout). KeepsOnly s.extents (numbers_in (live l))) layout is_s.extents in
     record {
       headers = same.0;
       lengths = is_r.used ∙ ap (λ (l : Layout). length l.slots) same.1 ∙ sym is_s.used;

@@ -44,15 +44,19 @@ members_in_range : (time : ℕ) (ms : List Member) → Rises time ms → AllByRe
 members_in_range time [] rises = tt
 members_in_range time (m ∷ ms) rises = (rises.0, members_in_range m.time ms rises.2)
 
-range_in : (profile : ℕ) (body : Body) (slots : List Slot) → InRange profile body → AllByRecursion IsMember (entries_of slots) → (s : Slot) → s.body ≡ body → AllByRecursion IsMember (entries_of (s ∷ slots))
-range_in profile (Commit members) slots range rest s is = rw is (AllByRecursion-append IsMember members.items (entries_of slots) (members_in_range 0 members.items range.rises) rest)
+range_in : (profile : ℕ) (body : Body) (slots : List Slot) → InRange profile body → AllByRecursion IsMember (entries_of slots) → (s : Slot) → s.body ≡ body
+    → AllByRecursion IsMember (entries_of (s ∷ slots))
+range_in profile (Commit members) slots range rest s is =
+    rw is (AllByRecursion-append IsMember members.items (entries_of slots) (members_in_range 0 members.items range.rises) rest)
 range_in profile (Archived run) slots range rest s is = rw is rest
 range_in profile (Reclaimed anchors) slots range rest s is = rw is rest
 range_in profile (Floor relation floor) slots range rest s is = rw is rest
 
-pub entries_in_range : (profile : ℕ) (slots : List Slot) → ((n : ℕ) (slot : Slot) → slice_get slots n ≡ Some slot → InRange profile slot.body) → AllByRecursion IsMember (entries_of slots)
+pub entries_in_range : (profile : ℕ) (slots : List Slot) → ((n : ℕ) (slot : Slot) → slice_get slots n ≡ Some slot → InRange profile slot.body)
+    → AllByRecursion IsMember (entries_of slots)
 entries_in_range profile [] ranges = tt
-entries_in_range profile (s ∷ slots) ranges = range_in profile s.body slots (ranges zero s refl) (entries_in_range profile slots (λ n slot is. ranges (suc n) slot is)) s refl
+entries_in_range profile (s ∷ slots) ranges =
+    range_in profile s.body slots (ranges zero s refl) (entries_in_range profile slots (λ n slot is. ranges (suc n) slot is)) s refl
 
 runs_range_in : (profile : ℕ) (body : Body) → InRange profile body → AllByRecursion IsRun (runs_in body)
 runs_range_in profile (Commit members) range = tt
@@ -60,17 +64,20 @@ runs_range_in profile (Archived run) range = (range, tt)
 runs_range_in profile (Reclaimed anchors) range = tt
 runs_range_in profile (Floor relation floor) range = tt
 
-pub runs_in_range : (profile : ℕ) (slots : List Slot) → ((n : ℕ) (slot : Slot) → slice_get slots n ≡ Some slot → InRange profile slot.body) → AllByRecursion IsRun (runs_of slots)
+pub runs_in_range : (profile : ℕ) (slots : List Slot) → ((n : ℕ) (slot : Slot) → slice_get slots n ≡ Some slot → InRange profile slot.body)
+    → AllByRecursion IsRun (runs_of slots)
 runs_in_range profile [] ranges = tt
 runs_in_range profile (s ∷ slots) ranges =
-    AllByRecursion-append IsRun (runs_in s.body) (runs_of slots) (runs_range_in profile s.body (ranges zero s refl)) (runs_in_range profile slots (λ n slot is. ranges (suc n) slot is))
+    AllByRecursion-append IsRun (runs_in s.body) (runs_of slots) (runs_range_in profile s.body (ranges zero s refl))
+    (runs_in_range profile slots (λ n slot is. ranges (suc n) slot is))
 
 pub later_in_range : (mark : ℕ) (entries : List Member) → AllByRecursion IsMember entries → AllByRecursion IsMember (later_than mark entries)
 later_in_range mark entries each = AllByRecursion-filter IsMember (λ (entry : Member). nat_lt mark entry.time) entries each
 
 -- ---- what is read
 
-heads_stored : (members : List StoredMember) → AllByRecursion IsStoredMember members → map (λ (m : readings.Member). m.head) (map (λ (s : StoredMember). s.member) members) ≡ map head_of (map (λ (s : StoredMember). s.entry) members)
+heads_stored : (members : List StoredMember) → AllByRecursion IsStoredMember members
+    → map (λ (m : readings.Member). m.head) (map (λ (s : StoredMember). s.member) members) ≡ map head_of (map (λ (s : StoredMember). s.entry) members)
 heads_stored [] each = refl
 heads_stored (m ∷ members) each =
     let first = (each.0).head_is in
@@ -85,7 +92,8 @@ none_of : (number : ℕ) (es : List Extent) → IsNoneOf number (numbers_in es) 
 none_of number [] none = tt
 none_of number (e ∷ es) none = ((λ same. none.0 (sym same)), none_of number es none.1)
 
-keeps_only : (usages : List Usage) (es : List Extent) → AllByRecursion IsNumbered es → usages ≡ claimed (replicate 65536 Free) (numbers_in es) → KeepsOnly usages (numbers_in es)
+keeps_only : (usages : List Usage) (es : List Extent) → AllByRecursion IsNumbered es → usages ≡ claimed (replicate 65536 Free) (numbers_in es)
+    → KeepsOnly usages (numbers_in es)
 keeps_only usages es numbered are =
     subst (λ (us : List Usage). KeepsOnly us (numbers_in es)) (sym are)
     (record {
@@ -141,7 +149,8 @@ module _ (image : Image) (header : Header) (slots : List Slot) (reads : ReadsSta
   members_fail NoMemory fails = tt
 
   -- all chains are right, and a run ends past the archive
-  pub runs_fail : (read : HeapRead) (fault : OpenFault) → HoldsSlots image.heap slots read → IsRunsFault (length image.archive) (runs_of slots) fault → IsImageFault image fault
+  pub runs_fail : (read : HeapRead) (fault : OpenFault) → HoldsSlots image.heap slots read → IsRunsFault (length image.archive) (runs_of slots) fault
+      → IsImageFault image fault
   runs_fail read NotAStore holds fails = absurd fails
   runs_fail read (Damaged Status place) holds fails = absurd fails
   runs_fail read (Damaged Heap place) holds fails = absurd fails
@@ -156,7 +165,8 @@ module _ (image : Image) (header : Header) (slots : List Slot) (reads : ReadsSta
   runs_fail read NoMemory holds fails = absurd fails
 
   -- the image opens so, and is read
-  pub image_read : (read : HeapRead) (r : Recovered) → r.header ≡ header → HoldsSlots image.heap slots read → AllByRecursion (EndsWithin (length image.archive)) (runs_of slots) → IsGathered slots read r → IsReadFrom image r
+  pub image_read : (read : HeapRead) (r : Recovered) → r.header ≡ header → HoldsSlots image.heap slots read
+      → AllByRecursion (EndsWithin (length image.archive)) (runs_of slots) → IsGathered slots read r → IsReadFrom image r
   unfolding layout_of reading_of
   image_read read r header_is holds within gathered =
       let members : List StoredMember = holds.members in
@@ -218,7 +228,8 @@ module _ (image : Image) (header : Header) (slots : List Slot) (reads : ReadsSta
           runs = gathered.runs;
           extents =
               keeps_only r.extents (chain ++ extents_of members)
-              (numbered_all image.heap chain (values_of olds) members (numbered_anchors image.heap (mark_of slots) (anchors_after no_anchors slots) anchored) held.are) (gathered.extents ∙ held.extents);
+              (numbered_all image.heap chain (values_of olds) members (numbered_anchors image.heap (mark_of slots) (anchors_after no_anchors slots) anchored)
+              held.are) (gathered.extents ∙ held.extents);
           live_are = ap (λ l. map live_named l) gathered.live ∙ held.live;
           writes = λ key. ap (λ (m : List KeyWrites). chain_writes_of m key) gathered.chains ∙ held.writes key;
           last_is = gathered.last_is ∙ ap (λ (l : List readings.Head). last_time_after 0 l) (sym heads);

@@ -65,7 +65,8 @@ unfolding record_bytes
 spelled_of [] = refl
 spelled_of (r ∷ rs) = ap (λ l. spelling (record_of r) ∷ l) (spelled_of rs)
 
-each_again : (rs : List Record) → AllByRecursion (λ r. IsPermitted OfCommit r.content) rs → AllByRecursion deltas.IsRecord rs → AllByRecursion IsRecord (map heap_record rs)
+each_again : (rs : List Record) → AllByRecursion (λ r. IsPermitted OfCommit r.content) rs → AllByRecursion deltas.IsRecord rs
+    → AllByRecursion IsRecord (map heap_record rs)
 each_again [] ok each = tt
 each_again (r ∷ rs) ok each = (subst deltas.IsRecord (sym (record_again r ok.0)) each.0, each_again rs ok.1 each.1)
 
@@ -121,19 +122,23 @@ head_bytes x y xs ys same = cc
 tail_bytes : (x y : List ℕ) (xs ys : List (List ℕ)) → x ∷ xs ≡ y ∷ ys → xs ≡ ys
 tail_bytes x y xs ys same = cc
 
-onward : (heap : List ℕ) (n : ℕ) (e : Extent) (es : List Extent) → extent_at heap n ≡ extent_bytes e → AreLinked (e ∷ es) → AllByRecursion IsExtent es → next_of (extent_at heap n) ≡ first_of es
+onward : (heap : List ℕ) (n : ℕ) (e : Extent) (es : List Extent) → extent_at heap n ≡ extent_bytes e → AreLinked (e ∷ es) → AllByRecursion IsExtent es
+    → next_of (extent_at heap n) ≡ first_of es
 onward heap n e es stands linked each =
     let high = first-high es each in
     ap next_of stands ∙ next_again e (omega (arith, linked.0)) ∙ linked.0
 
 -- the walk over a chain that stands there
-pub walk_is : (heap : List ℕ) (es : List Extent) → AreLinked es → AllByRecursion IsExtent es → AllByRecursion (StandsAt heap) es → numbers_at heap (first_of es) (length es) ≡ numbers_in es
+pub walk_is : (heap : List ℕ) (es : List Extent) → AreLinked es → AllByRecursion IsExtent es → AllByRecursion (StandsAt heap) es
+    → numbers_at heap (first_of es) (length es) ≡ numbers_in es
 walk_is heap [] linked each stands = refl
 walk_is heap (e ∷ es) linked each stands =
-    ap (λ (n : ℕ). e.number ∷ numbers_at heap n (length es)) (onward heap e.number e es stands.0 linked each.1) ∙ ap (λ l. e.number ∷ l) (walk_is heap es linked.1 each.1 stands.1)
+    ap (λ (n : ℕ). e.number ∷ numbers_at heap n (length es)) (onward heap e.number e es stands.0 linked each.1)
+    ∙ ap (λ l. e.number ∷ l) (walk_is heap es linked.1 each.1 stands.1)
 
 -- and what stands there is what was walked over
-pub walk_finds : (heap : List ℕ) (first n : ℕ) (es : List Extent) → first_of es ≡ first → length es ≡ n → AreLinked es → AllByRecursion IsExtent es → map (extent_at heap) (numbers_at heap first n) ≡ map extent_bytes es
+pub walk_finds : (heap : List ℕ) (first n : ℕ) (es : List Extent) → first_of es ≡ first → length es ≡ n → AreLinked es → AllByRecursion IsExtent es
+    → map (extent_at heap) (numbers_at heap first n) ≡ map extent_bytes es
     → (numbers_at heap first n ≡ numbers_in es) × AllByRecursion (StandsAt heap) es
 walk_finds heap first zero [] from long linked each are = (refl, tt)
 walk_finds heap first (suc n) [] from long linked each are = absurd (omega arith)
@@ -169,9 +174,11 @@ there_held heap e is held =
     let low = is.low in
     record { low = omega arith; high = is.high; inside = omega arith }
 
-pub held_all : (heap : List ℕ) (usages : List Usage) (es : List Extent) → AllByRecursion IsExtent es → AreClaimable (length heap) usages (numbers_in es) → AllByRecursion (StandsAt heap) es → AllByRecursion (HoldsExtent heap) es
+pub held_all : (heap : List ℕ) (usages : List Usage) (es : List Extent) → AllByRecursion IsExtent es → AreClaimable (length heap) usages (numbers_in es)
+    → AllByRecursion (StandsAt heap) es → AllByRecursion (HoldsExtent heap) es
 held_all heap usages [] each can stands = tt
-held_all heap usages (e ∷ es) each can stands = (held_stands heap e each.0 can.0 stands.0, held_all heap (with_usage usages e.number Kept) es each.1 can.2 stands.1)
+held_all heap usages (e ∷ es) each can stands =
+    (held_stands heap e each.0 can.0 stands.0, held_all heap (with_usage usages e.number Kept) es each.1 can.2 stands.1)
 
 pub images_all : (bytes : List ℕ) (es : List Extent) → AllByRecursion (StandsAt bytes) es → map (extent_at bytes) (numbers_in es) ≡ map extent_bytes es
 images_all bytes [] stands = refl
@@ -196,7 +203,8 @@ some_records m n k some most same = omega arith
 
 module _ (heap : List ℕ) (taken : List Extent) (before : Key → Option Value) (entry : Member)
     (ranges : IsMember entry) (distinct : AreDistinct taken) (numbered : AllByRecursion IsNumbered taken) where
-  pub right_found : (records : List Record) → IsRightChain heap (length heap) (claimed (replicate 65536 Free) (numbers_in taken)) before entry records → IsFound heap taken before entry records
+  pub right_found : (records : List Record) → IsRightChain heap (length heap) (claimed (replicate 65536 Free) (numbers_in taken)) before entry records
+      → IsFound heap taken before entry records
   unfolding member_of
   right_found records right =
       let usages : List Usage = claimed (replicate 65536 Free) (numbers_in taken) in
@@ -221,23 +229,28 @@ module _ (heap : List ℕ) (taken : List Extent) (before : Key → Option Value)
             few = subst (λ (n : ℕ). n ≤ 1024) (sym count) ranges.records;
           };
           held = held_all heap usages chain is_chain.each can walked.1;
-          apart = distinct_join taken chain distinct (claimable_distinct (length heap) usages chain can) (claimable_cross (length heap) usages taken chain (kept_all (replicate 65536 Free) taken numbered) can);
+          apart = distinct_join taken chain distinct (claimable_distinct (length heap) usages chain can)
+              (claimable_cross (length heap) usages taken chain (kept_all (replicate 65536 Free) taken numbered) can);
           spellings = right.stored;
         };
         numbers = walked.0;
       }
 
 -- where the records that were read are not stored so, there is no right chain
-pub no_writes : (heap : List ℕ) (len : ℕ) (usages : List Usage) (before : Key → Option Value) (entry : Member) (found : List Record) → HasRecords heap len usages (chain_name entry) OfCommit found
+pub no_writes : (heap : List ℕ) (len : ℕ) (usages : List Usage) (before : Key → Option Value) (entry : Member) (found : List Record)
+    → HasRecords heap len usages (chain_name entry) OfCommit found
     → ¬ AllByRecursion (IsStored before) (map heap_record found) → (records : List Record) → ¬ IsRightChain heap len usages before entry records
 no_writes heap len usages before entry found has none records right =
-    let same : records ≡ found = one_packing (chain_name entry) (chain_name entry) OfCommit OfCommit (map (extent_at heap) (numbers_of heap entry)) records found right.has.held has.held in
+    let same : records ≡ found =
+    one_packing (chain_name entry) (chain_name entry) OfCommit OfCommit (map (extent_at heap) (numbers_of heap entry)) records found right.has.held has.held
+    in
     none (subst (λ (l : List Record). AllByRecursion (IsStored before) (map heap_record l)) same right.stored)
 
 -- ---- and back
 
 module _ (heap : List ℕ) (taken : List Extent) (before : Key → Option Value) (entry : Member) (numbered : AllByRecursion IsNumbered taken) where
-  pub live_right : HasMember heap taken before entry → (records : List Record) × IsRightChain heap (length heap) (claimed (replicate 65536 Free) (numbers_in taken)) before entry records
+  pub live_right : HasMember heap taken before entry → (records : List Record)
+      × IsRightChain heap (length heap) (claimed (replicate 65536 Free) (numbers_in taken)) before entry records
   live_right has =
       let usages : List Usage = claimed (replicate 65536 Free) (numbers_in taken) in
       let s : StoredMember = has.found in
@@ -245,14 +258,18 @@ module _ (heap : List ℕ) (taken : List Extent) (before : Key → Option Value)
       let live = has.is in
       let is_chain : IsChain entry.first entry.extents entry.records s.extents (map record_bytes rs) =
       subst (λ (e : Member). IsChain e.first e.extents e.records s.extents (map record_bytes rs)) has.entry_is live.stored.chain in
-      let stands : AllByRecursion (StandsAt heap) s.extents = both IsExtent (HoldsExtent heap) (StandsAt heap) s.extents (stands_held heap) is_chain.each live.held in
-      let there : AllByRecursion (λ e. IsThere (length heap) e.number) s.extents = both IsExtent (HoldsExtent heap) (λ e. IsThere (length heap) e.number) s.extents (there_held heap) is_chain.each live.held in
+      let stands : AllByRecursion (StandsAt heap) s.extents =
+      both IsExtent (HoldsExtent heap) (StandsAt heap) s.extents (stands_held heap) is_chain.each live.held in
+      let there : AllByRecursion (λ e. IsThere (length heap) e.number) s.extents =
+      both IsExtent (HoldsExtent heap) (λ e. IsThere (length heap) e.number) s.extents (there_held heap) is_chain.each live.held in
       let walked : numbers_at heap entry.first entry.extents ≡ numbers_in s.extents =
       subst (λ (n : ℕ). numbers_at heap n entry.extents ≡ numbers_in s.extents) is_chain.first_is
-      (subst (λ (n : ℕ). numbers_at heap (first_of s.extents) n ≡ numbers_in s.extents) is_chain.extents_are (walk_is heap s.extents is_chain.linked is_chain.each stands)) in
+      (subst (λ (n : ℕ). numbers_at heap (first_of s.extents) n
+      ≡ numbers_in s.extents) is_chain.extents_are (walk_is heap s.extents is_chain.linked is_chain.each stands)) in
       let parts = distinct_parts taken s.extents live.apart in
       let can : AreClaimable (length heap) usages (numbers_in s.extents) =
-      distinct_claimable (length heap) usages s.extents there (cross_free taken s.extents numbered (numbered_of s.extents is_chain.each) (cross_turned taken s.extents parts.2)) parts.1 in (
+      distinct_claimable (length heap) usages s.extents there
+      (cross_free taken s.extents numbered (numbered_of s.extents is_chain.each) (cross_turned taken s.extents parts.2)) parts.1 in (
         map record_of rs,
         record {
           has = record {

@@ -17,9 +17,12 @@ use Rattle.recovery.specs.RunEntries.{runs_named, marks_before, floors_before, A
 -- ---- each goes on from the mark of the one before it
 
 abbrev GoOn : List Slot → Type 0
-GoOn slots = (mark : ℕ) (entries : List RunEntry) → runs_named entries ≡ runs_of slots → map (λ e. e.mark) entries ≡ marks_before mark (log_of slots) → AreMarkedFrom mark entries
+GoOn slots =
+    (mark : ℕ) (entries : List RunEntry) → runs_named entries ≡ runs_of slots → map (λ e. e.mark) entries ≡ marks_before mark (log_of slots)
+    → AreMarkedFrom mark entries
 
-one_goes : (slots : List Slot) → GoOn slots → (body : Body) (mark : ℕ) (entries : List RunEntry) → runs_named entries ≡ runs_in body ++ runs_of slots → map (λ e. e.mark) entries ≡ marks_before mark (slot_of body ∷ log_of slots)
+one_goes : (slots : List Slot) → GoOn slots → (body : Body) (mark : ℕ) (entries : List RunEntry) → runs_named entries ≡ runs_in body ++ runs_of slots
+    → map (λ e. e.mark) entries ≡ marks_before mark (slot_of body ∷ log_of slots)
     → AreMarkedFrom mark entries
 one_goes slots rest (Commit members) mark entries runs marks = rest mark entries runs marks
 one_goes slots rest (Reclaimed anchors) mark entries runs marks = rest mark entries runs marks
@@ -47,7 +50,8 @@ in_range_once run = Prim.hlevel props
 of_run : (run : Run) (mark : ℕ) (floors : FloorsValue) → IsRun run → RunEntry
 of_run run mark floors in_range = record { slot = run; mark = mark; floors = floors; in_range = in_range }
 
-of_one_run : (run other : Run) (mark : ℕ) (floors : FloorsValue) (p : IsRun run) (q : IsRun other) → run ≡ other → of_run run mark floors p ≡ of_run other mark floors q
+of_one_run : (run other : Run) (mark : ℕ) (floors : FloorsValue) (p : IsRun run) (q : IsRun other) → run ≡ other → of_run run mark floors p
+    ≡ of_run other mark floors q
 of_one_run run other mark floors p q same =
     subst (λ (r : Run). (q : IsRun r) → of_run run mark floors p ≡ of_run r mark floors q) same (λ q. ap (of_run run mark floors) (in_range_once run p q)) q
 
@@ -58,7 +62,8 @@ same_entry a b slot mark floors =
     ∙ ap (λ (n : ℕ). of_run b.slot n a.floors b.in_range) mark
     ∙ ap (λ (f : FloorsValue). of_run b.slot b.mark f b.in_range) floors
 
-pub same_entries : (xs ys : List RunEntry) → runs_named xs ≡ runs_named ys → map (λ e. e.mark) xs ≡ map (λ e. e.mark) ys → map (λ e. e.floors) xs ≡ map (λ e. e.floors) ys → xs ≡ ys
+pub same_entries : (xs ys : List RunEntry) → runs_named xs ≡ runs_named ys → map (λ e. e.mark) xs ≡ map (λ e. e.mark) ys → map (λ e. e.floors) xs
+    ≡ map (λ e. e.floors) ys → xs ≡ ys
 same_entries [] [] runs marks floors = refl
 same_entries [] (y ∷ ys) runs marks floors = absurd cc
 same_entries (x ∷ xs) [] runs marks floors = absurd cc
@@ -87,13 +92,16 @@ pub record IsReadBefore (slots rest : List Slot) (entries : List RunEntry) (arch
   pub floors_are : map (λ e. e.floors) entries ++ floors_before floors (log_of rest) ≡ floors_before no_floors (log_of slots)
 
 -- one run more
-one_more : {X : Type 0} (f : RunEntry → X) (entries : List RunEntry) (e : RunEntry) (x : X) (rest : List X) → f e ≡ x → map f (entries ++ e ∷ []) ++ rest ≡ map f entries ++ x ∷ rest
-one_more f entries e x rest is = ap (λ l. l ++ rest) (map-append f entries (e ∷ [])) ∙ append_assoc (map f entries) (f e ∷ []) rest ∙ ap (λ y. map f entries ++ y ∷ rest) is
+one_more : {X : Type 0} (f : RunEntry → X) (entries : List RunEntry) (e : RunEntry) (x : X) (rest : List X) → f e ≡ x → map f (entries ++ e ∷ []) ++ rest
+    ≡ map f entries ++ x ∷ rest
+one_more f entries e x rest is =
+    ap (λ l. l ++ rest) (map-append f entries (e ∷ [])) ∙ append_assoc (map f entries) (f e ∷ []) rest ∙ ap (λ y. map f entries ++ y ∷ rest) is
 
 -- a slot of this body is read, and the runs, the mark and the floors become these
 Reads : List Slot → List RunEntry → ℕ → FloorsValue → Body → List RunEntry → ℕ → FloorsValue → Type 0
 Reads slots entries archived floors body more upto raised =
-    (number : ℕ) (after : List Slot) → IsReadBefore slots (record { number = number; body = body } ∷ after) entries archived floors → IsReadBefore slots after more upto raised
+    (number : ℕ) (after : List Slot) → IsReadBefore slots (record { number = number; body = body } ∷ after) entries archived floors
+    → IsReadBefore slots after more upto raised
 
 -- neither a commit nor a reclaim changes them
 abbrev pub HasNoMark : Body → Type 0
@@ -120,7 +128,8 @@ module _ (slots : List Slot) (entries : List RunEntry) (archived : ℕ) (floors 
   }
   other_read (Floor scope new) none number after before = absurd none
 
-  one_run_read : (run : Run) (e : RunEntry) → e.slot ≡ run → e.mark ≡ archived → e.floors ≡ floors → Reads slots entries archived floors (Archived run) (entries ++ e ∷ []) run.upto floors
+  one_run_read : (run : Run) (e : RunEntry) → e.slot ≡ run → e.mark ≡ archived → e.floors ≡ floors
+      → Reads slots entries archived floors (Archived run) (entries ++ e ∷ []) run.upto floors
   unfolding Reads
   one_run_read run e slot mark own number after before = record {
     in_range = before.in_range.1;
@@ -139,8 +148,10 @@ module _ (slots : List Slot) (entries : List RunEntry) (archived : ℕ) (floors 
   }
 
 -- so it is of the first of some slots
-first_read : (slots : List Slot) (entries : List RunEntry) (archived : ℕ) (floors : FloorsValue) (body : Body) (more : List RunEntry) (upto : ℕ) (raised : FloorsValue) (rest : List Slot) (d s : Slot) → Reads slots entries archived floors body more upto raised
-    → 1 ≤ length rest → s ≡ get_or rest 0 d → s.body ≡ body → IsReadBefore slots rest entries archived floors → IsReadBefore slots (take (length rest - 1) (drop 1 rest)) more upto raised
+first_read : (slots : List Slot) (entries : List RunEntry) (archived : ℕ) (floors : FloorsValue) (body : Body) (more : List RunEntry) (upto : ℕ)
+    (raised : FloorsValue) (rest : List Slot) (d s : Slot) → Reads slots entries archived floors body more upto raised
+    → 1 ≤ length rest → s ≡ get_or rest 0 d → s.body ≡ body → IsReadBefore slots rest entries archived floors
+    → IsReadBefore slots (take (length rest - 1) (drop 1 rest)) more upto raised
 unfolding Reads
 first_read slots entries archived floors body more upto raised [] d s reads some is body_is before = absurd (omega arith)
 first_read slots entries archived floors body more upto raised (x ∷ after) d s reads some is body_is before =
@@ -148,35 +159,47 @@ first_read slots entries archived floors body more upto raised (x ∷ after) d s
     subst (λ (l : List Slot). IsReadBefore slots l more upto raised) (sym (take_rest (x ∷ after) 1))
     (reads x.number after (subst (λ (b : Body). IsReadBefore slots (record { number = x.number; body = b } ∷ after) entries archived floors) x_body before))
 
-pub mark_stays : (slots rest : List Slot) (d s : Slot) (entries : List RunEntry) (archived : ℕ) (floors : FloorsValue) (body : Body) → HasNoMark body → 1 ≤ length rest → s ≡ get_or rest 0 d → s.body ≡ body
+pub mark_stays : (slots rest : List Slot) (d s : Slot) (entries : List RunEntry) (archived : ℕ) (floors : FloorsValue) (body : Body) → HasNoMark body
+    → 1 ≤ length rest → s ≡ get_or rest 0 d → s.body ≡ body
     → IsReadBefore slots rest entries archived floors → IsReadBefore slots (take (length rest - 1) (drop 1 rest)) entries archived floors
 mark_stays slots rest d s entries archived floors body none some is body_is before =
     first_read slots entries archived floors body entries archived floors rest d s (other_read slots entries archived floors body none) some is body_is before
 
-pub run_read : (slots rest : List Slot) (d s : Slot) (entries : List RunEntry) (archived : ℕ) (floors : FloorsValue) (run : Run) (e : RunEntry) (more : List RunEntry) → 1 ≤ length rest → s ≡ get_or rest 0 d → s.body ≡ Archived run → e.slot ≡ run → e.mark ≡ archived → e.floors ≡ floors → more ≡ entries ++ e ∷ []
+pub run_read : (slots rest : List Slot) (d s : Slot) (entries : List RunEntry) (archived : ℕ) (floors : FloorsValue) (run : Run) (e : RunEntry)
+    (more : List RunEntry) → 1 ≤ length rest → s ≡ get_or rest 0 d → s.body ≡ Archived run → e.slot ≡ run → e.mark ≡ archived → e.floors ≡ floors → more
+    ≡ entries ++ e ∷ []
     → IsReadBefore slots rest entries archived floors → IsReadBefore slots (take (length rest - 1) (drop 1 rest)) more run.upto floors
 run_read slots rest d s entries archived floors run e more some is body slot mark own more_is before =
     subst (λ (l : List RunEntry). IsReadBefore slots (take (length rest - 1) (drop 1 rest)) l run.upto floors) (sym more_is)
-    (first_read slots entries archived floors (Archived run) (entries ++ e ∷ []) run.upto floors rest d s (one_run_read slots entries archived floors run e slot mark own) some is body before)
+    (first_read slots entries archived floors (Archived run) (entries ++ e
+    ∷ []) run.upto floors rest d s (one_run_read slots entries archived floors run e slot mark own) some is body before)
 
-pub floor_read : (slots rest : List Slot) (d s : Slot) (entries : List RunEntry) (archived : ℕ) (floors : FloorsValue) (scope : Option ℕ) (new : ℕ) (raised : FloorsValue) → 1 ≤ length rest → s ≡ get_or rest 0 d → s.body ≡ Floor scope new → raised ≡ raised_in scope new floors
+pub floor_read : (slots rest : List Slot) (d s : Slot) (entries : List RunEntry) (archived : ℕ) (floors : FloorsValue) (scope : Option ℕ) (new : ℕ)
+    (raised : FloorsValue) → 1 ≤ length rest → s ≡ get_or rest 0 d → s.body ≡ Floor scope new → raised ≡ raised_in scope new floors
     → IsReadBefore slots rest entries archived floors → IsReadBefore slots (take (length rest - 1) (drop 1 rest)) entries archived raised
 floor_read slots rest d s entries archived floors scope new raised some is body raised_is before =
     subst (λ (f : FloorsValue). IsReadBefore slots (take (length rest - 1) (drop 1 rest)) entries archived f) (sym raised_is)
-    (first_read slots entries archived floors (Floor scope new) entries archived (raised_in scope new floors) rest d s (one_floor_read slots entries archived floors scope new) some is body before)
+    (first_read slots entries archived floors (Floor scope new) entries archived (raised_in scope new floors) rest d s
+    (one_floor_read slots entries archived floors scope new) some is body before)
 
 -- ---- each log has such a list
 
 Made : ℕ → FloorsValue → List Slot → Type 0
 Made mark floors slots =
-    (entries : List RunEntry) × (runs_named entries ≡ runs_of slots) × (map (λ e. e.mark) entries ≡ marks_before mark (log_of slots)) × (map (λ e. e.floors) entries ≡ floors_before floors (log_of slots))
+    (entries : List RunEntry) × (runs_named entries ≡ runs_of slots) × (map (λ e. e.mark) entries ≡ marks_before mark (log_of slots))
+    × (map (λ e. e.floors) entries ≡ floors_before floors (log_of slots))
 
-one_made : (slots : List Slot) → ((mark : ℕ) (floors : FloorsValue) → Made mark floors slots) → (number : ℕ) (body : Body) (mark : ℕ) (floors : FloorsValue) → AllByRecursion IsRun (runs_in body) → Made mark floors (record { number = number; body = body } ∷ slots)
+one_made : (slots : List Slot) → ((mark : ℕ) (floors : FloorsValue) → Made mark floors slots) → (number : ℕ) (body : Body) (mark : ℕ) (floors : FloorsValue)
+    → AllByRecursion IsRun (runs_in body) → Made mark floors (record { number = number; body = body } ∷ slots)
 unfolding Made of_run
 one_made slots rest number (Commit members) mark floors in_range = rest mark floors
 one_made slots rest number (Archived run) mark floors in_range =
-    let more = rest run.upto floors in
-    (of_run run mark floors in_range.0 ∷ more.0, ap (λ (l : List Run). run ∷ l) more.1, ap (λ (l : List ℕ). mark ∷ l) more.2, ap (λ (l : List FloorsValue). floors ∷ l) more.3)
+    let more = rest run.upto floors in (
+      of_run run mark floors in_range.0 ∷ more.0,
+      ap (λ (l : List Run). run ∷ l) more.1,
+      ap (λ (l : List ℕ). mark ∷ l) more.2,
+      ap (λ (l : List FloorsValue). floors ∷ l) more.3,
+    )
 one_made slots rest number (Reclaimed anchors) mark floors in_range = rest mark floors
 one_made slots rest number (Floor scope new) mark floors in_range = rest mark (raised_in scope new floors)
 
@@ -184,7 +207,8 @@ all_made : (slots : List Slot) (mark : ℕ) (floors : FloorsValue) → AllByRecu
 unfolding Made
 all_made [] mark floors in_range = ([], refl, refl, refl)
 all_made (s ∷ slots) mark floors in_range =
-    one_made slots (λ upto raised. all_made slots upto raised (all_of_back IsRun (runs_in s.body) (runs_of slots) in_range)) s.number s.body mark floors (all_of_front IsRun (runs_in s.body) (runs_of slots) in_range)
+    one_made slots (λ upto raised. all_made slots upto raised (all_of_back IsRun (runs_in s.body) (runs_of slots) in_range)) s.number s.body mark floors
+    (all_of_front IsRun (runs_in s.body) (runs_of slots) in_range)
 
 pub entries_made : (slots : List Slot) → AllByRecursion IsRun (runs_of slots) → (entries : List RunEntry) × AreEntriesOf slots entries
 unfolding Made

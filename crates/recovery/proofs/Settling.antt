@@ -30,7 +30,8 @@ settles_one tells a b first sound = record {
   left = λ told. (left_by tells Status a b first told (sound told), tt);
 }
 
-pub settles_two : (tells : Bool) (a b c : DiskState) → IsSync tells Status a b → IsSync tells Heap b c → (IsTrue tells → AreSound a.areas) → (IsTrue tells → AreSound b.areas) → Settles tells a c
+pub settles_two : (tells : Bool) (a b c : DiskState) → IsSync tells Status a b → IsSync tells Heap b c → (IsTrue tells → AreSound a.areas)
+    → (IsTrue tells → AreSound b.areas) → Settles tells a c
 settles_two tells a b c first second sound_a sound_b = record {
   moments = b ∷ c ∷ [];
   syncs = (first, (second, tt));
@@ -64,7 +65,8 @@ reads_only (Ok x) old new read = rw read refl
 reads_only (Err fault) old new read = rw read (fault_only fault old)
 
 -- and it is read then
-pub settles_then_reads : {T : Type 0} (tells : Bool) (old middle new : DiskState) (result : Result T OpenFault) → Settles tells old middle → new ≡ after_reads result middle → Settles tells old new
+pub settles_then_reads : {T : Type 0} (tells : Bool) (old middle new : DiskState) (result : Result T OpenFault) → Settles tells old middle → new
+    ≡ after_reads result middle → Settles tells old new
 settles_then_reads tells old middle new result settles read = record {
   moments = settles.moments;
   syncs = settles.syncs;
@@ -72,7 +74,8 @@ settles_then_reads tells old middle new result settles read = record {
   left = settles.left;
 }
 
-pub most_then_reads : {T : Type 0} (old middle new : DiskState) (result : Result T OpenFault) → CountsAtMost 3 old middle → new ≡ after_reads result middle → CountsAtMost 3 old new
+pub most_then_reads : {T : Type 0} (old middle new : DiskState) (result : Result T OpenFault) → CountsAtMost 3 old middle → new ≡ after_reads result middle
+    → CountsAtMost 3 old new
 most_then_reads old middle new result most read =
     let same : new.made ≡ middle.made = ap (λ (s : DiskState). s.made) (reads_only result middle new read) in omega (arith, most, same)
 
@@ -85,7 +88,8 @@ one_more old new counts few = elim (cases_eq old.made top) [
   | inr other ↦ (omega (arith, counts.made, few, other), omega (arith, counts.made))
 ]
 
-pub three_more : (a b c d : DiskState) → Counts {T = Unit {0}} {E = DeviceFault} (Ok tt) a b → Counts {T = Unit {0}} {E = DeviceFault} (Ok tt) b c → Counts {T = Unit {0}} {E = DeviceFault} (Ok tt) c d → CountsMore 3 a d
+pub three_more : (a b c d : DiskState) → Counts {T = Unit {0}} {E = DeviceFault} (Ok tt) a b → Counts {T = Unit {0}} {E = DeviceFault} (Ok tt) b c
+    → Counts {T = Unit {0}} {E = DeviceFault} (Ok tt) c d → CountsMore 3 a d
 three_more a b c d first second third few =
     let one = one_more a b first few in
     let two = one_more b c second one.1 in

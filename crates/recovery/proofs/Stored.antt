@@ -29,7 +29,8 @@ gone_again Gone ok same = refl
 gone_again (Old from value) ok same = absurd ok
 
 -- what was applied is stored as its write
-pub applied_is : (before : Key → Option Value) (r : Record) (write : Option Value) → IsPermitted OfCommit r.content → r.content ≡ content_of (stored (before r.key) write) → (r.content ≡ Gone → IsSome (before r.key))
+pub applied_is : (before : Key → Option Value) (r : Record) (write : Option Value) → IsPermitted OfCommit r.content → r.content
+    ≡ content_of (stored (before r.key) write) → (r.content ≡ Gone → IsSome (before r.key))
     → IsStored before (heap_record r) × (◌≡◌ {A = KeyWrite Value} (record { key = r.key; write = write }) (write_of before (heap_record r)))
 applied_is before r write ok is gone =
     let both = stored_is_written (before r.key) write (heap_content r.content) (content_again r.content ok ∙ is) in
@@ -40,12 +41,15 @@ pub stored_applies : (before : Key → Option Value) (r : Record) → IsPermitte
     → (r.content ≡ content_of (stored (before r.key) (written (before r.key) (heap_content r.content)))) × (r.content ≡ Gone → IsSome (before r.key))
 stored_applies before r ok is = (sym (content_again r.content ok) ∙ ap content_of is.one_spelling, λ gone. is.gone (ap heap_content gone))
 
-keys_are : (before : Key → Option Value) (rs : List Record) → map (λ (w : KeyWrite Value). w.key) (map (write_of before) (map heap_record rs)) ≡ map (λ (r : Record). r.key) rs
+keys_are : (before : Key → Option Value) (rs : List Record) → map (λ (w : KeyWrite Value). w.key) (map (write_of before) (map heap_record rs))
+    ≡ map (λ (r : Record). r.key) rs
 keys_are before [] = refl
 keys_are before (r ∷ rs) = ap (λ l. r.key ∷ l) (keys_are before rs)
 
 -- the keys of the writes rise as those of the records do
-pub rising_writes : (before : Key → Option Value) (items rs : List Record) (ws : List (KeyWrite Value)) → rs ≡ items → ws ≡ map (write_of before) (map heap_record rs) → IsStrictlySortedBy key_cmp (map (λ (r : Record). r.key) items)
+pub rising_writes : (before : Key → Option Value) (items rs : List Record) (ws : List (KeyWrite Value)) → rs ≡ items → ws
+    ≡ map (write_of before) (map heap_record rs) → IsStrictlySortedBy key_cmp (map (λ (r : Record). r.key) items)
     → IsStrictlySortedBy key_cmp (map (λ (w : KeyWrite Value). w.key) ws)
 rising_writes before items rs ws same are rising =
-    subst (IsStrictlySortedBy key_cmp) (sym (ap (λ (l : List (KeyWrite Value)). map (λ (w : KeyWrite Value). w.key) l) are ∙ keys_are before rs)) (subst (λ (l : List Record). IsStrictlySortedBy key_cmp (map (λ (r : Record). r.key) l)) (sym same) rising)
+    subst (IsStrictlySortedBy key_cmp) (sym (ap (λ (l : List (KeyWrite Value)). map (λ (w : KeyWrite Value). w.key) l) are
+    ∙ keys_are before rs)) (subst (λ (l : List Record). IsStrictlySortedBy key_cmp (map (λ (r : Record). r.key) l)) (sym same) rising)

@@ -11,7 +11,8 @@ pub claimed-append : (usages : List Usage) (xs ys : List ℕ) → claimed usages
 claimed-append usages [] ys = refl
 claimed-append usages (x ∷ xs) ys = claimed-append (with_usage usages x Kept) xs ys
 
-pub claimable_join : (len : ℕ) (usages : List Usage) (xs ys : List ℕ) → AreClaimable len usages xs → AreClaimable len (claimed usages xs) ys → AreClaimable len usages (xs ++ ys)
+pub claimable_join : (len : ℕ) (usages : List Usage) (xs ys : List ℕ) → AreClaimable len usages xs → AreClaimable len (claimed usages xs) ys
+    → AreClaimable len usages (xs ++ ys)
 claimable_join len usages [] ys a b = b
 claimable_join len usages (x ∷ xs) ys a b = (a.0, a.1, claimable_join len (with_usage usages x Kept) xs ys a.2 b)
 
@@ -20,7 +21,8 @@ claimable_behind len usages [] ys a = a
 claimable_behind len usages (x ∷ xs) ys a = claimable_behind len (with_usage usages x Kept) xs ys a.2
 
 -- some extents of a walk were read, and the walk goes on at this one
-pub record IsWalking (heap : List ℕ) (len : ℕ) (old : List Usage) (first count : ℕ) (done next : ℕ) (numbers : List ℕ) (images : List (List ℕ)) (new : List Usage) : Type 0 where
+pub record IsWalking (heap : List ℕ) (len : ℕ) (old : List Usage) (first count : ℕ) (done next : ℕ) (numbers : List ℕ) (images : List (List ℕ))
+    (new : List Usage) : Type 0 where
   pub numbers_are : numbers ++ numbers_at heap next (count - done) ≡ numbers_at heap first count
   pub images_are : images ≡ map (extent_at heap) numbers
   pub claimable : AreClaimable len old numbers
@@ -38,7 +40,8 @@ module _ (heap : List ℕ) (len : ℕ) (old : List Usage) (first count done next
   pub walk_fails : ¬ (IsThere len next × IsFree new next) → ¬ AreClaimable len old (numbers_at heap first count)
   walk_fails none all =
       let behind : AreClaimable len (claimed old numbers) (next ∷ numbers_at heap (next_of (extent_at heap next)) (count - (done + 1))) =
-      claimable_behind len old numbers (next ∷ numbers_at heap (next_of (extent_at heap next)) (count - (done + 1))) (subst (AreClaimable len old) (sym all_are) all) in
+      claimable_behind len old numbers (next
+      ∷ numbers_at heap (next_of (extent_at heap next)) (count - (done + 1))) (subst (AreClaimable len old) (sym all_are) all) in
       none (behind.0, subst (λ (u : List Usage). IsFree u next) (sym walking.kept) behind.1)
 
   -- it is, and was read

@@ -42,13 +42,15 @@ abbrev pub HasNoRecords : List ℕ → ℕ → List Usage → ChainName → Kind
 HasNoRecords heap heap_len usages name kinds = (records : List Record) → ¬ HasRecords heap heap_len usages name kinds records
 
 -- its records are read, and its extents are kept
-pub record AreReadRecords (heap : List ℕ) (heap_len : ℕ) (old : List Usage) (name : ChainName) (kinds : Kinds) (new : List Usage) (read : ReadRecords) : Type 0 where
-  pub numbers : read.numbers.items ≡ numbers_named heap name
-  pub has : HasRecords heap heap_len old name kinds read.records.items
-  pub kept : new ≡ claimed old (numbers_named heap name)
+pub record AreReadRecords (heap : List ℕ) (heap_len : ℕ) (old : List Usage) (name : ChainName) (kinds : Kinds) (new : List Usage) (read : ReadRecords) : Type 0
+  where
+    pub numbers : read.numbers.items ≡ numbers_named heap name
+    pub has : HasRecords heap heap_len old name kinds read.records.items
+    pub kept : new ≡ claimed old (numbers_named heap name)
 
 -- each record is the one that its write is stored as, over the values before it
-pub record IsRightChain (heap : List ℕ) (heap_len : ℕ) (usages : List Usage) (before : Key → Option Value) (entry : Member) (records : List Record) : Type 0 where
+pub record IsRightChain (heap : List ℕ) (heap_len : ℕ) (usages : List Usage) (before : Key
+    → Option Value) (entry : Member) (records : List Record) : Type 0 where
   pub has : HasRecords heap heap_len usages (chain_name entry) OfCommit records
   pub stored : AllByRecursion (IsStored before) (map heap_record records)
 
@@ -62,7 +64,8 @@ pub record AddsChain (heap : List ℕ) (heap_len : ℕ) (entry : Member) (old ne
   pub right : IsRightChain heap heap_len old.extents (before_of old.chains) entry records
   pub extents : new.extents ≡ claimed old.extents (numbers_of heap entry)
   pub live : map live_named new.live.items ≡ map live_named old.live.items ++ (entry.time, numbers_of heap entry) ∷ []
-  pub chains : (key : Key) → writes_of new.chains key ≡ writes_of old.chains key ++ written entry.time (map (write_of (before_of old.chains)) (map heap_record records)) key
+  pub chains : (key : Key) → writes_of new.chains key ≡ writes_of old.chains key
+      ++ written entry.time (map (write_of (before_of old.chains)) (map heap_record records)) key
   pub last : new.last ≡ entry.time
 
 -- there is no such chain

@@ -22,7 +22,8 @@ pub record FailsStatusAt (status : List ℕ) (n : ℕ) : Type 0 where
   pub header_reads : ReadsHeader status header
   pub damaged : IsDamaged header status n
 
--- The status area is read, and this is the first extent of the first chain that is not right: first the anchors' chain, then those of the members in their order.
+-- The status area is read, and this is the first extent of the first chain that is not right: first the anchors' chain, then those of the members in their
+-- order.
 pub record FailsHeapAt (image : Image) (place : ℕ) : Type 0 where
   pub header : Header
   pub slots : List Slot
@@ -69,7 +70,8 @@ IsHeaderFault status (Damaged area n) = ⊥
 IsHeaderFault status Device = Unit {0}
 IsHeaderFault status NoMemory = Unit {0}
 
--- Why an image is not read, by the first check that fails: no header stands in front, or a slot is the first that may not stand in its place, or a chain is not right, or a run ends past the archive.
+-- Why an image is not read, by the first check that fails: no header stands in front, or a slot is the first that may not stand in its place, or a chain is not
+-- right, or a run ends past the archive.
 -- An image that opens has no fault, and any other has one alone (the law opens_or_fails).
 abbrev pub IsImageFault : Image → OpenFault → Type 0
 IsImageFault image NotAStore = (header : Header) → ¬ ReadsHeader image.status header

@@ -37,7 +37,8 @@ pub record IsZeroed (from upto : ℕ) (old new : AreaState) : Type 0 where
 
 -- of the first 512 bytes a stop leaves what was on the disk before
 pub record KeepsFront (old new : AreaState) : Type 0 where
-  pub left : (content : List ℕ) (k : ℕ) → MayLeave new content → k < 512 → k < old.firm → IsUntouched k (k + 1) old.loose → slice_index content k ≡ slice_index old.bytes k
+  pub left : (content : List ℕ) (k : ℕ) → MayLeave new content → k < 512 → k < old.firm → IsUntouched k (k + 1) old.loose → slice_index content k
+      ≡ slice_index old.bytes k
 
 -- a stop leaves all of these slots closed
 pub record LeavesShut (slots : ℕ) (a : AreaState) : Type 0 where
@@ -79,7 +80,8 @@ pub record CountsFirst (old new : DiskState) : Type 0 where
   pub no_fewer : old.made ≤ top → old.made ≤ new.made
   pub same : old.made ≤ top → new.made ≡ old.made → new.areas ≡ old.areas
 
--- What the device's refusal leaves: before the first write nothing has changed. From then on the heap and the archive are as they were, and the front of the status area too, or all slots are closed. A later call goes by what the status area holds.
+-- What the device's refusal leaves: before the first write nothing has changed. From then on the heap and the archive are as they were, and the front of the
+-- status area too, or all slots are closed. A later call goes by what the status area holds.
 pub record LeavesOff (tells : Bool) (slots : ℕ) (old new : DiskState) : Type 0 where
   pub first : CountsFirst old new
   pub refused : new.refused ≡ counted old.refused

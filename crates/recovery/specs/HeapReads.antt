@@ -35,7 +35,8 @@ live_of s = (s.entry.time, numbers_in s.extents)
 abbrev pub commits_of : List OldRecord → List StoredMember → History Value
 commits_of olds members = commits_from (values_of olds) (map (λ s. s.member) members)
 
--- The heap holds these members later than the mark, one after another, over anchors in this chain, and they are what was read: the extents of all chains are kept and all others are free, and the anchors' and the members' writes are those of each key.
+-- The heap holds these members later than the mark, one after another, over anchors in this chain, and they are what was read: the extents of all chains are
+-- kept and all others are free, and the anchors' and the members' writes are those of each key.
 pub record HoldsMembers (heap : List ℕ) (mark : ℕ) (chain : List Extent) (olds : List OldRecord) (members : List StoredMember) (read : HeapRead) : Type 0 where
   pub are : AreLive heap chain (values_of olds) members
   pub extents : read.extents ≡ claimed (replicate 65536 Free) (numbers_in (chain ++ extents_of members))

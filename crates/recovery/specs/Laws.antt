@@ -24,7 +24,9 @@ use Rattle.recovery.specs.ReadsImage.{IsOpening, IsReadFrom}
 
 -- where an image opens, no fault is told but that the device or memory gave out
 abbrev pub OpensOrFails : Type 0
-OpensOrFails = (header : Header) (image : Image) (layout : Layout) (reading : Reading) (fault : OpenFault) → IsOpening header image layout reading → IsImageFault image fault → IsReadFault fault
+OpensOrFails =
+    (header : Header) (image : Image) (layout : Layout) (reading : Reading) (fault : OpenFault) → IsOpening header image layout reading
+    → IsImageFault image fault → IsReadFault fault
 
 -- and where checks fail, it is one fault that is told
 abbrev pub FailsOnce : Type 0
@@ -49,18 +51,21 @@ pub record SaySame (r s : Recovered) : Type 0 where
 abbrev pub OpensOnce : Type 0
 OpensOnce = (image : Image) (r s : Recovered) → IsReadFrom image r → IsReadFrom image s → SaySame r s
 
--- What was read is a history with its floors: of each key its versions that end after the reclaim mark and the floor, and when it was last written, if after that mark.
+-- What was read is a history with its floors: of each key its versions that end after the reclaim mark and the floor, and when it was last written, if after
+-- that mark.
 pub record IsHistoryRead (h : History Value) (floors : ℕ → ℕ) (r : Recovered) : Type 0 where
   pub commits : map rules.head_of r.commits.items ≡ map head_of h
   pub floors_are : (relation : ℕ) → floor_at r.floors relation ≡ floors relation
   pub marks : r.reclaimed ≤ r.archived
   pub last_is : r.last ≡ last h
-  pub versions_are : (key : Key) → filter (ends_after (floors key.relation)) (versions (chains.writes_of r.chains key)) ≡ filter (ends_after (floors key.relation)) (filter (ends_after r.reclaimed) (versions_of h key))
+  pub versions_are : (key : Key) → filter (ends_after (floors key.relation)) (versions (chains.writes_of r.chains key))
+      ≡ filter (ends_after (floors key.relation)) (filter (ends_after r.reclaimed) (versions_of h key))
   pub last_writes : (key : Key) → r.reclaimed < last_time (writes_of h key) → last_time (chains.writes_of r.chains key) ≡ last_time (writes_of h key)
   pub earlier_writes : (key : Key) → last_time (writes_of h key) ≤ r.reclaimed → last_time (chains.writes_of r.chains key) ≤ r.reclaimed
 
 -- An image that stands for a history opens, and what is read of it is that history.
 abbrev pub StandsOpens : Type 0
 StandsOpens = (header : Header) (image : Image) (layout : Layout) (reading : Reading) (h : History Value) (floors : ℕ → ℕ)
-    → IsLayoutOf header layout reading → HoldsLayout header image layout → StandsFor reading h floors → IsTrue (is_built header.profile 1) → AreBuilt header layout.slots
+    → IsLayoutOf header layout reading → HoldsLayout header image layout → StandsFor reading h floors → IsTrue (is_built header.profile 1)
+    → AreBuilt header layout.slots
     → ((r : Recovered) → IsReadFrom image r → IsHistoryRead h floors r) × ((fault : OpenFault) → IsImageFault image fault → IsReadFault fault)

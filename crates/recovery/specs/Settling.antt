@@ -24,7 +24,8 @@ abbrev pub last_moment : DiskState → List DiskState → DiskState
 last_moment old [] = old
 last_moment old (m ∷ moments) = last_moment m moments
 
--- The disk's states behind each write or sync of an opening: it syncs the three areas in turn, and writes nothing. What a stop leaves at any of these moments it might have left before the first of them.
+-- The disk's states behind each write or sync of an opening: it syncs the three areas in turn, and writes nothing. What a stop leaves at any of these moments
+-- it might have left before the first of them.
 pub record Settles (tells : Bool) (old new : DiskState) : Type 0 where
   pub moments : List DiskState
   pub syncs : AreSyncs tells (Status ∷ Heap ∷ Archive ∷ []) old moments

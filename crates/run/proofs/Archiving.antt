@@ -43,7 +43,7 @@ use Rattle.run.specs.declared.held.Held.{Held}
 use Rattle.run.specs.declared.held.Held.TheVariants as held
 use Rattle.run.specs.Places.{Free, ArePlaces, AreRead}
 use Rattle.run.specs.Worlds.{World, IsWorld, moved, same}
-use Rattle.run.specs.Runs.{Does, Goes, Follows, IsStepFault, Archives, Reclaims}
+use Rattle.run.specs.Runs.{Does, Goes, Leads, Follows, IsStepFault, Archives, Reclaims}
 use Rattle.run.proofs.Runs.{no-step}
 use Rattle.run.proofs.Places.{reads-move, reads-plain, push_nothing, move, GoesOn, goes_on-same, run-goes_on, stays}
 use Rattle.run.proofs.Pumping.{counted-few, pump-keeps, any-fault}
@@ -97,8 +97,9 @@ start-says tells v v' w upto r stands starts =
     by-tests false on false false false late true is = says (Err start.StatusFull) is.0 refl
     by-tests false on false false false late false is = begins on late r is
 
-pub start-goes : (tells : Bool) (v v' : StoreValue) (xs : List Held) (upto : ℕ) (r : Result (Unit {0}) StartFault) → StartsArchive v upto r v' → Goes tells v xs (call.Archive upto) (answer.Archive r) v' (xs ++ held.Nothing ∷ [])
-start-goes tells v v' xs upto r starts w is = (
+start-leads : (tells : Bool) (v v' : StoreValue) (xs : List Held) (upto : ℕ) (r : Result (Unit {0}) StartFault) → StartsArchive v upto r v'
+    → Leads tells v xs (call.Archive upto) (answer.Archive r) v' (xs ++ held.Nothing ∷ [])
+start-leads tells v v' xs upto r starts w is = (
   same w,
   start-says tells v v' w upto r is.stands starts,
   no-step w.machine,
@@ -216,8 +217,9 @@ reclaim-says tells v v' w r stands starts = by-tests v.transactions.failed refl 
     by-tests false on false true is = says (Err start.NothingToDo) is.0 refl
     by-tests false on false false is = by-use on (below (oldest v.transactions) v.archived) refl is
 
-pub reclaim-goes : (tells : Bool) (v v' : StoreValue) (xs : List Held) (r : Result (Unit {0}) StartFault) → StartsReclaim v r v' → Goes tells v xs call.Reclaim (answer.Reclaim r) v' (xs ++ held.Nothing ∷ [])
-reclaim-goes tells v v' xs r starts w is = (
+reclaim-leads : (tells : Bool) (v v' : StoreValue) (xs : List Held) (r : Result (Unit {0}) StartFault) → StartsReclaim v r v'
+    → Leads tells v xs call.Reclaim (answer.Reclaim r) v' (xs ++ held.Nothing ∷ [])
+reclaim-leads tells v v' xs r starts w is = (
   same w,
   reclaim-says tells v v' w r is.stands starts,
   no-step w.machine,
@@ -286,8 +288,9 @@ pumped-few tells old new r pumps = by-failure old.transactions.failed pumps
 
 -- ---- the call
 
-pub pumped-goes : (tells : Bool) (v v' : StoreValue) (xs : List Held) (r : Result JobDid PumpFault) → (IsTrue tells → AreSound v'.disk.areas) → PumpsJob tells v r v' → Goes tells v xs call.JobPump (answer.JobPump r) v' (xs ++ held.Nothing ∷ [])
-pumped-goes tells v v' xs r sound pumps w is =
+pumped-leads : (tells : Bool) (v v' : StoreValue) (xs : List Held) (r : Result JobDid PumpFault) → (IsTrue tells → AreSound v'.disk.areas)
+    → PumpsJob tells v r v' → Leads tells v xs call.JobPump (answer.JobPump r) v' (xs ++ held.Nothing ∷ [])
+pumped-leads tells v v' xs r sound pumps w is =
     by-failure w.machine.failed refl (pumped-refused r) (job-pump-stands tells v v' r w.machine is.stands sound pumps)
   where
     places : (h' : History Value) → GoesOn w.machine.published h' → ArePlaces v'.transactions h' (xs ++ held.Nothing ∷ []) (w.places ++ Free ∷ [])
@@ -311,3 +314,17 @@ pumped-goes tells v v' xs r sound pumps w is =
       (job_ends_in w.machine r, done.1),
       record { stands = done.2; places = places done.0.published (run-goes_on w.machine done.0 (job_ends_in w.machine r) done.2.machine done.1); views = read },
     )
+
+-- ---- as the store's own clauses say
+
+pub start-goes : (tells : Bool) (v v' : StoreValue) (xs : List Held) (upto : ℕ) (r : Result (Unit {0}) StartFault) → StartsArchive v upto r v'
+    → Goes tells v xs (call.Archive upto) (answer.Archive r) v' (xs ++ held.Nothing ∷ [])
+start-goes tells v v' xs upto r starts = record { makes = inr (r, starts, (refl, refl)); leads = start-leads tells v v' xs upto r starts }
+
+pub reclaim-goes : (tells : Bool) (v v' : StoreValue) (xs : List Held) (r : Result (Unit {0}) StartFault) → StartsReclaim v r v'
+    → Goes tells v xs call.Reclaim (answer.Reclaim r) v' (xs ++ held.Nothing ∷ [])
+reclaim-goes tells v v' xs r starts = record { makes = inr (r, starts, (refl, refl)); leads = reclaim-leads tells v v' xs r starts }
+
+pub pumped-goes : (tells : Bool) (v v' : StoreValue) (xs : List Held) (r : Result JobDid PumpFault) → (IsTrue tells → AreSound v'.disk.areas)
+    → PumpsJob tells v r v' → Goes tells v xs call.JobPump (answer.JobPump r) v' (xs ++ held.Nothing ∷ [])
+pumped-goes tells v v' xs r sound pumps = record { makes = inr (r, pumps, (refl, refl)); leads = pumped-leads tells v v' xs r sound pumps }

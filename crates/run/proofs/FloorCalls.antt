@@ -1,5 +1,5 @@
 -- The beginning of a floor.
-use Rattle.std.proofs.Common.{◌≡◌, ℕ, ◌+◌, ◌≤◌, Bool, List, [], ◌∷◌, ◌++◌, Some, None, Option, Result, Ok, Err, MatchOption, refl, sym, ap, subst, arith}
+use Rattle.std.proofs.Common.{◌≡◌, inr, ℕ, ◌+◌, ◌≤◌, Bool, List, [], ◌∷◌, ◌++◌, Some, None, Option, Result, Ok, Err, MatchOption, refl, sym, ap, subst, arith}
 use Rattle.history.specs.Steps as steps
 use Rattle.history.specs.Machine.{Machine}
 use Rattle.law_image.specs.Values.{Value}
@@ -18,7 +18,7 @@ use Rattle.run.specs.declared.held.Held.{Held}
 use Rattle.run.specs.declared.held.Held.TheVariants as held
 use Rattle.run.specs.Places.{Free, ArePlaces}
 use Rattle.run.specs.Worlds.{World, moved, same}
-use Rattle.run.specs.Runs.{Goes, Follows, Raises}
+use Rattle.run.specs.Runs.{Goes, Leads, Follows, Raises}
 use Rattle.run.proofs.Runs.{no-step}
 use Rattle.run.proofs.Places.{reads-move, reads-plain, push_nothing, move, goes_on-same, stays}
 use Rattle.run.proofs.Pumping.{pump-keeps}
@@ -35,36 +35,45 @@ floor-few old new scope floor r starts = by-refusal (floor_refusal old scope flo
     by-refusal (Some why) is = let made = ap (λ (v : StoreValue). v.disk.made) is.1 in omega (arith, made)
 
 -- what the call leads to
-record Leads (tells : Bool) (v' : StoreValue) (w : World) (scope : Option ℕ) (floor : ℕ) (r : Result (Unit {0}) StartFault) : Type 0 where
+record StartsTo (tells : Bool) (v' : StoreValue) (w : World) (scope : Option ℕ) (floor : ℕ) (r : Result (Unit {0}) StartFault) : Type 0 where
   after : Machine Value
   published : after.published ≡ w.machine.published
   says : Raises w scope floor r (same (moved w after))
   follows : Follows w.machine after
   stands : Stands tells v' after
 
-leads-by : (tells : Bool) (v' : StoreValue) (w : World) (scope : Option ℕ) (floor : ℕ) (r : Result (Unit {0}) StartFault) → StartsOn tells w.machine (raising_to scope floor) r v' → Leads tells v' w scope floor r
-leads-by tells v' w scope floor (Ok done) is = record {
+starts-to : (tells : Bool) (v' : StoreValue) (w : World) (scope : Option ℕ) (floor : ℕ) (r : Result (Unit {0}) StartFault)
+    → StartsOn tells w.machine (raising_to scope floor) r v' → StartsTo tells v' w scope floor r
+starts-to tells v' w scope floor (Ok done) is = record {
   after = steps.floor_started w.machine (raising_to scope floor);
   published = refl;
   says = (is.0, refl);
   follows = (steps.FloorStarted (raising_to scope floor) ∷ [], (steps.floor_started w.machine (raising_to scope floor), is.0, refl));
   stands = is.1;
 }
-leads-by tells v' w scope floor (Err start.NothingToDo) is = record { after = w.machine; published = refl; says = (is.0, refl); follows = no-step w.machine; stands = is.1 }
-leads-by tells v' w scope floor (Err (start.NotYet time)) is = record { after = w.machine; published = refl; says = (is.0, refl); follows = no-step w.machine; stands = is.1 }
-leads-by tells v' w scope floor (Err (start.InUse snapshot)) is = record { after = w.machine; published = refl; says = (is.0, refl); follows = no-step w.machine; stands = is.1 }
-leads-by tells v' w scope floor (Err start.Failed) is = record { after = w.machine; published = refl; says = (is.0, refl); follows = no-step w.machine; stands = is.1 }
-leads-by tells v' w scope floor (Err start.WrongProfile) is = record { after = w.machine; published = refl; says = refl; follows = no-step w.machine; stands = is }
-leads-by tells v' w scope floor (Err start.JobBusy) is = record { after = w.machine; published = refl; says = refl; follows = no-step w.machine; stands = is }
-leads-by tells v' w scope floor (Err start.StatusFull) is = record { after = w.machine; published = refl; says = refl; follows = no-step w.machine; stands = is }
-leads-by tells v' w scope floor (Err start.ArchiveFull) is = absurd is
-leads-by tells v' w scope floor (Err start.HeapFull) is = absurd is
-leads-by tells v' w scope floor (Err start.NoMemory) is = record { after = w.machine; published = refl; says = (is.0, refl); follows = no-step w.machine; stands = is.1 }
-leads-by tells v' w scope floor (Err start.NotGrowable) is = absurd is
+starts-to tells v' w scope floor (Err start.NothingToDo) is =
+    record { after = w.machine; published = refl; says = (is.0, refl); follows = no-step w.machine; stands = is.1 }
+starts-to tells v' w scope floor (Err (start.NotYet time)) is =
+    record { after = w.machine; published = refl; says = (is.0, refl); follows = no-step w.machine; stands = is.1 }
+starts-to tells v' w scope floor (Err (start.InUse snapshot)) is =
+    record { after = w.machine; published = refl; says = (is.0, refl); follows = no-step w.machine; stands = is.1 }
+starts-to tells v' w scope floor (Err start.Failed) is =
+    record { after = w.machine; published = refl; says = (is.0, refl); follows = no-step w.machine; stands = is.1 }
+starts-to tells v' w scope floor (Err start.WrongProfile) is =
+    record { after = w.machine; published = refl; says = refl; follows = no-step w.machine; stands = is }
+starts-to tells v' w scope floor (Err start.JobBusy) is = record { after = w.machine; published = refl; says = refl; follows = no-step w.machine; stands = is }
+starts-to tells v' w scope floor (Err start.StatusFull) is =
+    record { after = w.machine; published = refl; says = refl; follows = no-step w.machine; stands = is }
+starts-to tells v' w scope floor (Err start.ArchiveFull) is = absurd is
+starts-to tells v' w scope floor (Err start.HeapFull) is = absurd is
+starts-to tells v' w scope floor (Err start.NoMemory) is =
+    record { after = w.machine; published = refl; says = (is.0, refl); follows = no-step w.machine; stands = is.1 }
+starts-to tells v' w scope floor (Err start.NotGrowable) is = absurd is
 
-pub floor-goes : (tells : Bool) (v v' : StoreValue) (xs : List Held) (scope : Option ℕ) (floor : ℕ) (r : Result (Unit {0}) StartFault) → StartsFloor v scope floor r v' → Goes tells v xs (call.Floor scope floor) (answer.Floor r) v' (xs ++ held.Nothing ∷ [])
-floor-goes tells v v' xs scope floor r starts w is =
-    let leads = leads-by tells v' w scope floor r (floor-start-stands tells v v' scope floor r w.machine is.stands starts) in
+floor-leads : (tells : Bool) (v v' : StoreValue) (xs : List Held) (scope : Option ℕ) (floor : ℕ) (r : Result (Unit {0}) StartFault)
+    → StartsFloor v scope floor r v' → Leads tells v xs (call.Floor scope floor) (answer.Floor r) v' (xs ++ held.Nothing ∷ [])
+floor-leads tells v v' xs scope floor r starts w is =
+    let leads = starts-to tells v' w scope floor r (floor-start-stands tells v v' scope floor r w.machine is.stands starts) in
     let places : ArePlaces v'.transactions w.machine.published (xs ++ held.Nothing ∷ []) (w.places ++ Free ∷ []) =
     push_nothing v'.transactions w.machine.published xs w.places
     (move v.transactions v'.transactions w.machine.published w.machine.published xs w.places is.places
@@ -78,3 +87,7 @@ floor-goes tells v v' xs scope floor r starts w is =
         views = reads-plain tells v' xs w.places held.Nothing Free is.places.many tt (reads-move tells v v' xs w.places (floor-start-goes tells v v' scope floor r w.machine is.stands starts) is.views);
       },
     )
+
+pub floor-goes : (tells : Bool) (v v' : StoreValue) (xs : List Held) (scope : Option ℕ) (floor : ℕ) (r : Result (Unit {0}) StartFault)
+    → StartsFloor v scope floor r v' → Goes tells v xs (call.Floor scope floor) (answer.Floor r) v' (xs ++ held.Nothing ∷ [])
+floor-goes tells v v' xs scope floor r starts = record { makes = inr (r, starts, (refl, refl)); leads = floor-leads tells v v' xs scope floor r starts }

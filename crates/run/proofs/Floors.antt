@@ -37,7 +37,7 @@ use Rattle.run.specs.Places.{Place, Free, Running, Waits, Views, place_at}
 use Rattle.run.specs.Worlds.{World, same, moved, spent}
 use Rattle.run.specs.Runs.{Does, Begins, Puts, Deletes, Submits, Submitted, Aborts, Redeems, Shows, Raises, IsStepFault, submission}
 use Rattle.run.specs.Laws.{IsKeptTime}
-use Rattle.run.proofs.Passing.{get-same, scan-same, asks-same, asks_scan-same, asks_between-same, asks_scan_between-same, give_up-spent, closes-spent, archive-same, reclaim-same, grow-same}
+use Rattle.run.proofs.Passing.{get-same, scan-same, asks-same, asks_scan-same, asks_between-same, asks_scan_between-same, asks_recent-same, give_up-spent, closes-spent, archive-same, reclaim-same, grow-same}
 
 -- the floors, and the one in the making, are the same
 abbrev pub SameFloors : Machine Value → Machine Value → Type 0
@@ -294,6 +294,8 @@ call-times tells w (call.At i key time) (answer.At said) next does = unraised w 
 call-times tells w (call.ScanAt i relation time) (answer.ScanAt said) next does = unraised w (call.ScanAt i relation time) (answer.ScanAt said) next (same-floors w next (asks_scan-same tells w relation time (place_at w.places i) said next does))
 call-times tells w (call.Between i key a b) (answer.Between said) next does = unraised w (call.Between i key a b) (answer.Between said) next (same-floors w next (asks_between-same tells w key a b (place_at w.places i) said next does))
 call-times tells w (call.ScanBetween i relation a b) (answer.ScanBetween said) next does = unraised w (call.ScanBetween i relation a b) (answer.ScanBetween said) next (same-floors w next (asks_scan_between-same tells w relation a b (place_at w.places i) said next does))
+call-times tells w (call.Recent i key time) (answer.Recent said) next does =
+    unraised w (call.Recent i key time) (answer.Recent said) next (same-floors w next (asks_recent-same w key time (place_at w.places i) said next does))
 call-times tells w (call.End i) answer.End next does = unraised w (call.End i) answer.End next (spent-floors w i next (closes-spent w i (place_at w.places i) next does))
 call-times tells w (call.TimesOf label) (answer.TimesOf said) next does = unraised w (call.TimesOf label) (answer.TimesOf said) next (same-floors w next does.1)
 call-times tells w (call.Archive upto) (answer.Archive said) next does = unraised w (call.Archive upto) (answer.Archive said) next (same-floors w next (archive-same w upto said next does))

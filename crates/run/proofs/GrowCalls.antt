@@ -1,5 +1,5 @@
 -- The beginning of a growth.
-use Rattle.std.proofs.Common.{◌≡◌, ◌+◌, ◌≤◌, Bool, true, false, cond, is_some, List, [], ◌∷◌, ◌++◌, Some, None, Option, Result, Ok, Err, MatchOption, refl, sym, ◌∙◌, ap, subst, arith}
+use Rattle.std.proofs.Common.{◌≡◌, inr, ◌+◌, ◌≤◌, Bool, true, false, cond, is_some, List, [], ◌∷◌, ◌++◌, Some, None, Option, Result, Ok, Err, MatchOption, refl, sym, ◌∙◌, ap, subst, arith}
 use Rattle.status.specs.Growth.{next_piece}
 use Rattle.status.specs.GrowthState.{GrowthState}
 use Rattle.store.specs.Values.{StoreValue}
@@ -16,7 +16,7 @@ use Rattle.run.specs.declared.held.Held.{Held}
 use Rattle.run.specs.declared.held.Held.TheVariants as held
 use Rattle.run.specs.Places.{Free}
 use Rattle.run.specs.Worlds.{World, same}
-use Rattle.run.specs.Runs.{Goes, Grows}
+use Rattle.run.specs.Runs.{Goes, Leads, Grows}
 use Rattle.run.proofs.Runs.{no-step}
 use Rattle.run.proofs.Places.{reads-move, reads-plain, push_nothing, move, goes_on-same, stays}
 use Rattle.run.proofs.Pumping.{pump-keeps}
@@ -51,8 +51,9 @@ grow-says tells v v' w r stands starts = by-tests v.transactions.failed refl (is
     by-tests false on true is = says (Err start.JobBusy) is.0 refl
     by-tests false on false is = by-piece on (next_piece v.log) is
 
-pub grow-goes : (tells : Bool) (v v' : StoreValue) (xs : List Held) (r : Result (Unit {0}) StartFault) → StartsGrowth v r v' → Goes tells v xs call.Grow (answer.Grow r) v' (xs ++ held.Nothing ∷ [])
-grow-goes tells v v' xs r starts w is = (
+grow-leads : (tells : Bool) (v v' : StoreValue) (xs : List Held) (r : Result (Unit {0}) StartFault) → StartsGrowth v r v'
+    → Leads tells v xs call.Grow (answer.Grow r) v' (xs ++ held.Nothing ∷ [])
+grow-leads tells v v' xs r starts w is = (
   same w,
   grow-says tells v v' w r is.stands starts,
   no-step w.machine,
@@ -64,3 +65,7 @@ grow-goes tells v v' xs r starts w is = (
     views = reads-plain tells v' xs w.places held.Nothing Free is.places.many tt (reads-move tells v v' xs w.places (grow-start-goes tells v v' r w.machine is.stands starts) is.views);
   },
 )
+
+pub grow-goes : (tells : Bool) (v v' : StoreValue) (xs : List Held) (r : Result (Unit {0}) StartFault) → StartsGrowth v r v'
+    → Goes tells v xs call.Grow (answer.Grow r) v' (xs ++ held.Nothing ∷ [])
+grow-goes tells v v' xs r starts = record { makes = inr (r, starts, (refl, refl)); leads = grow-leads tells v v' xs r starts }

@@ -8,8 +8,8 @@ use Rattle.law_refinement.specs.Stands.{Stands}
 use Rattle.run.specs.declared.calls.Call.{Call}
 use Rattle.run.specs.declared.calls.Answer.{Answer}
 use Rattle.run.specs.declared.held.Held.{Held}
-use Rattle.run.specs.Worlds.{World, IsWorld}
-use Rattle.run.specs.Runs.{Does, Follows}
+use Rattle.run.specs.Makes.{Makes}
+use Rattle.run.specs.Runs.{Goes}
 use Rattle.run.specs.Moments.{Moment, first_moment, with_answer, IsAtMoment}
 use Rattle.run.specs.Promise.{Leaves, LeavesBetween, Link, Chain, Promise}
 use Rattle.run.proofs.Acknowledging.{call-acknowledges}
@@ -23,17 +23,20 @@ between tells before after old new told image (inr left) = inr (new told image l
 
 -- the next moment of a store, of which a call is made
 pub links : (tells : Bool) (v v' : StoreValue) (xs ys : List Held) (c : Call) (a : Answer) (at : Moment) → IsAtMoment tells v xs at
-    → (next : World) → Does tells at.world c a next → Follows at.world.machine next.machine → IsWorld tells v' ys next → v'.disk.made ≤ v.disk.made + 1
+    → Goes tells v xs c a v' ys → v'.disk.made ≤ v.disk.made + 1
     → (after : Moment) × Link tells c a at after × IsAtMoment tells v' ys after
-links tells v v' xs ys c a at is next does follows world few =
-    let after : Moment = record { store = v'; world = next; done = with_answer a at.done } in
-    let is-after : IsAtMoment tells v' ys after = record { store = refl; world = world; published = call-acknowledges tells at.world c a next at.done does follows is.published } in
+links tells v v' xs ys c a at is goes few =
+    let did = goes.leads at.world is.world in
+    let after : Moment = record { store = v'; held = ys; world = did.0; done = with_answer a at.done } in
+    let is-after : IsAtMoment tells v' ys after = record { store = refl; places = refl; world = did.3; published = call-acknowledges tells at.world c a did.0 at.done did.1 did.2 is.published } in
     let old = moment-leaves tells v xs at is in
     let new = moment-leaves tells v' ys after is-after in (
       after,
       record {
-        does = does;
-        follows = follows;
+        makes = subst (λ (s : StoreValue). Makes tells s at.held c a v' ys) (sym is.store) (subst (λ (held : List Held). Makes tells v held c a v' ys) (sym is.places) goes.makes);
+        stands = did.3;
+        does = did.1;
+        follows = did.2;
         acknowledges = refl;
         makes_few = subst (λ (x : StoreValue). v'.disk.made ≤ x.disk.made + 1) (sym is.store) few;
         leaves_within = between tells at after old new;
@@ -50,7 +53,7 @@ chain-push tells (x ∷ xs) [] start mid c a end chain link = absurd chain
 
 -- before the first call
 pub first-is : (tells : Bool) (v : StoreValue) (m : Machine Value) → Stands tells v m → IsAtMoment tells v [] (first_moment v m)
-first-is tells v m stands = record { store = refl; world = started-world tells v m stands; published = tt }
+first-is tells v m stands = record { store = refl; places = refl; world = started-world tells v m stands; published = tt }
 
 pub promise : Promise
 promise tells disk mark v new header h floors calls said held told sound is opens keeps =

@@ -38,7 +38,7 @@ use Rattle.run.specs.declared.calls.RedeemOutcome.{RedeemOutcome}
 use Rattle.run.specs.declared.calls.RedeemOutcome.TheVariants as told
 use Rattle.run.specs.Places.{Place, Free, Running, Waits, Views, place_at}
 use Rattle.run.specs.Worlds.{World, leaves, put, moved, same, spent}
-use Rattle.run.specs.Runs.{Does, Begins, Puts, Deletes, Gets, Scans, Submits, Submitted, Aborts, Redeems, GivesUp, Shows, Asks, AsksScan, AsksBetween, AsksScanBetween, Closes, Archives, Reclaims, Raises, Grows, PutSays, DeleteSays, deleted, submission}
+use Rattle.run.specs.Runs.{Does, Begins, Puts, Deletes, Gets, Scans, Submits, Submitted, Aborts, Redeems, GivesUp, Shows, Asks, AsksScan, AsksBetween, AsksScanBetween, AsksRecent, Closes, Archives, Reclaims, Raises, Grows, PutSays, DeleteSays, deleted, submission}
 use Rattle.run.specs.Traces.{LeavesKey}
 use Rattle.run.proofs.Lists.{length-set, length-push, place-push_old, place-push_new}
 
@@ -369,6 +369,13 @@ asks_scan_between-same tells w relation a b (Running snapshot writes) said next 
 asks_scan_between-same tells w relation a b (Waits t) said next does = absurd does
 asks_scan_between-same tells w relation a b (Views h floors reclaimed) said next does = does.1
 
+pub asks_recent-same : (w : World) (key : Key) (time : ℕ) (p : Place) (said : Result (Option Value) QueryFault) (next : World)
+    → AsksRecent w key time p said next → next ≡ same w
+asks_recent-same w key time Free said next does = absurd does
+asks_recent-same w key time (Running snapshot writes) said next does = absurd does
+asks_recent-same w key time (Waits t) said next does = absurd does
+asks_recent-same w key time (Views h floors reclaimed) said next does = does.1
+
 -- a floor's start leaves the places
 floor-passes : (w : World) (scope : Option ℕ) (floor : ℕ) (said : Result (Unit {0}) StartFault) (next : World) → Raises w scope floor said next → Passes w (call.Floor scope floor) (answer.Floor said) next
 floor-passes w scope floor (Ok u) next does = gives-nothing w (moved w (steps.floor_started w.machine (raising_to scope floor))) (call.Floor scope floor) (answer.Floor (Ok u)) next (beside-moved (call.Floor scope floor) w (steps.floor_started w.machine (raising_to scope floor))) does.1
@@ -402,6 +409,8 @@ passes tells w (call.At i key time) (answer.At said) next does = same-passes w (
 passes tells w (call.ScanAt i relation time) (answer.ScanAt said) next does = same-passes w (call.ScanAt i relation time) (answer.ScanAt said) next (asks_scan-same tells w relation time (place_at w.places i) said next does)
 passes tells w (call.Between i key a b) (answer.Between said) next does = same-passes w (call.Between i key a b) (answer.Between said) next (asks_between-same tells w key a b (place_at w.places i) said next does)
 passes tells w (call.ScanBetween i relation a b) (answer.ScanBetween said) next does = same-passes w (call.ScanBetween i relation a b) (answer.ScanBetween said) next (asks_scan_between-same tells w relation a b (place_at w.places i) said next does)
+passes tells w (call.Recent i key time) (answer.Recent said) next does =
+    same-passes w (call.Recent i key time) (answer.Recent said) next (asks_recent-same w key time (place_at w.places i) said next does)
 passes tells w (call.End i) answer.End next does = spent-passes w i (call.End i) answer.End next (closes-spent w i (place_at w.places i) next does)
 passes tells w (call.TimesOf label) (answer.TimesOf said) next does = same-passes w (call.TimesOf label) (answer.TimesOf said) next does.1
 passes tells w (call.Archive upto) (answer.Archive said) next does = same-passes w (call.Archive upto) (answer.Archive said) next (archive-same w upto said next does)

@@ -33,7 +33,7 @@ use Rattle.run.specs.declared.held.Held.{Held}
 use Rattle.run.specs.declared.held.Held.TheVariants as held
 use Rattle.run.specs.Places.{Free, ArePlaces, AreRead}
 use Rattle.run.specs.Worlds.{World, IsWorld, moved, same}
-use Rattle.run.specs.Runs.{Does, Goes, Follows, IsStepFault}
+use Rattle.run.specs.Runs.{Does, Goes, Leads, Follows, IsStepFault}
 use Rattle.run.proofs.Runs.{no-step}
 use Rattle.run.proofs.Places.{reads-move, reads-plain, push_nothing, move, GoesOn, goes_on-same, run-goes_on, Keeps, stays}
 
@@ -87,8 +87,9 @@ pump-keeps v v' (held.Transaction t) leaves = (leaves.mark, ap (λ (o : List (Op
 pump-keeps v v' (held.Ticket t) leaves = (leaves.mark, λ waits. subst (λ (heads : List CommitHead). is_awaited t.time heads ≡ true) (sym leaves.heads) waits)
 pump-keeps v v' (held.View t) leaves = leaves.mark
 
-pub pump-goes : (tells : Bool) (v v' : StoreValue) (xs : List Held) (r : Result Did PumpFault) → (IsTrue tells → AreSound v'.disk.areas) → Pumps tells v r v' → Goes tells v xs call.Pump (answer.Pump r) v' (xs ++ held.Nothing ∷ [])
-pump-goes tells v v' xs r sound pumps w is =
+pump-leads : (tells : Bool) (v v' : StoreValue) (xs : List Held) (r : Result Did PumpFault) → (IsTrue tells → AreSound v'.disk.areas) → Pumps tells v r v'
+    → Leads tells v xs call.Pump (answer.Pump r) v' (xs ++ held.Nothing ∷ [])
+pump-leads tells v v' xs r sound pumps w is =
     by-failure w.machine.failed refl (pump-refused r) (pump-stands tells v v' r w.machine is.stands sound pumps)
   where
     places : (h' : History Value) → GoesOn w.machine.published h' → ArePlaces v'.transactions h' (xs ++ held.Nothing ∷ []) (w.places ++ Free ∷ [])
@@ -112,3 +113,7 @@ pump-goes tells v v' xs r sound pumps w is =
       (begins_in w.machine ++ ends_in w.machine.gate r, did.1),
       record { stands = did.2; places = places did.0.published (run-goes_on w.machine did.0 (begins_in w.machine ++ ends_in w.machine.gate r) did.2.machine did.1); views = read },
     )
+
+pub pump-goes : (tells : Bool) (v v' : StoreValue) (xs : List Held) (r : Result Did PumpFault) → (IsTrue tells → AreSound v'.disk.areas) → Pumps tells v r v'
+    → Goes tells v xs call.Pump (answer.Pump r) v' (xs ++ held.Nothing ∷ [])
+pump-goes tells v v' xs r sound pumps = record { makes = inr (r, pumps, (refl, refl)); leads = pump-leads tells v v' xs r sound pumps }

@@ -1,5 +1,5 @@
 -- The calls of a transaction that is not over.
-use Rattle.std.proofs.Common.{◌≡◌, ◌≢◌, ℕ, Bool, List, [], ◌∷◌, ◌++◌, map, Some, None, Option, Result, Ok, Err, Bor, Vec, refl, sym, ◌∙◌, ap, subst}
+use Rattle.std.proofs.Common.{◌≡◌, ◌≢◌, inr, ℕ, Bool, List, [], ◌∷◌, ◌++◌, map, Some, None, Option, Result, Ok, Err, Bor, Vec, refl, sym, ◌∙◌, ap, subst}
 use Rattle.std.specs.Prelude.{◌↔◌, slice_get, slice_set, unwrap_or, IfOk, OnOk, OnErr, IsSome}
 use Rattle.std.specs.declared.alloc.Global.{Global}
 use Rattle.std.specs.declared.alloc.AllocError.{AllocError}
@@ -24,7 +24,7 @@ use Rattle.run.specs.declared.held.Held.{Held}
 use Rattle.run.specs.declared.held.Held.TheVariants as held
 use Rattle.run.specs.Places.{Place, Free, Running, place_at, transaction_in, HasNoTransaction, IsOwnTransaction, Clash, ArePlaces}
 use Rattle.run.specs.Worlds.{World, IsWorld, put, same}
-use Rattle.run.specs.Runs.{Does, Goes, Puts, Deletes, Gets, Scans, PutSays, DeleteSays}
+use Rattle.run.specs.Runs.{Does, Goes, Leads, Puts, Deletes, Gets, Scans, PutSays, DeleteSays}
 use Rattle.run.proofs.Runs.{no-step}
 use Rattle.run.proofs.Places.{reads-plain, reads-set, set, push_nothing, own_transaction, at_transaction}
 use Rattle.run.proofs.Steps.{same-world}
@@ -51,9 +51,10 @@ sees v h t key own = ap (λ (o : Option Value). unwrap_or (write_in t.writes key
 
 -- ---- get and scan
 
-pub get-goes : (tells : Bool) (v : StoreValue) (xs : List Held) (i : ℕ) (key : Key) (t : TxnValue) (r : Result (Option Value) AllocError) → slice_get xs i ≡ Some (held.Transaction t) → IfOk r (λ value. value ≡ seen_by t key)
-    → Goes tells v xs (call.Get i key) (answer.Get r) v (xs ++ held.Nothing ∷ [])
-get-goes tells v xs i key t r here says w is =
+get-leads : (tells : Bool) (v : StoreValue) (xs : List Held) (i : ℕ) (key : Key) (t : TxnValue) (r : Result (Option Value) AllocError)
+    → slice_get xs i ≡ Some (held.Transaction t) → IfOk r (λ value. value ≡ seen_by t key)
+    → Leads tells v xs (call.Get i key) (answer.Get r) v (xs ++ held.Nothing ∷ [])
+get-leads tells v xs i key t r here says w is =
     let h = w.machine.published in
     let shows = is.places.each i (held.Transaction t) here in
     let own = own_transaction v.transactions h t (place_at w.places i) shows in
@@ -63,14 +64,26 @@ get-goes tells v xs i key t r here says w is =
     by-result (Ok value) says is = says ∙ is
     by-result (Err why) says is = tt
 
-pub scan-goes : (tells : Bool) (v : StoreValue) (xs : List Held) (i relation : ℕ) (t : TxnValue) (r : Result (Vec (ℕ × Value) Global) AllocError) → slice_get xs i ≡ Some (held.Transaction t) → IfOk r (λ found. IsScan (seen_by t) relation found.items)
-    → Goes tells v xs (call.Scan i relation) (answer.Scan r) v (xs ++ held.Nothing ∷ [])
-scan-goes tells v xs i relation t r here says w is =
+scan-leads : (tells : Bool) (v : StoreValue) (xs : List Held) (i relation : ℕ) (t : TxnValue) (r : Result (Vec (ℕ × Value) Global) AllocError)
+    → slice_get xs i ≡ Some (held.Transaction t) → IfOk r (λ found. IsScan (seen_by t) relation found.items)
+    → Leads tells v xs (call.Scan i relation) (answer.Scan r) v (xs ++ held.Nothing ∷ [])
+scan-leads tells v xs i relation t r here says w is =
     let h = w.machine.published in
     let shows = is.places.each i (held.Transaction t) here in
     let own = own_transaction v.transactions h t (place_at w.places i) shows in
     let reads : Path (Key → Option Value) (seen_by t) (seen h t.snapshot t.writes) = λ k key. sees v.transactions h t key own k in
     (same w, at_transaction (λ (p : Place). Scans w relation p r (same w)) v.transactions h t (place_at w.places i) shows (subst (λ (f : Key → Option Value). IfOk r (λ found. IsScan f relation found.items)) reads says, refl), no-step w.machine, same-world tells v xs w is)
+
+pub get-goes : (tells : Bool) (v : StoreValue) (xs : List Held) (i : ℕ) (key : Key) (t : TxnValue) (r : Result (Option Value) AllocError)
+    → slice_get xs i ≡ Some (held.Transaction t) → IfOk r (λ value. value ≡ seen_by t key)
+    → Goes tells v xs (call.Get i key) (answer.Get r) v (xs ++ held.Nothing ∷ [])
+get-goes tells v xs i key t r here says = record { makes = inr (r, (t, here, says, refl, (refl, refl))); leads = get-leads tells v xs i key t r here says }
+
+pub scan-goes : (tells : Bool) (v : StoreValue) (xs : List Held) (i relation : ℕ) (t : TxnValue) (r : Result (Vec (ℕ × Value) Global) AllocError)
+    → slice_get xs i ≡ Some (held.Transaction t) → IfOk r (λ found. IsScan (seen_by t) relation found.items)
+    → Goes tells v xs (call.Scan i relation) (answer.Scan r) v (xs ++ held.Nothing ∷ [])
+scan-goes tells v xs i relation t r here says =
+    record { makes = inr (r, (t, here, says, refl, (refl, refl))); leads = scan-leads tells v xs i relation t r here says }
 
 -- ---- put and delete
 
@@ -87,9 +100,11 @@ rewritten-places v h xs ps i t ws here are =
     alike (held.Ticket u) clash = clash
     alike (held.View u) clash = clash
 
-rewrite-goes : (tells : Bool) (v : StoreValue) (xs : List Held) (i : ℕ) (t t' : TxnValue) (ws : List (KeyWrite Value)) (c : Call) (a : Answer) → slice_get xs i ≡ Some (held.Transaction t) → t' ≡ record t { writes = ws }
-    → ((w : World) → IsWorld tells v xs w → Does tells w c a (same (put w i (Running t.snapshot ws)))) → Goes tells v xs c a v (slice_set xs i (held.Transaction t') ++ held.Nothing ∷ [])
-rewrite-goes tells v xs i t t' ws c a here is does w world = (
+rewrite-leads : (tells : Bool) (v : StoreValue) (xs : List Held) (i : ℕ) (t t' : TxnValue) (ws : List (KeyWrite Value)) (c : Call) (a : Answer)
+    → slice_get xs i ≡ Some (held.Transaction t) → t' ≡ record t { writes = ws }
+    → ((w : World) → IsWorld tells v xs w → Does tells w c a (same (put w i (Running t.snapshot ws))))
+    → Leads tells v xs c a v (slice_set xs i (held.Transaction t') ++ held.Nothing ∷ [])
+rewrite-leads tells v xs i t t' ws c a here is does w world = (
   same (put w i (Running t.snapshot ws)),
   does w world,
   no-step w.machine,
@@ -102,11 +117,11 @@ rewrite-goes tells v xs i t t' ws c a here is does w world = (
   }),
 )
 
-pub put-goes : (tells : Bool) (v : StoreValue) (xs : List Held) (i : ℕ) (key : Key) (fields : Bor (List (Bor (List ℕ)))) (t t' : TxnValue) (r : Result (Unit {0}) TxnFault) → slice_get xs i ≡ Some (held.Transaction t)
+put-leads : (tells : Bool) (v : StoreValue) (xs : List Held) (i : ℕ) (key : Key) (fields : Bor (List (Bor (List ℕ)))) (t t' : TxnValue) (r : Result (Unit {0}) TxnFault) → slice_get xs i ≡ Some (held.Transaction t)
     → OnOk r (t' ≡ with_put t key (map (λ (field : Bor (List ℕ)). field.now) fields.now)) → r ≢ Err fault.Missing → (r ≡ Err fault.TooManyKeys) ↔ IsFullFor t.writes key
     → (r ≡ Err fault.BadValue) ↔ ((¬ IsFullFor t.writes key) × (¬ HasSizes (map (λ (field : Bor (List ℕ)). field.now) fields.now))) → OnErr r (t' ≡ t)
-    → Goes tells v xs (call.Put i key fields) (answer.Put r) v (slice_set xs i (held.Transaction t') ++ held.Nothing ∷ [])
-put-goes tells v xs i key fields t t' r here ok missing too_many bad err = by-result r ok missing too_many bad err
+    → Leads tells v xs (call.Put i key fields) (answer.Put r) v (slice_set xs i (held.Transaction t') ++ held.Nothing ∷ [])
+put-leads tells v xs i key fields t t' r here ok missing too_many bad err = by-result r ok missing too_many bad err
   where
     value : Value
     value = map (λ (field : Bor (List ℕ)). field.now) fields.now
@@ -116,17 +131,18 @@ put-goes tells v xs i key fields t t' r here ok missing too_many bad err = by-re
         at_transaction (λ (p : Place). Puts w i key value p o (same (put w i (Running t.snapshot ws)))) v.transactions w.machine.published t (place_at w.places i) (is.places.each i (held.Transaction t) here) (ws, says, refl)
 
     by-result : (o : Result (Unit {0}) TxnFault) → OnOk o (t' ≡ with_put t key value) → o ≢ Err fault.Missing → (o ≡ Err fault.TooManyKeys) ↔ IsFullFor t.writes key → (o ≡ Err fault.BadValue) ↔ ((¬ IsFullFor t.writes key) × (¬ HasSizes value)) → OnErr o (t' ≡ t)
-        → Goes tells v xs (call.Put i key fields) (answer.Put o) v (slice_set xs i (held.Transaction t') ++ held.Nothing ∷ [])
+        → Leads tells v xs (call.Put i key fields) (answer.Put o) v (slice_set xs i (held.Transaction t') ++ held.Nothing ∷ [])
     by-result (Ok u) ok missing too_many bad err =
         let ws : List (KeyWrite Value) = with_write t.writes (record { key = key; write = Some value }) in
-        rewrite-goes tells v xs i t t' ws (call.Put i key fields) (answer.Put (Ok u)) here ok (at-place (Ok u) ws (record { ok = refl; missing = missing; too_many = too_many; bad = bad; err = tt }))
+        rewrite-leads tells v xs i t t' ws (call.Put i key fields) (answer.Put (Ok u)) here ok (at-place (Ok u) ws (record { ok = refl; missing = missing; too_many = too_many; bad = bad; err = tt }))
     by-result (Err why) ok missing too_many bad err =
-        rewrite-goes tells v xs i t t' t.writes (call.Put i key fields) (answer.Put (Err why)) here err (at-place (Err why) t.writes (record { ok = tt; missing = missing; too_many = too_many; bad = bad; err = refl }))
+        rewrite-leads tells v xs i t t' t.writes (call.Put i key fields) (answer.Put (Err why)) here err (at-place (Err why) t.writes (record { ok = tt; missing = missing; too_many = too_many; bad = bad; err = refl }))
 
-pub delete-goes : (tells : Bool) (v : StoreValue) (xs : List Held) (i : ℕ) (key : Key) (t t' : TxnValue) (r : Result (Unit {0}) TxnFault) → slice_get xs i ≡ Some (held.Transaction t)
+delete-leads : (tells : Bool) (v : StoreValue) (xs : List Held) (i : ℕ) (key : Key) (t t' : TxnValue) (r : Result (Unit {0}) TxnFault)
+    → slice_get xs i ≡ Some (held.Transaction t)
     → OnOk r (t' ≡ with_delete t key) → (r ≡ Err fault.Missing) ↔ (seen_by t key ≡ None) → (r ≡ Err fault.TooManyKeys) ↔ (IsSome (seen_by t key) × IsFullFor t.writes key) → r ≢ Err fault.BadValue → OnErr r (t' ≡ t)
-    → Goes tells v xs (call.Delete i key) (answer.Delete r) v (slice_set xs i (held.Transaction t') ++ held.Nothing ∷ [])
-delete-goes tells v xs i key t t' r here ok missing too_many bad err = by-result r ok missing too_many bad err
+    → Leads tells v xs (call.Delete i key) (answer.Delete r) v (slice_set xs i (held.Transaction t') ++ held.Nothing ∷ [])
+delete-leads tells v xs i key t t' r here ok missing too_many bad err = by-result r ok missing too_many bad err
   where
     at-place : (o : Result (Unit {0}) TxnFault) (ws : List (KeyWrite Value)) → DeleteSays (at_snapshot t.state t.snapshot key) (seen_by t key) t.writes key o ws → (w : World) → IsWorld tells v xs w
         → Deletes w i key (place_at w.places i) o (same (put w i (Running t.snapshot ws)))
@@ -138,8 +154,26 @@ delete-goes tells v xs i key t t' r here ok missing too_many bad err = by-result
         at_transaction (λ (p : Place). Deletes w i key p o (same (put w i (Running t.snapshot ws)))) v.transactions h t (place_at w.places i) shows (ws, by_history, refl)
 
     by-result : (o : Result (Unit {0}) TxnFault) → OnOk o (t' ≡ with_delete t key) → (o ≡ Err fault.Missing) ↔ (seen_by t key ≡ None) → (o ≡ Err fault.TooManyKeys) ↔ (IsSome (seen_by t key) × IsFullFor t.writes key) → o ≢ Err fault.BadValue → OnErr o (t' ≡ t)
-        → Goes tells v xs (call.Delete i key) (answer.Delete o) v (slice_set xs i (held.Transaction t') ++ held.Nothing ∷ [])
+        → Leads tells v xs (call.Delete i key) (answer.Delete o) v (slice_set xs i (held.Transaction t') ++ held.Nothing ∷ [])
     by-result (Ok u) ok missing too_many bad err =
-        rewrite-goes tells v xs i t t' (writes_after_delete t key) (call.Delete i key) (answer.Delete (Ok u)) here ok (at-place (Ok u) (writes_after_delete t key) (record { ok = refl; missing = missing; too_many = too_many; bad = bad; err = tt }))
+        rewrite-leads tells v xs i t t' (writes_after_delete t key) (call.Delete i key) (answer.Delete (Ok u)) here ok (at-place (Ok u) (writes_after_delete t key) (record { ok = refl; missing = missing; too_many = too_many; bad = bad; err = tt }))
     by-result (Err why) ok missing too_many bad err =
-        rewrite-goes tells v xs i t t' t.writes (call.Delete i key) (answer.Delete (Err why)) here err (at-place (Err why) t.writes (record { ok = tt; missing = missing; too_many = too_many; bad = bad; err = refl }))
+        rewrite-leads tells v xs i t t' t.writes (call.Delete i key) (answer.Delete (Err why)) here err (at-place (Err why) t.writes (record { ok = tt; missing = missing; too_many = too_many; bad = bad; err = refl }))
+
+-- ---- as the transaction's own clauses say
+
+pub put-goes : (tells : Bool) (v : StoreValue) (xs : List Held) (i : ℕ) (key : Key) (fields : Bor (List (Bor (List ℕ)))) (t t' : TxnValue) (r : Result (Unit {0}) TxnFault) → slice_get xs i ≡ Some (held.Transaction t)
+    → OnOk r (t' ≡ with_put t key (map (λ (field : Bor (List ℕ)). field.now) fields.now)) → r ≢ Err fault.Missing
+    → (r ≡ Err fault.TooManyKeys) ↔ IsFullFor t.writes key
+    → (r ≡ Err fault.BadValue) ↔ ((¬ IsFullFor t.writes key) × (¬ HasSizes (map (λ (field : Bor (List ℕ)). field.now) fields.now))) → OnErr r (t' ≡ t)
+    → Goes tells v xs (call.Put i key fields) (answer.Put r) v (slice_set xs i (held.Transaction t') ++ held.Nothing ∷ [])
+put-goes tells v xs i key fields t t' r here ok missing too_many bad err =
+    record { makes = inr (r, (t, t', here, (ok, err), refl, (refl, refl))); leads = put-leads tells v xs i key fields t t' r here ok missing too_many bad err }
+
+pub delete-goes : (tells : Bool) (v : StoreValue) (xs : List Held) (i : ℕ) (key : Key) (t t' : TxnValue) (r : Result (Unit {0}) TxnFault)
+    → slice_get xs i ≡ Some (held.Transaction t)
+    → OnOk r (t' ≡ with_delete t key) → (r ≡ Err fault.Missing) ↔ (seen_by t key ≡ None)
+    → (r ≡ Err fault.TooManyKeys) ↔ (IsSome (seen_by t key) × IsFullFor t.writes key) → r ≢ Err fault.BadValue → OnErr r (t' ≡ t)
+    → Goes tells v xs (call.Delete i key) (answer.Delete r) v (slice_set xs i (held.Transaction t') ++ held.Nothing ∷ [])
+delete-goes tells v xs i key t t' r here ok missing too_many bad err =
+    record { makes = inr (r, (t, t', here, (ok, err), refl, (refl, refl))); leads = delete-leads tells v xs i key t t' r here ok missing too_many bad err }

@@ -1,5 +1,5 @@
 -- Each call leads from a world to the next.
-use Rattle.std.proofs.Common.{◌≡◌, ℕ, ◌≤◌, ◌==◌, ◌||◌, Bool, true, false, cond, List, [], ◌∷◌, ◌++◌, length, Some, None, Option, Result, Ok, Err, MatchBool, refl, sym, ◌∙◌, ap, subst, arith}
+use Rattle.std.proofs.Common.{◌≡◌, inl, inr, ℕ, ◌≤◌, ◌==◌, ◌||◌, Bool, true, false, cond, List, [], ◌∷◌, ◌++◌, length, Some, None, Option, Result, Ok, Err, MatchBool, refl, sym, ◌∙◌, ap, subst, arith}
 use Rattle.std.specs.Prelude.{slice_get, slice_set, is_some}
 use Rattle.std.specs.List.{AllByRecursion, list_all}
 use Rattle.std.proofs.lemmas.Bool.Decides.{nat_tests}
@@ -25,25 +25,53 @@ use Rattle.run.specs.declared.calls.Call.TheVariants as call
 use Rattle.run.specs.declared.calls.Answer.TheVariants as answer
 use Rattle.run.specs.declared.held.Held.{Held}
 use Rattle.run.specs.declared.held.Held.TheVariants as held
-use Rattle.run.specs.Places.{Place, Free, Running, place_at, HasNoTransaction, IsNoTransaction, IsOwnTransaction, ShowsAs, Clash, ArePlaces, begin_answer}
+use Rattle.run.specs.Places.{Place, Free, Running, place_at, IsOwnTransaction, ShowsAs, Clash, ArePlaces, begin_answer}
 use Rattle.run.specs.Worlds.{World, IsWorld, leaves, moved, same, spent}
-use Rattle.run.specs.Runs.{Goes, NamesNone, Aborts}
+use Rattle.run.specs.Makes.{LacksNamed}
+use Rattle.run.specs.Runs.{Goes, Leads, NamesNone, Aborts}
 use Rattle.run.proofs.Runs.{no-step}
 use Rattle.law_refinement.proofs.Whole.{rest-goes}
-use Rattle.run.proofs.Places.{reads-move, reads-plain, reads-set, push, push_nothing, free, move, freed_apart, own_transaction, at_transaction, no_transaction, GoesOn, goes_on-same, run-goes_on, Keeps, stays, closed_other, opened_other, opened_here}
+use Rattle.run.proofs.Places.{reads-move, reads-plain, reads-set, push, push_nothing, free, move, freed_apart, own_transaction, at_transaction, no_transaction, no_ticket, no_view, GoesOn, goes_on-same, run-goes_on, Keeps, stays, closed_other, opened_other, opened_here}
 
 -- ---- calls that change nothing
 
 pub same-world : (tells : Bool) (v : StoreValue) (xs : List Held) (w : World) → IsWorld tells v xs w → IsWorld tells v (xs ++ held.Nothing ∷ []) (same w)
 same-world tells v xs w is = record { stands = is.stands; places = push_nothing v.transactions w.machine.published xs w.places is.places; views = reads-plain tells v xs w.places held.Nothing Free is.places.many tt is.views }
 
--- a call that names nothing
-pub unknown-goes : (tells : Bool) (v : StoreValue) (xs new : List Held) (c : Call) → new ≡ xs → ((w : World) → IsWorld tells v xs w → NamesNone w c) → Goes tells v xs c answer.Unknown v (new ++ held.Nothing ∷ [])
-unknown-goes tells v xs new c is none w world =
-    (same w, (none w world, refl), no-step w.machine, subst (λ (l : List Held). IsWorld tells v (l ++ held.Nothing ∷ []) (same w)) (sym is) (same-world tells v xs w world))
+-- a place that the callers hold no such value in stands for none
+names-none : (tells : Bool) (v : StoreValue) (xs : List Held) (c : Call) → LacksNamed c xs → (w : World) → IsWorld tells v xs w → NamesNone w c
+names-none tells v xs call.Begin lacks w is = lacks
+names-none tells v xs (call.Put i key fields) lacks w is = no_transaction v.transactions w.machine.published xs w.places i is.places lacks
+names-none tells v xs (call.Delete i key) lacks w is = no_transaction v.transactions w.machine.published xs w.places i is.places lacks
+names-none tells v xs (call.Get i key) lacks w is = no_transaction v.transactions w.machine.published xs w.places i is.places lacks
+names-none tells v xs (call.Scan i relation) lacks w is = no_transaction v.transactions w.machine.published xs w.places i is.places lacks
+names-none tells v xs (call.Submit i label now) lacks w is = no_transaction v.transactions w.machine.published xs w.places i is.places lacks
+names-none tells v xs (call.Abort i) lacks w is = no_transaction v.transactions w.machine.published xs w.places i is.places lacks
+names-none tells v xs call.Pump lacks w is = lacks
+names-none tells v xs (call.Redeem i) lacks w is = no_ticket v.transactions w.machine.published xs w.places i is.places lacks
+names-none tells v xs (call.GiveUp i) lacks w is = no_ticket v.transactions w.machine.published xs w.places i is.places lacks
+names-none tells v xs call.View lacks w is = lacks
+names-none tells v xs (call.At i key time) lacks w is = no_view v.transactions w.machine.published xs w.places i is.places lacks
+names-none tells v xs (call.ScanAt i relation time) lacks w is = no_view v.transactions w.machine.published xs w.places i is.places lacks
+names-none tells v xs (call.Between i key a b) lacks w is = no_view v.transactions w.machine.published xs w.places i is.places lacks
+names-none tells v xs (call.ScanBetween i relation a b) lacks w is = no_view v.transactions w.machine.published xs w.places i is.places lacks
+names-none tells v xs (call.Recent i key time) lacks w is = no_view v.transactions w.machine.published xs w.places i is.places lacks
+names-none tells v xs (call.End i) lacks w is = no_view v.transactions w.machine.published xs w.places i is.places lacks
+names-none tells v xs (call.TimesOf label) lacks w is = lacks
+names-none tells v xs (call.Archive upto) lacks w is = lacks
+names-none tells v xs call.Reclaim lacks w is = lacks
+names-none tells v xs (call.Floor scope floor) lacks w is = lacks
+names-none tells v xs call.Grow lacks w is = lacks
+names-none tells v xs call.JobPump lacks w is = lacks
 
-pub lacks-transaction : (tells : Bool) (v : StoreValue) (xs : List Held) (i : ℕ) → HasNoTransaction (slice_get xs i) → (w : World) → IsWorld tells v xs w → IsNoTransaction (place_at w.places i)
-lacks-transaction tells v xs i none w is = no_transaction v.transactions w.machine.published xs w.places i is.places none
+-- a call that names nothing
+pub unknown-goes : (tells : Bool) (v : StoreValue) (xs new : List Held) (c : Call) → new ≡ xs → LacksNamed c xs
+    → Goes tells v xs c answer.Unknown v (new ++ held.Nothing ∷ [])
+unknown-goes tells v xs new c is lacks = record {
+  makes = inl (lacks, refl, (refl, ap (λ (l : List Held). l ++ held.Nothing ∷ []) is));
+  leads = λ w world.
+      (same w, (names-none tells v xs c lacks w world, refl), no-step w.machine, subst (λ (l : List Held). IsWorld tells v (l ++ held.Nothing ∷ []) (same w)) (sym is) (same-world tells v xs w world));
+}
 
 -- ---- begin
 
@@ -66,8 +94,9 @@ fresh-apart v h txn (held.Transaction u) p fresh shows clash =
 fresh-apart v h txn (held.Ticket u) p fresh shows clash = clash
 fresh-apart v h txn (held.View u) p fresh shows clash = clash
 
-pub begin-goes : (tells : Bool) (v v' : StoreValue) (xs : List Held) (r : Result TxnValue BeginFault) → stores.Begins v r v' → Goes tells v xs call.Begin (begin_answer r).0 v' (xs ++ (begin_answer r).1 ∷ [])
-begin-goes tells v v' xs (Ok txn) begins w is =
+begin-leads : (tells : Bool) (v v' : StoreValue) (xs : List Held) (r : Result TxnValue BeginFault) → stores.Begins v r v'
+    → Leads tells v xs call.Begin (begin_answer r).0 v' (xs ++ (begin_answer r).1 ∷ [])
+begin-leads tells v v' xs (Ok txn) begins w is =
     let m = w.machine in
     let h = m.published in
     let b = begins.transactions in
@@ -88,12 +117,16 @@ begin-goes tells v v' xs (Ok txn) begins w is =
       (Began (last h) ∷ [], (begun m, (did.0.0, refl, refl), refl)),
       record { stands = did.1; places = subst (λ (t : TransactionsValue). ArePlaces t h (xs ++ held.Transaction txn ∷ []) (w.places ++ Running (last h) [] ∷ [])) (sym b.new_is) places; views = reads-plain tells v' xs w.places (held.Transaction txn) (Running (last h) []) is.places.many tt (reads-move tells v v' xs w.places (rest-goes tells v v' begins.rest (ap (λ (t : TransactionsValue). t.mark) b.new_is)) is.views) },
     )
-begin-goes tells v v' xs (Err begin.NoMemory) begins w is =
+begin-leads tells v v' xs (Err begin.NoMemory) begins w is =
     let did = begin-stands tells v v' (Err begin.NoMemory) w.machine is.stands begins in
     (same w, (did.0, refl), no-step w.machine, record { stands = did.1; places = subst (λ (t : TransactionsValue). ArePlaces t w.machine.published (xs ++ held.Nothing ∷ []) (w.places ++ Free ∷ [])) (sym begins.transactions.1) (push_nothing v.transactions w.machine.published xs w.places is.places); views = reads-plain tells v' xs w.places held.Nothing Free is.places.many tt (reads-move tells v v' xs w.places (rest-goes tells v v' begins.rest (ap (λ (t : TransactionsValue). t.mark) begins.transactions.1)) is.views) })
-begin-goes tells v v' xs (Err begin.Failed) begins w is =
+begin-leads tells v v' xs (Err begin.Failed) begins w is =
     let did = begin-stands tells v v' (Err begin.Failed) w.machine is.stands begins in
     (same w, (did.0, refl), no-step w.machine, record { stands = did.1; places = subst (λ (t : TransactionsValue). ArePlaces t w.machine.published (xs ++ held.Nothing ∷ []) (w.places ++ Free ∷ [])) (sym begins.transactions.1) (push_nothing v.transactions w.machine.published xs w.places is.places); views = reads-plain tells v' xs w.places held.Nothing Free is.places.many tt (reads-move tells v v' xs w.places (rest-goes tells v v' begins.rest (ap (λ (t : TransactionsValue). t.mark) begins.transactions.1)) is.views) })
+
+pub begin-goes : (tells : Bool) (v v' : StoreValue) (xs : List Held) (r : Result TxnValue BeginFault) → stores.Begins v r v'
+    → Goes tells v xs call.Begin (begin_answer r).0 v' (xs ++ (begin_answer r).1 ∷ [])
+begin-goes tells v v' xs r begins = record { makes = inr (r, begins, (refl, refl)); leads = begin-leads tells v v' xs r begins }
 
 -- ---- the store's own transaction
 
@@ -140,9 +173,10 @@ over-places v h h' xs ps i t here goes are =
 
 -- ---- abort
 
-pub abort-goes : (tells : Bool) (v v' : StoreValue) (xs : List Held) (i : ℕ) (t : TxnValue) → slice_get xs i ≡ Some (held.Transaction t) → AreTxnWrites t.state t.snapshot t.writes → stores.Aborts v t v'
-    → Goes tells v xs (call.Abort i) answer.Abort v' (slice_set xs i held.Nothing ++ held.Nothing ∷ [])
-abort-goes tells v v' xs i t here are aborts w is =
+abort-leads : (tells : Bool) (v v' : StoreValue) (xs : List Held) (i : ℕ) (t : TxnValue) → slice_get xs i ≡ Some (held.Transaction t)
+    → AreTxnWrites t.state t.snapshot t.writes → stores.Aborts v t v'
+    → Leads tells v xs (call.Abort i) answer.Abort v' (slice_set xs i held.Nothing ++ held.Nothing ∷ [])
+abort-leads tells v v' xs i t here are aborts w is =
     let m = w.machine in
     let shows = is.places.each i (held.Transaction t) here in
     let own = own_transaction v.transactions m.published t (place_at w.places i) shows in
@@ -169,3 +203,8 @@ abort-goes tells v v' xs i t here are aborts w is =
     by-over : (b : Bool) → b ≡ true → v'.transactions ≡ cond b (over v.transactions t.number) v.transactions → v'.transactions ≡ over v.transactions t.number
     by-over true mine did = did
     by-over false mine did = absurd cc
+
+pub abort-goes : (tells : Bool) (v v' : StoreValue) (xs : List Held) (i : ℕ) (t : TxnValue) → slice_get xs i ≡ Some (held.Transaction t)
+    → AreTxnWrites t.state t.snapshot t.writes → stores.Aborts v t v'
+    → Goes tells v xs (call.Abort i) answer.Abort v' (slice_set xs i held.Nothing ++ held.Nothing ∷ [])
+abort-goes tells v v' xs i t here are aborts = record { makes = inr (t, here, aborts, (refl, refl)); leads = abort-leads tells v v' xs i t here are aborts }

@@ -1,5 +1,5 @@
 -- A submit.
-use Rattle.std.proofs.Common.{◌≡◌, ℕ, ◌<◌, ◌^◌, Bool, true, false, List, [], ◌∷◌, ◌++◌, Some, Result, Ok, Err, MatchBool, refl, sym, ap, subst, arith}
+use Rattle.std.proofs.Common.{◌≡◌, inr, ℕ, ◌<◌, ◌^◌, Bool, true, false, List, [], ◌∷◌, ◌++◌, Some, Result, Ok, Err, MatchBool, refl, sym, ap, subst, arith}
 use Rattle.std.specs.Prelude.{slice_get, slice_set}
 use Rattle.history.specs.Histories.{History}
 use Rattle.history.specs.Machine.{Machine}
@@ -32,7 +32,7 @@ use Rattle.run.specs.declared.held.Held.{Held}
 use Rattle.run.specs.declared.held.Held.TheVariants as held
 use Rattle.run.specs.Places.{Place, Free, Waits, place_at, IsOwnTicket, ShowsAs, Clash, ArePlaces, submit_answer}
 use Rattle.run.specs.Worlds.{World, IsWorld, leaves, put, moved}
-use Rattle.run.specs.Runs.{Does, Goes, Submits, Follows}
+use Rattle.run.specs.Runs.{Does, Goes, Leads, Submits, Follows}
 use Rattle.run.specs.Runs as told
 use Rattle.law_refinement.proofs.Whole.{rest-goes}
 use Rattle.run.proofs.Places.{reads-move, reads-plain, reads-set, push, push_nothing, move, own_transaction, own_ticket, at_transaction, goes_on-same, run-goes_on, Keeps, stays, awaited-push, awaited-early, awaited-new}
@@ -58,9 +58,11 @@ later-apart v h ticket (held.Ticket u) p rising later shows clash =
     absurd (omega (arith, early, later, clash))
 later-apart v h ticket (held.View u) p rising later shows clash = clash
 
-pub submit-goes : (tells : Bool) (v v' : StoreValue) (xs : List Held) (i : ℕ) (t : TxnValue) (label now : ℕ) (r : Result Submitted SubmitFault) → slice_get xs i ≡ Some (held.Transaction t) → AreTxnWrites t.state t.snapshot t.writes → label < 2 ^ 64
-    → stores.Submits v t label now r v' → Goes tells v xs (call.Submit i label now) (submit_answer r).0 v' (slice_set xs i held.Nothing ++ (submit_answer r).1 ∷ [])
-submit-goes tells v v' xs i t label now r here are range submits w is =
+submit-leads : (tells : Bool) (v v' : StoreValue) (xs : List Held) (i : ℕ) (t : TxnValue) (label now : ℕ) (r : Result Submitted SubmitFault)
+    → slice_get xs i ≡ Some (held.Transaction t) → AreTxnWrites t.state t.snapshot t.writes → label < 2 ^ 64
+    → stores.Submits v t label now r v'
+    → Leads tells v xs (call.Submit i label now) (submit_answer r).0 v' (slice_set xs i held.Nothing ++ (submit_answer r).1 ∷ [])
+submit-leads tells v v' xs i t label now r here are range submits w is =
     let m = w.machine in
     let shows = is.places.each i (held.Transaction t) here in
     let own = own_transaction v.transactions m.published t (place_at w.places i) shows in
@@ -131,3 +133,10 @@ submit-goes tells v v' xs i t label now r here are range submits w is =
     by-result (Err refused.NoMemory) left after step stands shows places = nothing (Err refused.NoMemory) (steps.Refused (submission_of t label now) steps.NoMemory) after step stands shows places left (refl, refl)
     by-result (Err refused.Failed) left after step stands shows places = nothing (Err refused.Failed) (steps.Refused (submission_of t label now) steps.Failed) after step stands shows places left (refl, refl)
     by-result (Err refused.Stranger) left after step stands shows places = absurd left
+
+pub submit-goes : (tells : Bool) (v v' : StoreValue) (xs : List Held) (i : ℕ) (t : TxnValue) (label now : ℕ) (r : Result Submitted SubmitFault)
+    → slice_get xs i ≡ Some (held.Transaction t) → AreTxnWrites t.state t.snapshot t.writes → label < 2 ^ 64
+    → stores.Submits v t label now r v'
+    → Goes tells v xs (call.Submit i label now) (submit_answer r).0 v' (slice_set xs i held.Nothing ++ (submit_answer r).1 ∷ [])
+submit-goes tells v v' xs i t label now r here are range submits =
+    record { makes = inr (t, r, here, submits, (refl, refl)); leads = submit-leads tells v v' xs i t label now r here are range submits }

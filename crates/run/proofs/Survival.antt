@@ -11,8 +11,10 @@ use Rattle.law_image.specs.Values.{Value}
 use Rattle.status.specs.declared.header.Header.{Header}
 use Rattle.store.specs.Values.{StoreValue}
 use Rattle.law_refinement.specs.OnDisk.{IsImageOf}
-use Rattle.law_opening.proofs.Opened.{open-stands}
-use Rattle.law_opening.proofs.Reopened.{open-refuses}
+use Rattle.law_opening.specs.Laws.{IsHeaderLeftBy}
+use Rattle.law_opening.proofs.Fronts.{front-is}
+use Rattle.law_opening.proofs.Opened.{image-header, open-stands}
+use Rattle.law_opening.proofs.Reopened.{left-by, open-refuses}
 use Rattle.law_opening.proofs.Answering.{stands-answers}
 use Rattle.run.specs.declared.held.Held.{Held}
 use Rattle.run.specs.Moments.{Moment, HasCommitAt, IsAtMoment}
@@ -52,5 +54,11 @@ module _ (tells : Bool) (header : Header) (image : Image) (m : Machine Value) (d
 -- whatever a stop may leave at a moment of a store survives
 pub moment-leaves : (tells : Bool) (v : StoreValue) (held : List Held) (at : Moment) → IsAtMoment tells v held at → Leaves tells at
 moment-leaves tells v held at is told image left =
-    let l = (is.world.stands.disk told).leaves image (subst (λ (x : StoreValue). LeavesImage x.disk.areas image) is.store left) in
-    on-front tells l.found image at.world.machine at.done told is.published l.front
+    let on = is.world.stands.disk told in
+    let l = on.leaves image (subst (λ (x : StoreValue). LeavesImage x.disk.areas image) is.store left) in
+    record {
+      header = l.found;
+      left = subst (λ (x : StoreValue). IsHeaderLeftBy x l.found) (sym is.store) (left-by v at.world.machine on l.found l.is_found);
+      has = front-is (IsImageOf l.found image) at.world.machine (λ h floors stands. image-header tells l.found image h floors told stands) l.front;
+      front = on-front tells l.found image at.world.machine at.done told is.published l.front;
+    }

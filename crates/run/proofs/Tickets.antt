@@ -1,5 +1,5 @@
 -- The calls of tickets.
-use Rattle.std.proofs.Common.{◌≡◌, ℕ, Bool, List, [], ◌∷◌, ◌++◌, Some, refl, sym, ◌∙◌, ap, subst}
+use Rattle.std.proofs.Common.{◌≡◌, inr, ℕ, Bool, List, [], ◌∷◌, ◌++◌, Some, refl, sym, ◌∙◌, ap, subst}
 use Rattle.std.specs.Prelude.{slice_get, slice_set}
 use Rattle.history.specs.Answers as answers
 use Rattle.group.specs.CommitOrder as orders
@@ -20,16 +20,13 @@ use Rattle.run.specs.declared.calls.Answer.TheVariants as answer
 use Rattle.run.specs.declared.calls.RedeemOutcome.TheVariants as told
 use Rattle.run.specs.declared.held.Held.{Held}
 use Rattle.run.specs.declared.held.Held.TheVariants as held
-use Rattle.run.specs.Places.{Place, Free, place_at, HasNoTicket, IsNoTicket, ShowsAs, Clash, ArePlaces, redeem_answer, AreRead}
+use Rattle.run.specs.Places.{Place, Free, place_at, ShowsAs, Clash, ArePlaces, redeem_answer, AreRead}
 use Rattle.run.specs.Worlds.{World, IsWorld, same, spent}
-use Rattle.run.specs.Runs.{Does, Goes, Redeems, GivesUp, Follows}
+use Rattle.run.specs.Runs.{Does, Goes, Leads, Redeems, GivesUp, Follows}
 use Rattle.run.proofs.Runs.{no-step}
 use Rattle.run.proofs.Lists.{set-get}
 use Rattle.law_refinement.proofs.Whole.{rest-goes}
-use Rattle.run.proofs.Places.{reads-move, reads-plain, reads-set, push_nothing, free, move, freed_apart, own_ticket, at_ticket, no_ticket, goes_on-same, Keeps, stays, awaited-redeemed}
-
-pub lacks-ticket : (tells : Bool) (v : StoreValue) (xs : List Held) (i : ℕ) → HasNoTicket (slice_get xs i) → (w : World) → IsWorld tells v xs w → IsNoTicket (place_at w.places i)
-lacks-ticket tells v xs i none w is = no_ticket v.transactions w.machine.published xs w.places i is.places none
+use Rattle.run.proofs.Places.{reads-move, reads-plain, reads-set, push_nothing, free, move, freed_apart, own_ticket, at_ticket, goes_on-same, Keeps, stays, awaited-redeemed}
 
 redeemed-keeps : (v : TransactionsValue) (k : TicketValue) (x : Held) → (Clash (held.Ticket k) x → ⊥) → Keeps v (record v { heads = orders.redeemed k.time v.heads }) x
 redeemed-keeps v k held.Nothing apart = tt
@@ -37,9 +34,10 @@ redeemed-keeps v k (held.Transaction t) apart = (refl, refl)
 redeemed-keeps v k (held.Ticket t) apart = (refl, λ waits. awaited-redeemed v.heads t.time k.time (λ same. apart (sym same)) waits)
 redeemed-keeps v k (held.View t) apart = refl
 
-pub redeem-goes : (tells : Bool) (v v' : StoreValue) (xs : List Held) (i : ℕ) (k : TicketValue) (r : Redeemed) → slice_get xs i ≡ Some (held.Ticket k) → stores.Redeems v k r v'
-    → Goes tells v xs (call.Redeem i) (redeem_answer r).0 v' (slice_set xs i (redeem_answer r).1 ++ held.Nothing ∷ [])
-redeem-goes tells v v' xs i k r here redeems w is =
+redeem-leads : (tells : Bool) (v v' : StoreValue) (xs : List Held) (i : ℕ) (k : TicketValue) (r : Redeemed) → slice_get xs i ≡ Some (held.Ticket k)
+    → stores.Redeems v k r v'
+    → Leads tells v xs (call.Redeem i) (redeem_answer r).0 v' (slice_set xs i (redeem_answer r).1 ++ held.Nothing ∷ [])
+redeem-leads tells v v' xs i k r here redeems w is =
     let h = w.machine.published in
     let shows = is.places.each i (held.Ticket k) here in
     let did = redeem-stands tells v v' k r w.machine is.stands redeems in
@@ -89,10 +87,20 @@ redeem-goes tells v v' xs i k r here redeems w is =
         let own = own_ticket v.transactions w.machine.published k (place_at w.places i) shows in
         absurd (left.1 own.mark own.awaited)
 
-pub give_up-goes : (tells : Bool) (v : StoreValue) (xs : List Held) (i : ℕ) (k : TicketValue) → slice_get xs i ≡ Some (held.Ticket k) → Goes tells v xs (call.GiveUp i) answer.GiveUp v (slice_set xs i held.Nothing ++ held.Nothing ∷ [])
-give_up-goes tells v xs i k here w is = (
+give_up-leads : (tells : Bool) (v : StoreValue) (xs : List Held) (i : ℕ) (k : TicketValue) → slice_get xs i ≡ Some (held.Ticket k)
+    → Leads tells v xs (call.GiveUp i) answer.GiveUp v (slice_set xs i held.Nothing ++ held.Nothing ∷ [])
+give_up-leads tells v xs i k here w is = (
   spent w i,
   at_ticket (λ (p : Place). GivesUp w i p (spent w i)) v.transactions w.machine.published k (place_at w.places i) (is.places.each i (held.Ticket k) here) refl,
   no-step w.machine,
   record { stands = is.stands; places = push_nothing v.transactions w.machine.published (slice_set xs i held.Nothing) (slice_set w.places i Free) (free v.transactions w.machine.published xs w.places i (held.Ticket k) is.places here); views = reads-plain tells v (slice_set xs i held.Nothing) (slice_set w.places i Free) held.Nothing Free (free v.transactions w.machine.published xs w.places i (held.Ticket k) is.places here).many tt (reads-set tells v xs w.places i held.Nothing Free tt is.views) },
 )
+
+pub redeem-goes : (tells : Bool) (v v' : StoreValue) (xs : List Held) (i : ℕ) (k : TicketValue) (r : Redeemed) → slice_get xs i ≡ Some (held.Ticket k)
+    → stores.Redeems v k r v'
+    → Goes tells v xs (call.Redeem i) (redeem_answer r).0 v' (slice_set xs i (redeem_answer r).1 ++ held.Nothing ∷ [])
+redeem-goes tells v v' xs i k r here redeems = record { makes = inr (k, r, here, redeems, (refl, refl)); leads = redeem-leads tells v v' xs i k r here redeems }
+
+pub give_up-goes : (tells : Bool) (v : StoreValue) (xs : List Held) (i : ℕ) (k : TicketValue) → slice_get xs i ≡ Some (held.Ticket k)
+    → Goes tells v xs (call.GiveUp i) answer.GiveUp v (slice_set xs i held.Nothing ++ held.Nothing ∷ [])
+give_up-goes tells v xs i k here = record { makes = inr (k, here, refl, (refl, refl)); leads = give_up-leads tells v xs i k here }

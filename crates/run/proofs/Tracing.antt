@@ -31,11 +31,11 @@ use Rattle.run.specs.declared.calls.Answer.TheVariants as answer
 use Rattle.run.specs.declared.calls.RedeemOutcome.TheVariants as told
 use Rattle.run.specs.Places.{Place, Free, Running, Waits, Views, place_at}
 use Rattle.run.specs.Worlds.{World, put, same}
-use Rattle.run.specs.Runs.{Follows, Puts, Deletes, deleted, Redeems, Asks, submission}
+use Rattle.run.specs.Runs.{Follows, Puts, Deletes, deleted, Redeems, Asks, AsksRecent, SaysRecent, submission}
 use Rattle.run.specs.Moments.{Moment}
 use Rattle.run.specs.Promise.{Leaves, Link, Chain}
 use Rattle.run.specs.Traces.{Trace, moment_after, moment_at, machine_at, IsCall, place_of, IsSubmit, LeavesKey}
-use Rattle.run.specs.Laws.{AsManyAnswers, GoesToItsEnd, CallsLink, StopsSurvive, MachineRuns, ListsGoOn, StepIsList, IsKeptTime, TimesStayKept, FloorsRise, TicketsStay, DoneNamesItsSubmit, PutIsSubmitted, DeleteIsSubmitted, WrittenIsFound, ViewsStay, ViewAnswersByItsMoment}
+use Rattle.run.specs.Laws.{AsManyAnswers, GoesToItsEnd, CallsLink, StopsSurvive, MachineRuns, ListsGoOn, StepIsList, IsKeptTime, TimesStayKept, FloorsRise, TicketsStay, DoneNamesItsSubmit, PutIsSubmitted, DeleteIsSubmitted, WrittenIsFound, ViewsStay, ViewAnswersByItsMoment, RecentAnswersByItsMoment}
 use Rattle.run.proofs.Lists.{length-set, place-set_same, place-push_old}
 use Rattle.run.proofs.Survival.{moment-leaves}
 use Rattle.run.proofs.Commits.{commit-one}
@@ -334,6 +334,23 @@ view-answers tells t i k key time said is =
       by.earlier,
       (by.is.0 ∙ ap Some gives.0, by.is.1 ∙ ap Some gives.1),
       (asked.2, gives.4, subst (λ (f : ℕ → ℕ). SaysAt (IsSure tells asked.2 time) (answers.at_answer (machine_at t i).published f key time) said) gives.3 (subst (λ (h : History Value). SaysAt (IsSure tells asked.2 time) (answers.at_answer h asked.1 key time) said) gives.2 asked.4)),
+    )
+
+asks-recent : (w : World) (key : Key) (time : ℕ) (p : Place) (said : Result (Option Value) QueryFault) (next : World) → AsksRecent w key time p said next
+    → (h : History Value) × (floors : ℕ → ℕ) × (reclaimed : ℕ) × (p ≡ Views h floors reclaimed) × SaysRecent reclaimed time (answers.at_answer h floors key time) said
+asks-recent w key time (Views h floors reclaimed) said next does = (h, floors, reclaimed, refl, does.0)
+asks-recent w key time Free said next does = absurd does
+asks-recent w key time (Running snapshot writes) said next does = absurd does
+asks-recent w key time (Waits t) said next does = absurd does
+
+pub recent-answers : RecentAnswersByItsMoment
+recent-answers tells t i k key time said is =
+    let asked = asks-recent (moment_at t k).world key time (place_at (moment_at t k).world.places (place_of t i)) said (moment_at t (suc k)).world (calls-link tells t k (call.Recent (place_of t i) key time) (answer.Recent said) is).does in
+    let by = given-by t i k (Views asked.0 asked.1 asked.2) tt (omega (arith, get-low t.calls k (call.Recent (place_of t i) key time) is.0)) asked.3 in
+    let gives : (by.asked ≡ call.View) × (by.said ≡ answer.View (Ok tt)) × (asked.0 ≡ (machine_at t i).published) × (asked.1 ≡ (machine_at t i).floors) × (asked.2 ≤ last (machine_at t i).published) = by.gives in (
+      by.earlier,
+      (by.is.0 ∙ ap Some gives.0, by.is.1 ∙ ap Some gives.1),
+      (asked.2, gives.4, subst (λ (f : ℕ → ℕ). SaysRecent asked.2 time (answers.at_answer (machine_at t i).published f key time) said) gives.3 (subst (λ (h : History Value). SaysRecent asked.2 time (answers.at_answer h asked.1 key time) said) gives.2 asked.4)),
     )
 
 -- ---- puts

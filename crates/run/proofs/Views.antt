@@ -1,14 +1,19 @@
 -- The calls of views, and those that ask of what is published.
-use Rattle.std.proofs.Common.{◌≡◌, ℕ, ◌+◌, ◌≤◌, Bool, true, false, List, [], ◌∷◌, ◌++◌, Some, None, Option, Result, Ok, Err, Vec, MatchBool, refl, sym, ◌∙◌, ap, subst, arith}
-use Rattle.std.specs.Prelude.{slice_get, slice_set, IfOk}
+use Rattle.std.proofs.Common.{◌≡◌, inl, inr, ℕ, ◌+◌, ◌≤◌, Bool, true, false, List, [], ◌∷◌, ◌++◌, Some, None, Option, Result, Ok, Err, Vec, MatchBool, refl, sym, ◌∙◌, ap, subst, arith}
+use Rattle.std.specs.Prelude.{slice_get, slice_set, IfOk, MatchResult}
+use Rattle.std.specs.Borrow.{Bor}
+use Rattle.std.specs.Option.{option_copied}
 use Rattle.std.specs.declared.alloc.Global.{Global}
 use Rattle.std.specs.declared.alloc.AllocError.{AllocError}
+use Rattle.history.specs.Answers as answers
 use Rattle.history.specs.declared.key.Key.{Key}
 use Rattle.history.specs.declared.time.Version.{Version}
 use Rattle.law_image.specs.Values.{Value}
 use Rattle.disk.specs.Calls.{DiskState}
 use Rattle.timequery.specs.Faults.{after_query}
-use Rattle.timequery.specs.View.{ViewValue}
+use Rattle.chains.specs.KeyWrites.{writes_of}
+use Rattle.history.specs.Time.{value_at}
+use Rattle.timequery.specs.View.{ViewValue, AnswersAt, RefusesRecent}
 use Rattle.timequery.specs.declared.fault.QueryFault.{QueryFault}
 use Rattle.timequery.specs.declared.fault.QueryFault.TheVariants as query
 use Rattle.store.specs.Values.{StoreValue}
@@ -18,18 +23,21 @@ use Rattle.group.specs.Values.{TransactionsValue}
 use Rattle.history.specs.Histories.{History}
 use Rattle.law_refinement.specs.Homes.{ViewStands, ViewReads, GoesOn}
 use Rattle.law_refinement.specs.Stands.{Stands}
+use Rattle.law_refinement.specs.Views as views
+use Rattle.law_opening.specs.Laws.{AnswersRecent}
 use Rattle.law_refinement.proofs.Answering.{times-of_label}
+use Rattle.law_refinement.proofs.Queries.{recent-answered}
 use Rattle.law_refinement.proofs.GrowingViews.{query-stands}
 use Rattle.law_refinement.proofs.Views.{view-of-history, at-answered, scan_at-answered, between-answered, scan_between-answered}
 use Rattle.run.specs.declared.calls.Call.TheVariants as call
 use Rattle.run.specs.declared.calls.Answer.TheVariants as answer
 use Rattle.run.specs.declared.held.Held.{Held}
 use Rattle.run.specs.declared.held.Held.TheVariants as held
-use Rattle.run.specs.Places.{Place, Free, Running, Waits, Views, place_at, view_in, HasNoView, IsNoView, ShowsAs, ArePlaces, IsRead, view_answer}
+use Rattle.run.specs.Places.{Place, Free, Running, Waits, Views, place_at, view_in, HasNoView, ShowsAs, ArePlaces, IsRead, IsShared, copied, view_answer}
 use Rattle.run.specs.Worlds.{World, IsWorld, leaves, same, spent}
-use Rattle.run.specs.Runs.{Goes, Asks, AsksScan, AsksBetween, AsksScanBetween, Closes}
+use Rattle.run.specs.Runs.{Goes, Leads, Asks, AsksScan, AsksBetween, AsksScanBetween, AsksRecent, SaysRecent, Closes}
 use Rattle.run.proofs.Runs.{no-step}
-use Rattle.run.proofs.Places.{reads-move, reads-push, reads-plain, reads-set, push, push_nothing, free, view-no_clash, at_view, no_view}
+use Rattle.run.proofs.Places.{reads-move, reads-push, reads-plain, reads-set, push, push_nothing, free, view-no_clash, at_view}
 use Rattle.run.proofs.Steps.{same-world}
 
 pub held-view : (o : Option Held) (view : ViewValue) → Path (Option ViewValue) (Some view) (view_in o) → o ≡ Some (held.View view)
@@ -46,11 +54,9 @@ held-no_view (Some (held.Transaction u)) is = tt
 held-no_view (Some (held.Ticket k)) is = tt
 held-no_view (Some (held.View k)) is = absurd cc
 
-pub lacks-view : (tells : Bool) (v : StoreValue) (xs : List Held) (i : ℕ) → HasNoView (slice_get xs i) → (w : World) → IsWorld tells v xs w → IsNoView (place_at w.places i)
-lacks-view tells v xs i none w is = no_view v.transactions w.machine.published xs w.places i is.places none
-
-pub view-goes : (tells : Bool) (v : StoreValue) (xs : List Held) (r : Result ViewValue AllocError) → IfOk r (stores.IsViewOf v) → Goes tells v xs call.View (view_answer r).0 v (xs ++ (view_answer r).1 ∷ [])
-view-goes tells v xs (Ok view) of w is =
+view-leads : (tells : Bool) (v : StoreValue) (xs : List Held) (r : Result ViewValue AllocError) → IfOk r (stores.IsViewOf v)
+    → Leads tells v xs call.View (view_answer r).0 v (xs ++ (view_answer r).1 ∷ [])
+view-leads tells v xs (Ok view) of w is =
     let h = w.machine.published in
     let stands = view-of-history tells v view w.machine is.stands of in
     let marked = stands.0.memory.marked in
@@ -64,7 +70,7 @@ view-goes tells v xs (Ok view) of w is =
         views = reads-push tells v xs w.places (held.View view) (Views h w.machine.floors view.reclaimed) is.places.many is.views stands.1;
       },
     )
-view-goes tells v xs (Err why) of w is = (same w, refl, no-step w.machine, same-world tells v xs w is)
+view-leads tells v xs (Err why) of w is = (same w, refl, no-step w.machine, same-world tells v xs w is)
 
 -- the world of a store that was asked
 asked-world : (tells : Bool) (v v' : StoreValue) (xs : List Held) (w : World) → IsWorld tells v xs w → v'.transactions ≡ v.transactions → Stands tells v' w.machine × GoesOn tells v v' → IsWorld tells v' (xs ++ held.Nothing ∷ []) (same w)
@@ -111,9 +117,10 @@ asked-few tells v v' view from Refuses Recent OfHistory Exact answer says = by-o
     by-own true finds = let is = ap (λ (x : StoreValue). x.disk.made) finds.asks.new_is ∙ after-made answer v.disk in omega arith
     by-own false strange = let is = ap (λ (x : StoreValue). x.disk.made) strange.1 in omega arith
 
-pub at-goes : (tells : Bool) (v v' : StoreValue) (xs : List Held) (i : ℕ) (key : Key) (time : ℕ) (view : ViewValue) (r : Result (Option Value) QueryFault) → slice_get xs i ≡ Some (held.View view) → stores.AnswersAtView tells v view key time r v'
-    → Goes tells v xs (call.At i key time) (answer.At r) v' (xs ++ held.Nothing ∷ [])
-at-goes tells v v' xs i key time view r here says w is = (
+at-leads : (tells : Bool) (v v' : StoreValue) (xs : List Held) (i : ℕ) (key : Key) (time : ℕ) (view : ViewValue) (r : Result (Option Value) QueryFault)
+    → slice_get xs i ≡ Some (held.View view) → stores.AnswersAtView tells v view key time r v'
+    → Leads tells v xs (call.At i key time) (answer.At r) v' (xs ++ held.Nothing ∷ [])
+at-leads tells v v' xs i key time view r here says w is = (
   same w,
   view-read tells v view (λ (p : Place). Asks tells w key time p r (same w)) w.machine.published (place_at w.places i) (is.places.each i (held.View view) here) (is.views.each i (held.View view) here) (λ history floors stands reads.
       (at-answered tells v v' w.machine view history floors key time r is.stands stands reads says, refl)),
@@ -121,9 +128,9 @@ at-goes tells v v' xs i key time view r here says w is = (
   asked-world tells v v' xs w is (asked-same tells v v' view time _ _ _ _ r says) (query-stands tells v v' w.machine view time _ _ _ _ r is.stands says),
 )
 
-pub scan_at-goes : (tells : Bool) (v v' : StoreValue) (xs : List Held) (i : ℕ) (relation time : ℕ) (view : ViewValue) (r : Result (Vec (ℕ × Value) Global) QueryFault) → slice_get xs i ≡ Some (held.View view) → stores.AnswersScanAt tells v view relation time r v'
-    → Goes tells v xs (call.ScanAt i relation time) (answer.ScanAt r) v' (xs ++ held.Nothing ∷ [])
-scan_at-goes tells v v' xs i relation time view r here says w is = (
+scan_at-leads : (tells : Bool) (v v' : StoreValue) (xs : List Held) (i : ℕ) (relation time : ℕ) (view : ViewValue) (r : Result (Vec (ℕ × Value) Global) QueryFault) → slice_get xs i ≡ Some (held.View view) → stores.AnswersScanAt tells v view relation time r v'
+    → Leads tells v xs (call.ScanAt i relation time) (answer.ScanAt r) v' (xs ++ held.Nothing ∷ [])
+scan_at-leads tells v v' xs i relation time view r here says w is = (
   same w,
   view-read tells v view (λ (p : Place). AsksScan tells w relation time p r (same w)) w.machine.published (place_at w.places i) (is.places.each i (held.View view) here) (is.views.each i (held.View view) here) (λ history floors stands reads.
       (scan_at-answered tells v v' w.machine view history floors relation time r is.stands stands reads says, refl)),
@@ -131,9 +138,9 @@ scan_at-goes tells v v' xs i relation time view r here says w is = (
   asked-world tells v v' xs w is (asked-same tells v v' view time _ _ _ _ r says) (query-stands tells v v' w.machine view time _ _ _ _ r is.stands says),
 )
 
-pub between-goes : (tells : Bool) (v v' : StoreValue) (xs : List Held) (i : ℕ) (key : Key) (a b : ℕ) (view : ViewValue) (r : Result (Vec (Version Value) Global) QueryFault) → slice_get xs i ≡ Some (held.View view) → stores.AnswersRows tells v view key a b r v'
-    → Goes tells v xs (call.Between i key a b) (answer.Between r) v' (xs ++ held.Nothing ∷ [])
-between-goes tells v v' xs i key a b view r here says w is = (
+between-leads : (tells : Bool) (v v' : StoreValue) (xs : List Held) (i : ℕ) (key : Key) (a b : ℕ) (view : ViewValue) (r : Result (Vec (Version Value) Global) QueryFault) → slice_get xs i ≡ Some (held.View view) → stores.AnswersRows tells v view key a b r v'
+    → Leads tells v xs (call.Between i key a b) (answer.Between r) v' (xs ++ held.Nothing ∷ [])
+between-leads tells v v' xs i key a b view r here says w is = (
   same w,
   view-read tells v view (λ (p : Place). AsksBetween tells w key a b p r (same w)) w.machine.published (place_at w.places i) (is.places.each i (held.View view) here) (is.views.each i (held.View view) here) (λ history floors stands reads.
       (between-answered tells v v' w.machine view history floors key a b r is.stands stands reads says, refl)),
@@ -141,9 +148,9 @@ between-goes tells v v' xs i key a b view r here says w is = (
   asked-world tells v v' xs w is (asked-same tells v v' view a _ _ _ _ r says) (query-stands tells v v' w.machine view a _ _ _ _ r is.stands says),
 )
 
-pub scan_between-goes : (tells : Bool) (v v' : StoreValue) (xs : List Held) (i : ℕ) (relation a b : ℕ) (view : ViewValue) (r : Result (Vec (ℕ × Version Value) Global) QueryFault) → slice_get xs i ≡ Some (held.View view) → stores.AnswersScanRows tells v view relation a b r v'
-    → Goes tells v xs (call.ScanBetween i relation a b) (answer.ScanBetween r) v' (xs ++ held.Nothing ∷ [])
-scan_between-goes tells v v' xs i relation a b view r here says w is = (
+scan_between-leads : (tells : Bool) (v v' : StoreValue) (xs : List Held) (i : ℕ) (relation a b : ℕ) (view : ViewValue) (r : Result (Vec (ℕ × Version Value) Global) QueryFault) → slice_get xs i ≡ Some (held.View view) → stores.AnswersScanRows tells v view relation a b r v'
+    → Leads tells v xs (call.ScanBetween i relation a b) (answer.ScanBetween r) v' (xs ++ held.Nothing ∷ [])
+scan_between-leads tells v v' xs i relation a b view r here says w is = (
   same w,
   view-read tells v view (λ (p : Place). AsksScanBetween tells w relation a b p r (same w)) w.machine.published (place_at w.places i) (is.places.each i (held.View view) here) (is.views.each i (held.View view) here) (λ history floors stands reads.
       (scan_between-answered tells v v' w.machine view history floors relation a b r is.stands stands reads says, refl)),
@@ -151,8 +158,48 @@ scan_between-goes tells v v' xs i relation a b view r here says w is = (
   asked-world tells v v' xs w is (asked-same tells v v' view a _ _ _ _ r says) (query-stands tells v v' w.machine view a _ _ _ _ r is.stands says),
 )
 
-pub end-goes : (tells : Bool) (v v' : StoreValue) (xs : List Held) (i : ℕ) (view : ViewValue) → slice_get xs i ≡ Some (held.View view) → v' ≡ v → Goes tells v xs (call.End i) answer.End v' (slice_set xs i held.Nothing ++ held.Nothing ∷ [])
-end-goes tells v v' xs i view here unchanged w is =
+-- what a view lends is what it answers
+pub recent-copied : (view : ViewValue) (key : Key) (time : ℕ) (r : Result (Option (Bor Value)) QueryFault)
+    → MatchResult r (λ o. (view.reclaimed ≤ time) × AnswersAt view key.relation time (option_copied o) (value_at (writes_of view.state key) time)) (RefusesRecent view key.relation time) → AnswersRecent view key time (copied r)
+recent-copied view key time (Ok o) says = says
+recent-copied view key time (Err why) says = says
+
+-- what a view answers from memory alone, with one more holder of what is found
+recent-says : (view : ViewValue) (h : History Value) (floors : ℕ → ℕ) (key : Key) (time : ℕ) (found r : Result (Option Value) QueryFault)
+    → ViewStands view h floors → AnswersRecent view key time found → IsShared found r
+    → SaysRecent view.reclaimed time (answers.at_answer h floors key time) r
+recent-says view h floors key time found r stands says shared = by-found found says shared (recent-answered view h floors key time found stands says)
+  where
+    Said : Result (Option Value) QueryFault → Type 0
+    Said o = SaysRecent view.reclaimed time (answers.at_answer h floors key time) o
+
+    by-found : (o : Result (Option Value) QueryFault) → AnswersRecent view key time o → IsShared o r → views.SaysRecent view time (answers.at_answer h floors key time) o → SaysRecent view.reclaimed time (answers.at_answer h floors key time) r
+    by-found (Ok None) says shared told = subst Said (sym shared) (says.0, told)
+    by-found (Ok (Some value)) says (inl one) told = subst Said (sym one) (says.0, told)
+    by-found (Ok (Some value)) says (inr lacks) told = subst Said (sym lacks) (says.0, (value, told))
+    by-found (Err (query.BeforeKept floor)) says shared told = subst Said (sym shared) told
+    by-found (Err (query.NotYet late)) says shared told = subst Said (sym shared) told
+    by-found (Err query.NeedsDisk) says shared told = subst Said (sym shared) told
+    by-found (Err query.EmptyInterval) says shared told = absurd told
+    by-found (Err query.Device) says shared told = absurd told
+    by-found (Err query.NoMemory) says shared told = absurd told
+    by-found (Err (query.Damaged start)) says shared told = absurd told
+    by-found (Err query.Stranger) says shared told = absurd told
+
+recent-leads : (tells : Bool) (v : StoreValue) (xs : List Held) (i : ℕ) (key : Key) (time : ℕ) (view : ViewValue) (found r : Result (Option Value) QueryFault)
+    → slice_get xs i ≡ Some (held.View view) → AnswersRecent view key time found → IsShared found r
+    → Leads tells v xs (call.Recent i key time) (answer.Recent r) v (xs ++ held.Nothing ∷ [])
+recent-leads tells v xs i key time view found r here says shared w is = (
+  same w,
+  view-read tells v view (λ (p : Place). AsksRecent w key time p r (same w)) w.machine.published (place_at w.places i) (is.places.each i (held.View view) here) (is.views.each i (held.View view) here)
+      (λ history floors stands reads. (recent-says view history floors key time found r stands says shared, refl)),
+  no-step w.machine,
+  same-world tells v xs w is,
+)
+
+end-leads : (tells : Bool) (v v' : StoreValue) (xs : List Held) (i : ℕ) (view : ViewValue) → slice_get xs i ≡ Some (held.View view) → v' ≡ v
+    → Leads tells v xs (call.End i) answer.End v' (slice_set xs i held.Nothing ++ held.Nothing ∷ [])
+end-leads tells v v' xs i view here unchanged w is =
     let freed = free v.transactions w.machine.published xs w.places i (held.View view) is.places here in (
       spent w i,
       at_view (λ (p : Place). Closes w i p (spent w i)) v.transactions w.machine.published view (place_at w.places i) (is.places.each i (held.View view) here) (λ history floors mark stands. refl),
@@ -164,6 +211,48 @@ end-goes tells v v' xs i view here unchanged w is =
       }),
     )
 
+times-leads : (tells : Bool) (v : StoreValue) (xs : List Held) (label : ℕ) (r : Result (Vec ℕ Global) AllocError)
+    → IfOk r (λ times. stores.IsTimesOf v label times.items) → Leads tells v xs (call.TimesOf label) (answer.TimesOf r) v (xs ++ held.Nothing ∷ [])
+times-leads tells v xs label (Ok times) of w is =
+    (same w, (of ∙ times-of_label v.transactions w.machine label is.stands.memory, refl), no-step w.machine, same-world tells v xs w is)
+times-leads tells v xs label (Err why) of w is = (same w, (tt, refl), no-step w.machine, same-world tells v xs w is)
+
+-- ---- as the store's own clauses say
+
+pub view-goes : (tells : Bool) (v : StoreValue) (xs : List Held) (r : Result ViewValue AllocError) → IfOk r (stores.IsViewOf v)
+    → Goes tells v xs call.View (view_answer r).0 v (xs ++ (view_answer r).1 ∷ [])
+view-goes tells v xs r of = record { makes = inr (r, of, refl, (refl, refl)); leads = view-leads tells v xs r of }
+
+pub at-goes : (tells : Bool) (v v' : StoreValue) (xs : List Held) (i : ℕ) (key : Key) (time : ℕ) (view : ViewValue) (r : Result (Option Value) QueryFault)
+    → slice_get xs i ≡ Some (held.View view) → stores.AnswersAtView tells v view key time r v'
+    → Goes tells v xs (call.At i key time) (answer.At r) v' (xs ++ held.Nothing ∷ [])
+at-goes tells v v' xs i key time view r here says =
+    record { makes = inr (r, (view, here, says, (refl, refl))); leads = at-leads tells v v' xs i key time view r here says }
+
+pub scan_at-goes : (tells : Bool) (v v' : StoreValue) (xs : List Held) (i : ℕ) (relation time : ℕ) (view : ViewValue) (r : Result (Vec (ℕ × Value) Global) QueryFault) → slice_get xs i ≡ Some (held.View view) → stores.AnswersScanAt tells v view relation time r v'
+    → Goes tells v xs (call.ScanAt i relation time) (answer.ScanAt r) v' (xs ++ held.Nothing ∷ [])
+scan_at-goes tells v v' xs i relation time view r here says =
+    record { makes = inr (r, (view, here, says, (refl, refl))); leads = scan_at-leads tells v v' xs i relation time view r here says }
+
+pub between-goes : (tells : Bool) (v v' : StoreValue) (xs : List Held) (i : ℕ) (key : Key) (a b : ℕ) (view : ViewValue) (r : Result (Vec (Version Value) Global) QueryFault) → slice_get xs i ≡ Some (held.View view) → stores.AnswersRows tells v view key a b r v'
+    → Goes tells v xs (call.Between i key a b) (answer.Between r) v' (xs ++ held.Nothing ∷ [])
+between-goes tells v v' xs i key a b view r here says =
+    record { makes = inr (r, (view, here, says, (refl, refl))); leads = between-leads tells v v' xs i key a b view r here says }
+
+pub scan_between-goes : (tells : Bool) (v v' : StoreValue) (xs : List Held) (i : ℕ) (relation a b : ℕ) (view : ViewValue) (r : Result (Vec (ℕ × Version Value) Global) QueryFault) → slice_get xs i ≡ Some (held.View view) → stores.AnswersScanRows tells v view relation a b r v'
+    → Goes tells v xs (call.ScanBetween i relation a b) (answer.ScanBetween r) v' (xs ++ held.Nothing ∷ [])
+scan_between-goes tells v v' xs i relation a b view r here says =
+    record { makes = inr (r, (view, here, says, (refl, refl))); leads = scan_between-leads tells v v' xs i relation a b view r here says }
+
+pub recent-goes : (tells : Bool) (v : StoreValue) (xs : List Held) (i : ℕ) (key : Key) (time : ℕ) (view : ViewValue) (found r : Result (Option Value) QueryFault) → slice_get xs i ≡ Some (held.View view) → AnswersRecent view key time found → IsShared found r
+    → Goes tells v xs (call.Recent i key time) (answer.Recent r) v (xs ++ held.Nothing ∷ [])
+recent-goes tells v xs i key time view found r here says shared =
+    record { makes = inr (r, (view, here, ((found, says, shared), refl), (refl, refl))); leads = recent-leads tells v xs i key time view found r here says shared }
+
+pub end-goes : (tells : Bool) (v v' : StoreValue) (xs : List Held) (i : ℕ) (view : ViewValue) → slice_get xs i ≡ Some (held.View view) → v' ≡ v
+    → Goes tells v xs (call.End i) answer.End v' (slice_set xs i held.Nothing ++ held.Nothing ∷ [])
+end-goes tells v v' xs i view here unchanged =
+    record { makes = inr (view, here, unchanged, (refl, refl)); leads = end-leads tells v v' xs i view here unchanged }
+
 pub times-goes : (tells : Bool) (v : StoreValue) (xs : List Held) (label : ℕ) (r : Result (Vec ℕ Global) AllocError) → IfOk r (λ times. stores.IsTimesOf v label times.items) → Goes tells v xs (call.TimesOf label) (answer.TimesOf r) v (xs ++ held.Nothing ∷ [])
-times-goes tells v xs label (Ok times) of w is = (same w, (of ∙ times-of_label v.transactions w.machine label is.stands.memory, refl), no-step w.machine, same-world tells v xs w is)
-times-goes tells v xs label (Err why) of w is = (same w, (tt, refl), no-step w.machine, same-world tells v xs w is)
+times-goes tells v xs label r of = record { makes = inr (r, of, refl, (refl, refl)); leads = times-leads tells v xs label r of }

@@ -17,6 +17,7 @@ IsOfView (call.At i key time) = Unit {0}
 IsOfView (call.ScanAt i relation time) = Unit {0}
 IsOfView (call.Between i key a b) = Unit {0}
 IsOfView (call.ScanBetween i relation a b) = Unit {0}
+IsOfView (call.Recent i key time) = Unit {0}
 IsOfView (call.End i) = Unit {0}
 IsOfView c = ⊥
 

@@ -27,7 +27,7 @@ use Rattle.run.specs.declared.held.Held.{Held}
 use Rattle.run.specs.Places.{Running, Waits, Views, place_at}
 use Rattle.run.specs.Moments.{Moment, first_moment, IsAtMoment}
 use Rattle.run.specs.Promise.{IsKeptAs, Survives, Leaves, Link, LinksOne, KeepsPromise}
-use Rattle.run.specs.Runs.{Follows}
+use Rattle.run.specs.Runs.{Follows, SaysRecent}
 use Rattle.run.specs.Traces.{Trace, moment_at, machine_at, StopLeaves, IsCall, place_of, IsSubmit, LeavesKey}
 
 -- ---- stores and images
@@ -143,3 +143,10 @@ ViewsStay = (tells : Bool) (t : Trace tells) (p q place : ℕ) (h : History Valu
 abbrev pub ViewAnswersByItsMoment : Type 0
 ViewAnswersByItsMoment = (tells : Bool) (t : Trace tells) (i k : ℕ) (key : Key) (time : ℕ) (said : Result (Option Value) QueryFault) → IsCall t k (call.At (place_of t i) key time) (answer.At said)
     → (i < k) × IsCall t i call.View (answer.View (Ok tt)) × ((reclaimed : ℕ) × (reclaimed ≤ last (machine_at t i).published) × SaysAt (IsSure tells reclaimed time) (at_answer (machine_at t i).published (machine_at t i).floors key time) said)
+
+-- So it does from memory alone: an earlier time than that needs the disk.
+abbrev pub RecentAnswersByItsMoment : Type 0
+RecentAnswersByItsMoment =
+    (tells : Bool) (t : Trace tells) (i k : ℕ) (key : Key) (time : ℕ) (said : Result (Option Value) QueryFault)
+    → IsCall t k (call.Recent (place_of t i) key time) (answer.Recent said)
+    → (i < k) × IsCall t i call.View (answer.View (Ok tt)) × ((reclaimed : ℕ) × (reclaimed ≤ last (machine_at t i).published) × SaysRecent reclaimed time (at_answer (machine_at t i).published (machine_at t i).floors key time) said)

@@ -1,5 +1,6 @@
 pub mod Places
 pub mod Worlds
+pub mod Makes
 pub mod Kinds
 pub mod Runs
 pub mod Moments

@@ -12,15 +12,16 @@ use Rattle.run.specs.declared.calls.RedeemOutcome.TheVariants as told
 use Rattle.run.specs.declared.held.Held.{Held}
 use Rattle.run.specs.Worlds.{World, IsWorld, started}
 
--- a store between two calls, with the machine and the places that it stands for, and the times of the commits that were acknowledged till then
+-- a store between two calls and what its callers hold, with the machine and the places that they stand for, and the times of the commits that were acknowledged till then
 pub record Moment : Type 0 where
   pub store : StoreValue
+  pub held : List Held
   pub world : World
   pub done : List ℕ
 
 -- no call is made yet
 abbrev pub first_moment : StoreValue → Machine Value → Moment
-first_moment v m = record { store = v; world = started m; done = [] }
+first_moment v m = record { store = v; held = []; world = started m; done = [] }
 
 -- ---- what was acknowledged
 
@@ -49,6 +50,7 @@ with_answer (answer.At said) done = done
 with_answer (answer.ScanAt said) done = done
 with_answer (answer.Between said) done = done
 with_answer (answer.ScanBetween said) done = done
+with_answer (answer.Recent said) done = done
 with_answer answer.End done = done
 with_answer (answer.TimesOf said) done = done
 with_answer (answer.Archive said) done = done
@@ -64,5 +66,6 @@ HasCommitAt h time = (c : Commit Value) × Contains h c × (c.time ≡ time)
 -- A store and the places of its callers are at this moment: they stand for its world, and every acknowledged commit is published.
 pub record IsAtMoment (tells : Bool) (v : StoreValue) (held : List Held) (at : Moment) : Type 0 where
   pub store : at.store ≡ v
+  pub places : at.held ≡ held
   pub world : IsWorld tells v held at.world
   pub published : AllByRecursion (HasCommitAt at.world.machine.published) at.done

@@ -1,5 +1,7 @@
 -- What the places of a list of calls hold, and what of a store's history each stands for.
-use Rattle.std.specs.Prelude.{ℕ, ◌≡◌, ◌≤◌, Bool, true, zero, suc, List, [], ◌∷◌, length, slice_get, Option, None, Some, Result, Ok, Err}
+use Rattle.std.specs.Prelude.{ℕ, ◌≡◌, ◌≤◌, ◌⊎◌, Bool, true, zero, suc, List, [], ◌∷◌, length, slice_get, Option, None, Some, Result, Ok, Err}
+use Rattle.std.specs.Borrow.{Bor}
+use Rattle.std.specs.Option.{option_copied}
 use Rattle.std.specs.declared.alloc.AllocError.{AllocError}
 use Rattle.history.specs.declared.key.Key.{Key}
 use Rattle.history.specs.declared.key.KeyWrite.{KeyWrite}
@@ -16,6 +18,8 @@ use Rattle.group.specs.declared.answers.Submitted.{Submitted}
 use Rattle.group.specs.declared.answers.Submitted.TheVariants as submitted
 use Rattle.group.specs.declared.answers.SubmitFault.{SubmitFault}
 use Rattle.timequery.specs.View.{ViewValue}
+use Rattle.timequery.specs.declared.fault.QueryFault.{QueryFault}
+use Rattle.timequery.specs.declared.fault.QueryFault.TheVariants as query
 use Rattle.group.specs.Values.{TransactionsValue}
 use Rattle.law_refinement.specs.Homes.{ViewStands, ViewReads}
 use Rattle.store.specs.Values.{StoreValue}
@@ -172,3 +176,14 @@ redeem_answer redeemed.Stranger = (answer.Redeem told.Stranger, held.Nothing)
 abbrev pub view_answer : Result ViewValue AllocError → Answer × Held
 view_answer (Ok view) = (answer.View (Ok tt), held.View view)
 view_answer (Err why) = (answer.View (Err why), held.Nothing)
+
+-- what was found, without the loan
+abbrev pub copied : Result (Option (Bor Value)) QueryFault → Result (Option Value) QueryFault
+copied (Ok found) = Ok (option_copied found)
+copied (Err why) = Err why
+
+-- what is found is answered with a holder of its own, for which there may be no memory
+abbrev pub IsShared : Result (Option Value) QueryFault → Result (Option Value) QueryFault → Type 0
+IsShared (Ok None) said = said ≡ Ok None
+IsShared (Ok (Some value)) said = (said ≡ Ok (Some value)) ⊎ (said ≡ Err query.NoMemory)
+IsShared (Err why) said = said ≡ Err why

@@ -15,11 +15,13 @@ use Rattle.store.specs.Values.{StoreValue}
 use Rattle.store.specs.Opens.{Opens, OpenRefuses}
 use Rattle.law_refinement.specs.OnDisk.{IsImageOf}
 use Rattle.law_refinement.specs.Stands.{Stands}
-use Rattle.law_opening.specs.Laws.{AnswersBy}
+use Rattle.law_opening.specs.Laws.{AnswersBy, IsHeaderLeftBy, RecoversHeader}
 use Rattle.run.specs.declared.calls.Call.{Call}
 use Rattle.run.specs.declared.calls.Answer.{Answer}
 use Rattle.run.specs.declared.held.Held.{Held}
 use Rattle.run.specs.Moments.{Moment, first_moment, with_answer, HasCommitAt, IsAtMoment}
+use Rattle.run.specs.Makes.{Makes}
+use Rattle.run.specs.Worlds.{IsWorld}
 use Rattle.run.specs.Runs.{Does, Follows}
 
 -- ---- what a stop leaves
@@ -36,10 +38,13 @@ pub record IsKeptWith (tells : Bool) (image : Image) (done : List ℕ) (h : Hist
   pub kept : IsKeptAs tells image h floors
   pub acknowledged : AllByRecursion (HasCommitAt h) done
 
--- It survives: it is kept as what is published at this moment or, once the gate of the group may be open, as that with the whole group.
--- It has every commit that was acknowledged.
-abbrev pub Survives : Bool → Moment → Image → Type 0
-Survives tells at image = OnFront (IsKeptWith tells image at.done) at.world.machine
+-- It survives: it has the slots of the store at this moment or, once the gate of a piece may be open, 256 more.
+-- It is kept as what is published then or, once the gate of the group may be open, as that with the whole group. It has every commit that was acknowledged.
+pub record Survives (tells : Bool) (at : Moment) (image : Image) : Type 0 where
+  pub header : Header
+  pub left : IsHeaderLeftBy at.store header
+  pub has : RecoversHeader tells image header
+  pub front : OnFront (IsKeptWith tells image at.done) at.world.machine
 
 -- whatever a stop may leave at this moment survives
 abbrev pub Leaves : Bool → Moment → Type 0
@@ -51,8 +56,10 @@ LeavesBetween tells before after = IsTrue tells → (image : Image) → LeavesWi
 
 -- ---- lists of calls
 
--- A call leads from one moment to the next by its answer, with at most one write or sync of the disk.
+-- A call leads from one moment to the next by its answer, with at most one write or sync of the disk. It is made of the store and of what its callers hold as the store's own clauses say, and these stand for the world that it leads to.
 pub record Link (tells : Bool) (call : Call) (answer : Answer) (before after : Moment) : Type 0 where
+  pub makes : Makes tells before.store before.held call answer after.store after.held
+  pub stands : IsWorld tells after.store after.held after.world
   pub does : Does tells before.world call answer after.world
   pub follows : Follows before.world.machine after.world.machine
   pub acknowledges : after.done ≡ with_answer answer before.done

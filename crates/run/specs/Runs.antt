@@ -28,6 +28,7 @@ use Rattle.group.specs.declared.answers.PumpFault.TheVariants as pump
 use Rattle.group.specs.declared.answers.SubmitFault.{SubmitFault}
 use Rattle.group.specs.declared.answers.SubmitFault.TheVariants as refused
 use Rattle.timequery.specs.declared.fault.QueryFault.{QueryFault}
+use Rattle.timequery.specs.declared.fault.QueryFault.TheVariants as query
 use Rattle.store.specs.Values.{StoreValue}
 use Rattle.store.specs.declared.job.JobDid.{JobDid}
 use Rattle.store.specs.declared.job.StartFault.{StartFault}
@@ -46,6 +47,7 @@ use Rattle.run.specs.declared.calls.RedeemOutcome.TheVariants as told
 use Rattle.run.specs.declared.held.Held.{Held}
 use Rattle.run.specs.Places.{Place, Free, Running, Waits, Views, place_at, IsNoTransaction, IsNoTicket, IsNoView}
 use Rattle.run.specs.Worlds.{World, IsWorld, leaves, put, moved, same, spent}
+use Rattle.run.specs.Makes.{Makes}
 
 -- ---- transactions
 
@@ -173,6 +175,23 @@ abbrev pub AsksScanBetween : Bool → World → ℕ → ℕ → ℕ → Place �
 AsksScanBetween tells w relation a b (Views history floors reclaimed) said next = SaysScanBetween (IsSure tells reclaimed a) history floors relation a b said × (next ≡ same w)
 AsksScanBetween tells w relation a b place said next = ⊥
 
+-- a view that is asked of memory alone answers by the history of its moment from its reclaim mark on; an earlier time that is kept needs the disk, and a value that is found may lack memory for one more holder
+abbrev pub SaysRecent : ℕ → ℕ → Result (Option Value) answers.QueryRefusal → Result (Option Value) QueryFault → Type 0
+SaysRecent reclaimed time said (Ok value) = (reclaimed ≤ time) × (said ≡ Ok value)
+SaysRecent reclaimed time said (Err (query.BeforeKept floor)) = said ≡ Err (answers.BeforeKept floor)
+SaysRecent reclaimed time said (Err (query.NotYet late)) = said ≡ Err (answers.NotYet late)
+SaysRecent reclaimed time said (Err query.NeedsDisk) = (time < reclaimed) × ((value : Option Value) × (said ≡ Ok value))
+SaysRecent reclaimed time said (Err query.NoMemory) = (reclaimed ≤ time) × ((value : Value) × (said ≡ Ok (Some value)))
+SaysRecent reclaimed time said (Err query.EmptyInterval) = ⊥
+SaysRecent reclaimed time said (Err query.Device) = ⊥
+SaysRecent reclaimed time said (Err (query.Damaged start)) = ⊥
+SaysRecent reclaimed time said (Err query.Stranger) = ⊥
+
+-- so does the view of a place
+abbrev pub AsksRecent : World → Key → ℕ → Place → Result (Option Value) QueryFault → World → Type 0
+AsksRecent w key time (Views history floors reclaimed) said next = SaysRecent reclaimed time (answers.at_answer history floors key time) said × (next ≡ same w)
+AsksRecent w key time place said next = ⊥
+
 -- a view is ended, and its place is free
 abbrev pub Closes : World → ℕ → Place → World → Type 0
 Closes w i (Views history floors reclaimed) next = next ≡ spent w i
@@ -268,6 +287,7 @@ NamesNone w (call.At i key time) = IsNoView (place_at w.places i)
 NamesNone w (call.ScanAt i relation time) = IsNoView (place_at w.places i)
 NamesNone w (call.Between i key a b) = IsNoView (place_at w.places i)
 NamesNone w (call.ScanBetween i relation a b) = IsNoView (place_at w.places i)
+NamesNone w (call.Recent i key time) = IsNoView (place_at w.places i)
 NamesNone w (call.End i) = IsNoView (place_at w.places i)
 NamesNone w (call.TimesOf label) = ⊥
 NamesNone w (call.Archive upto) = ⊥
@@ -294,6 +314,7 @@ Does tells w (call.At i key time) (answer.At said) next = Asks tells w key time 
 Does tells w (call.ScanAt i relation time) (answer.ScanAt said) next = AsksScan tells w relation time (place_at w.places i) said next
 Does tells w (call.Between i key a b) (answer.Between said) next = AsksBetween tells w key a b (place_at w.places i) said next
 Does tells w (call.ScanBetween i relation a b) (answer.ScanBetween said) next = AsksScanBetween tells w relation a b (place_at w.places i) said next
+Does tells w (call.Recent i key time) (answer.Recent said) next = AsksRecent w key time (place_at w.places i) said next
 Does tells w (call.End i) answer.End next = Closes w i (place_at w.places i) next
 Does tells w (call.TimesOf label) (answer.TimesOf said) next = ListsTimes w label said next
 Does tells w (call.Archive upto) (answer.Archive said) next = Archives w upto said next
@@ -308,8 +329,14 @@ abbrev pub Follows : Machine Value → Machine Value → Type 0
 Follows m after = (events : List (Event Value)) × steps.Run IsValue m events after
 
 -- from each world of the store and the places the call leads by this answer to one of theirs after it
-abbrev pub Goes : Bool → StoreValue → List Held → Call → Answer → StoreValue → List Held → Type 0
-Goes tells old before c a new after = (w : World) → IsWorld tells old before w → (next : World) × Does tells w c a next × Follows w.machine next.machine × IsWorld tells new after next
+abbrev pub Leads : Bool → StoreValue → List Held → Call → Answer → StoreValue → List Held → Type 0
+Leads tells old before c a new after =
+    (w : World) → IsWorld tells old before w → (next : World) × Does tells w c a next × Follows w.machine next.machine × IsWorld tells new after next
+
+-- The call is made of the store and the places as the store's own clauses say, and so it leads from each of their worlds to one of theirs after it.
+pub record Goes (tells : Bool) (old : StoreValue) (before : List Held) (c : Call) (a : Answer) (new : StoreValue) (after : List Held) : Type 0 where
+  pub makes : Makes tells old before c a new after
+  pub leads : Leads tells old before c a new after
 
 -- at most one device call is made
 abbrev pub MakesFew : StoreValue → StoreValue → Type 0

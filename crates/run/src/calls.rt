@@ -71,6 +71,12 @@ pub enum Call<'a> {
         a: u64,
         b: u64,
     },
+    /// As `At`, from memory alone: no device is asked.
+    Recent {
+        view: usize,
+        key: Key,
+        time: u64,
+    },
     End {
         view: usize,
     },
@@ -136,6 +142,7 @@ pub enum Answer {
     ScanAt(Result<Vec<(u64, SharedValue)>, QueryFault>),
     Between(Result<Vec<Version<SharedValue>>, QueryFault>),
     ScanBetween(Result<Vec<(u64, Version<SharedValue>)>, QueryFault>),
+    Recent(Result<Option<SharedValue>, QueryFault>),
     End,
     TimesOf(Result<Vec<u64>, AllocError>),
     Archive(Result<(), StartFault>),

@@ -1,6 +1,6 @@
 //! Laws of lists of calls, each as a function with nothing to do. They speak of a `Trace`: a list of
 //! calls as it went from a moment of the store, in `specs/Traces.antt`.
-ghost use Rattle.run.specs.Laws.{FirstMoment, MomentSurvives, ImageIsKept, CommitHasItsTime, WriteStands, AsManyAnswers, GoesToItsEnd, CallsLink, StopsSurvive, MachineRuns, ListsGoOn, StepIsList, TimesStayKept, FloorsRise, TicketsStay, DoneNamesItsSubmit, PutIsSubmitted, DeleteIsSubmitted, WrittenIsFound, ViewsStay, ViewAnswersByItsMoment};
+ghost use Rattle.run.specs.Laws.{FirstMoment, MomentSurvives, ImageIsKept, CommitHasItsTime, WriteStands, AsManyAnswers, GoesToItsEnd, CallsLink, StopsSurvive, MachineRuns, ListsGoOn, StepIsList, TimesStayKept, FloorsRise, TicketsStay, DoneNamesItsSubmit, PutIsSubmitted, DeleteIsSubmitted, WrittenIsFound, ViewsStay, ViewAnswersByItsMoment, RecentAnswersByItsMoment};
 
 use history::laws::Stored;
 use std::marker::Model;
@@ -75,8 +75,10 @@ pub fn writes_are_submitted()
     ensures found { WrittenIsFound }
 {}
 
-/// A view stays in its place until it is ended, and answers by what was published when it was taken.
+/// A view stays in its place until it is ended, and answers by what was published when it was taken, with
+/// the store or from memory alone.
 pub fn views_stay()
     ensures stay { ViewsStay }
     ensures answers { ViewAnswersByItsMoment }
+    ensures recent { RecentAnswersByItsMoment }
 {}

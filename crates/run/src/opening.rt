@@ -64,7 +64,7 @@ pub fn open<D: Disk>(alloc: Global, disk: D, mark: u64) -> Result<Store<D>, (Ope
 pub fn close<D: Disk>(store: Store<D>) -> D
     ensures state { D.state result ≡ store.disk }
     // Whatever a stop may leave of the disk is an image of a front of the commit order.
-    ensures stands { (m : Machine Value) → Stands D.tells store m → IsTrue D.tells → LeavesFronts (D.state result).areas m }
+    ensures stands { (m : Machine Value) → Stands D.tells store m → IsTrue D.tells → LeavesFronts store (D.state result).areas m }
     // What is read of the disk, of which `open` speaks, is among it.
     ensures reads { IsTrue D.tells → LeavesImage (D.state result).areas (image_of (D.state result).areas) }
 {

@@ -1,5 +1,5 @@
 //! Lists of calls.
-ghost use Rattle.std.specs.Prelude.{◌≡◌, ◌≤◌, ◌+◌, ◌++◌, ◌∷◌, [], length, IfOk, OnErr};
+ghost use Rattle.std.specs.Prelude.{◌≡◌, ◌≤◌, ◌+◌, ◌++◌, ◌∷◌, [], List, length, IfOk, OnErr};
 ghost use Rattle.run.specs.Kinds.{IsInTransaction, IsOfView, IsOfStore};
 ghost use Rattle.run.specs.Runs.{Goes, MakesFew};
 ghost use Rattle.run.specs.Promise.{KeepsPromise, LinksOne};
@@ -8,15 +8,14 @@ use crate::calls::{Answer, Call};
 use crate::held::{Held, discard};
 use crate::redeeming::{give_up, redeem};
 use crate::transacting::{abort, begin, delete, get, put, scan, submit};
-use crate::viewing::{at, between, end, scan_at, scan_between, times_of, view};
+use crate::viewing::{at, between, end, recent, scan_at, scan_between, times_of, view};
 use disk::Disk;
 use std::alloc::{AllocError, Global};
 use store::Store;
 
-/// Makes the calls in turn, and gives the answer to each and what its place holds at the end. A call
-/// names a transaction, a ticket or a view by the place in the list of the call that gave it. Where
-/// that call gave none, or its value is spent, the answer is `Unknown` and nothing changes. What is
-/// left over at the end is the caller's: `give_back` gives it back unspent, `run_on` goes on with it.
+/// Makes the calls in turn, and gives the answer to each. A call names a transaction, a ticket or a view
+/// by the place in the list of the call that gave it. Where that call gave none, or its value is spent,
+/// the answer is `Unknown` and nothing changes. What is left over at the end is given back unspent.
 ///
 /// # Errors
 ///
@@ -25,24 +24,21 @@ pub fn run<D: Disk>(
     alloc: Global,
     store: &mut Store<D>,
     calls: &[Call<'_>],
-) -> Result<(Vec<Answer>, Vec<Held>), AllocError>
-    // From each moment of the store: the answers are those of a run of the machine, and whatever a stop may leave before, within or after any of the calls is kept as what is published then or, once the gate of the group may be open, as that with the whole group; it has every commit of which Done was answered.
-    ensures run { IfOk result (λ (answers, places). KeepsPromise D.tells store.old [] calls.now answers.items store.new places.items) }
+) -> Result<Vec<Answer>, AllocError>
+    // From each moment of the store: the answers are those of a run of the machine, and whatever a stop may leave before, within or after any of the calls is kept as what is published then or, once the gate of the group may be open, as that with the whole group; it has every commit of which Done was answered. The places hold at the end what is given back.
+    ensures run { IfOk result (λ answers. (left : List Held) × KeepsPromise D.tells store.old [] calls.now answers.items store.new left) }
     // Each call makes at most one write or sync of the disk.
     ensures made { store.new.disk.made ≤ store.old.disk.made + length calls.now }
     ensures err { OnErr result (store.new ≡ store.old) }
 {
     let mut places = Vec::new(alloc);
-    match run_on(alloc, store, &mut places, calls) {
-        Ok(answers) => Ok((answers, places)),
-        Err(why) => {
-            give_back(places);
-            Err(why)
-        }
-    }
+    let answers = run_on(alloc, store, &mut places, calls);
+    give_back(places);
+    answers
 }
 
-/// Goes on with the places of earlier lists, in which a call may name what an earlier list left.
+/// Goes on with the places of earlier lists, in which a call may name what an earlier list left. What
+/// is left over at the end is the caller's: a later list may name it, and `give_back` gives it back.
 ///
 /// # Errors
 ///
@@ -121,6 +117,7 @@ fn answer_call<D: Disk>(
         | Call::ScanAt { .. }
         | Call::Between { .. }
         | Call::ScanBetween { .. }
+        | Call::Recent { .. }
         | Call::End { .. } => (answer_by_view(store, places, call), Held::Nothing),
         _ => (answer_by_store(store, places, call), Held::Nothing),
     }
@@ -183,6 +180,11 @@ fn answer_by_view<D: Disk>(store: &mut Store<D>, places: &mut [Held], call: Call
             a,
             b,
         } => scan_between(store, places, place, relation, a, b),
+        Call::Recent {
+            view: place,
+            key,
+            time,
+        } => recent(store, places, place, key, time),
         Call::End { view: place } => end(store, places, place),
         _ => unreachable!(),
     }

@@ -1,16 +1,17 @@
 //! The calls of views, and those that ask of what is published.
 ghost use Rattle.std.specs.Prelude.{◌≡◌, ◌++◌, ◌∷◌, []};
 ghost use Rattle.run.specs.declared.calls.Call.{Call};
-ghost use Rattle.run.specs.Places.{view_answer};
+ghost use Rattle.run.specs.Places.{IsShared, copied, view_answer};
 ghost use Rattle.run.specs.Runs.{Goes, MakesFew};
 
 use crate::calls::Answer;
 use crate::held::{Held, take_view, view_at};
+use chains::SharedValue;
 use disk::Disk;
 use history::Key;
 use std::alloc::AllocError;
 use store::Store;
-use timequery::View;
+use timequery::{QueryFault, View};
 
 pub(crate) fn view<D: Disk>(store: &Store<D>, places: &[Held]) -> (Answer, Held)
     ensures { Goes D.tells store.now places.now Call.View result.0 store.now (places.now ++ result.1 ∷ []) }
@@ -92,6 +93,33 @@ pub(crate) fn scan_between<D: Disk>(
         return Answer::Unknown;
     };
     Answer::ScanBetween(store.scan_between(asked, relation, a, b))
+}
+
+pub(crate) fn recent<D: Disk>(
+    store: &Store<D>,
+    places: &[Held],
+    view: usize,
+    key: Key,
+    time: u64,
+) -> Answer
+    ensures { Goes D.tells store.now places.now (Call.Recent view key time) result store.now (places.now ++ Held.Nothing ∷ []) }
+{
+    let _ = store;
+    let Some(asked) = view_at(places, view) else {
+        return Answer::Unknown;
+    };
+    Answer::Recent(owned(asked.recent(key, time)))
+}
+
+// One more holder of the value that was found.
+fn owned(found: Result<Option<&SharedValue>, QueryFault>) -> Result<Option<SharedValue>, QueryFault>
+    ensures { IsShared (copied found.entry) result }
+{
+    match found {
+        Ok(Some(value)) => Ok(Some(value.share()?)),
+        Ok(None) => Ok(None),
+        Err(fault) => Err(fault),
+    }
 }
 
 pub(crate) fn end<D: Disk>(store: &mut Store<D>, places: &mut [Held], view: usize) -> Answer

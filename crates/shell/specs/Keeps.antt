@@ -1,29 +1,41 @@
--- What the program promises of a script that it runs, however it ends.
-use Rattle.std.specs.Prelude.{ℕ, ◌≡◌, ◌⊎◌, ◌+◌, Bool, List, [], Option, MatchOption}
-use Rattle.disk.specs.Areas.{image_of}
+-- What the program promises of each action, however it ends.
+use Rattle.std.specs.Prelude.{ℕ, ◌≡◌, ◌⊎◌, ◌+◌, Bool, List, [], Option, Result, Ok, Err, MatchOption}
+use Rattle.std.specs.declared.alloc.Global.{Global}
+use Rattle.std.specs.declared.vec.Vec.{Vec}
+use Rattle.disk.specs.Areas.{Image, LeavesImage, image_of}
 use Rattle.disk.specs.Calls.{DiskState}
+use Rattle.history.specs.Answers as answers
+use Rattle.history.specs.Answers.{QueryRefusal, at_answer, between_answer}
 use Rattle.history.specs.Histories.{History}
 use Rattle.history.specs.Machine as machine
+use Rattle.history.specs.declared.time.Version.{Version}
 use Rattle.law_image.specs.Values.{Value}
+use Rattle.recovery.specs.Faults.{IsReadFault}
 use Rattle.recovery.specs.Format.{IsFormatted, FormatRefuses}
 use Rattle.recovery.specs.declared.fault.FormatFault.{FormatFault}
 use Rattle.recovery.specs.declared.fault.OpenFault.{OpenFault}
+use Rattle.status.specs.Header.{new_header}
 use Rattle.status.specs.declared.header.Header.{Header}
+use Rattle.timequery.specs.declared.fault.QueryFault.TheVariants as query
+use Rattle.law_opening.specs.Laws.{RecoversHeader}
 use Rattle.law_refinement.specs.OnDisk.{IsImageOf}
 use Rattle.store.specs.Values.{StoreValue}
 use Rattle.store.specs.Opens.{Opens, OpenRefuses}
 use Rattle.script.specs.declared.line.Line.{Line}
 use Rattle.script.specs.declared.line.Line.TheVariants as line
 use Rattle.session.specs.Lines.{AreLines}
+use Rattle.session.specs.declared.fault.Fault.TheVariants as fault
 use Rattle.session.specs.declared.reply.Reply.{Reply}
-use Rattle.session.specs.Texts.{Text}
+use Rattle.session.specs.declared.reply.Reply.TheVariants as reply
+use Rattle.session.specs.Texts.{Text, open_line, refusal_line}
+use Rattle.run.specs.Promise.{IsKeptAs}
 use Rattle.session.specs.declared.ending.Ending.{Ending}
 use Rattle.law_script.specs.Keeps.{Closed, LineKeeps}
 use Rattle.law_script.specs.ScriptMoments.{ScriptMoment, first_script_moment}
 use Rattle.law_script.specs.Promise.{ScriptKeeps}
 use Rattle.command_line.specs.declared.action.Action.{Action}
 use Rattle.command_line.specs.declared.action.Action.TheVariants as action
-use Rattle.shell.specs.Acts.{Input, Output, SaysAll, SaysGrown, SaysVacuum}
+use Rattle.shell.specs.Acts.{Input, IsRefused, IsTold, Output, SaysAll, SaysGrown, SaysVacuum}
 use Rattle.shell.specs.Vacuums.{DoesJob, DoesVacuum}
 use Rattle.shell.specs.declared.vacuuming.Vacuumed.{Vacuumed}
 
@@ -92,14 +104,70 @@ abbrev pub GrowingKeeps : Bool → DiskState → Output → DiskState → Type 0
 GrowingKeeps tells old output new = (header : Header) (h : History Value) (floors : ℕ → ℕ) → IsImageOf header (image_of old.areas) h floors
     → ((f : OpenFault) × OpenRefuses tells old f new) ⊎ GrowthOpenedKeeps tells h floors old output new
 
--- A script is run on an empty store, or on the one that a disk holds, of whatever history its image stands for, and so are the lines of a vacuum and of a growth. The other actions run none.
+-- ---- an empty store
+
+-- Whatever a stop may leave of what was made is kept as the empty history, with these slots.
+pub record LeavesEmpty (tells : Bool) (slots : ℕ) (new : DiskState) : Type 0 where
+  pub kept : (image : Image) → LeavesImage new.areas image → IsKeptAs tells image [] (λ relation. 0)
+  pub has : (image : Image) → LeavesImage new.areas image → RecoversHeader tells image (new_header 3 slots)
+
+-- an empty store is made, or none, and the disk is as this says
+abbrev pub MakingKeeps : Bool → DiskState → ℕ → DiskState → Type 0
+MakingKeeps tells old slots new = LeavesEmpty tells slots new ⊎ ((f : FormatFault) × FormatRefuses tells slots old f new)
+
+-- ---- one question
+
+-- the reply of a refusal that the write sets say
+abbrev pub refusal_of : QueryRefusal → Reply
+refusal_of (answers.BeforeKept floor) = reply.Refused (fault.Query (query.BeforeKept floor))
+refusal_of (answers.NotYet last) = reply.Refused (fault.Query (query.NotYet last))
+refusal_of answers.EmptyInterval = reply.Refused (fault.Query query.EmptyInterval)
+
+-- the reply is the value of a key at a time that the write sets say, or their refusal
+abbrev pub IsValueReply : Result (Option Value) QueryRefusal → Reply → Type 0
+IsValueReply (Ok value) r = r ≡ reply.Found value
+IsValueReply (Err why) r = r ≡ refusal_of why
+
+-- the reply is the rows of a key in an interval that the write sets say, or their refusal
+abbrev pub IsRowsReply : Result (List (Version Value)) QueryRefusal → Reply → Type 0
+IsRowsReply (Ok rows) r = (found : Vec (Version Value) Global) × (found.items ≡ rows) × (r ≡ reply.Rows found)
+IsRowsReply (Err why) r = r ≡ refusal_of why
+
+-- this is replied, or that memory or the device gave out
+abbrev pub OrGaveOut : (Reply → Type 0) → Reply → Type 0
+OrGaveOut Is r = Is r ⊎ ((r ≡ reply.Refused (fault.Query query.NoMemory)) ⊎ (r ≡ reply.Refused (fault.Query query.Device)))
+
+-- The line of a question is answered as one of a script, and the store is closed: at every moment whatever a stop may leave survives. What is printed is what the write sets of the history say.
+pub record QuestionKeeps (tells : Bool) (h : History Value) (floors : ℕ → ℕ) (store : StoreValue) (asks : Line) (Is : Reply → Type 0) (output : Output) (new : DiskState) : Type 0 where
+  pub answer : Reply
+  pub after : ScriptMoment
+  pub line : LineKeeps tells asks answer (first_script_moment store (machine.opened h floors)) after
+  pub closed : Closed tells after new
+  pub printed : IsTold output answer
+  pub says : OrGaveOut Is answer
+
+-- the store opens as this history; there is no memory for a session, or the question is answered by the history
+abbrev pub QuestionOpenedKeeps : Bool → History Value → (ℕ → ℕ) → DiskState → Line → (Reply → Type 0) → Output → DiskState → Type 0
+QuestionOpenedKeeps tells h floors old asks Is output new =
+    (store : StoreValue) × Opens tells old 1 store × (((new ≡ store.disk) × IsRefused output (refusal_line fault.NoMemory)) ⊎ QuestionKeeps tells h floors store asks Is output new)
+
+-- of whatever history the image stands for: the store does not open, since the device or memory gives out, or the question is answered by that history
+abbrev pub AskingKeeps : Bool → DiskState → Line → (History Value → (ℕ → ℕ) → Reply → Type 0) → Output → DiskState → Type 0
+AskingKeeps tells old asks Is output new = (header : Header) (h : History Value) (floors : ℕ → ℕ) → IsImageOf header (image_of old.areas) h floors
+    → ((f : OpenFault) × OpenRefuses tells old f new × IsReadFault f × IsRefused output (open_line f)) ⊎ QuestionOpenedKeeps tells h floors old asks (Is h floors) output new
+
+-- ---- actions
+
+-- What each action keeps. A script is run on an empty store, or on the one that a disk holds, of whatever history its image stands for, and so are the lines of a vacuum, of a growth and of a question: at every moment whatever a stop may leave survives. What is printed of a question is what the write sets of that history say. A store that was made is kept as the empty history, and a dump leaves the areas as they were.
 abbrev pub KeepsPromise : Bool → Action → DiskState → Input → Output → DiskState → Type 0
 KeepsPromise tells action.Example old input output new = ((f : FormatFault) × FormatRefuses tells 16 old f new) ⊎ NewRunKeeps tells old input output new
 KeepsPromise tells (action.Run dir) old input output new = (header : Header) (h : History Value) (floors : ℕ → ℕ) → IsImageOf header (image_of old.areas) h floors → RunKeeps tells h floors old input output new
-KeepsPromise tells (action.Format dir slots) old input output new = Unit {0}
-KeepsPromise tells (action.At dir key time) old input output new = Unit {0}
-KeepsPromise tells (action.Between dir key from to) old input output new = Unit {0}
+KeepsPromise tells (action.Format dir slots) old input output new = MakingKeeps tells old slots new
+KeepsPromise tells (action.At dir key time) old input output new =
+    MatchOption time (new ≡ old) (λ t. AskingKeeps tells old (line.At key t) (λ h floors. IsValueReply (at_answer h floors key t)) output new)
+KeepsPromise tells (action.Between dir key from to) old input output new =
+    MatchOption from (new ≡ old) (λ a. MatchOption to (new ≡ old) (λ b. AskingKeeps tells old (line.Between key a b) (λ h floors. IsRowsReply (between_answer h floors key a b)) output new))
 KeepsPromise tells (action.Vacuum dir time) old input output new = MatchOption time (new ≡ old) (λ t. VacuumingKeeps tells old t output new)
 KeepsPromise tells (action.Grow dir) old input output new = GrowingKeeps tells old output new
-KeepsPromise tells (action.Dump dir) old input output new = Unit {0}
-KeepsPromise tells (action.Stress writers readers rounds) old input output new = Unit {0}
+KeepsPromise tells (action.Dump dir) old input output new = new.areas ≡ old.areas
+KeepsPromise tells (action.Stress writers readers rounds) old input output new = new ≡ old

@@ -472,7 +472,7 @@ pub fn act<D: Disk, R: LineInput, W: Write>(
     output: &mut Answers<W>,
 ) -> (u8, D)
     ensures acts { Acts D.tells action.entry (D.state disk) (given R.remaining input.old input.new) (told W.contents result.0 output.old output.new) (D.state result.1) }
-    // Of a script, and of the lines of a vacuum, on a disk that tells its bytes: at every moment of its run whatever a stop may leave survives, with every commit of which a line `done` was written, and what is written is what a run of the machine answers. So it is whatever the status is.
+    // Of every action, on a disk that tells its bytes and whatever the status is. Of a script, and of the lines of a vacuum, of a growth and of a question: at every moment of its run whatever a stop may leave survives, with every commit of which a line `done` was written, and what is written is what a run of the machine answers. What is written of a question is what the write sets of the history say, or the refusal that they say, or that memory or the device gave out. An empty store that was made is kept as the empty history, with the slots that were asked for; a dump leaves the areas as they were.
     ensures promise { IsTrue D.tells → KeepsPromise D.tells action.entry (D.state disk) (given R.remaining input.old input.new) (told W.contents result.0 output.old output.new) (D.state result.1) }
     ensures status { result.0 ≤ 1 }
 {

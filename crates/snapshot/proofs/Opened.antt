@@ -29,14 +29,16 @@ free-is (Some s ∷ places) (suc place) free low = let rest = free-is places pla
 
 -- ---- one more is open, or one less
 
-pub set-below : (places : List (Option ℕ)) (place snapshot : ℕ) → place ≡ least_free places → place < length places → place + 1 ≤ least_free (slice_set places place (Some snapshot))
+pub set-below : (places : List (Option ℕ)) (place snapshot : ℕ) → place ≡ least_free places → place < length places
+    → place + 1 ≤ least_free (slice_set places place (Some snapshot))
 set-below [] place snapshot least low = absurd (omega arith)
 set-below (None ∷ places) zero snapshot least low = omega arith
 set-below (None ∷ places) (suc place) snapshot least low = absurd (omega arith)
 set-below (Some s ∷ places) zero snapshot least low = omega arith
 set-below (Some s ∷ places) (suc place) snapshot least low = let rest = set-below places place snapshot (omega arith) (omega arith) in omega arith
 
-pub pushed-below : (places : List (Option ℕ)) (place snapshot : ℕ) → place ≡ least_free places → length places ≤ place → place + 1 ≤ least_free (places ++ Some snapshot ∷ [])
+pub pushed-below : (places : List (Option ℕ)) (place snapshot : ℕ) → place ≡ least_free places → length places ≤ place
+    → place + 1 ≤ least_free (places ++ Some snapshot ∷ [])
 pushed-below [] place snapshot least full = omega arith
 pushed-below (None ∷ places) place snapshot least full = absurd (omega arith)
 pushed-below (Some s ∷ places) zero snapshot least full = omega arith

@@ -1,5 +1,6 @@
 -- Writes over the pairs of a relation are what a transaction sees of it.
-use Rattle.std.proofs.Common.{◌≡◌, ℕ, zero, suc, ◌<◌, ◌≤◌, ◌==◌, Bool, true, false, cond, nat_lt, List, [], ◌∷◌, ◌++◌, length, map, get_or, Option, None, Some, unwrap_or, Contains, refl, arith, add-one, ap, sym, ◌∙◌, inl, inr}
+use Rattle.std.proofs.Common.{◌≡◌, ℕ, zero, suc, ◌<◌, ◌≤◌, ◌==◌, Bool, true, false, cond, nat_lt, List, [], ◌∷◌, ◌++◌, length, map, get_or, Option, None, Some}
+use Rattle.std.proofs.Common.{unwrap_or, Contains, refl, arith, add-one, ap, sym, ◌∙◌, inl, inr}
 use Rattle.std.specs.List.Sorted.{IsStrictlyIncreasing}
 use Rattle.std.proofs.lemmas.Bool.{cases_lt, cases_eq}
 use Rattle.std.proofs.lemmas.Bool.Decides.{nat_tests}
@@ -41,14 +42,20 @@ length-firsts : {V : Type 0} (ps : List (ℕ × V)) → length (map (λ (p : ℕ
 length-firsts [] = refl
 length-firsts (p ∷ ps) = ap suc (length-firsts ps)
 
-climb-from_pairs : {V : Type 0} (ps : List (ℕ × V)) → ((i j d : ℕ) → i < j → j < length ps → get_or (map (λ (p : ℕ × V). p.0) ps) i d < get_or (map (λ (p : ℕ × V). p.0) ps) j d) → Climb ps
+climb-from_pairs : {V : Type 0} (ps : List (ℕ × V))
+    → ((i j d : ℕ) → i < j → j < length ps → get_or (map (λ (p : ℕ × V). p.0) ps) i d < get_or (map (λ (p : ℕ × V). p.0) ps) j d) → Climb ps
 climb-from_pairs [] h = tt
-climb-from_pairs (p ∷ ps) h = (above-from p.0 ps (λ j low. h 0 (suc j) 0 (omega arith) (omega arith)), climb-from_pairs ps (λ i j d less low. h (suc i) (suc j) d (omega arith) (omega arith)))
+climb-from_pairs (p ∷ ps) h = (
+  above-from p.0 ps (λ j low. h 0 (suc j) 0 (omega arith) (omega arith)),
+  climb-from_pairs ps (λ i j d less low. h (suc i) (suc j) d (omega arith) (omega arith)),
+)
 
 pub climb-from : {V : Type 0} (ps : List (ℕ × V)) → IsStrictlyIncreasing (map (λ (p : ℕ × V). p.0) ps) → Climb ps
-climb-from {V} ps h = climb-from_pairs ps (λ i j d less low. AllPairs-from_increasing (map (λ (p : ℕ × V). p.0) ps) h i j d less (omega (arith, length-firsts ps)))
+climb-from {V} ps h =
+    climb-from_pairs ps (λ i j d less low. AllPairs-from_increasing (map (λ (p : ℕ × V). p.0) ps) h i j d less (omega (arith, length-firsts ps)))
 
-adjacent : {V : Type 0} (ps : List (ℕ × V)) (k : ℕ) → Climb ps → suc k < length ps → get_or (map (λ (p : ℕ × V). p.0) ps) k 0 < get_or (map (λ (p : ℕ × V). p.0) ps) (suc k) 0
+adjacent : {V : Type 0} (ps : List (ℕ × V)) (k : ℕ) → Climb ps → suc k < length ps
+    → get_or (map (λ (p : ℕ × V). p.0) ps) k 0 < get_or (map (λ (p : ℕ × V). p.0) ps) (suc k) 0
 adjacent [] k h low = absurd (omega arith)
 adjacent (p ∷ []) k h low = absurd (omega arith)
 adjacent (p ∷ q ∷ ps) zero h low = h.0.0
@@ -99,8 +106,10 @@ contained-looked_up n v [] is = absurd (some-is_not-none (sym is))
 contained-looked_up {V} n v (p ∷ ps) is =
     let Goal : Bool → Type 0 = λ b. (p.0 == n) ≡ b → cond b (Some p.1) (looked_up n ps) ≡ Some v → Contains (p ∷ ps) (n, v) in
     let goal : Goal (p.0 == n) = elim (p.0 == n) as Goal [
-      | true ↦ λ same found. let first : p.0 ≡ n = same-number p.0 n same in let second : p.1 ≡ v = some-inside found in (0, omega arith, λ i. (first i, second i))
-      | false ↦ λ other found. let rest : Contains ps (n, v) = contained-looked_up n v ps found in (suc rest.0, let low : rest.0 < length ps = rest.1 in omega arith, rest.2)
+      | true ↦ λ same found. let first : p.0 ≡ n = same-number p.0 n same in let second : p.1 ≡ v =
+          some-inside found in (0, omega arith, λ i. (first i, second i))
+      | false ↦ λ other found. let rest : Contains ps (n, v) =
+          contained-looked_up n v ps found in (suc rest.0, let low : rest.0 < length ps = rest.1 in omega arith, rest.2)
     ] in
     goal refl is
 
@@ -115,7 +124,8 @@ found_lesser {V} n m (p ∷ ps) more less h none =
     let Goal : Bool → Type 0 = λ b. nat_lt p.0 m ≡ b → looked_up n (cond b (p ∷ lesser m ps) [] ++ more) ≡ looked_up n (p ∷ ps) in
     let goal : Goal (nat_lt p.0 m) = elim (nat_lt p.0 m) as Goal [
       | true ↦ λ below. ap (λ (o : Option V). cond (p.0 == n) (Some p.1) o) (found_lesser n m ps more less h.1 none)
-      | false ↦ λ above. let apart : (p.0 == n) ≡ false = grind (arith, nat_tests) in let le : n ≤ p.0 = grind (arith, nat_tests) in none ∙ sym (rw apart (none-above n p.0 ps le h.0))
+      | false ↦ λ above. let apart : (p.0 == n) ≡ false = grind (arith, nat_tests) in let le : n ≤ p.0 =
+          grind (arith, nat_tests) in none ∙ sym (rw apart (none-above n p.0 ps le h.0))
     ] in
     goal refl
 
@@ -189,7 +199,8 @@ still_above k m (p ∷ ps) h =
 
 above-lesser : {V : Type 0} (k m : ℕ) (ps more : List (ℕ × V)) → Above k ps → Above k more → Above k (lesser m ps ++ more)
 above-lesser k m [] more h rest = rest
-above-lesser k m (p ∷ ps) more h rest = elim (nat_lt p.0 m) as (λ a. Above k (cond a (p ∷ lesser m ps) [] ++ more)) [ true ↦ (h.0, above-lesser k m ps more h.1 rest) | false ↦ rest ]
+above-lesser k m (p ∷ ps) more h rest =
+    elim (nat_lt p.0 m) as (λ a. Above k (cond a (p ∷ lesser m ps) [] ++ more)) [ true ↦ (h.0, above-lesser k m ps more h.1 rest) | false ↦ rest ]
 
 above-least : {V : Type 0} (k m : ℕ) (ps : List (ℕ × V)) → k < m → AtLeast m ps → Above k ps
 above-least k m [] less h = tt
@@ -204,7 +215,8 @@ climb-lesser m [] more h rest least = rest
 climb-lesser m (p ∷ ps) more h rest least =
     let Goal : Bool → Type 0 = λ a. nat_lt p.0 m ≡ a → Climb (cond a (p ∷ lesser m ps) [] ++ more) in
     let goal : Goal (nat_lt p.0 m) = elim (nat_lt p.0 m) as Goal [
-      | true ↦ λ below. let less : p.0 < m = grind (arith, nat_tests) in (above-lesser p.0 m ps more h.0 (above-least p.0 m more less least), climb-lesser m ps more h.1 rest least)
+      | true ↦ λ below. let less : p.0 < m =
+          grind (arith, nat_tests) in (above-lesser p.0 m ps more h.0 (above-least p.0 m more less least), climb-lesser m ps more h.1 rest least)
       | false ↦ λ above. rest
     ] in
     goal refl
@@ -216,29 +228,37 @@ abbrev AreGreater : {V : Type 0} → ℕ → ℕ → List (KeyWrite V) → Type 
 AreGreater relation k [] = Unit {0}
 AreGreater relation k (w ∷ ws) = ((w.key.relation == relation) ≡ true → k < w.key.record) × AreGreater relation k ws
 
-greater-from : {V : Type 0} (relation : ℕ) (key : Key) (ws : List (KeyWrite V)) → (key.relation == relation) ≡ true → AreAbove key ws → AreGreater relation key.record ws
+greater-from : {V : Type 0} (relation : ℕ) (key : Key) (ws : List (KeyWrite V)) → (key.relation == relation) ≡ true → AreAbove key ws
+    → AreGreater relation key.record ws
 greater-from relation key [] of_it h = tt
-greater-from relation key (w ∷ ws) of_it h = (λ also. let less : key_lt key w.key ≡ true = h.0 in grind (arith, nat_tests), greater-from relation key ws of_it h.1)
+greater-from relation key (w ∷ ws) of_it h =
+    (λ also. let less : key_lt key w.key ≡ true = h.0 in grind (arith, nat_tests), greater-from relation key ws of_it h.1)
 
-above-pair : {V : Type 0} (k : ℕ) (w : KeyWrite V) (write : Option V) (more : List (ℕ × V)) → w.write ≡ write → k < w.key.record → Above k more → Above k (pair_of w ++ more)
+above-pair : {V : Type 0} (k : ℕ) (w : KeyWrite V) (write : Option V) (more : List (ℕ × V)) → w.write ≡ write → k < w.key.record → Above k more
+    → Above k (pair_of w ++ more)
 above-pair k w None more is less h = rw is h
 above-pair k w (Some v) more is less h = rw is (less, h)
 
-least-pair : {V : Type 0} (w : KeyWrite V) (write : Option V) (more : List (ℕ × V)) → w.write ≡ write → Above w.key.record more → AtLeast w.key.record (pair_of w ++ more)
+least-pair : {V : Type 0} (w : KeyWrite V) (write : Option V) (more : List (ℕ × V)) → w.write ≡ write → Above w.key.record more
+    → AtLeast w.key.record (pair_of w ++ more)
 least-pair w None more is h = rw is (least-above w.key.record more h)
 least-pair w (Some v) more is h = rw is (omega arith, least-above w.key.record more h)
 
-climb-pair : {V : Type 0} (w : KeyWrite V) (write : Option V) (more : List (ℕ × V)) → w.write ≡ write → Above w.key.record more → Climb more → Climb (pair_of w ++ more)
+climb-pair : {V : Type 0} (w : KeyWrite V) (write : Option V) (more : List (ℕ × V)) → w.write ≡ write → Above w.key.record more → Climb more
+    → Climb (pair_of w ++ more)
 climb-pair w None more is above h = rw is h
 climb-pair w (Some v) more is above h = rw is (above, h)
 
-above-overlaid : {V : Type 0} (relation k : ℕ) (ps : List (ℕ × V)) (ws : List (KeyWrite V)) → Above k ps → AreGreater relation k ws → Above k (overlaid relation ps ws)
+above-overlaid : {V : Type 0} (relation k : ℕ) (ps : List (ℕ × V)) (ws : List (KeyWrite V)) → Above k ps → AreGreater relation k ws
+    → Above k (overlaid relation ps ws)
 above-overlaid relation k ps [] h greater = h
 above-overlaid relation k ps (w ∷ ws) h greater =
     let m = w.key.record in
-    let Goal : Bool → Type 0 = λ b. (w.key.relation == relation) ≡ b → Above k (cond b (lesser m ps ++ (pair_of w ++ overlaid relation (behind m ps) ws)) (overlaid relation ps ws)) in
+    let Goal : Bool → Type 0 =
+    λ b. (w.key.relation == relation) ≡ b → Above k (cond b (lesser m ps ++ (pair_of w ++ overlaid relation (behind m ps) ws)) (overlaid relation ps ws)) in
     let goal : Goal (w.key.relation == relation) = elim (w.key.relation == relation) as Goal [
-      | true ↦ λ of_it. above-lesser k m ps _ h (above-pair k w w.write _ refl (greater.0 of_it) (above-overlaid relation k (behind m ps) ws (still_above k m ps h) greater.1))
+      | true ↦ λ of_it. above-lesser k m ps _ h
+          (above-pair k w w.write _ refl (greater.0 of_it) (above-overlaid relation k (behind m ps) ws (still_above k m ps h) greater.1))
       | false ↦ λ other. above-overlaid relation k ps ws h greater.1
     ] in
     goal refl
@@ -247,11 +267,13 @@ climb-overlaid : {V : Type 0} (relation : ℕ) (ps : List (ℕ × V)) (ws : List
 climb-overlaid relation ps [] h rise = h
 climb-overlaid relation ps (w ∷ ws) h rise =
     let m = w.key.record in
-    let Goal : Bool → Type 0 = λ b. (w.key.relation == relation) ≡ b → Climb (cond b (lesser m ps ++ (pair_of w ++ overlaid relation (behind m ps) ws)) (overlaid relation ps ws)) in
+    let Goal : Bool → Type 0 =
+    λ b. (w.key.relation == relation) ≡ b → Climb (cond b (lesser m ps ++ (pair_of w ++ overlaid relation (behind m ps) ws)) (overlaid relation ps ws)) in
     let goal : Goal (w.key.relation == relation) = elim (w.key.relation == relation) as Goal [
       | true ↦ λ of_it.
           let above = above-overlaid relation m (behind m ps) ws (above-behind m ps h) (greater-from relation w.key ws of_it rise.0) in
-          climb-lesser m ps _ h (climb-pair w w.write _ refl above (climb-overlaid relation (behind m ps) ws (climb-behind m ps h) rise.1)) (least-pair w w.write _ refl above)
+          climb-lesser m ps _ h (climb-pair w w.write _ refl above (climb-overlaid relation (behind m ps) ws (climb-behind m ps h) rise.1))
+          (least-pair w w.write _ refl above)
       | false ↦ λ other. climb-overlaid relation ps ws h rise.1
     ] in
     goal refl
@@ -260,11 +282,13 @@ write_in-none : {V : Type 0} (q : Key) (ws : List (KeyWrite V)) → AreAbove q w
 write_in-none q [] h = refl
 write_in-none q (w ∷ ws) h = let apart : same_key w.key q ≡ false = key_lt-other_way q w.key h.0 in rw apart (write_in-none q ws h.1)
 
-past_pair : {V : Type 0} (n : ℕ) (w : KeyWrite V) (write : Option V) (more : List (ℕ × V)) → w.write ≡ write → (w.key.record == n) ≡ false → looked_up n (pair_of w ++ more) ≡ looked_up n more
+past_pair : {V : Type 0} (n : ℕ) (w : KeyWrite V) (write : Option V) (more : List (ℕ × V)) → w.write ≡ write → (w.key.record == n) ≡ false
+    → looked_up n (pair_of w ++ more) ≡ looked_up n more
 past_pair n w None more is apart = rw is refl
 past_pair n w (Some v) more is apart = rw (is, apart) refl
 
-own_pair : {V : Type 0} (n : ℕ) (w : KeyWrite V) (write : Option V) (more : List (ℕ × V)) → w.write ≡ write → (w.key.record == n) ≡ true → looked_up n more ≡ None → looked_up n (pair_of w ++ more) ≡ w.write
+own_pair : {V : Type 0} (n : ℕ) (w : KeyWrite V) (write : Option V) (more : List (ℕ × V)) → w.write ≡ write → (w.key.record == n) ≡ true → looked_up n more
+    ≡ None → looked_up n (pair_of w ++ more) ≡ w.write
 own_pair n w None more is same none = rw is none
 own_pair n w (Some v) more is same none = rw (is, same) refl
 
@@ -303,7 +327,8 @@ one_more {V} relation n ps w ws h rise rest skipped true of_it =
           ]
     ]
 
-pub looked_up-overlaid : {V : Type 0} (relation n : ℕ) (ps : List (ℕ × V)) (ws : List (KeyWrite V)) → Climb ps → Rise ws → looked_up n (overlaid relation ps ws) ≡ unwrap_or (write_in ws (key_of relation n)) (looked_up n ps)
+pub looked_up-overlaid : {V : Type 0} (relation n : ℕ) (ps : List (ℕ × V)) (ws : List (KeyWrite V)) → Climb ps → Rise ws → looked_up n (overlaid relation ps ws)
+    ≡ unwrap_or (write_in ws (key_of relation n)) (looked_up n ps)
 looked_up-overlaid relation n ps [] h rise = refl
 looked_up-overlaid {V} relation n ps (w ∷ ws) h rise =
     let rest = looked_up-overlaid relation n (behind w.key.record ps) ws (climb-behind w.key.record ps h) rise.1 in
@@ -312,22 +337,30 @@ looked_up-overlaid {V} relation n ps (w ∷ ws) h rise =
 
 -- ---- scans
 
-by_lookup : {V : Type 0} (n : ℕ) (ps : List (ℕ × V)) (found other : Option V) → Climb ps → looked_up n ps ≡ found → ((v : V) → Contains ps (n, v) → other ≡ Some v) → ((v : V) → other ≡ Some v → Contains ps (n, v)) → looked_up n ps ≡ other
+by_lookup : {V : Type 0} (n : ℕ) (ps : List (ℕ × V)) (found other : Option V) → Climb ps → looked_up n ps ≡ found
+    → ((v : V) → Contains ps (n, v) → other ≡ Some v) → ((v : V) → other ≡ Some v → Contains ps (n, v)) → looked_up n ps ≡ other
 by_lookup n ps (Some v) other h is to from = is ∙ sym (to v (contained-looked_up n v ps is))
 by_lookup n ps None None h is to from = is
 by_lookup n ps None (Some v) h is to from = absurd (some-is_not-none (sym (looked_up-contained n v ps h (from v refl)) ∙ is))
 
-pub looked_up-scan : {V : Type 0} (values : Key → Option V) (relation : ℕ) (ps : List (ℕ × V)) (n : ℕ) → IsScan values relation ps → looked_up n ps ≡ values (key_of relation n)
-looked_up-scan values relation ps n scan = by_lookup n ps (looked_up n ps) (values (key_of relation n)) (climb-from ps scan.rising) refl (λ v. (scan.each n v).0) (λ v. (scan.each n v).1)
+pub looked_up-scan : {V : Type 0} (values : Key → Option V) (relation : ℕ) (ps : List (ℕ × V)) (n : ℕ) → IsScan values relation ps → looked_up n ps
+    ≡ values (key_of relation n)
+looked_up-scan values relation ps n scan =
+    by_lookup n ps (looked_up n ps) (values (key_of relation n)) (climb-from ps scan.rising) refl (λ v. (scan.each n v).0) (λ v. (scan.each n v).1)
 
 -- with the writes of a transaction over it, the scan of a state is one of what the transaction sees
-pub overlaid-is_scan : {V : Type 0} (values : Key → Option V) (relation : ℕ) (ps : List (ℕ × V)) (ws : List (KeyWrite V)) → IsScan values relation ps → AreRising ws → IsScan (λ key. unwrap_or (write_in ws key) (values key)) relation (overlaid relation ps ws)
+pub overlaid-is_scan : {V : Type 0} (values : Key → Option V) (relation : ℕ) (ps : List (ℕ × V)) (ws : List (KeyWrite V)) → IsScan values relation ps
+    → AreRising ws → IsScan (λ key. unwrap_or (write_in ws key) (values key)) relation (overlaid relation ps ws)
 overlaid-is_scan {V} values relation ps ws scan rising =
     let climb = climb-from ps scan.rising in
     let climbs = climb-overlaid relation ps ws climb (rise-from ws rising) in
     let says : (n : ℕ) → looked_up n (overlaid relation ps ws) ≡ unwrap_or (write_in ws (key_of relation n)) (values (key_of relation n)) =
-    λ n. looked_up-overlaid relation n ps ws climb (rise-from ws rising) ∙ ap (λ (o : Option V). unwrap_or (write_in ws (key_of relation n)) o) (looked_up-scan values relation ps n scan) in
+    λ n. looked_up-overlaid relation n ps ws climb (rise-from ws rising)
+    ∙ ap (λ (o : Option V). unwrap_or (write_in ws (key_of relation n)) o) (looked_up-scan values relation ps n scan) in
     record {
       rising = climb-to (overlaid relation ps ws) climbs;
-      each = λ n v. (λ found. sym (says n) ∙ looked_up-contained n v (overlaid relation ps ws) climbs found, λ is. contained-looked_up n v (overlaid relation ps ws) (says n ∙ is));
+      each = λ n v. (
+        λ found. sym (says n) ∙ looked_up-contained n v (overlaid relation ps ws) climbs found,
+        λ is. contained-looked_up n v (overlaid relation ps ws) (says n ∙ is),
+      );
     }

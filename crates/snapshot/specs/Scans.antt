@@ -25,5 +25,6 @@ pair_of w = option_to_list (option_map (λ value. (w.key.record, value)) w.write
 abbrev pub overlaid : {V : Type 0} → ℕ → List (ℕ × V) → List (KeyWrite V) → List (ℕ × V)
 overlaid relation pairs [] = pairs
 overlaid relation pairs (w ∷ ws) =
-    if w.key.relation == relation then lesser w.key.record pairs ++ (pair_of w ++ overlaid relation (without_first w.key.record (from_record w.key.record pairs)) ws)
+    if w.key.relation == relation then lesser w.key.record pairs
+    ++ (pair_of w ++ overlaid relation (without_first w.key.record (from_record w.key.record pairs)) ws)
     else overlaid relation pairs ws

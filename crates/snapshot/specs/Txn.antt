@@ -52,7 +52,8 @@ with_put t key value = record t { writes = with_write t.writes (record { key = k
 
 -- and after a delete: a key that is absent in the snapshot needs no write
 abbrev pub writes_after_delete : TxnValue → Key → List (KeyWrite Value)
-writes_after_delete t key = if is_some (at_snapshot t.state t.snapshot key) then with_write t.writes (record { key = key; write = None }) else without t.writes key
+writes_after_delete t key =
+    if is_some (at_snapshot t.state t.snapshot key) then with_write t.writes (record { key = key; write = None }) else without t.writes key
 
 -- the transaction after a delete
 abbrev pub with_delete : TxnValue → Key → TxnValue

@@ -3,7 +3,7 @@ use crate::list_answers::{Want, is_answer};
 use crate::list_calls::{Ask, Rows, answers_to, call_of, calls_of, first_wrong, is_spent, opened};
 use disk::MemDisk;
 use group::{Did, PumpFault};
-use run::{Call, Held, RedeemOutcome, close, give_back, run_on, step};
+use run::{Call, Held, RedeemOutcome, close, give_back, run, run_on, step};
 use std::alloc::{AllocError, Global};
 use std::test::Fail;
 use store::{JobDid, StartFault, Store};
@@ -148,6 +148,51 @@ const FLOORS: Rows = &[
     (Ask::At(30, 100), Want::ValueAt),
 ];
 
+/// Behind the commit: one more of the same key at 101, and a view in place 18. The version of 100 is then
+/// archived and reclaimed, and a second view in place 35.
+const RECENTLY: Rows = &[
+    (Ask::Begin, Want::Begun),
+    (Ask::Put(9), Want::Put),
+    (Ask::Submit(9), Want::Queued),
+    (Ask::Pump, Want::Pump(Ok(Did::WroteExtent))),
+    (Ask::Pump, Want::Pump(Ok(Did::HeapSynced))),
+    (Ask::Pump, Want::Pump(Ok(Did::BodyWritten))),
+    (Ask::Pump, Want::Pump(Ok(Did::BodySynced))),
+    (Ask::Pump, Want::Pump(Ok(Did::GateWritten))),
+    (Ask::Pump, Want::Pump(Ok(Did::Published(1)))),
+    (Ask::View, Want::Viewed),
+    (Ask::Recent(18, 100), Want::RecentValue),
+    (Ask::Archive(101), Want::Archive(Ok(()))),
+    (Ask::JobPump, Want::Job(JobDid::WroteRun)),
+    (Ask::JobPump, Want::Job(JobDid::RunSynced)),
+    (Ask::JobPump, Want::Job(JobDid::BodyWritten)),
+    (Ask::JobPump, Want::Job(JobDid::BodySynced)),
+    (Ask::JobPump, Want::Job(JobDid::GateWritten)),
+    (Ask::JobPump, Want::Job(JobDid::JobDone)),
+    (Ask::Reclaim, Want::Reclaim(Ok(()))),
+    (Ask::JobPump, Want::Job(JobDid::WroteExtent)),
+    (Ask::JobPump, Want::Job(JobDid::HeapSynced)),
+    (Ask::JobPump, Want::Job(JobDid::BodyWritten)),
+    (Ask::JobPump, Want::Job(JobDid::BodySynced)),
+    (Ask::JobPump, Want::Job(JobDid::GateWritten)),
+    (Ask::JobPump, Want::Job(JobDid::JobDone)),
+    (Ask::Recent(18, 100), Want::RecentValue),
+    (Ask::View, Want::Viewed),
+    (
+        Ask::Recent(35, 100),
+        Want::RecentRefused(QueryFault::NeedsDisk),
+    ),
+    (Ask::Recent(35, 101), Want::RecentValue),
+    (
+        Ask::Recent(35, 102),
+        Want::RecentRefused(QueryFault::NotYet(101)),
+    ),
+    (Ask::Recent(2, 100), Want::Unknown),
+    (Ask::At(35, 100), Want::ValueAt),
+    (Ask::End(35), Want::Ended),
+    (Ask::Recent(35, 101), Want::Unknown),
+];
+
 /// What a list shows, its calls in two parts, and how many places hold something at the end.
 #[derive(Clone, Copy)]
 struct List(&'static str, Rows, Rows, u32);
@@ -170,6 +215,12 @@ const LISTS: &[List] = &[
     List("a view is asked of intervals", COMMIT, INTERVALS, 0),
     List("an archive goes on beside a commit", COMMIT, ARCHIVES, 2),
     List("a floor bars later views and no reader", COMMIT, FLOORS, 5),
+    List(
+        "a view answers from memory from the reclaim mark on",
+        COMMIT,
+        RECENTLY,
+        3,
+    ),
 ];
 
 /// All rows of a list, the second part behind the first.
@@ -193,6 +244,16 @@ fn lists_of_calls_are_answered(rt: HostRuntime) -> Result<(), Fail> {
     for list in LISTS {
         assert_eq!(rt; outcome_of(rt.alloc(), list)?, (None, list.3), "{}", list.0);
     }
+    Ok(())
+}
+
+#[test]
+fn a_list_gives_back_what_is_left_over(rt: HostRuntime) -> Result<(), Fail> {
+    let calls = calls_of(rt.alloc(), LEFT_OVER)?;
+    let mut store = opened(rt.alloc())?;
+    let outcome = run(rt.alloc(), &mut store, &calls);
+    let _disk = close(store);
+    assert!(rt; first_wrong(&outcome?, LEFT_OVER).is_none());
     Ok(())
 }
 

@@ -106,8 +106,7 @@ fn a_list_of_calls_is_answered_in_its_order(rt: HostRuntime) -> Result<(), Fail>
     ];
     let outcome = run::run(alloc, &mut store, &calls);
     let _disk = run::close(store);
-    let (answers, places) = outcome?;
-    run::give_back(places);
+    let answers = outcome?;
     assert!(rt; matches!(answers.get(1), Some(Answer::Put(Ok(())))));
     assert!(rt; matches!(answers.get(2), Some(Answer::Get(Ok(Some(_))))));
     assert!(rt; matches!(answers.get(3), Some(Answer::Abort)));

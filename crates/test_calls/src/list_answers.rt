@@ -40,9 +40,13 @@ pub enum Want {
     RowsRefused(QueryFault),
     /// A relation has no row.
     NoRows,
+    /// Some value at a time, from memory alone, or why it is not told.
+    RecentValue,
+    RecentRefused(QueryFault),
     Ended,
     Times(&'static [u64]),
     Archive(Result<(), StartFault>),
+    Reclaim(Result<(), StartFault>),
     Floor(Result<(), StartFault>),
     Job(JobDid),
 }
@@ -100,6 +104,10 @@ fn is_of_view(answer: &Answer, want: &Want) -> bool {
             matches!(want, Want::RowsRefused(wanted) if fault == wanted)
         }
         Answer::ScanBetween(Ok(rows)) => matches!(want, Want::NoRows) && rows.is_empty(),
+        Answer::Recent(Ok(Some(_))) => matches!(want, Want::RecentValue),
+        Answer::Recent(Err(fault)) => {
+            matches!(want, Want::RecentRefused(wanted) if fault == wanted)
+        }
         Answer::End => matches!(want, Want::Ended),
         _ => is_of_writer(answer, want),
     }
@@ -112,6 +120,7 @@ pub fn is_answer(answer: &Answer, want: &Want) -> bool {
         Answer::Pump(did) => matches!(want, Want::Pump(wanted) if did == wanted),
         Answer::TimesOf(Ok(times)) => matches!(want, Want::Times(all) if times.as_slice() == *all),
         Answer::Archive(began) => matches!(want, Want::Archive(wanted) if began == wanted),
+        Answer::Reclaim(began) => matches!(want, Want::Reclaim(wanted) if began == wanted),
         Answer::Floor(began) => matches!(want, Want::Floor(wanted) if began == wanted),
         Answer::JobPump(Ok(did)) => matches!(want, Want::Job(wanted) if did == wanted),
         _ => is_of_view(answer, want),

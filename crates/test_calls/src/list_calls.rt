@@ -2,7 +2,7 @@
 use crate::list_answers::{Want, is_answer};
 use crate::published::SEVEN;
 use disk::MemDisk;
-use run::{Answer, Call, Held, close, format, open, run};
+use run::{Answer, Call, Held, close, format, open, run_on};
 use std::alloc::{AllocError, Global};
 use std::test::Fail;
 use store::Store;
@@ -27,10 +27,12 @@ pub enum Ask {
     ScanAt(usize, u64),
     Between(usize, u64, u64),
     ScanBetween(usize, u64, u64),
+    Recent(usize, u64),
     End(usize),
     /// Of the label 9.
     TimesOf,
     Archive(u64),
+    Reclaim,
     /// Of relation 1.
     Floor(u64),
     JobPump,
@@ -65,9 +67,15 @@ fn viewed(ask: Ask) -> Call<'static> {
             a,
             b,
         },
+        Ask::Recent(view, time) => Call::Recent {
+            view,
+            key: SEVEN,
+            time,
+        },
         Ask::End(view) => Call::End { view },
         Ask::TimesOf => Call::TimesOf { label: 9 },
         Ask::Archive(upto) => Call::Archive { upto },
+        Ask::Reclaim => Call::Reclaim,
         Ask::Floor(floor) => Call::Floor {
             scope: Some(relation),
             floor,
@@ -171,9 +179,9 @@ pub fn is_spent(held: Held) -> bool {
 /// The answers to these calls on an empty store, and how many places hold something at the end.
 pub fn answers_to(alloc: Global, calls: &[Call<'_>]) -> Result<(Vec<Answer>, u32), Fail> {
     let mut store = opened(alloc)?;
-    let outcome = run(alloc, &mut store, calls);
+    let mut places = Vec::new(alloc);
+    let outcome = run_on(alloc, &mut store, &mut places, calls);
     let _disk = close(store);
-    let (answers, mut places) = outcome?;
     let mut left: u32 = 0;
     while let Some(held) = places.pop() {
         if is_spent(held) {
@@ -181,5 +189,5 @@ pub fn answers_to(alloc: Global, calls: &[Call<'_>]) -> Result<(Vec<Answer>, u32
         }
     }
     places.destroy_empty();
-    Ok((answers, left))
+    Ok((outcome?, left))
 }

@@ -11,6 +11,8 @@ mod calling_page;
 #[cfg(test)]
 mod disks;
 #[cfg(test)]
+mod entry_bytes;
+#[cfg(test)]
 mod extent_numbers;
 #[cfg(test)]
 mod floored_images;
@@ -20,6 +22,8 @@ mod heap_chains;
 mod heap_records;
 #[cfg(test)]
 mod images;
+#[cfg(test)]
+mod linked_extents;
 #[cfg(test)]
 mod list_walk;
 #[cfg(test)]

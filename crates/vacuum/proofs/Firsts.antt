@@ -1,5 +1,6 @@
 -- The first of one key's versions that ends after a time, and those behind it.
-use Rattle.std.proofs.Common.{◌≡◌, ℕ, ◌<◌, ◌≤◌, nat_le, nat_lt, Bool, true, false, cond, List, [], ◌∷◌, Option, Some, None, map, drop, refl, ap, sym, subst, ◌∙◌, arith}
+use Rattle.std.proofs.Common.{◌≡◌, ℕ, ◌<◌, ◌≤◌, nat_le, nat_lt, Bool, true, false, cond, List, [], ◌∷◌, Option, Some, None, map, drop, refl, ap, sym, subst}
+use Rattle.std.proofs.Common.{◌∙◌, arith}
 use Rattle.std.specs.Prelude.{find, filter}
 use Rattle.std.specs.List.{slice_get}
 use Rattle.std.proofs.lemmas.Bool.Decides.{nat_tests}
@@ -96,7 +97,8 @@ module _ (t upto : ℕ) (c : KeyWrites) (rising : IsRisingAfter 0 c.writes) wher
       ap (λ vs. map (archive_record c.key) (filter (ends_by upto) vs)) (first-split t (first_time c.writes) (versions c.writes) v apart e)
       ∙ rw (out, none-by v.to upto (versions c.writes) (omega arith)) refl
 
-  pub records-next : (v : Version Value) → find (ends_after t) (versions c.writes) ≡ Some v → v.to ≤ upto → key_records t upto c ≡ archive_record c.key v ∷ key_records v.to upto c
+  pub records-next : (v : Version Value) → find (ends_after t) (versions c.writes) ≡ Some v → v.to ≤ upto → key_records t upto c ≡ archive_record c.key v
+      ∷ key_records v.to upto c
   records-next v e by =
       let inside : nat_le v.to upto ≡ true = is_le by in
       ap (λ vs. map (archive_record c.key) (filter (ends_by upto) vs)) (first-split t (first_time c.writes) (versions c.writes) v apart e)

@@ -20,10 +20,12 @@ keys-next bound m c ordered e =
     ∙ ap (λ l. c ∷ l) (sym (filter-behind bound m c ordered e))
 
 -- the first key within a bound is the first from itself on
-pub first-from : (bound : Bound) (m : List KeyWrites) (c : KeyWrites) → IsOrdered m → find (λ (c : KeyWrites). is_in bound c.key) m ≡ Some c → find (λ (x : KeyWrites). is_in (From c.key) x.key) m ≡ Some c
+pub first-from : (bound : Bound) (m : List KeyWrites) (c : KeyWrites) → IsOrdered m → find (λ (c : KeyWrites). is_in bound c.key) m ≡ Some c
+    → find (λ (x : KeyWrites). is_in (From c.key) x.key) m ≡ Some c
 first-from bound [] c o e = absurd (cc)
 first-from bound (d ∷ ds) c o e =
-    let Goal : Bool → Type 0 = λ t. cond t (Some d) (find (λ (c : KeyWrites). is_in bound c.key) ds) ≡ Some c → find (λ (x : KeyWrites). is_in (From c.key) x.key) (d ∷ ds) ≡ Some c in
+    let Goal : Bool → Type 0 =
+    λ t. cond t (Some d) (find (λ (c : KeyWrites). is_in bound c.key) ds) ≡ Some c → find (λ (x : KeyWrites). is_in (From c.key) x.key) (d ∷ ds) ≡ Some c in
     let all : (t : Bool) → Goal t = λ t. elim t as Goal [
       | true ↦ λ h.
           let same : d ≡ c = cc in

@@ -85,22 +85,27 @@ module _ (m : List KeyWrites) (versions_are : AreInMemory m) where
     archived-apart : (key : Key) → FollowOneAnotherFrom 0 (archived key)
     archived-apart key =
         apart-earlier 0 1 (archived key) (omega arith)
-        (apart-filter 1 (ends_by upto) (filter (ends_after (low key)) (versions (writes_of m key))) (apart-filter 1 (ends_after (low key)) (versions (writes_of m key)) (apart key)))
+        (apart-filter 1 (ends_by upto) (filter (ends_after (low key)) (versions (writes_of m key)))
+        (apart-filter 1 (ends_after (low key)) (versions (writes_of m key)) (apart key)))
 
-    all-archived : (mark : ℕ) (floors : ℕ → ℕ) → ((key : Key) → mark ≤ low key) → ((key : Key) → floors key.relation ≤ low key) → (ks : List Key) → AllByRecursion (IsArchived mark floors upto) (archive_records archived ks)
+    all-archived : (mark : ℕ) (floors : ℕ → ℕ) → ((key : Key) → mark ≤ low key) → ((key : Key) → floors key.relation ≤ low key) → (ks : List Key)
+        → AllByRecursion (IsArchived mark floors upto) (archive_records archived ks)
     all-archived mark floors by also [] = tt
     all-archived mark floors by also (k ∷ ks) =
         AllByRecursion-append (IsArchived mark floors upto) (map (archive_record k) (archived k)) (archive_records archived ks)
         (one-archived mark (low k) upto floors k 1 (versions (writes_of m k)) (by k) (also k) (apart k)) (all-archived mark floors by also ks)
 
-    run-is : (mark : ℕ) (floors : ℕ → ℕ) → ((key : Key) → mark ≤ low key) → ((key : Key) → floors key.relation ≤ low key) → IsRun mark floors upto (archive_records archived (keys_of m))
+    run-is : (mark : ℕ) (floors : ℕ → ℕ) → ((key : Key) → mark ≤ low key) → ((key : Key) → floors key.relation ≤ low key)
+        → IsRun mark floors upto (archive_records archived (keys_of m))
     run-is mark floors by also = record {
       each = all-archived mark floors by also (keys_of m);
       in_order = in_order (archive_records archived (keys_of m)) (all-order archived (keys_of m) archived-apart (sorted-keys m versions_are.ordered));
     }
 
   records-are : (since : Since) (upto : ℕ) → records_of since upto m ≡ archive_records (archived (λ key. since_of since key.relation) upto) (keys_of m)
-  records-are since upto = by-key (λ key ws. map (archive_record key) (filter (ends_by upto) (filter (ends_after (since_of since key.relation)) (versions ws)))) m versions_are.ordered
+  records-are since upto =
+      by-key (λ key ws. map (archive_record key) (filter (ends_by upto) (filter (ends_after (since_of since key.relation)) (versions ws)))) m
+      versions_are.ordered
 
   module _ (mark : ℕ) where
     abbrev kept : Key → List (Version Value)
@@ -114,7 +119,8 @@ module _ (m : List KeyWrites) (versions_are : AreInMemory m) where
     kept-sorted [] sorted = tt
     kept-sorted (k ∷ ks) sorted =
         subst (IsStrictlySortedBy key_cmp) (sym (map-append (λ (old : OldRecord). old.key) (map (old_record k) (kept k)) (old_records kept ks)))
-        (keep-sorted k mark 1 (versions (writes_of m k)) (map (λ (old : OldRecord). old.key) (old_records kept ks)) (apart k) (kept-sorted ks sorted.1) (keys-above kept k ks sorted.0))
+        (keep-sorted k mark 1 (versions (writes_of m k)) (map (λ (old : OldRecord). old.key) (old_records kept ks)) (apart k) (kept-sorted ks sorted.1)
+        (keys-above kept k ks sorted.0))
 
     all-anchors : (ks : List Key) → AllByRecursion (IsAnchorUpto mark) (old_records kept ks)
     all-anchors [] = tt
@@ -125,7 +131,8 @@ module _ (m : List KeyWrites) (versions_are : AreInMemory m) where
 -- ---- the plans
 
 module _ (reading : Reading) (m : List KeyWrites) (versions_are : AreInMemory m) (holds : HoldsHeap reading m) where
-  pub archive_plan-is : (since : Since) (upto : ℕ) → archived_upto reading ≡ since.mark → ((relation : ℕ) → floor_of reading.log relation ≡ floor_at since.floors relation) → IsArchivePlan reading upto (records_of since upto m)
+  pub archive_plan-is : (since : Since) (upto : ℕ) → archived_upto reading ≡ since.mark
+      → ((relation : ℕ) → floor_of reading.log relation ≡ floor_at since.floors relation) → IsArchivePlan reading upto (records_of since upto m)
   archive_plan-is since upto mark_is floor_is =
       let low : Key → ℕ = λ key. since_of since key.relation in
       let vs = archived m versions_are low upto in
@@ -137,7 +144,10 @@ module _ (reading : Reading) (m : List KeyWrites) (versions_are : AreInMemory m)
             (λ others. ap (λ ws. filter (ends_by upto) (filter (ends_after (low key)) (versions ws))) (no-writes key m others))
             ∙ map-same (vs key)
             ∙ sym (λ i. filter (ends_by upto) (filter (ends_after (max (mark_is i) (floor_is key.relation i))) (holds key i)));
-        is_run = run-is m versions_are low upto (archived_upto reading) (floor_of reading.log) (λ key. omega (arith, mark_is)) (λ key. omega (arith, floor_is key.relation));
+        is_run = run-is m versions_are low upto (archived_upto reading) (floor_of reading.log) (λ key. omega (arith, mark_is)) (λ key. omega (
+          arith,
+          floor_is key.relation,
+        ));
       })
 
   pub reclaim_plan-is : (mark : ℕ) → archived_upto reading ≡ mark → IsReclaimPlan reading (anchors_of mark m)

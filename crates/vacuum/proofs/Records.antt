@@ -1,5 +1,6 @@
 -- What is left of a walk over archive records, key by key.
-use Rattle.std.proofs.Common.{◌≡◌, Bool, ℕ, zero, suc, ◌<◌, ◌+◌, max, true, false, List, [], ◌∷◌, ◌++◌, length, Option, Some, None, drop, refl, ap, sym, subst, ◌∙◌, arith}
+use Rattle.std.proofs.Common.{◌≡◌, Bool, ℕ, zero, suc, ◌<◌, ◌+◌, max, true, false, List, [], ◌∷◌, ◌++◌, length, Option, Some, None, drop, refl, ap, sym, subst}
+use Rattle.std.proofs.Common.{◌∙◌, arith}
 use Rattle.std.specs.Prelude.{find, option_map}
 use Rattle.std.specs.Option.{is_some}
 use Rattle.std.specs.List.{slice_get}
@@ -53,7 +54,8 @@ left-all since upto (c ∷ cs) =
     let none : max 0 low ≡ low = omega arith in
     ap (λ (n : ℕ). key_records n upto c ++ records_of since upto cs) none
 
-pub at-first : (since : Since) (upto : ℕ) (m : List KeyWrites) → records_at since upto (record { bound = From (record { relation = 0; «record» = 0 }); passed = 0 }) m ≡ records_of since upto m
+pub at-first : (since : Since) (upto : ℕ) (m : List KeyWrites)
+    → records_at since upto (record { bound = From (record { relation = 0; «record» = 0 }); passed = 0 }) m ≡ records_of since upto m
 at-first since upto m = ap (records_left 0 since upto) (keys-all m) ∙ left-all since upto m
 
 module _ (since : Since) (upto : ℕ) (m : List KeyWrites) where
@@ -65,7 +67,8 @@ module _ (since : Since) (upto : ℕ) (m : List KeyWrites) where
     at-key = ap (records_left place.passed since upto) (keys-next place.bound m c ordered first)
 
     -- a key that has no record is passed
-    pub past-key : key_left place.passed since upto c ≡ [] → records_at since upto (record { bound = After c.key; passed = 0 }) m ≡ records_at since upto place m
+    pub past-key : key_left place.passed since upto c ≡ [] → records_at since upto (record { bound = After c.key; passed = 0 }) m
+        ≡ records_at since upto place m
     past-key none =
         left-all since upto (keys_within (After c.key) m)
         ∙ sym (at-key ∙ ap (λ l. l ++ records_of since upto (keys_within (After c.key) m)) none)
@@ -73,7 +76,8 @@ module _ (since : Since) (upto : ℕ) (m : List KeyWrites) where
     pub fewer-keys : length (keys_within (After c.key) m) < length (keys_within place.bound m)
     fewer-keys = omega (arith, ap length (keys-next place.bound m c ordered first))
 
-    pub next-is : 0 < length (key_left place.passed since upto c) → slice_get (records_at since upto place m) 0 ≡ slice_get (key_left place.passed since upto c) 0
+    pub next-is : 0 < length (key_left place.passed since upto c) → slice_get (records_at since upto place m) 0
+        ≡ slice_get (key_left place.passed since upto c) 0
     next-is some = ap (λ l. slice_get l 0) at-key ∙ get-front (key_left place.passed since upto c) _ some
 
     -- behind the key's first record
@@ -92,18 +96,21 @@ module _ (since : Since) (upto : ℕ) (m : List KeyWrites) where
         ∙ sym (ap (drop 1) at-key ∙ drop-front (key_left place.passed since upto c) _ (some-first _ r is))
 
   -- behind the next record
-  pub behind-next : (fuel : ℕ) (place : Place) → IsOrdered m → AreRising m → length (keys_within place.bound m) < fuel → (r : ArchiveRecord) → Some r ≡ slice_get (records_at since upto place m) 0
+  pub behind-next : (fuel : ℕ) (place : Place) → IsOrdered m → AreRising m → length (keys_within place.bound m) < fuel → (r : ArchiveRecord) → Some r
+      ≡ slice_get (records_at since upto place m) 0
       → records_at since upto (record { bound = From r.key; passed = r.version.to }) m ≡ drop 1 (records_at since upto place m)
   behind-next zero place ordered rising few r is = absurd (omega arith)
   behind-next (suc fuel) place ordered rising few r is =
       let p : KeyWrites → Bool = λ c. is_in place.bound c.key in
       let Ends : Type 0 = records_at since upto (record { bound = From r.key; passed = r.version.to }) m ≡ drop 1 (records_at since upto place m) in
       let Goal : Option KeyWrites → Type 0 = λ o. find p m ≡ o → Ends in
-      let by : (c : KeyWrites) → find p m ≡ Some c → (rs : List ArchiveRecord) → key_left place.passed since upto c ≡ rs → Ends = λ c e rs. elim rs as (λ rs. key_left place.passed since upto c ≡ rs → Ends) [
+      let by : (c : KeyWrites) → find p m ≡ Some c → (rs : List ArchiveRecord) → key_left place.passed since upto c ≡ rs → Ends =
+      λ c e rs. elim rs as (λ rs. key_left place.passed since upto c ≡ rs → Ends) [
         | [] ↦ λ none.
             let past = past-key place c ordered e none in
             let less = fewer-keys place c ordered e in
-            behind-next fuel (record { bound = After c.key; passed = 0 }) ordered rising (omega arith) r (is ∙ ap (λ l. slice_get l 0) (sym past)) ∙ ap (drop 1) past
+            behind-next fuel (record { bound = After c.key; passed = 0 }) ordered rising (omega arith) r (is ∙ ap (λ l. slice_get l 0) (sym past))
+            ∙ ap (drop 1) past
         | x ∷ xs ↦ λ some.
             let long : 0 < length (key_left place.passed since upto c) = omega (arith, ap length some) in
             behind-key place c ordered e (found-rises p m c rising e) r (is ∙ next-is place c ordered e long)
@@ -115,11 +122,13 @@ module _ (since : Since) (upto : ℕ) (m : List KeyWrites) where
       all (find p m) refl
 
 -- the same, told of the head of the next record
-next-of-head : (rs : List ArchiveRecord) (head : Head) → option_map head_of (slice_get rs 0) ≡ Some head → (r : ArchiveRecord) × (Some r ≡ slice_get rs 0) × (head_of r ≡ head)
+next-of-head : (rs : List ArchiveRecord) (head : Head) → option_map head_of (slice_get rs 0) ≡ Some head → (r : ArchiveRecord) × (Some r ≡ slice_get rs 0)
+    × (head_of r ≡ head)
 next-of-head [] head is = absurd (cc)
 next-of-head (r ∷ rs) head is = let same : head_of r ≡ head = cc in (r, refl, same)
 
-pub behind-head : (since : Since) (upto : ℕ) (place : Place) (m : List KeyWrites) (head : Head) → IsOrdered m → AreRising m → option_map head_of (slice_get (records_at since upto place m) 0) ≡ Some head
+pub behind-head : (since : Since) (upto : ℕ) (place : Place) (m : List KeyWrites) (head : Head) → IsOrdered m → AreRising m
+    → option_map head_of (slice_get (records_at since upto place m) 0) ≡ Some head
     → records_at since upto (record { bound = From head.key; passed = head.to }) m ≡ drop 1 (records_at since upto place m)
 behind-head since upto place m head ordered rising is =
     let next = next-of-head (records_at since upto place m) head is in

@@ -35,7 +35,8 @@ none-standing m (u ∷ us) e =
     ] in
     all (ends_after m u) refl e
 
-late-standing : (m s : ℕ) (vs : List (Version Value)) (v : Version Value) → FollowOneAnotherFrom s vs → find (ends_after m) vs ≡ Some v → m < v.from → filter (stands_at m) vs ≡ []
+late-standing : (m s : ℕ) (vs : List (Version Value)) (v : Version Value) → FollowOneAnotherFrom s vs → find (ends_after m) vs ≡ Some v → m < v.from
+    → filter (stands_at m) vs ≡ []
 late-standing m s [] v apart e late = refl
 late-standing m s (u ∷ us) v apart e late =
     let Goal : Bool → Type 0 = λ b. ends_after m u ≡ b → cond b (Some u) (find (ends_after m) us) ≡ Some v → filter (stands_at m) (u ∷ us) ≡ [] in
@@ -48,7 +49,8 @@ late-standing m s (u ∷ us) v apart e late =
     ] in
     all (ends_after m u) refl e
 
-one-standing : (m s : ℕ) (vs : List (Version Value)) (v : Version Value) → FollowOneAnotherFrom s vs → find (ends_after m) vs ≡ Some v → v.from ≤ m → filter (stands_at m) vs ≡ v ∷ []
+one-standing : (m s : ℕ) (vs : List (Version Value)) (v : Version Value) → FollowOneAnotherFrom s vs → find (ends_after m) vs ≡ Some v → v.from ≤ m
+    → filter (stands_at m) vs ≡ v ∷ []
 one-standing m s [] v apart e by = absurd (cc)
 one-standing m s (u ∷ us) v apart e by =
     let Goal : Bool → Type 0 = λ b. ends_after m u ≡ b → cond b (Some u) (find (ends_after m) us) ≡ Some v → filter (stands_at m) (u ∷ us) ≡ v ∷ [] in
@@ -66,10 +68,15 @@ module _ (mark : ℕ) (c : KeyWrites) (rising : IsRisingAfter 0 c.writes) where
   olds-none e = ap (λ vs. map old_record_of (map (old_record c.key) vs)) (none-standing mark (versions c.writes) e)
 
   pub olds-late : (v : Version Value) → find (ends_after mark) (versions c.writes) ≡ Some v → mark < v.from → key_olds mark c ≡ []
-  olds-late v e late = ap (λ vs. map old_record_of (map (old_record c.key) vs)) (late-standing mark (first_time c.writes) (versions c.writes) v (versions-apart 0 c.writes rising) e late)
+  olds-late v e late =
+      ap (λ vs. map old_record_of (map (old_record c.key) vs))
+      (late-standing mark (first_time c.writes) (versions c.writes) v (versions-apart 0 c.writes rising) e late)
 
-  pub olds-one : (v : Version Value) → find (ends_after mark) (versions c.writes) ≡ Some v → v.from ≤ mark → key_olds mark c ≡ old_record_of (old_record c.key v) ∷ []
-  olds-one v e by = ap (λ vs. map old_record_of (map (old_record c.key) vs)) (one-standing mark (first_time c.writes) (versions c.writes) v (versions-apart 0 c.writes rising) e by)
+  pub olds-one : (v : Version Value) → find (ends_after mark) (versions c.writes) ≡ Some v → v.from ≤ mark → key_olds mark c
+      ≡ old_record_of (old_record c.key v) ∷ []
+  olds-one v e by =
+      ap (λ vs. map old_record_of (map (old_record c.key) vs))
+      (one-standing mark (first_time c.writes) (versions c.writes) v (versions-apart 0 c.writes rising) e by)
 
   -- one record at most
   pub olds-few : drop 1 (key_olds mark c) ≡ []

@@ -1,5 +1,6 @@
 use Rattle.law_refinement.proofs.Whole.{rest-goes}
-use Rattle.law_refinement.proofs.GrowingViews.{query-stands, pump-goes, job-pump-goes, archive-start-goes, reclaim-start-goes, floor-start-goes, grow-start-goes}
+use Rattle.law_refinement.proofs.GrowingViews.{query-stands, pump-goes, job-pump-goes, archive-start-goes, reclaim-start-goes, floor-start-goes}
+use Rattle.law_refinement.proofs.GrowingViews.{grow-start-goes}
 use Rattle.law_refinement.proofs.views_go_on.Goals as goal
 
 pub returns-clause-at : goal.returns-clause-at

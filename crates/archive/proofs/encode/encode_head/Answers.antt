@@ -15,5 +15,6 @@ returns-clause-bytes c =
     let to = u64_bytes c.args.head.now.to in
     c.put_u64.ensures.front
     ∙ ap (λ (xs : List ℕ). xs ++ to)
-    (c.put_u64-at-2.ensures.front ∙ ap (λ (xs : List ℕ). xs ++ from) (c.put_u64-at.ensures.front ∙ ap (λ (xs : List ℕ). xs ++ number) c.put_u16-at.ensures.front))
+    (c.put_u64-at-2.ensures.front
+    ∙ ap (λ (xs : List ℕ). xs ++ from) (c.put_u64-at.ensures.front ∙ ap (λ (xs : List ℕ). xs ++ number) c.put_u16-at.ensures.front))
     ∙ regroup relation number from to

@@ -9,7 +9,13 @@ use Rattle.archive.proofs.encode.record_len.Goals as goal
 pub returns-clause-is : goal.returns-clause-is
 returns-clause-is c = λ head.
     let r = record_of head c.args.value.now in
-    omega (arith, length-append (head_bytes r) (value_bytes c.args.value.now), length-head_bytes r, ap length c.spelled.ensures.is, ap (λ (fields : List (List ℕ)). length (fields_bytes fields)) c.fields.ensures)
+    omega (
+      arith,
+      length-append (head_bytes r) (value_bytes c.args.value.now),
+      length-head_bytes r,
+      ap length c.spelled.ensures.is,
+      ap (λ (fields : List (List ℕ)). length (fields_bytes fields)) c.fields.ensures,
+    )
 
 some-bytes : (fields : List (List ℕ)) → 0 < length fields → 1 ≤ length (fields_bytes fields)
 some-bytes [] some = absurd (omega arith)

@@ -7,7 +7,9 @@ pub returns-clause-in_order : goal.returns-clause-in_order
 returns-clause-in_order c = IsNonDecreasingBy-from_sort_by_key (λ (row : Row). row.0) _ c.in_ok-sort_by_key.ensures.sorted (λ a r q k. search rules)
 
 pub returns-clause-same : goal.returns-clause-same
-returns-clause-same c = λ number. ties_alone number _ _ (c.in_ok-sort_by_key.ensures.stable (λ (row : Row). row.0) (answers_always _ _ _ (λ f a r g h. search rules)))
+returns-clause-same c =
+    λ number. ties_alone number _ _ (c.in_ok-sort_by_key.ensures.stable (λ (row : Row). row.0) (answers_always _ _ _ (λ f a r g h. search rules)))
 
 pub returns-in_err-sort_by_key-clause-same : goal.returns-in_err-sort_by_key-clause-same
-returns-in_err-sort_by_key-clause-same c = λ number. ties_alone number _ _ (c.in_err-sort_by_key.ensures.stable (λ (row : Row). row.0) (answers_always _ _ _ (λ f a r g h. search rules)))
+returns-in_err-sort_by_key-clause-same c =
+    λ number. ties_alone number _ _ (c.in_err-sort_by_key.ensures.stable (λ (row : Row). row.0) (answers_always _ _ _ (λ f a r g h. search rules)))

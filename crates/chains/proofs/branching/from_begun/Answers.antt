@@ -10,4 +10,5 @@ pub returns : goal.returns
 returns c =
     let bs = c.args.branches.now in
     subst (λ (rest : List (Shape Write)). IsFrom c.args.time bs rest) (sym (take_rest bs c.saturating_sub.result))
-    (is-from c.args.time c.begun_by-begun.result c.saturating_sub.result bs c.saturating_sub.ensures c.begun_by-begun.ensures.before c.begun_by-begun.ensures.after c.requires)
+    (is-from c.args.time c.begun_by-begun.result c.saturating_sub.result bs c.saturating_sub.ensures c.begun_by-begun.ensures.before
+    c.begun_by-begun.ensures.after c.requires)

@@ -10,4 +10,5 @@ pub returns : goal.returns
 returns c =
     let ns = c.args.nodes.now in
     subst (λ (rest : List (Shape KeyWrites)). IsFromBound c.args.bound ns rest) (sym (take_rest ns c.saturating_sub.result))
-    (is-from c.args.bound c.without_count-without.result c.saturating_sub.result ns c.saturating_sub.ensures c.without_count-without.ensures.before c.without_count-without.ensures.after c.requires)
+    (is-from c.args.bound c.without_count-without.result c.saturating_sub.result ns c.saturating_sub.ensures c.without_count-without.ensures.before
+    c.without_count-without.ensures.after c.requires)

@@ -19,8 +19,10 @@ loop-chain-preserved c =
       ordered =
           subst (λ (l : List KeyWrites). IsOrdered (l ++ rest)) (sym grown)
           (subst IsOrdered (sym (append_assoc part (chain ∷ []) rest))
-          (c.in_ok-put_full_leaf.ensures.ordered (chain ∷ rest) (subst (λ (l : List KeyWrites). IsOrdered (c.loop-chain.part.items ++ l)) first c.loop-chain.invariant.ordered)));
+          (c.in_ok-put_full_leaf.ensures.ordered (chain
+          ∷ rest) (subst (λ (l : List KeyWrites). IsOrdered (c.loop-chain.part.items ++ l)) first c.loop-chain.invariant.ordered)));
       left =
-          put-part (all_of c.loop-chain.found.items) (all_of c.put_full_leaf.new.found.items) c.loop-chain.part.items part c.push.new.self.items (chain ∷ []) c.loop-chain.chain-iterator.rest.items rest _
+          put-part (all_of c.loop-chain.found.items) (all_of c.put_full_leaf.new.found.items) c.loop-chain.part.items part c.push.new.self.items (chain
+          ∷ []) c.loop-chain.chain-iterator.rest.items rest _
           c.in_ok-put_full_leaf.ensures.is grown first c.loop-chain.invariant.left;
     }

@@ -8,4 +8,6 @@ use Rattle.chains.proofs.key_parts.put_full_fork.Goals as goal
 pub returns-clause-ordered : goal.returns-clause-ordered
 returns-clause-ordered c =
     let empty : c.replace-full.new.dest.items ≡ [] = rw c.replace-full.ensures.after c.in_ok-next.ensures.items in
-    on-ok c.add_fork.result (λ e rest o. subst (λ (l : List KeyWrites). IsOrdered (l ++ rest)) (sym (ap all_of empty)) (ordered-back (all_of c.args.part.now.items) rest o)) c.add_fork.ensures
+    on-ok c.add_fork.result
+    (λ e rest o. subst (λ (l : List KeyWrites). IsOrdered (l ++ rest)) (sym (ap all_of empty)) (ordered-back (all_of c.args.part.now.items) rest o))
+    c.add_fork.ensures

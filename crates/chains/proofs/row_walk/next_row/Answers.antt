@@ -10,5 +10,6 @@ first-late end upto (w ∷ ws) d some late = late
 
 pub returns-then-upto-time-clause-is : goal.returns-then-upto-time-clause-is
 returns-then-upto-time-clause-is c =
-    let late = first-late c.args.end c.args.upto c.loop-rest.rest.now _ c.in-len1-up.len_at_least (rw (c.time.ensures, c.first-item.is) at c.if-upto-time.true) in
+    let late =
+    first-late c.args.end c.args.upto c.loop-rest.rest.now _ c.in-len1-up.len_at_least (rw (c.time.ensures, c.first-item.is) at c.if-upto-time.true) in
     sym c.loop-rest.invariant.left ∙ no-rows_from c.args.end c.args.from c.args.upto 0 c.loop-rest.rest.now c.loop-rest.invariant.rising late

@@ -15,7 +15,8 @@ returns-else-time c =
       within = c.loop-begun.invariant.within;
       before = λ k d l.
           let here : get_or ws (n - 1) d ≡ w = get_or_default ws (n - 1) d w inside ∙ sym c.index-writes-begun.is in
-          let early : (get_or ws (n - 1) d).time ≤ c.args.time = subst (λ (v : Write). v.time ≤ c.args.time) (sym here) (rw c.time.ensures at c.if-time.false) in
+          let early : (get_or ws (n - 1) d).time ≤ c.args.time =
+          subst (λ (v : Write). v.time ≤ c.args.time) (sym here) (rw c.time.ensures at c.if-time.false) in
           omega (arith, early, rising-order 0 ws c.requires k (n - 1) d (omega arith) inside);
       after = c.loop-begun.invariant.after;
     }

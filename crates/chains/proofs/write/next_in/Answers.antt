@@ -9,4 +9,5 @@ returns-then-begun-writes c = sym (none-begun c.args.time c.args.writes.now c.be
 pub returns : goal.returns
 returns c =
     ap (λ (w : Write). Some w) c.index-writes-begun.is
-    ∙ sym (find-begun c.args.time c.args.writes.now c.begun_by-begun.result c.index-writes-begun.result c.begun_by-begun.ensures (let within = c.begun_by-begun.ensures.within in omega arith))
+    ∙ sym (find-begun c.args.time c.args.writes.now c.begun_by-begun.result c.index-writes-begun.result c.begun_by-begun.ensures
+    (let within = c.begun_by-begun.ensures.within in omega arith))

@@ -12,4 +12,5 @@ returns c =
     let n = c.begun_by-begun.result - 1 in
     let next : c.begun_by-begun.result ≡ suc n = omega arith in
     let begun : IsBegun c.args.time c.args.writes.now (suc n) = subst (λ (m : ℕ). IsBegun c.args.time c.args.writes.now m) next c.begun_by-begun.ensures in
-    c.value.ensures ∙ ap (λ (w : Write). w.write) c.index-writes-begun.is ∙ sym (value-begun None c.args.time c.args.writes.now n c.index-writes-begun.result begun)
+    c.value.ensures ∙ ap (λ (w : Write). w.write) c.index-writes-begun.is
+    ∙ sym (value-begun None c.args.time c.args.writes.now n c.index-writes-begun.result begun)

@@ -13,7 +13,10 @@ returns-clause-versions g c = λ h key v history.
     let up = writes_of-rising 0 h key (rising-from_following g.V.Stored.IsValue [] h history) in
     let spans = versions-are_spans 0 (writes_of h key) v up in (
       λ has. span-same (IsIn (writes_of h key)) (Writes h key) v (λ time write. writes-are h key time write) (spans.0 has),
-      λ span. spans.1 (span-same (Writes h key) (IsIn (writes_of h key)) v (λ time write. ((writes-are h key time write).1, (writes-are h key time write).0)) span),
+      λ span. spans.1 (span-same (Writes h key) (IsIn (writes_of h key)) v (λ time write. (
+        (writes-are h key time write).1,
+        (writes-are h key time write).0,
+      )) span),
     )
 
 pub returns-clause-rows : goal.returns-clause-rows

@@ -14,10 +14,13 @@ pub returns-clause-recent_at : goal.returns-clause-recent_at
 returns-clause-recent_at g c = λ view h key t history is recent. recent-at view h is (rising-from_following g.V.Stored.IsValue [] h history) key t recent
 
 pub returns-clause-recent_between : goal.returns-clause-recent_between
-returns-clause-recent_between g c = λ view h key a b history is recent. recent-between view h is (rising-from_following g.V.Stored.IsValue [] h history) key a b recent
+returns-clause-recent_between g c =
+    λ view h key a b history is recent. recent-between view h is (rising-from_following g.V.Stored.IsValue [] h history) key a b recent
 
 pub returns-clause-scan_at : goal.returns-clause-scan_at
-returns-clause-scan_at g c = λ view h relation t answer history is. view-scans view h is (rising-from_following g.V.Stored.IsValue [] h history) relation t answer
+returns-clause-scan_at g c =
+    λ view h relation t answer history is. view-scans view h is (rising-from_following g.V.Stored.IsValue [] h history) relation t answer
 
 pub returns-clause-scan_between : goal.returns-clause-scan_between
-returns-clause-scan_between g c = λ view h relation a b answer history is. view-scans_rows view h is (rising-from_following g.V.Stored.IsValue [] h history) relation a b answer
+returns-clause-scan_between g c =
+    λ view h relation a b answer history is. view-scans_rows view h is (rising-from_following g.V.Stored.IsValue [] h history) relation a b answer

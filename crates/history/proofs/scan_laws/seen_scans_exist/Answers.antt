@@ -6,4 +6,6 @@ use Rattle.history.proofs.ScansMade.{scan-made}
 use Rattle.history.proofs.scan_laws.seen_scans_exist.Goals as goal
 
 pub returns : goal.returns
-returns g c = λ h snapshot writes relation. scan-made (seen h snapshot writes) relation (numbers_in writes ++ numbers_of h) (λ number value is. seen-written h snapshot writes (key_of relation number) value is)
+returns g c =
+    λ h snapshot writes relation. scan-made (seen h snapshot writes) relation (numbers_in writes
+    ++ numbers_of h) (λ number value is. seen-written h snapshot writes (key_of relation number) value is)

@@ -3,7 +3,8 @@ use Rattle.law_image.proofs.FloorStep.{floor-in_heap}
 use Rattle.law_image.proofs.heap_laws.heap_jobs_stand.Goals as goal
 
 pub returns-clause-archive : goal.returns-clause-archive
-returns-clause-archive c = λ reading h floors kept upto run stands heap plan later by_last. merge-stands_for reading h floors stands heap kept upto run plan later by_last
+returns-clause-archive c =
+    λ reading h floors kept upto run stands heap plan later by_last. merge-stands_for reading h floors stands heap kept upto run plan later by_last
 
 pub returns-clause-base : goal.returns-clause-base
 returns-clause-base c = λ reading h floors olds after stands heap plan based. base-stands_for reading h floors olds after stands heap plan based

@@ -28,5 +28,6 @@ returns-clause-scan_at c = λ reading h floors relation t answer stands.
 
 pub returns-clause-scan_between : goal.returns-clause-scan_between
 returns-clause-scan_between c = λ reading h floors relation a b answer stands.
-    subst (λ (f : ℕ → ℕ). IsScanBetweenView (view_of reading) relation a b answer ↔ IsScanBetweenAnswer h f relation a b answer) (floors-are reading h floors stands)
+    subst (λ (f : ℕ → ℕ). IsScanBetweenView (view_of reading) relation a b answer
+    ↔ IsScanBetweenAnswer h f relation a b answer) (floors-are reading h floors stands)
     (view-scans_rows (view_of reading) h (is-view reading h floors stands) (rises reading h floors stands) relation a b answer)

@@ -18,5 +18,8 @@ pub returns-clause-spans : goal.returns-clause-spans
 returns-clause-spans c = λ reading h floors key v stands.
     let spans = versions-are_spans 0 (heap_facts reading key) v (facts-rise reading h floors stands key) in (
       λ has. span-same (IsIn (heap_facts reading key)) (IsHeapFact reading key) v (λ time write. heap-facts_are reading key time write) (spans.0 has),
-      λ span. spans.1 (span-same (IsHeapFact reading key) (IsIn (heap_facts reading key)) v (λ time write. ((heap-facts_are reading key time write).1, (heap-facts_are reading key time write).0)) span),
+      λ span. spans.1 (span-same (IsHeapFact reading key) (IsIn (heap_facts reading key)) v (λ time write. (
+        (heap-facts_are reading key time write).1,
+        (heap-facts_are reading key time write).0,
+      )) span),
     )

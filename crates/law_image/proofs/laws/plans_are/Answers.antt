@@ -21,12 +21,15 @@ pub returns-clause-retired : goal.returns-clause-retired
 returns-clause-retired c = λ reading olds m. (
   λ has.
       ⊎_elim
-      (λ (later : archived_upto reading < m.head.time). inr (Contains-filter (λ (x : Member). nat_lt (archived_upto reading) x.head.time) reading.members m has (is_lt later)))
-      (λ (early : m.head.time ≤ archived_upto reading). inl (Contains-filter (λ (x : Member). nat_le x.head.time (archived_upto reading)) reading.members m has (is_le early)))
+      (λ (later : archived_upto reading < m.head.time). inr
+      (Contains-filter (λ (x : Member). nat_lt (archived_upto reading) x.head.time) reading.members m has (is_lt later)))
+      (λ (early : m.head.time ≤ archived_upto reading). inl
+      (Contains-filter (λ (x : Member). nat_le x.head.time (archived_upto reading)) reading.members m has (is_le early)))
       (cases_lt (archived_upto reading) m.head.time),
   λ either.
       ⊎_elim
       (λ (gone : Contains (retired reading) m). (filter-Contains (λ (x : Member). nat_le x.head.time (archived_upto reading)) reading.members m gone).0)
-      (λ (left : Contains (with_anchors reading olds).members m). (filter-Contains (λ (x : Member). nat_lt (archived_upto reading) x.head.time) reading.members m left).0)
+      (λ (left : Contains (with_anchors reading olds).members m).
+      (filter-Contains (λ (x : Member). nat_lt (archived_upto reading) x.head.time) reading.members m left).0)
       either,
 )

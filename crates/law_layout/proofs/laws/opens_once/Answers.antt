@@ -4,7 +4,8 @@ use Rattle.law_layout.proofs.OpensAsOne.{opens_once, opens_no_fault, one_heap_fa
 use Rattle.law_layout.proofs.laws.opens_once.Goals as goal
 
 pub returns-clause-one : goal.returns-clause-one
-returns-clause-one c = λ header header' image layout layout' reading reading' opens opens'. opens_once header header' image layout layout' reading reading' opens opens'
+returns-clause-one c =
+    λ header header' image layout layout' reading reading' opens opens'. opens_once header header' image layout layout' reading reading' opens opens'
 
 pub returns-clause-or_fails : goal.returns-clause-or_fails
 returns-clause-or_fails c = λ header image layout reading place opens. opens_no_fault header image layout reading place opens

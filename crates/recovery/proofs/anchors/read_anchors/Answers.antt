@@ -11,5 +11,6 @@ returns-in_default-clause-found g c = λ told.
 pub returns-clause-found : goal.returns-clause-found
 returns-clause-found g c = λ told.
     let read = rw c.in-Some.is at (c.in_ok-read.ensures.found told) in
-    anchors_held _ c.args.heap_len c.args.anchors.now _ _ (c.requires.len told) c.in_ok-extents.ensures c.name_of-name.ensures _ c.in-Some.read _ c.requires.in_range read refl c.new-2.ensures.items
+    anchors_held _ c.args.heap_len c.args.anchors.now _ _ (c.requires.len told) c.in_ok-extents.ensures c.name_of-name.ensures _ c.in-Some.read _
+    c.requires.in_range read refl c.new-2.ensures.items
     (c.in_ok-chains.ensures.is ∙ ap (λ l. map anchor_writes l) c.deref.ensures.value) refl

@@ -30,10 +30,13 @@ loop-at-preserved g c =
       c.in_ok-write_at.ensures.counts.refused ∙ c.loop-at.invariant.2,
       λ told.
           let written = (c.in_ok-write_at.ensures.areas told).written in
-          subst (λ (n : ℕ). IsZeroed 512 (c.loop-at.at + n) (g.D.Disk.state c.args.disk.now).areas.status (g.D.Disk.state c.write_at.new.self).areas.status) long
-          (zeroed_more 512 c.loop-at.at (g.D.Disk.state c.args.disk.now).areas.status (g.D.Disk.state c.loop-at.disk).areas (g.D.Disk.state c.write_at.new.self).areas bytes
+          subst (λ (n : ℕ). IsZeroed 512 (c.loop-at.at + n) (g.D.Disk.state c.args.disk.now).areas.status (g.D.Disk.state c.write_at.new.self).areas.status)
+          long
+          (zeroed_more 512 c.loop-at.at (g.D.Disk.state c.args.disk.now).areas.status (g.D.Disk.state c.loop-at.disk).areas
+          (g.D.Disk.state c.write_at.new.self).areas bytes
           c.loop-at.invariant.0 (c.loop-at.invariant.3 told) some zeros written),
-      λ told. others_in_part c.loop-at.at (length bytes) (g.D.Disk.state c.args.disk.now).areas (g.D.Disk.state c.loop-at.disk).areas (g.D.Disk.state c.write_at.new.self).areas (c.loop-at.invariant.4 told) (c.write_at.ensures.areas told).in_part,
+      λ told. others_in_part c.loop-at.at (length bytes) (g.D.Disk.state c.args.disk.now).areas (g.D.Disk.state c.loop-at.disk).areas
+          (g.D.Disk.state c.write_at.new.self).areas (c.loop-at.invariant.4 told) (c.write_at.ensures.areas told).in_part,
       first_twice _ _ _ c.loop-at.invariant.5 (first_call _ _ _ c.write_at.ensures.counts),
     )
 

@@ -22,19 +22,25 @@ returns-in-Ok-None-read_member-clause-first g c = λ told.
     let begun : List ℕ = (g.D.Disk.state c.read_anchors.new.disk).areas.heap.bytes in
     let split : c.loop-entry.rest.now ≡ c.in-Some.entry.now ∷ c.in-Some.after.now = c.in-Some.ensures.cases.0 in
     let way : IsUnderWay heap c.args.anchors.now.upto c.args.anchors.now c.args.entries.now (c.in-Some.entry.now ∷ c.in-Some.after.now) c.loop-entry.heap =
-    subst (λ (s : DiskState). IsUnderWay s.areas.heap.bytes c.args.anchors.now.upto c.args.anchors.now c.args.entries.now (c.in-Some.entry.now ∷ c.in-Some.after.now) c.loop-entry.heap) c.in-Ok-Some.ensures.reads
-    (subst (λ (l : List Member). IsUnderWay begun c.args.anchors.now.upto c.args.anchors.now c.args.entries.now l c.loop-entry.heap) split (c.loop-entry.invariant.4 told)) in
+    subst (λ (s : DiskState). IsUnderWay s.areas.heap.bytes c.args.anchors.now.upto c.args.anchors.now c.args.entries.now (c.in-Some.entry.now
+    ∷ c.in-Some.after.now) c.loop-entry.heap) c.in-Ok-Some.ensures.reads
+    (subst (λ (l : List Member). IsUnderWay begun c.args.anchors.now.upto c.args.anchors.now c.args.entries.now l c.loop-entry.heap) split
+    (c.loop-entry.invariant.4 told)) in
     let none = rw c.in-Ok-None-read_member.field-0-is at (c.in-Ok-None-read_member.ensures.found told) in
     let here : HasNoChain heap c.args.heap_len c.loop-entry.heap c.in-Some.entry.now =
-    subst (λ (s : DiskState). HasNoChain s.areas.heap.bytes c.args.heap_len c.loop-entry.heap c.in-Some.entry.now) (c.loop-entry.invariant.0 ∙ c.in-Ok-Some.ensures.reads) none in
-    way_fails heap c.args.heap_len c.args.anchors.now.upto c.args.anchors.now c.args.entries.now c.in-Some.entry.now c.in-Some.after.now c.loop-entry.heap (c.requires.len told) way here
+    subst (λ (s : DiskState). HasNoChain s.areas.heap.bytes c.args.heap_len c.loop-entry.heap c.in-Some.entry.now) (c.loop-entry.invariant.0
+    ∙ c.in-Ok-Some.ensures.reads) none in
+    way_fails heap c.args.heap_len c.args.anchors.now.upto c.args.anchors.now c.args.entries.now c.in-Some.entry.now c.in-Some.after.now c.loop-entry.heap
+    (c.requires.len told) way here
 
 pub loop-entry-preserved : goal.loop-entry-preserved
 loop-entry-preserved g c =
     let split : c.loop-entry.rest.now ≡ c.in-Some.entry.now ∷ c.in-Some.after.now = c.in-Some.ensures.cases.0 in
-    let last : c.in-Ok-Some-read_member.next.last ≡ c.in-Some.entry.now.time = rw c.in-Ok-Some-read_member.field-0-is at c.in-Ok-Some-read_member.ensures.last in
+    let last : c.in-Ok-Some-read_member.next.last ≡ c.in-Some.entry.now.time =
+    rw c.in-Ok-Some-read_member.field-0-is at c.in-Ok-Some-read_member.ensures.last in
     let rising = subst (λ (l : List Member). AreRisingAfter c.loop-entry.heap.last (map head_of l)) split c.loop-entry.invariant.1 in
-    let times : last_time_after c.in-Some.entry.now.time (map head_of c.in-Some.after.now) ≡ last_time_after c.args.anchors.now.upto (map head_of c.args.entries.now) =
+    let times : last_time_after c.in-Some.entry.now.time (map head_of c.in-Some.after.now)
+    ≡ last_time_after c.args.anchors.now.upto (map head_of c.args.entries.now) =
     ap (λ (l : List Member). last_time_after c.loop-entry.heap.last (map head_of l)) (sym split) ∙ c.loop-entry.invariant.2 in
     let ranges = subst (AllByRecursion IsMember) split c.loop-entry.invariant.3 in (
       c.in-Ok-Some-read_member.ensures.reads ∙ c.loop-entry.invariant.0,
@@ -43,13 +49,18 @@ loop-entry-preserved g c =
       ranges.1,
       λ told.
           let begun : List ℕ = (g.D.Disk.state c.read_anchors.new.disk).areas.heap.bytes in
-          let whole : c.args.heap_len ≡ length begun = c.requires.len told ∙ ap (λ (s : DiskState). length s.areas.heap.bytes) (sym c.in-Ok-Some.ensures.reads) in
-          let way : IsUnderWay begun c.args.anchors.now.upto c.args.anchors.now c.args.entries.now (c.in-Some.entry.now ∷ c.in-Some.after.now) c.loop-entry.heap =
-          subst (λ (l : List Member). IsUnderWay begun c.args.anchors.now.upto c.args.anchors.now c.args.entries.now l c.loop-entry.heap) split (c.loop-entry.invariant.4 told) in
+          let whole : c.args.heap_len ≡ length begun =
+          c.requires.len told ∙ ap (λ (s : DiskState). length s.areas.heap.bytes) (sym c.in-Ok-Some.ensures.reads) in
+          let way : IsUnderWay begun c.args.anchors.now.upto c.args.anchors.now c.args.entries.now (c.in-Some.entry.now
+          ∷ c.in-Some.after.now) c.loop-entry.heap =
+          subst (λ (l : List Member). IsUnderWay begun c.args.anchors.now.upto c.args.anchors.now c.args.entries.now l c.loop-entry.heap) split
+          (c.loop-entry.invariant.4 told) in
           let adds = rw c.in-Ok-Some-read_member.field-0-is at (c.in-Ok-Some-read_member.ensures.found told) in
           let here : AddsChain begun c.args.heap_len c.in-Some.entry.now c.loop-entry.heap c.in-Ok-Some-read_member.next =
-          subst (λ (s : DiskState). AddsChain s.areas.heap.bytes c.args.heap_len c.in-Some.entry.now c.loop-entry.heap c.in-Ok-Some-read_member.next) c.loop-entry.invariant.0 adds in
-          way_goes_on begun c.args.heap_len c.args.anchors.now.upto c.args.anchors.now c.args.entries.now c.in-Some.entry.now c.in-Some.after.now c.loop-entry.heap c.in-Ok-Some-read_member.next whole ranges.0 rising.0 way here,
+          subst (λ (s : DiskState). AddsChain s.areas.heap.bytes c.args.heap_len c.in-Some.entry.now c.loop-entry.heap c.in-Ok-Some-read_member.next)
+          c.loop-entry.invariant.0 adds in
+          way_goes_on begun c.args.heap_len c.args.anchors.now.upto c.args.anchors.now c.args.entries.now c.in-Some.entry.now c.in-Some.after.now
+          c.loop-entry.heap c.in-Ok-Some-read_member.next whole ranges.0 rising.0 way here,
     )
 
 pub loop-entry-init : goal.loop-entry-init
@@ -71,5 +82,7 @@ returns-clause-read g c = λ told.
     let begun : List ℕ = (g.D.Disk.state c.read_anchors.new.disk).areas.heap.bytes in
     let none : c.loop-entry.rest.now ≡ [] = none_left c.loop-entry.rest.now c.in_default.ensures.cases in
     way_ends heap c.args.anchors.now.upto c.args.anchors.now c.args.entries.now c.loop-entry.heap
-    (subst (λ (s : DiskState). IsUnderWay s.areas.heap.bytes c.args.anchors.now.upto c.args.anchors.now c.args.entries.now [] c.loop-entry.heap) c.in-Ok-Some.ensures.reads
-    (subst (λ (l : List Member). IsUnderWay begun c.args.anchors.now.upto c.args.anchors.now c.args.entries.now l c.loop-entry.heap) none (c.loop-entry.invariant.4 told)))
+    (subst (λ (s : DiskState). IsUnderWay s.areas.heap.bytes c.args.anchors.now.upto c.args.anchors.now c.args.entries.now [] c.loop-entry.heap)
+    c.in-Ok-Some.ensures.reads
+    (subst (λ (l : List Member). IsUnderWay begun c.args.anchors.now.upto c.args.anchors.now c.args.entries.now l c.loop-entry.heap) none
+    (c.loop-entry.invariant.4 told)))

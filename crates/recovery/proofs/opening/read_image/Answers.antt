@@ -15,4 +15,6 @@ pub returns-clause-moments : goal.returns-clause-moments
 returns-clause-moments g c = settles_then_reads _ _ _ _ c.read_settled.result c.in_ok-settle.ensures.moments c.read_settled.ensures.reads
 
 pub returns-clause-most : goal.returns-clause-most
-returns-clause-most g c = most_then_reads (g.D.Disk.state c.args.disk.now) (g.D.Disk.state c.settle.new.disk) (g.D.Disk.state c.read_settled.new.disk) c.read_settled.result c.in_ok-settle.ensures.most c.read_settled.ensures.reads
+returns-clause-most g c =
+    most_then_reads (g.D.Disk.state c.args.disk.now) (g.D.Disk.state c.settle.new.disk) (g.D.Disk.state c.read_settled.new.disk) c.read_settled.result
+    c.in_ok-settle.ensures.most c.read_settled.ensures.reads

@@ -28,7 +28,8 @@ use Rattle.recovery.proofs.opening.read_settled.Goals as goal
 pub read_heap-requires : goal.read_heap-requires
 read_heap-requires g c =
     let slots : c.deref-2.result.now ≡ c.in_ok-log.log.slots.items = c.deref-2.ensures.value in
-    let entries : c.deref-3.result.now ≡ entries_of c.in_ok-log.log.slots.items = c.deref-3.ensures.value ∙ c.in_ok-entries.ensures ∙ ap entries_of c.deref.ensures.value in
+    let entries : c.deref-3.result.now ≡ entries_of c.in_ok-log.log.slots.items =
+    c.deref-3.ensures.value ∙ c.in_ok-entries.ensures ∙ ap entries_of c.deref.ensures.value in
     record {
       slots = (c.in_ok-header.header.profile, subst (λ (l : List Slot). AreSlots c.in_ok-header.header.profile l) (sym slots) c.in_ok-log.ensures.slots);
       entries = entries ∙ ap entries_of (sym slots);
@@ -69,8 +70,10 @@ read_runs-requires g c =
 pub returns-clause-runs : goal.returns-clause-runs
 returns-clause-runs g c =
     let slots : List Slot = c.in_ok-log.log.slots.items in
-    let listed = subst (λ (l : List Slot). AreEntriesOf l c.in_ok-runs.runs.items) c.deref-4.ensures.value c.in_ok-runs.ensures in
-    (subst (AreInRow 0) (sym listed.runs_are) (rules_say _ _ c.in_ok-log.ensures.slots.rules).1, go_on slots 0 c.in_ok-runs.runs.items listed.runs_are listed.marks_are)
+    let listed = subst (λ (l : List Slot). AreEntriesOf l c.in_ok-runs.runs.items) c.deref-4.ensures.value c.in_ok-runs.ensures in (
+      subst (AreInRow 0) (sym listed.runs_are) (rules_say _ _ c.in_ok-log.ensures.slots.rules).1,
+      go_on slots 0 c.in_ok-runs.runs.items listed.runs_are listed.marks_are,
+    )
 
 pub returns-clause-runs_end : goal.returns-clause-runs_end
 returns-clause-runs_end g c =
@@ -80,7 +83,8 @@ returns-clause-runs_end g c =
 pub returns-clause-found : goal.returns-clause-found
 returns-clause-found g c = λ told.
     let slots : List Slot = c.in_ok-log.log.slots.items in
-    let log = subst (λ (s : DiskState). HoldsLog c.in_ok-header.header s.areas.status.bytes slots) c.in_ok-header.ensures.reads (c.in_ok-log.ensures.log told) in
+    let log =
+    subst (λ (s : DiskState). HoldsLog c.in_ok-header.header s.areas.status.bytes slots) c.in_ok-header.ensures.reads (c.in_ok-log.ensures.log told) in
     let entries : c.in_ok-entries.entries.items ≡ entries_of slots = c.in_ok-entries.ensures ∙ ap entries_of c.deref.ensures.value in
     let state = c.in_ok-log.ensures.same ∙ c.in_ok-header.ensures.reads in
     let heap : HoldsSlots (g.D.Disk.state c.args.disk.now).areas.heap.bytes slots c.in-Ok.heap =
@@ -90,8 +94,12 @@ returns-clause-found g c = λ told.
     let runs : runs_named c.deref-5.result.now ≡ runs_of slots = ap runs_named c.deref-5.ensures.value ∙ listed.runs_are in
     let within : AllByRecursion (EndsWithin (length (g.D.Disk.state c.args.disk.now).areas.archive.bytes)) (runs_of slots) =
     subst (AllByRecursion (EndsWithin (length (g.D.Disk.state c.args.disk.now).areas.archive.bytes))) runs
-    (subst (λ (s : DiskState). AllByRecursion (EndsWithin (length s.areas.archive.bytes)) (runs_named c.deref-5.result.now)) (c.in-Ok.ensures.reads ∙ state) (c.in_ok-check_runs.ensures.within told)) in
-    image_read (image_of (g.D.Disk.state c.args.disk.now).areas) c.in_ok-header.header slots (record { header_reads = c.in_ok-header.ensures.found told; log = log }) c.in-Ok.heap _ refl heap within
+    (subst (λ (s : DiskState). AllByRecursion (EndsWithin (length s.areas.archive.bytes)) (runs_named c.deref-5.result.now)) (c.in-Ok.ensures.reads
+    ∙ state) (c.in_ok-check_runs.ensures.within told)) in
+    image_read (image_of (g.D.Disk.state c.args.disk.now).areas) c.in_ok-header.header slots (record {
+      header_reads = c.in_ok-header.ensures.found told;
+      log = log;
+    }) c.in-Ok.heap _ refl heap within
     (record {
       used = omega (arith, c.len.ensures, c.in_ok-log.log.slots.ok.0);
       commits = ap (λ (l : List Member). map head_of l) entries;
@@ -108,17 +116,22 @@ returns-clause-found g c = λ told.
 pub returns-in-Err-clause-fault : goal.returns-in-Err-clause-fault
 returns-in-Err-clause-fault g c = λ told.
     let slots : List Slot = c.in_ok-log.log.slots.items in
-    let log = subst (λ (s : DiskState). HoldsLog c.in_ok-header.header s.areas.status.bytes slots) c.in_ok-header.ensures.reads (c.in_ok-log.ensures.log told) in
+    let log =
+    subst (λ (s : DiskState). HoldsLog c.in_ok-header.header s.areas.status.bytes slots) c.in_ok-header.ensures.reads (c.in_ok-log.ensures.log told) in
     let state = c.in_ok-log.ensures.same ∙ c.in_ok-header.ensures.reads in
     let fails : IsSlotsFault (g.D.Disk.state c.args.disk.now).areas.heap.bytes slots c.in-Err.fault =
     subst (λ (l : List Slot). IsSlotsFault (g.D.Disk.state c.args.disk.now).areas.heap.bytes l c.in-Err.fault) c.deref-2.ensures.value
     (subst (λ (s : DiskState). IsSlotsFault s.areas.heap.bytes c.deref-2.result.now c.in-Err.fault) state (c.in-Err.ensures.first told)) in
-    members_fail (image_of (g.D.Disk.state c.args.disk.now).areas) c.in_ok-header.header slots (record { header_reads = c.in_ok-header.ensures.found told; log = log }) c.in-Err.fault fails
+    members_fail (image_of (g.D.Disk.state c.args.disk.now).areas) c.in_ok-header.header slots (record {
+      header_reads = c.in_ok-header.ensures.found told;
+      log = log;
+    }) c.in-Err.fault fails
 
 pub returns-in_err-check_runs-clause-fault : goal.returns-in_err-check_runs-clause-fault
 returns-in_err-check_runs-clause-fault g c = λ told.
     let slots : List Slot = c.in_ok-log.log.slots.items in
-    let log = subst (λ (s : DiskState). HoldsLog c.in_ok-header.header s.areas.status.bytes slots) c.in_ok-header.ensures.reads (c.in_ok-log.ensures.log told) in
+    let log =
+    subst (λ (s : DiskState). HoldsLog c.in_ok-header.header s.areas.status.bytes slots) c.in_ok-header.ensures.reads (c.in_ok-log.ensures.log told) in
     let listed = subst (λ (l : List Slot). AreEntriesOf l c.in_ok-runs.runs.items) c.deref-4.ensures.value c.in_ok-runs.ensures in
     let runs : runs_named c.deref-5.result.now ≡ runs_of slots = ap runs_named c.deref-5.ensures.value ∙ listed.runs_are in
     let state = c.in_ok-log.ensures.same ∙ c.in_ok-header.ensures.reads in
@@ -128,7 +141,11 @@ returns-in_err-check_runs-clause-fault g c = λ told.
     let fault : OpenFault = c.in_err-check_runs.field-0.0 in
     let fails : IsRunsFault (length (g.D.Disk.state c.args.disk.now).areas.archive.bytes) (runs_of slots) fault =
     subst (λ (l : List Run). IsRunsFault (length (g.D.Disk.state c.args.disk.now).areas.archive.bytes) l fault) runs
-    (subst (λ (s : DiskState). IsRunsFault (length s.areas.archive.bytes) (runs_named c.deref-5.result.now) fault) (c.in-Ok.ensures.reads ∙ state) (c.in_err-check_runs.ensures.fault told)) in
+    (subst (λ (s : DiskState). IsRunsFault (length s.areas.archive.bytes) (runs_named c.deref-5.result.now) fault) (c.in-Ok.ensures.reads
+    ∙ state) (c.in_err-check_runs.ensures.fault told)) in
     let p = err_from_is_err_and c.from_residual-in_err-check_runs.result c.from_residual-in_err-check_runs.ensures.1 in
     rw (p.1, p.2)
-    (runs_fail (image_of (g.D.Disk.state c.args.disk.now).areas) c.in_ok-header.header slots (record { header_reads = c.in_ok-header.ensures.found told; log = log }) c.in-Ok.heap fault heap fails)
+    (runs_fail (image_of (g.D.Disk.state c.args.disk.now).areas) c.in_ok-header.header slots (record {
+      header_reads = c.in_ok-header.ensures.found told;
+      log = log;
+    }) c.in-Ok.heap fault heap fails)

@@ -11,5 +11,7 @@ use Rattle.recovery.proofs.resolving.resolve.Given as goal
 abbrev pub invariant-loop-entry : goal.invariant-loop-entry
 invariant-loop-entry l =
     AllByRecursion (λ r. IsPermitted OfCommit r.content) l.entry-iterator.rest.items
-    × (AllByRecursion (IsStored (before_of l.chains)) (map heap_record l.entry-iterator.rest.items) ↔ AllByRecursion (IsStored (before_of l.chains)) (map heap_record l.fn.records.items))
-    × (l.writes.items ++ map (write_of (before_of l.chains)) (map heap_record l.entry-iterator.rest.items) ≡ map (write_of (before_of l.chains)) (map heap_record l.fn.records.items))
+    × (AllByRecursion (IsStored (before_of l.chains)) (map heap_record l.entry-iterator.rest.items)
+    ↔ AllByRecursion (IsStored (before_of l.chains)) (map heap_record l.fn.records.items))
+    × (l.writes.items ++ map (write_of (before_of l.chains)) (map heap_record l.entry-iterator.rest.items)
+    ≡ map (write_of (before_of l.chains)) (map heap_record l.fn.records.items))

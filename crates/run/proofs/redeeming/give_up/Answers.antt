@@ -5,13 +5,13 @@ use Rattle.run.specs.declared.held.Held.{Held}
 use Rattle.run.specs.declared.held.Held.TheVariants as held
 use Rattle.run.specs.Runs.{Goes}
 use Rattle.run.proofs.Steps.{unknown-goes}
-use Rattle.run.proofs.Tickets.{lacks-ticket, give_up-goes}
+use Rattle.run.proofs.Tickets.{give_up-goes}
 use Rattle.run.proofs.redeeming.give_up.Goals as goal
 
 pub returns-in_default : goal.returns-in_default
 returns-in_default g c =
     let none = c.in_default.ensures.none in
-    unknown-goes g.D.Disk.tells c.args.store.now c.args.places.now c.take_ticket.new.places (call.GiveUp c.args.ticket) none.1 (λ w is. lacks-ticket g.D.Disk.tells c.args.store.now c.args.places.now c.args.ticket none.0 w is)
+    unknown-goes g.D.Disk.tells c.args.store.now c.args.places.now c.take_ticket.new.places (call.GiveUp c.args.ticket) none.1 none.0
 
 pub returns : goal.returns
 returns g c =

@@ -7,13 +7,13 @@ use Rattle.run.specs.declared.held.Held.TheVariants as held
 use Rattle.run.specs.Runs.{Goes}
 use Rattle.run.proofs.Lists.{set-set, get-set_same}
 use Rattle.run.proofs.Steps.{unknown-goes}
-use Rattle.run.proofs.Tickets.{lacks-ticket, redeem-goes}
+use Rattle.run.proofs.Tickets.{redeem-goes}
 use Rattle.run.proofs.redeeming.redeem.Goals as goal
 
 pub returns-in_default-clause-goes : goal.returns-in_default-clause-goes
 returns-in_default-clause-goes g c =
     let none = c.in_default.ensures.none in
-    unknown-goes g.D.Disk.tells c.args.store.now c.args.places.now c.take_ticket.new.places (call.Redeem c.args.ticket) none.1 (λ w is. lacks-ticket g.D.Disk.tells c.args.store.now c.args.places.now c.args.ticket none.0 w is)
+    unknown-goes g.D.Disk.tells c.args.store.now c.args.places.now c.take_ticket.new.places (call.Redeem c.args.ticket) none.1 none.0
 
 pub put_back-requires : goal.put_back-requires
 put_back-requires g c =

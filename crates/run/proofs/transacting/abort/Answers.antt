@@ -4,13 +4,13 @@ use Rattle.run.specs.declared.calls.Answer.TheVariants as answer
 use Rattle.run.specs.declared.held.Held.{Held}
 use Rattle.run.specs.declared.held.Held.TheVariants as held
 use Rattle.run.specs.Runs.{Goes}
-use Rattle.run.proofs.Steps.{unknown-goes, lacks-transaction, abort-goes}
+use Rattle.run.proofs.Steps.{unknown-goes, abort-goes}
 use Rattle.run.proofs.transacting.abort.Goals as goal
 
 pub returns-in_default-clause-goes : goal.returns-in_default-clause-goes
 returns-in_default-clause-goes g c =
     let none = c.in_default.ensures.none in
-    unknown-goes g.D.Disk.tells c.args.store.now c.args.places.now c.take_transaction.new.places (call.Abort c.args.transaction) none.1 (λ w is. lacks-transaction g.D.Disk.tells c.args.store.now c.args.places.now c.args.transaction none.0 w is)
+    unknown-goes g.D.Disk.tells c.args.store.now c.args.places.now c.take_transaction.new.places (call.Abort c.args.transaction) none.1 none.0
 
 pub returns-clause-goes : goal.returns-clause-goes
 returns-clause-goes g c =

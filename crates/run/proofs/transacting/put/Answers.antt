@@ -6,14 +6,14 @@ use Rattle.run.specs.declared.held.Held.{Held}
 use Rattle.run.specs.declared.held.Held.TheVariants as held
 use Rattle.run.specs.Runs.{Goes}
 use Rattle.run.proofs.Lists.{set-set, get-set_same}
-use Rattle.run.proofs.Steps.{unknown-goes, lacks-transaction}
+use Rattle.run.proofs.Steps.{unknown-goes}
 use Rattle.run.proofs.Reading.{put-goes}
 use Rattle.run.proofs.transacting.put.Goals as goal
 
 pub returns-in_default : goal.returns-in_default
 returns-in_default g c =
     let none = c.in_default.ensures.none in
-    unknown-goes g.D.Disk.tells c.args.store.now c.args.places.now c.take_transaction.new.places (call.Put c.args.transaction c.args.key c.args.fields) none.1 (λ w is. lacks-transaction g.D.Disk.tells c.args.store.now c.args.places.now c.args.transaction none.0 w is)
+    unknown-goes g.D.Disk.tells c.args.store.now c.args.places.now c.take_transaction.new.places (call.Put c.args.transaction c.args.key c.args.fields) none.1 none.0
 
 pub put_back-requires : goal.put_back-requires
 put_back-requires g c =

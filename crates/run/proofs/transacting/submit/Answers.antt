@@ -5,14 +5,14 @@ use Rattle.run.specs.declared.calls.Answer.{Answer}
 use Rattle.run.specs.declared.held.Held.{Held}
 use Rattle.run.specs.declared.held.Held.TheVariants as held
 use Rattle.run.specs.Runs.{Goes}
-use Rattle.run.proofs.Steps.{unknown-goes, lacks-transaction}
+use Rattle.run.proofs.Steps.{unknown-goes}
 use Rattle.run.proofs.Submitting.{submit-goes}
 use Rattle.run.proofs.transacting.submit.Goals as goal
 
 pub returns-in_default-clause-goes : goal.returns-in_default-clause-goes
 returns-in_default-clause-goes g c =
     let none = c.in_default.ensures.none in
-    unknown-goes g.D.Disk.tells c.args.store.now c.args.places.now c.take_transaction.new.places (call.Submit c.args.transaction c.args.label c.args.now) none.1 (λ w is. lacks-transaction g.D.Disk.tells c.args.store.now c.args.places.now c.args.transaction none.0 w is)
+    unknown-goes g.D.Disk.tells c.args.store.now c.args.places.now c.take_transaction.new.places (call.Submit c.args.transaction c.args.label c.args.now) none.1 none.0
 
 pub returns-clause-goes : goal.returns-clause-goes
 returns-clause-goes g c =

@@ -5,13 +5,13 @@ use Rattle.run.specs.declared.held.Held.{Held}
 use Rattle.run.specs.declared.held.Held.TheVariants as held
 use Rattle.run.specs.Runs.{Goes}
 use Rattle.run.proofs.Steps.{unknown-goes}
-use Rattle.run.proofs.Views.{lacks-view, end-goes}
+use Rattle.run.proofs.Views.{end-goes}
 use Rattle.run.proofs.viewing.end.Goals as goal
 
 pub returns-in_default-clause-goes : goal.returns-in_default-clause-goes
 returns-in_default-clause-goes g c =
     let none = c.in_default.ensures.none in
-    unknown-goes g.D.Disk.tells c.args.store.now c.args.places.now c.take_view.new.places (call.End c.args.view) none.1 (λ w is. lacks-view g.D.Disk.tells c.args.store.now c.args.places.now c.args.view none.0 w is)
+    unknown-goes g.D.Disk.tells c.args.store.now c.args.places.now c.take_view.new.places (call.End c.args.view) none.1 none.0
 
 pub returns-clause-goes : goal.returns-clause-goes
 returns-clause-goes g c =

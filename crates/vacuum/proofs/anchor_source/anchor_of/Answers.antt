@@ -12,7 +12,9 @@ returns-in_default c =
 
 pub returns-then-mark-version : goal.returns-then-mark-version
 returns-then-mark-version c =
-    sym (ap (λ (rs : List Record). slice_get rs 0) (olds-late c.args.mark c.args.chain.now c.ending_after.ensures.rising (version_of_loan c.in-Some.version) (sym c.in-Some.ensures.is) c.if-mark-version.true))
+    sym (ap (λ (rs : List Record). slice_get rs 0)
+    (olds-late c.args.mark c.args.chain.now c.ending_after.ensures.rising (version_of_loan c.in-Some.version) (sym c.in-Some.ensures.is)
+    c.if-mark-version.true))
 
 pub returns : goal.returns
 returns c =

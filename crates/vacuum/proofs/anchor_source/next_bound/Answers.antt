@@ -19,6 +19,7 @@ returns-in-Some-clause-left c =
     let chain = c.in-Some.chain.now in
     let found = sym c.in-Some.ensures.is in
     let rises = found-rises (λ (x : KeyWrites). is_in c.args.bound x.key) c.args.frozen.now chain c.in-Some.ensures.rising found in
-    let left : olds_at c.args.mark c.settled.result c.args.frozen.now ≡ olds_at c.args.mark (After chain.key) c.args.frozen.now = rw c.key.ensures at c.settled.ensures.left in
+    let left : olds_at c.args.mark c.settled.result c.args.frozen.now ≡ olds_at c.args.mark (After chain.key) c.args.frozen.now =
+    rw c.key.ensures at c.settled.ensures.left in
     left
     ∙ olds-step c.args.mark c.args.bound c.args.frozen.now chain c.in-Some.ensures.ordered found c.requires (olds-few c.args.mark chain rises)

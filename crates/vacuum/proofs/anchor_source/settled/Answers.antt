@@ -22,7 +22,8 @@ pub loop-chain-preserved : goal.loop-chain-preserved
 loop-chain-preserved c =
     let chain = c.in-Some.chain.now in
     let none = tested-none record_of_loan c.anchor_of.result (key_olds c.args.mark chain) (sym c.if-is_some.ensures) c.anchor_of.ensures in
-    rw c.key.ensures (olds-past c.args.mark c.loop-chain.bound c.args.frozen.now chain c.in-Some.ensures.ordered (sym c.in-Some.ensures.is) none ∙ c.loop-chain.invariant)
+    rw c.key.ensures (olds-past c.args.mark c.loop-chain.bound c.args.frozen.now chain c.in-Some.ensures.ordered (sym c.in-Some.ensures.is) none
+    ∙ c.loop-chain.invariant)
 
 pub returns-clause-left : goal.returns-clause-left
 returns-clause-left c = c.loop-chain.invariant

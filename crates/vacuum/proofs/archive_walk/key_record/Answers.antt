@@ -9,11 +9,14 @@ use Rattle.vacuum.proofs.archive_walk.key_record.Goals as goal
 
 pub returns-in_default : goal.returns-in_default
 returns-in_default c =
-    sym (ap (λ (rs : List ArchiveRecord). slice_get rs 0) (records-none c.args.passed c.args.upto c.args.chain.now c.ending_after.ensures.rising (sym c.in_default.ensures.is)))
+    sym (ap (λ (rs : List ArchiveRecord). slice_get rs 0)
+    (records-none c.args.passed c.args.upto c.args.chain.now c.ending_after.ensures.rising (sym c.in_default.ensures.is)))
 
 pub returns-then-upto-version : goal.returns-then-upto-version
 returns-then-upto-version c =
-    sym (ap (λ (rs : List ArchiveRecord). slice_get rs 0) (records-late c.args.passed c.args.upto c.args.chain.now c.ending_after.ensures.rising (version_of_loan c.in-Some.version) (sym c.in-Some.ensures.is) c.if-upto-version.true))
+    sym (ap (λ (rs : List ArchiveRecord). slice_get rs 0)
+    (records-late c.args.passed c.args.upto c.args.chain.now c.ending_after.ensures.rising (version_of_loan c.in-Some.version) (sym c.in-Some.ensures.is)
+    c.if-upto-version.true))
 
 pub returns : goal.returns
 returns c =

@@ -20,4 +20,5 @@ pub returns-clause-bytes : goal.returns-clause-bytes
 returns-clause-bytes g c = λ told there.
     let same : archive_of (g.D.Disk.state c.len.new.self) ≡ archive_of (g.D.Disk.state c.args.disk.now) = ap archive_of c.in_ok-end.ensures.same in
     copied_from _ c.args.start (length c.args.block.now) c.args.skip (length c.args.out.now) _ _ c.requires.part
-    (c.in_ok-read.ensures.bytes told ∙ ap (λ (xs : List ℕ). slice_range xs c.args.start (c.args.start + length c.args.block.now)) same) c.copy_from_slice.ensures.after
+    (c.in_ok-read.ensures.bytes told
+    ∙ ap (λ (xs : List ℕ). slice_range xs c.args.start (c.args.start + length c.args.block.now)) same) c.copy_from_slice.ensures.after

@@ -9,7 +9,8 @@ abbrev pub invariant-loop-done : goal.invariant-loop-done
 invariant-loop-done g l = record {
   within : l.done ≤ length l.initial.buf;
   disk : g.D.Disk.state l.disk ≡ g.D.Disk.state l.initial.disk;
-  kept : Keeps (run_end l.run) g.D.Disk.tells (archive_of (g.D.Disk.state l.initial.disk)) (parts_in l.initial.self.cache.blocks) (parts_in l.self.cache.blocks);
+  kept : Keeps (run_end l.run) g.D.Disk.tells (archive_of (g.D.Disk.state l.initial.disk)) (parts_in l.initial.self.cache.blocks)
+      (parts_in l.self.cache.blocks);
   front : IsTrue g.D.Disk.tells → IsRight (parts_in l.initial.self.cache.blocks) (archive_of (g.D.Disk.state l.initial.disk))
       → take l.done l.buf ≡ slice_range (archive_of (g.D.Disk.state l.initial.disk)) (l.run.slot.start + l.at) (l.run.slot.start + l.at + l.done);
 }

@@ -11,13 +11,15 @@ returns-then-copy-clause-kept g c = keeps_same _ _ _ _ _ c.copy.ensures.none_new
 pub returns-in_err-there-clause-kept : goal.returns-in_err-there-clause-kept
 returns-in_err-there-clause-kept g c =
     let area = archive_of (g.D.Disk.state c.args.disk.now) in
-    let first : Keeps (c.args.start + c.args.len) g.D.Disk.tells area (parts_in c.args.self.now.cache.blocks) (parts_in c.copy.new.self.blocks) = keeps_same _ _ _ _ _ c.copy.ensures.none_new in
+    let first : Keeps (c.args.start + c.args.len) g.D.Disk.tells area (parts_in c.args.self.now.cache.blocks) (parts_in c.copy.new.self.blocks) =
+    keeps_same _ _ _ _ _ c.copy.ensures.none_new in
     keeps_again first c.in_err-there.ensures.kept
 
 pub returns-clause-kept : goal.returns-clause-kept
 returns-clause-kept g c =
     let area = archive_of (g.D.Disk.state c.args.disk.now) in
-    let first : Keeps (c.args.start + c.args.len) g.D.Disk.tells area (parts_in c.args.self.now.cache.blocks) (parts_in c.copy.new.self.blocks) = keeps_same _ _ _ _ _ c.copy.ensures.none_new in
+    let first : Keeps (c.args.start + c.args.len) g.D.Disk.tells area (parts_in c.args.self.now.cache.blocks) (parts_in c.copy.new.self.blocks) =
+    keeps_same _ _ _ _ _ c.copy.ensures.none_new in
     keeps_again first c.in_ok-there.ensures.kept
 
 pub returns-clause-bytes : goal.returns-clause-bytes

@@ -13,7 +13,9 @@ pub returns-in_err-value-clause-exact : goal.returns-in_err-value-clause-exact
 returns-in_err-value-clause-exact g c = λ told right at.
     let part : HasPart c.args.wanted.now c.args.placed.now.head = omega arith in
     let p = err_from_is_err_and c.from_residual.result c.from_residual.ensures.1 in
-    let Wanted : ℕ → Type 0 = λ _. HasPart c.args.wanted.now c.args.placed.now.head × IsValueBroken (archive_of (g.D.Disk.state c.args.disk.now)) c.args.run.now c.args.placed.now.number in
+    let Wanted : ℕ → Type 0 =
+    λ _. HasPart c.args.wanted.now c.args.placed.now.head
+    × IsValueBroken (archive_of (g.D.Disk.state c.args.disk.now)) c.args.run.now c.args.placed.now.number in
     rw (p.1, p.2) (map_damaged {Q = Wanted} _ (λ start is. (part, is)) (c.in_err-value.ensures.exact told right at))
 
 pub returns-clause-only : goal.returns-clause-only

@@ -24,8 +24,11 @@ loop-number-init g c = record {
   shown = λ records reads.
       sym (append-nil c.args.rows.now.items)
       ∙ ap (λ vs. c.args.rows.now.items ++ vs)
-      (sym (rows_begin g.R.Row.shown c.args.wanted.now _ c.args.run.now records reads.laid c.in_ok-bound.bound.number (c.in_ok-bound.ensures.only records reads).0));
-  walking = λ told right. walking_first g.R.Row.shown _ c.args.wanted.now c.args.run.now c.args.rows.now.items c.in_ok-bound.bound.last c.in_ok-bound.bound.number (c.in_ok-bound.ensures.exact told right);
+      (sym (rows_begin g.R.Row.shown c.args.wanted.now _ c.args.run.now records reads.laid c.in_ok-bound.bound.number
+      (c.in_ok-bound.ensures.only records reads).0));
+  walking =
+      λ told right. walking_first g.R.Row.shown _ c.args.wanted.now c.args.run.now c.args.rows.now.items c.in_ok-bound.bound.last c.in_ok-bound.bound.number
+      (c.in_ok-bound.ensures.exact told right);
 }
 
 pub returns-in_err-placed-clause-only : goal.returns-in_err-placed-clause-only
@@ -65,13 +68,26 @@ loop-number-preserved g c = record {
       let wanted = subst IsTrue c.has.ensures c.if-not-has.false in
       let stands : c.in_ok-placed.placed.head.from < c.in_ok-placed.placed.head.to = grind (arith, nat_tests, c.in_ok-placed.ensures.in_range) in
       let grown = c.in_ok-add_row.ensures.count (one_key c.args.wanted.now c.in_ok-placed.placed.head one wanted stands) in
-      omega (arith, c.loop-number.invariant.heads one, c.in_ok-placed.ensures.heads, c.in_ok-add_row.ensures.heads, c.in_ok-next.ensures.heads one wanted, grown);
+      omega (
+        arith,
+        c.loop-number.invariant.heads one,
+        c.in_ok-placed.ensures.heads,
+        c.in_ok-add_row.ensures.heads,
+        c.in_ok-next.ensures.heads one wanted,
+        grown,
+      );
   disk = c.in_ok-next.ensures.looks.disk ∙ c.in_ok-add_row.ensures.looks.disk ∙ c.in_ok-placed.ensures.looks.disk ∙ c.loop-number.invariant.disk;
   kept =
       keeps_on_state (c.in_ok-add_row.ensures.looks.disk ∙ c.in_ok-placed.ensures.looks.disk ∙ c.loop-number.invariant.disk)
-      (keeps_on_state (c.in_ok-placed.ensures.looks.disk ∙ c.loop-number.invariant.disk) (keeps_on_state c.loop-number.invariant.disk c.loop-number.invariant.kept c.in_ok-placed.ensures.looks.kept) c.in_ok-add_row.ensures.looks.kept)
+      (keeps_on_state (c.in_ok-placed.ensures.looks.disk
+      ∙ c.loop-number.invariant.disk) (keeps_on_state c.loop-number.invariant.disk c.loop-number.invariant.kept c.in_ok-placed.ensures.looks.kept)
+      c.in_ok-add_row.ensures.looks.kept)
       c.in_ok-next.ensures.looks.kept;
-  after = λ records reads i r from at. c.loop-number.invariant.after records reads i r (omega (arith, c.in_ok-next.ensures.behind, c.in_ok-placed.ensures.number)) at;
+  after = λ records reads i r from at. c.loop-number.invariant.after records reads i r (omega (
+    arith,
+    c.in_ok-next.ensures.behind,
+    c.in_ok-placed.ensures.number,
+  )) at;
   seen = λ records reads.
       let later = reads_again reads c.loop-number.invariant.disk c.loop-number.invariant.kept in
       let found = some_record _ c.args.run.now records reads.laid c.loop-number.number c.loop-number-test.true in
@@ -87,8 +103,14 @@ loop-number-preserved g c = record {
       let then = reads_again last c.in_ok-add_row.ensures.looks.disk c.in_ok-add_row.ensures.looks.kept in
       let row = row_of g.R.Row.shown c.args.wanted.now in
       let number = c.in_ok-placed.ensures.number in
-      let skipped = subst (λ (n : ℕ). AreSkipped records c.args.wanted.now n c.in_ok-next.next.number) number (c.in_ok-next.ensures.only records found.0 then placed).0 in
-      let rows = rows_skip g.R.Row.shown c.args.wanted.now _ c.args.run.now records reads.laid c.loop-number.number c.in_ok-next.next.number (omega (arith, c.in_ok-next.ensures.behind, number)) skipped in
+      let skipped =
+      subst (λ (n : ℕ). AreSkipped records c.args.wanted.now n c.in_ok-next.next.number) number (c.in_ok-next.ensures.only records found.0 then placed).0 in
+      let rows =
+      rows_skip g.R.Row.shown c.args.wanted.now _ c.args.run.now records reads.laid c.loop-number.number c.in_ok-next.next.number (omega (
+        arith,
+        c.in_ok-next.ensures.behind,
+        number,
+      )) skipped in
       c.in_ok-add_row.ensures.only records found.0 last placed
       ∙ ap (λ vs. vs ++ row found.0) (c.loop-number.invariant.shown records reads)
       ∙ append_assoc c.args.rows.now.items (flat_map row (take c.loop-number.number records)) (row found.0)
@@ -111,7 +133,8 @@ loop-number-preserved g c = record {
 pub returns-after-loop-number-clause-only : goal.returns-after-loop-number-clause-only
 returns-after-loop-number-clause-only g c = λ records reads.
     c.loop-number.invariant.shown records reads
-    ∙ ap (λ vs. c.args.rows.now.items ++ vs) (rows_end_past g.R.Row.shown c.args.wanted.now _ c.args.run.now records reads.laid c.loop-number.number c.loop-number-test.false)
+    ∙ ap (λ vs. c.args.rows.now.items
+    ++ vs) (rows_end_past g.R.Row.shown c.args.wanted.now _ c.args.run.now records reads.laid c.loop-number.number c.loop-number-test.false)
 
 pub returns-then-not-has-clause-only : goal.returns-then-not-has-clause-only
 returns-then-not-has-clause-only g c = λ records reads.
@@ -120,7 +143,8 @@ returns-then-not-has-clause-only g c = λ records reads.
     let placed = c.in_ok-placed.ensures.only records found.0 later found.1 (c.loop-number.invariant.seen records reads) in
     let not_before = c.loop-number.invariant.after records reads c.loop-number.number found.0 (omega arith) found.1 in
     c.loop-number.invariant.shown records reads
-    ∙ ap (λ vs. c.args.rows.now.items ++ vs) (rows_end g.R.Row.shown c.args.wanted.now _ c.args.run.now records reads.laid c.loop-number.number found.0 found.1 not_before
+    ∙ ap (λ vs. c.args.rows.now.items
+    ++ vs) (rows_end g.R.Row.shown c.args.wanted.now _ c.args.run.now records reads.laid c.loop-number.number found.0 found.1 not_before
     (ap (is_wanted c.args.wanted.now) (sym placed.head) ∙ sym c.has.ensures ∙ c.if-not-has.true))
 
 pub returns-in_err-bound-clause-exact : goal.returns-in_err-bound-clause-exact
@@ -132,7 +156,8 @@ pub returns-in_err-placed-clause-exact : goal.returns-in_err-placed-clause-exact
 returns-in_err-placed-clause-exact g c = λ told right.
     let now = right_again told right c.loop-number.invariant.disk c.loop-number.invariant.kept in
     let p = err_from_is_err_and c.from_residual-in_err-placed.result c.from_residual-in_err-placed.ensures.1 in
-    rw (p.1, p.2) (walking_head _ _ _ _ _ _ _ _ (c.loop-number.invariant.walking told right) _ _ (ap archive_of c.loop-number.invariant.disk) c.loop-number-test.true (c.in_err-placed.ensures.exact told now))
+    rw (p.1, p.2) (walking_head _ _ _ _ _ _ _ _ (c.loop-number.invariant.walking told right) _ _ (ap archive_of c.loop-number.invariant.disk)
+    c.loop-number-test.true (c.in_err-placed.ensures.exact told now))
 
 pub returns-in_err-add_row-clause-exact : goal.returns-in_err-add_row-clause-exact
 returns-in_err-add_row-clause-exact g c = λ told right.
@@ -144,7 +169,8 @@ returns-in_err-add_row-clause-exact g c = λ told right.
     let placed = c.in_ok-placed.ensures.exact told now in
     let at = (walking_at _ _ _ _ _ _ _ _ way _ _ same placed _ same_then).0 in
     let p = err_from_is_err_and c.from_residual-in_err-add_row.result c.from_residual-in_err-add_row.ensures.1 in
-    rw (p.1, p.2) (walking_value _ _ _ _ _ _ _ _ way _ _ same placed _ _ same_then (subst IsTrue c.has.ensures c.if-not-has.false) (c.in_err-add_row.ensures.exact told then at))
+    rw (p.1, p.2) (walking_value _ _ _ _ _ _ _ _ way _ _ same placed _ _ same_then (subst IsTrue c.has.ensures c.if-not-has.false)
+    (c.in_err-add_row.ensures.exact told then at))
 
 pub returns-in_err-next-clause-exact : goal.returns-in_err-next-clause-exact
 returns-in_err-next-clause-exact g c = λ told right.
@@ -169,4 +195,5 @@ returns-after-loop-number-clause-exact g c = λ told right.
 pub returns-then-not-has-clause-exact : goal.returns-then-not-has-clause-exact
 returns-then-not-has-clause-exact g c = λ told right.
     let now = right_again told right c.loop-number.invariant.disk c.loop-number.invariant.kept in
-    walking_ends _ _ _ _ _ _ _ _ (c.loop-number.invariant.walking told right) _ _ (ap archive_of c.loop-number.invariant.disk) (c.in_ok-placed.ensures.exact told now) (sym c.has.ensures ∙ c.if-not-has.true)
+    walking_ends _ _ _ _ _ _ _ _ (c.loop-number.invariant.walking told right) _ _ (ap archive_of c.loop-number.invariant.disk)
+    (c.in_ok-placed.ensures.exact told now) (sym c.has.ensures ∙ c.if-not-has.true)

@@ -19,7 +19,8 @@ loop-low-init g c = record {
       (all_between _ c.args.run.now records reads.laid c.args.key.now c.args.time) c.requires.few placed.at
       (ap (precedes c.args.key.now c.args.time) (sym placed.head) ∙ c.requires.before);
   seen = λ records r reads placed. (r, placed);
-  half = λ told right is sound. from_first _ c.args.run.now c.args.key.now c.args.time c.args.from.now.number c.args.from.now c.requires.few is sound c.requires.before;
+  half = λ told right is sound. from_first _ c.args.run.now c.args.key.now c.args.time c.args.from.now.number c.args.from.now c.requires.few is sound
+      c.requires.before;
 }
 
 pub loop-low-preserved-then-precedes : goal.loop-low-preserved-then-precedes
@@ -45,8 +46,12 @@ loop-low-preserved-then-precedes g c =
           (found.0, c.in_ok-placed.ensures.only records found.0 later found.1 (c.loop-low.invariant.seen records r reads placed));
       half = λ told right is sound.
           let now = right_again told right c.loop-low.invariant.disk c.loop-low.invariant.kept in
-          from_before _ _ c.args.run.now c.args.key.now c.args.time c.args.from.now.number c.loop-low.last c.loop-low.low c.loop-low.high n (ap archive_of c.loop-low.invariant.disk)
-          (c.loop-low.invariant.half told right is sound) (omega (arith, c.min.ensures)) (omega (arith, c.min.ensures)) c.in_ok-placed.placed (c.in_ok-placed.ensures.exact told now)
+          from_before _ _ c.args.run.now c.args.key.now c.args.time c.args.from.now.number c.loop-low.last c.loop-low.low c.loop-low.high n
+          (ap archive_of c.loop-low.invariant.disk)
+          (c.loop-low.invariant.half told right is sound) (omega (arith, c.min.ensures)) (omega (
+            arith,
+            c.min.ensures,
+          )) c.in_ok-placed.placed (c.in_ok-placed.ensures.exact told now)
           (sym c.precedes.ensures ∙ c.if-precedes.true);
     }
 
@@ -73,8 +78,12 @@ loop-low-preserved g c =
           (found.0, c.in_ok-placed.ensures.only records found.0 later found.1 (c.loop-low.invariant.seen records r reads placed));
       half = λ told right is sound.
           let now = right_again told right c.loop-low.invariant.disk c.loop-low.invariant.kept in
-          from_behind _ _ c.args.run.now c.args.key.now c.args.time c.args.from.now.number c.loop-low.last c.loop-low.low c.loop-low.high n (ap archive_of c.loop-low.invariant.disk)
-          (c.loop-low.invariant.half told right is sound) (omega (arith, c.min.ensures)) (omega (arith, c.min.ensures)) c.in_ok-placed.placed (c.in_ok-placed.ensures.exact told now)
+          from_behind _ _ c.args.run.now c.args.key.now c.args.time c.args.from.now.number c.loop-low.last c.loop-low.low c.loop-low.high n
+          (ap archive_of c.loop-low.invariant.disk)
+          (c.loop-low.invariant.half told right is sound) (omega (arith, c.min.ensures)) (omega (
+            arith,
+            c.min.ensures,
+          )) c.in_ok-placed.placed (c.in_ok-placed.ensures.exact told now)
           (sym c.precedes.ensures ∙ c.if-precedes.false);
     }
 
@@ -92,7 +101,8 @@ returns-in_err-placed-clause-exact g c = λ told right is sound.
     let n = c.loop-low.low + c.min.result in
     let now = right_again told right c.loop-low.invariant.disk c.loop-low.invariant.kept in
     let p = err_from_is_err_and c.from_residual.result c.from_residual.ensures.1 in
-    rw (p.1, p.2) (from_broken _ _ c.args.run.now c.args.key.now c.args.time c.args.from.now.number c.loop-low.last c.loop-low.low c.loop-low.high n (ap archive_of c.loop-low.invariant.disk)
+    rw (p.1, p.2) (from_broken _ _ c.args.run.now c.args.key.now c.args.time c.args.from.now.number c.loop-low.last c.loop-low.low c.loop-low.high n
+    (ap archive_of c.loop-low.invariant.disk)
     (c.loop-low.invariant.half told right is sound) (omega (arith, c.min.ensures)) (omega (arith, c.min.ensures)) _ (c.in_err-placed.ensures.exact told now))
 
 pub returns-clause-exact : goal.returns-clause-exact

@@ -16,12 +16,15 @@ invariant-loop-low g l = record {
   within : l.high ≤ l.run.slot.records;
   disk : g.D.Disk.state l.disk ≡ g.D.Disk.state l.initial.disk;
   kept : Keeps (run_end l.run) g.D.Disk.tells (archive_of (g.D.Disk.state l.initial.disk)) (kept_of l.initial.self) (kept_of l.self);
-  between : (records : List ArchiveRecord) (r : ArchiveRecord) → Reads g.D.Disk.tells (kept_of l.initial.self) (g.D.Disk.state l.initial.disk) l.run records → IsPlaced records r l.from
+  between : (records : List ArchiveRecord) (r : ArchiveRecord) → Reads g.D.Disk.tells (kept_of l.initial.self) (g.D.Disk.state l.initial.disk) l.run records
+      → IsPlaced records r l.from
       → IsBetween records l.key l.time l.low l.high;
-  seen : (records : List ArchiveRecord) (r : ArchiveRecord) → Reads g.D.Disk.tells (kept_of l.initial.self) (g.D.Disk.state l.initial.disk) l.run records → IsPlaced records r l.from
+  seen : (records : List ArchiveRecord) (r : ArchiveRecord) → Reads g.D.Disk.tells (kept_of l.initial.self) (g.D.Disk.state l.initial.disk) l.run records
+      → IsPlaced records r l.from
       → IsSeen records l.last;
   half : IsTrue g.D.Disk.tells → IsRight (kept_of l.initial.self) (archive_of (g.D.Disk.state l.initial.disk))
-      → l.from ≡ placed_at (archive_of (g.D.Disk.state l.initial.disk)) l.run l.from.number → IsHeadSound (archive_of (g.D.Disk.state l.initial.disk)) l.run None l.from.number
+      → l.from ≡ placed_at (archive_of (g.D.Disk.state l.initial.disk)) l.run l.from.number
+      → IsHeadSound (archive_of (g.D.Disk.state l.initial.disk)) l.run None l.from.number
       → IsHalfwayFrom (archive_of (g.D.Disk.state l.initial.disk)) l.run l.key l.time l.from.number l.last l.low l.high;
 }
 

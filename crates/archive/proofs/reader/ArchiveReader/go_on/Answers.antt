@@ -14,7 +14,8 @@ returns-in-Some-clause-only g c = λ records r reads placed.
     let n = c.args.placed.now.number in
     let key = c.in-Some.key in
     let skips : skip_to w (head_of r) ≡ Some key = ap (skip_to w) (sym placed.head) ∙ sym c.skip_to.ensures ∙ c.in-Some.is in
-    let goes : (bound : Bound) → IsBound records key w.a bound.number × IsSeen records bound.last → AreSkipped records w n bound.number × IsSeen records bound.last =
+    let goes : (bound : Bound) → IsBound records key w.a bound.number × IsSeen records bound.last → AreSkipped records w n bound.number
+    × IsSeen records bound.last =
     λ bound is. (are_skipped w _ c.args.run.now records reads.laid n bound.number r key placed.at skips is.0, is.1) in
     map_found c.count_from.result goes (c.count_from.ensures.only records r reads placed)
 
@@ -26,7 +27,9 @@ returns-in-Some-clause-exact g c = λ last told right placed.
     let n = c.args.placed.now.number in
     let key = c.in-Some.key in
     let skips = ap (λ (p : Placed). skip_to w p.head) (sym placed.0) ∙ sym c.skip_to.ensures ∙ c.in-Some.is in
-    let goes : (bound : Bound) → (read : List ℕ) × IsSearched area run key w.a (read ++ n ∷ []) bound.number × (bound.last ≡ last_of area run (read ++ n ∷ [])) → GoesOn area w run n bound.number bound.last =
+    let goes : (bound : Bound) → (read : List ℕ) × IsSearched area run key w.a (read ++ n ∷ []) bound.number × (bound.last ≡ last_of area run (read ++ n ∷ []))
+    → GoesOn area w run n bound.number bound.last =
     λ bound is. Skips key is.0 skips is.1 is.2 in
-    let breaks : (start : ℕ) → IsSearchBrokenFrom area run key w.a n → IsSkipBroken area w run n = λ start broken. record { key = key; skips = skips; broken = broken } in
+    let breaks : (start : ℕ) → IsSearchBrokenFrom area run key w.a n → IsSkipBroken area w run n =
+    λ start broken. record { key = key; skips = skips; broken = broken } in
     map_answer c.count_from.result goes breaks (c.count_from.ensures.exact told right placed.0 (sound_alone placed.1))

@@ -21,7 +21,12 @@ loop-run-preserved-then-run-wanted g c =
       rises = c.loop-run.invariant.rises;
       disk = c.loop-run.invariant.disk;
       kept = c.loop-run.invariant.kept;
-      heads = λ one. let same = heads_without_run c.args.wanted.now.a c.args.runs.now c.loop-run.run-index c.run-item.result at c.if-run-wanted.true in omega (arith, same, c.loop-run.invariant.heads one);
+      heads = λ one. let same =
+          heads_without_run c.args.wanted.now.a c.args.runs.now c.loop-run.run-index c.run-item.result at c.if-run-wanted.true in omega (
+            arith,
+            same,
+            c.loop-run.invariant.heads one,
+          );
       shown = λ lists told right hold.
           let here = list_at _ c.args.runs.now lists c.loop-run.run-index c.run-item.result hold at in
           let none = past_rows g.R.Row.shown c.args.wanted.now _ c.run-item.result here.0 here.1 c.if-run-wanted.true in
@@ -31,19 +36,22 @@ loop-run-preserved-then-run-wanted g c =
           ∙ sym (more (rows_in g.R.Row.shown c.args.wanted.now) lists c.loop-run.run-index here.0 here.2);
       through = λ told right.
           let area = archive_of (g.D.Disk.state c.args.disk.now) in
-          through_past (IsWalked g.R.Row.shown area c.args.wanted.now) c.args.wanted.now.a c.args.runs.now c.loop-run.run-index c.loop-run.rows.items (c.loop-run.invariant.through told right) c.run-item.result at c.if-run-wanted.true;
+          through_past (IsWalked g.R.Row.shown area c.args.wanted.now) c.args.wanted.now.a c.args.runs.now c.loop-run.run-index c.loop-run.rows.items
+          (c.loop-run.invariant.through told right) c.run-item.result at c.if-run-wanted.true;
     }
 
 pub returns-in_err-add_rows-clause-kept : goal.returns-in_err-add_rows-clause-kept
 returns-in_err-add_rows-clause-kept g c = λ limit by.
     let at = slice_get_read c.args.runs.now (length c.args.runs.now) c.loop-run.run-index c.run-item.result refl c.loop-run-test.true c.run-item.is in
-    keeps_on_state c.loop-run.invariant.disk (c.loop-run.invariant.kept limit by) (keeps_later (by c.loop-run.run-index c.run-item.result at) c.in_err-add_rows.ensures.looks.kept)
+    keeps_on_state c.loop-run.invariant.disk (c.loop-run.invariant.kept limit by)
+    (keeps_later (by c.loop-run.run-index c.run-item.result at) c.in_err-add_rows.ensures.looks.kept)
 
 pub returns-in_err-add_rows-clause-damaged : goal.returns-in_err-add_rows-clause-damaged
 returns-in_err-add_rows-clause-damaged g c =
     let at = slice_get_read c.args.runs.now (length c.args.runs.now) c.loop-run.run-index c.run-item.result refl c.loop-run-test.true c.run-item.is in
     let p = err_from_is_err_and c.from_residual.result c.from_residual.ensures.1 in
-    rw (p.1, p.2) (fault_in c.args.wanted.now.a c.args.runs.now c.loop-run.run-index c.run-item.result _ at c.if-run-wanted.false c.in_err-add_rows.ensures.looks.damaged)
+    rw (p.1, p.2) (fault_in c.args.wanted.now.a c.args.runs.now c.loop-run.run-index c.run-item.result _ at c.if-run-wanted.false
+    c.in_err-add_rows.ensures.looks.damaged)
 
 pub returns-in_err-add_rows-clause-only : goal.returns-in_err-add_rows-clause-only
 returns-in_err-add_rows-clause-only g c = λ lists told right hold.
@@ -60,11 +68,19 @@ loop-run-preserved g c =
     record {
       rises = omega (arith, c.loop-run.invariant.rises, c.in_ok-add_rows.ensures.rises);
       disk = c.in_ok-add_rows.ensures.looks.disk ∙ c.loop-run.invariant.disk;
-      kept = λ limit by. keeps_on_state c.loop-run.invariant.disk (c.loop-run.invariant.kept limit by) (keeps_later (by c.loop-run.run-index c.run-item.result at) c.in_ok-add_rows.ensures.looks.kept);
-      heads = λ one. let beyond = heads_of_run c.args.wanted.now.a c.args.runs.now c.loop-run.run-index c.run-item.result at c.if-run-wanted.false in omega (arith, beyond, c.loop-run.invariant.heads one, c.in_ok-add_rows.ensures.heads one);
+      kept = λ limit by. keeps_on_state c.loop-run.invariant.disk (c.loop-run.invariant.kept limit by)
+          (keeps_later (by c.loop-run.run-index c.run-item.result at) c.in_ok-add_rows.ensures.looks.kept);
+      heads = λ one. let beyond =
+          heads_of_run c.args.wanted.now.a c.args.runs.now c.loop-run.run-index c.run-item.result at c.if-run-wanted.false in omega (
+            arith,
+            beyond,
+            c.loop-run.invariant.heads one,
+            c.in_ok-add_rows.ensures.heads one,
+          );
       shown = λ lists told right hold.
           let here = list_at _ c.args.runs.now lists c.loop-run.run-index c.run-item.result hold at in
-          let reads = reads_again (first_reads told right here.1) c.loop-run.invariant.disk (c.loop-run.invariant.kept _ (held_ends _ c.args.runs.now lists hold)) in
+          let reads =
+          reads_again (first_reads told right here.1) c.loop-run.invariant.disk (c.loop-run.invariant.kept _ (held_ends _ c.args.runs.now lists hold)) in
           c.in_ok-add_rows.ensures.only here.0 reads
           ∙ ap (λ vs. vs ++ (rows_in g.R.Row.shown c.args.wanted.now) here.0) (c.loop-run.invariant.shown lists told right hold)
           ∙ sym (more (rows_in g.R.Row.shown c.args.wanted.now) lists c.loop-run.run-index here.0 here.2);
@@ -72,8 +88,10 @@ loop-run-preserved g c =
           let area = archive_of (g.D.Disk.state c.args.disk.now) in
           let now = right_among c.args.runs.now told right c.loop-run.invariant.disk c.loop-run.invariant.kept in
           let added = c.in_ok-add_rows.ensures.exact told now in
-          through_more (IsWalked g.R.Row.shown area c.args.wanted.now) c.args.wanted.now.a c.args.runs.now c.loop-run.run-index c.loop-run.rows.items (c.loop-run.invariant.through told right) c.run-item.result at added.0 c.add_rows.new.rows.items c.if-run-wanted.false
-          (subst (λ (xs : List ℕ). IsWalked g.R.Row.shown xs c.args.wanted.now c.run-item.result added.0) (ap archive_of c.loop-run.invariant.disk) added.1) added.2;
+          through_more (IsWalked g.R.Row.shown area c.args.wanted.now) c.args.wanted.now.a c.args.runs.now c.loop-run.run-index c.loop-run.rows.items
+          (c.loop-run.invariant.through told right) c.run-item.result at added.0 c.add_rows.new.rows.items c.if-run-wanted.false
+          (subst (λ (xs : List ℕ). IsWalked g.R.Row.shown xs c.args.wanted.now c.run-item.result added.0) (ap archive_of c.loop-run.invariant.disk) added.1)
+          added.2;
     }
 
 pub returns-clause-only : goal.returns-clause-only
@@ -87,8 +105,13 @@ returns-in_err-add_rows-clause-exact g c = λ told right.
     let at = slice_get_read c.args.runs.now (length c.args.runs.now) c.loop-run.run-index c.run-item.result refl c.loop-run-test.true c.run-item.is in
     let now = right_among c.args.runs.now told right c.loop-run.invariant.disk c.loop-run.invariant.kept in
     let p = err_from_is_err_and c.from_residual.result c.from_residual.ensures.1 in
-    rw (p.1, p.2) (through_broken (IsWalked g.R.Row.shown area c.args.wanted.now) c.args.wanted.now.a c.args.runs.now c.loop-run.run-index c.loop-run.rows.items (c.loop-run.invariant.through told right) c.run-item.result at (IsWalkBroken g.R.Row.shown area c.args.wanted.now) _ c.if-run-wanted.false c.in_err-add_rows.ensures.looks.damaged
-    (map_damaged _ (λ start is. subst (λ (xs : List ℕ). IsWalkBroken g.R.Row.shown xs c.args.wanted.now c.run-item.result) (ap archive_of c.loop-run.invariant.disk) is) (c.in_err-add_rows.ensures.exact told now)))
+    rw (p.1, p.2) (through_broken (IsWalked g.R.Row.shown area c.args.wanted.now) c.args.wanted.now.a c.args.runs.now c.loop-run.run-index c.loop-run.rows.items
+    (c.loop-run.invariant.through told right) c.run-item.result at (IsWalkBroken g.R.Row.shown area c.args.wanted.now) _ c.if-run-wanted.false
+    c.in_err-add_rows.ensures.looks.damaged
+    (map_damaged _ (λ start is. subst (λ (xs : List ℕ). IsWalkBroken g.R.Row.shown xs c.args.wanted.now c.run-item.result)
+    (ap archive_of c.loop-run.invariant.disk) is) (c.in_err-add_rows.ensures.exact told now)))
 
 pub returns-clause-exact : goal.returns-clause-exact
-returns-clause-exact g c = λ told right. through_done _ c.args.wanted.now.a c.args.runs.now c.loop-run.run-index c.loop-run.rows.items (c.loop-run.invariant.through told right) c.loop-run-test.false
+returns-clause-exact g c =
+    λ told right. through_done _ c.args.wanted.now.a c.args.runs.now c.loop-run.run-index c.loop-run.rows.items (c.loop-run.invariant.through told right)
+    c.loop-run-test.false

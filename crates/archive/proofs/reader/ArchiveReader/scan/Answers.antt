@@ -17,7 +17,8 @@ returns-clause-only g c = λ lists told right hold number.
 pub returns-clause-exact : goal.returns-clause-exact
 returns-clause-exact g c = λ told right. (
   c.in_ok-rows.rows.items,
-  subst (λ w. IsOfRuns (IsWalked with_record (archive_of (g.D.Disk.state c.args.disk.now)) w) w.a c.args.runs.now c.in_ok-rows.rows.items) c.of_relation.ensures (c.in_ok-rows.ensures.exact told right),
+  subst (λ w. IsOfRuns (IsWalked with_record (archive_of (g.D.Disk.state c.args.disk.now)) w) w.a c.args.runs.now c.in_ok-rows.rows.items) c.of_relation.ensures
+      (c.in_ok-rows.ensures.exact told right),
   c.in_ok-order_rows.ensures.same,
 )
 

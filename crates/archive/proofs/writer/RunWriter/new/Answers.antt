@@ -6,15 +6,21 @@ use Rattle.archive.specs.Runs.{run_bytes}
 use Rattle.archive.proofs.Lefts.{run_size}
 use Rattle.archive.proofs.Joining.{joined_run}
 use Rattle.archive.proofs.writer.RunWriter.new.Goals as goal
-use Rattle.archive.proofs.writer.RunWriter.new.Goals.{then-start-gt-LAST_PLACE-via-then-start-gt-LAST_PLACE, then-start-gt-LAST_PLACE-via-else-start-gt-LAST_PLACE+then-sizes-start}
+use Rattle.archive.proofs.writer.RunWriter.new.Goals.{then-start-gt-LAST_PLACE-via-then-start-gt-LAST_PLACE}
+use Rattle.archive.proofs.writer.RunWriter.new.Goals.{then-start-gt-LAST_PLACE-via-else-start-gt-LAST_PLACE+then-sizes-start}
 
 pub returns-in_default-clause-is : goal.returns-in_default-clause-is
 returns-in_default-clause-is g c = omega (arith, c.in_default.ensures.none, ap size_of c.restart.ensures.left, run_size (g.W.RecordWalk.all c.args.walk))
 
 pub returns-then-start-gt-LAST_PLACE-clause-is : goal.returns-then-start-gt-LAST_PLACE-clause-is
 returns-then-start-gt-LAST_PLACE-clause-is g c =
-    let len : c.in-Some.sizes.len ≡ length (run_bytes (g.W.RecordWalk.all c.args.walk)) = c.in-Some.ensures.len ∙ ap size_of c.restart.ensures.left ∙ run_size (g.W.RecordWalk.all c.args.walk) in
-    elim c.then-start-gt-LAST_PLACE.branch [ then-start-gt-LAST_PLACE-via-then-start-gt-LAST_PLACE w ↦ omega arith | then-start-gt-LAST_PLACE-via-else-start-gt-LAST_PLACE+then-sizes-start w ↦ omega arith ]
+    let len : c.in-Some.sizes.len ≡ length (run_bytes (g.W.RecordWalk.all c.args.walk)) =
+    c.in-Some.ensures.len ∙ ap size_of c.restart.ensures.left ∙ run_size (g.W.RecordWalk.all c.args.walk) in
+    elim c.then-start-gt-LAST_PLACE.branch [
+      | then-start-gt-LAST_PLACE-via-then-start-gt-LAST_PLACE w ↦ omega arith
+      | then-start-gt-LAST_PLACE-via-else-start-gt-LAST_PLACE+then-sizes-start w ↦
+          omega arith
+    ]
 
 pub invariant_of-result : goal.invariant_of-result
 invariant_of-result g c =

@@ -16,7 +16,8 @@ returns-clause-left g c =
     let n = c.fill-from.result.1 - from in
     let out = c.fill-from.new.out in
     let count : n ≡ min 8192 (length all) = omega (arith, c.fill-from.ensures.full) in
-    let size : length (slice_range out from c.fill-from.result.1) ≡ n = omega (arith, length-take n (drop from out), length-drop from out, c.fill-from.array_long, c.fill-from.ensures.within) in
+    let size : length (slice_range out from c.fill-from.result.1) ≡ n =
+    omega (arith, length-take n (drop from out), length-drop from out, c.fill-from.array_long, c.fill-from.ensures.within) in
     rest_is all (slice_range out from c.fill-from.result.1) _ n c.fill-from.ensures.joined count size ∙ ap (λ (xs : List ℕ). drop 8192 xs) is
 
 pub returns-clause-at : goal.returns-clause-at
@@ -37,10 +38,14 @@ returns-clause-wrote g c = λ told some.
     let n = c.fill-from.result.1 - from in
     let out = c.fill-from.new.out in
     let count : n ≡ min 8192 (length all) = omega (arith, c.fill-from.ensures.full) in
-    let size : length (slice_range out from c.fill-from.result.1) ≡ n = omega (arith, length-take n (drop from out), length-drop from out, c.fill-from.array_long, c.fill-from.ensures.within) in
+    let size : length (slice_range out from c.fill-from.result.1) ≡ n =
+    omega (arith, length-take n (drop from out), length-drop from out, c.fill-from.array_long, c.fill-from.ensures.within) in
     let front = front_is all (slice_range out from c.fill-from.result.1) _ n c.fill-from.ensures.joined count size ∙ ap (λ (xs : List ℕ). take 8192 xs) is in
-    let wrote = subst (λ (xs : List ℕ). Writes Archive c.self.inside.at xs c.write_at.result (g.D.Disk.state c.args.disk.now).areas (g.D.Disk.state c.write_at.new.self).areas) front (c.write_at.ensures.areas told) in
-    subst (λ (n : ℕ). Writes Archive n (take 8192 c.args.self.now.left) c.write_at.result (g.D.Disk.state c.args.disk.now).areas (g.D.Disk.state c.write_at.new.self).areas) at wrote
+    let wrote =
+    subst (λ (xs : List ℕ). Writes Archive c.self.inside.at xs c.write_at.result (g.D.Disk.state c.args.disk.now).areas
+    (g.D.Disk.state c.write_at.new.self).areas) front (c.write_at.ensures.areas told) in
+    subst (λ (n : ℕ). Writes Archive n (take 8192 c.args.self.now.left) c.write_at.result (g.D.Disk.state c.args.disk.now).areas
+    (g.D.Disk.state c.write_at.new.self).areas) at wrote
 
 pub invariant_of-self : goal.invariant_of-self
 invariant_of-self g c = grind (arith, common_steps)

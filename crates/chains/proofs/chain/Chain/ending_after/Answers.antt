@@ -23,4 +23,5 @@ returns-in-None-clause-is c =
     let last = c.self.inside.last in
     let none : find (ends_after c.args.time) (versions_upto (first_time last) older) ≡ None = rw c.first_time-first.ensures.is at (sym c.in-None.ensures) in
     subst (λ (k : KeyWrites). option_map version_of_loan c.ending_in.result ≡ find (ends_after c.args.time) (versions k.writes)) c.self.view_is
-    (rw c.as_slice.ensures.is at c.ending_in.ensures ∙ ap (λ (vs : List (Version Value)). find (ends_after c.args.time) vs) (versions-endless last) ∙ sym (find_recent c.args.time older last none))
+    (rw c.as_slice.ensures.is at c.ending_in.ensures ∙ ap (λ (vs : List (Version Value)). find (ends_after c.args.time) vs) (versions-endless last)
+    ∙ sym (find_recent c.args.time older last none))

@@ -8,5 +8,8 @@ pub returns-then-mark-first_time : goal.returns-then-mark-first_time
 returns-then-mark-first_time c = λ kept.
     let older = c.self.inside.older.pieces in
     let last = c.self.inside.last in
-    let later = rising-later c.args.mark last c.first_time.ensures.some (rw c.first_time.ensures.is at c.if-mark-first_time.true) (rising-back 0 older last c.self.invariant) in
-    subst (λ (k : KeyWrites). unless_empty k.key (kept_after c.args.mark k.writes) ≡ k ∷ []) c.self.view_is (kept_all c.args.mark c.self.inside.key older last c.first_time.ensures.some later (c.is_kept.ensures kept))
+    let later =
+    rising-later c.args.mark last c.first_time.ensures.some (rw c.first_time.ensures.is at c.if-mark-first_time.true)
+    (rising-back 0 older last c.self.invariant) in
+    subst (λ (k : KeyWrites). unless_empty k.key (kept_after c.args.mark k.writes) ≡ k
+    ∷ []) c.self.view_is (kept_all c.args.mark c.self.inside.key older last c.first_time.ensures.some later (c.is_kept.ensures kept))

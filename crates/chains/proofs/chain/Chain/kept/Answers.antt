@@ -11,15 +11,20 @@ pub of-kept-requires : goal.of-kept-requires
 of-kept-requires c =
     let older = c.self.inside.older.pieces in
     let last = c.self.inside.last in
-    let later = rising-later c.args.mark last c.first_time.ensures.some (rw c.first_time.ensures.is at c.if-mark-first_time.true) (rising-back 0 older last c.self.invariant) in
+    let later =
+    rising-later c.args.mark last c.first_time.ensures.some (rw c.first_time.ensures.is at c.if-mark-first_time.true)
+    (rising-back 0 older last c.self.invariant) in
     rw (c.in_ok-older.ensures, c.in_ok-share-2.ensures) (older-rising c.args.mark older last later c.self.invariant)
 
 pub returns-then-mark-first_time : goal.returns-then-mark-first_time
 returns-then-mark-first_time c =
     let older = c.self.inside.older.pieces in
     let last = c.self.inside.last in
-    let later = rising-later c.args.mark last c.first_time.ensures.some (rw c.first_time.ensures.is at c.if-mark-first_time.true) (rising-back 0 older last c.self.invariant) in
-    let left : c.of-kept.result ≡ record { key = c.self.inside.key; writes = kept_after c.args.mark older ++ last } = rw (c.of-kept.ensures, c.in_ok-older.ensures, c.in_ok-share-2.ensures) refl in
+    let later =
+    rising-later c.args.mark last c.first_time.ensures.some (rw c.first_time.ensures.is at c.if-mark-first_time.true)
+    (rising-back 0 older last c.self.invariant) in
+    let left : c.of-kept.result ≡ record { key = c.self.inside.key; writes = kept_after c.args.mark older ++ last } =
+    rw (c.of-kept.ensures, c.in_ok-older.ensures, c.in_ok-share-2.ensures) refl in
     subst (λ (k : KeyWrites). c.of-kept.result ∷ [] ≡ unless_empty k.key (kept_after c.args.mark k.writes)) c.self.view_is
     (ap (λ (k : KeyWrites). k ∷ []) left ∙ sym (kept_older c.args.mark c.self.inside.key older last c.first_time.ensures.some later))
 
@@ -48,4 +53,5 @@ returns-in-Some c =
     let by = kept-piece c.args.mark older last c.first_time.ensures.some (rw c.first_time.ensures.is at c.if-mark-first_time.false) c.self.invariant in
     let left : c.of-in-Some.result ≡ record { key = c.self.inside.key; writes = c.in-Some.last } = rw (c.of-in-Some.ensures, c.new.ensures) refl in
     subst (λ (k : KeyWrites). c.of-in-Some.result ∷ [] ≡ unless_empty k.key (kept_after c.args.mark k.writes)) c.self.view_is
-    (ap (λ (k : KeyWrites). k ∷ []) left ∙ sym (ap (λ (ws : List Write). unless_empty c.self.inside.key ws) (by ∙ sym same) ∙ unless_empty-some c.self.inside.key c.in-Some.last some))
+    (ap (λ (k : KeyWrites). k ∷ []) left
+    ∙ sym (ap (λ (ws : List Write). unless_empty c.self.inside.key ws) (by ∙ sym same) ∙ unless_empty-some c.self.inside.key c.in-Some.last some))

@@ -19,8 +19,10 @@ returns-then-first-time-clause-is c =
     let last = c.self.inside.last in
     let some = c.first_time-first.ensures.some in
     let front : IsFront c.args.time (2 ^ 63) (versions (older ++ last)) (versions_upto (2 ^ 63) last) = elim c.then-first-time.branch [
-      | then-first-time-via-then-first-time w ↦ front_recent older last some c.self.invariant c.args.time c.if-time-ge-ENDLESS.false (rw c.first_time-first.ensures.is at w.if-first-time.true)
-      | then-first-time-via-else-first-time+then-is_empty w ↦ front_only older last some c.self.invariant c.args.time c.if-time-ge-ENDLESS.false (w.is_empty.ensures w.if-is_empty.true)
+      | then-first-time-via-then-first-time w ↦ front_recent older last some c.self.invariant c.args.time c.if-time-ge-ENDLESS.false
+          (rw c.first_time-first.ensures.is at w.if-first-time.true)
+      | then-first-time-via-else-first-time+then-is_empty w ↦ front_only older last some c.self.invariant c.args.time c.if-time-ge-ENDLESS.false
+          (w.is_empty.ensures w.if-is_empty.true)
     ] in
     rw c.as_slice.ensures.is (subst (λ (k : KeyWrites). IsFront c.args.time (2 ^ 63) (versions k.writes) (versions_upto (2 ^ 63) last)) c.self.view_is front)
 

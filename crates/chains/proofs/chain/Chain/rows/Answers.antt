@@ -16,4 +16,5 @@ returns c =
     let both : c.add_rows_in.new.rows.items ≡ rows (versions_upto (first_time last) older) c.args.a c.args.b ++ rows (versions last) c.args.a c.args.b =
     rw (first, c.as_slice.ensures.is, versions-endless) at c.in_ok-add_rows_in.ensures in
     subst (λ (k : KeyWrites). c.add_rows_in.new.rows.items ≡ rows (versions k.writes) c.args.a c.args.b) c.self.view_is
-    (both ∙ sym (ap (λ (vs : List (Version Value)). rows vs c.args.a c.args.b) (versions-parts older last) ∙ rows-append c.args.a c.args.b (versions_upto (first_time last) older) (versions last)))
+    (both ∙ sym (ap (λ (vs : List (Version Value)). rows vs c.args.a c.args.b) (versions-parts older last)
+    ∙ rows-append c.args.a c.args.b (versions_upto (first_time last) older) (versions last)))

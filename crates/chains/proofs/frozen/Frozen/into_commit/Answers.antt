@@ -14,7 +14,10 @@ invariant_of-result c =
     let ws = c.args.writes.now in
     let later : latest m < c.args.time = rw c.self.view_is c.requires.later in
     let follow = may-all-follow c.args.time m ws c.self.invariant.0 (older-latest c.args.time m ws later) c.requires.rising in
-    rw c.in_ok-into_writes.ensures (ordered-with_commit m c.args.time ws c.self.invariant.0, rising-with_commit c.args.time m ws c.requires.in_range follow c.self.invariant.1)
+    rw c.in_ok-into_writes.ensures (
+      ordered-with_commit m c.args.time ws c.self.invariant.0,
+      rising-with_commit c.args.time m ws c.requires.in_range follow c.self.invariant.1,
+    )
 
 pub returns-clause-by_key : goal.returns-clause-by_key
 returns-clause-by_key c = λ key.

@@ -5,5 +5,6 @@ use Rattle.chains.proofs.frozen.Frozen.scan_rows.Goals as goal
 
 pub returns : goal.returns
 returns c =
-    let shown : c.add_records.new.found.items ≡ scanned_rows c.args.relation c.args.a c.args.b c.self.inside.keys = rw c.new-found.ensures.items at c.in_ok-add_records.ensures in
+    let shown : c.add_records.new.found.items ≡ scanned_rows c.args.relation c.args.a c.args.b c.self.inside.keys =
+    rw c.new-found.ensures.items at c.in_ok-add_records.ensures in
     subst (λ (m : List KeyWrites). c.add_records.new.found.items ≡ scanned_rows c.args.relation c.args.a c.args.b m) c.self.view_is shown

@@ -9,8 +9,11 @@ use Rattle.chains.proofs.key_node.KeyNode.+add_kept.Goals as goal
 pub returns-then-are_kept-clause-is : goal.returns-then-are_kept-clause-is
 returns-then-are_kept-clause-is t c =
     let found = all_of c.args.found.now.items in
-    let same : forgotten c.args.mark c.args.self.now.pieces ≡ c.args.self.now.pieces = subst (λ (m : List KeyWrites). forgotten c.args.mark m ≡ m) (sym (ap (λ (n : Shape KeyWrites). n.pieces) c.in-Chains.ensures.0)) (c.are_kept.ensures c.if-are_kept.true) in
-    popped _ _ c.in_ok-push-in-Chains.ensures.items ∙ ap (λ (n : Shape KeyWrites). found ++ n.pieces) c.in_ok-share-in-Chains.ensures ∙ ap (λ (m : List KeyWrites). found ++ m) (sym same)
+    let same : forgotten c.args.mark c.args.self.now.pieces ≡ c.args.self.now.pieces =
+    subst (λ (m : List KeyWrites). forgotten c.args.mark m
+    ≡ m) (sym (ap (λ (n : Shape KeyWrites). n.pieces) c.in-Chains.ensures.0)) (c.are_kept.ensures c.if-are_kept.true) in
+    popped _ _ c.in_ok-push-in-Chains.ensures.items ∙ ap (λ (n : Shape KeyWrites). found ++ n.pieces) c.in_ok-share-in-Chains.ensures
+    ∙ ap (λ (m : List KeyWrites). found ++ m) (sym same)
 
 pub add_leaves-requires : goal.add_leaves-requires
 add_leaves-requires t c = rw c.in_ok-kept_of-in-Chains.ensures (ordered-forgotten c.args.mark c.in-Chains.chains.now c.in-Chains.ensures.1)
@@ -50,11 +53,13 @@ returns-then-is_same-clause-is t c =
     let found = all_of c.args.found.now.items in
     let none : all_of c.loop-rest.rest.now ≡ [] = none-left c.loop-rest.rest.now c.in_default.len_below in
     let same : forgotten c.args.mark c.args.self.now.pieces ≡ c.args.self.now.pieces = c.loop-rest.invariant.same c.if-is_same.true (rw none refl) in
-    popped _ _ c.in_ok-push.ensures.items ∙ ap (λ (n : Shape KeyWrites). found ++ n.pieces) c.in_ok-share.ensures ∙ ap (λ (m : List KeyWrites). found ++ m) (sym same)
+    popped _ _ c.in_ok-push.ensures.items ∙ ap (λ (n : Shape KeyWrites). found ++ n.pieces) c.in_ok-share.ensures
+    ∙ ap (λ (m : List KeyWrites). found ++ m) (sym same)
 
 pub add_forks-requires : goal.add_forks-requires
 add_forks-requires t c =
     let all = all_of c.loop-rest.all.items in
     let none : all_of c.loop-rest.rest.now ≡ [] = none-left c.loop-rest.rest.now c.in_default.len_below in
-    let is : all ≡ forgotten c.args.mark c.args.self.now.pieces = sym (append-nil all) ∙ ap (λ (m : List KeyWrites). all ++ forgotten c.args.mark m) (sym none) ∙ c.loop-rest.invariant.put in
+    let is : all ≡ forgotten c.args.mark c.args.self.now.pieces =
+    sym (append-nil all) ∙ ap (λ (m : List KeyWrites). all ++ forgotten c.args.mark m) (sym none) ∙ c.loop-rest.invariant.put in
     rw is (ordered-forgotten c.args.mark c.args.self.now.pieces (subst IsOrdered c.in-Nodes.ensures.chains c.in-Nodes.ensures.ordered))

@@ -14,7 +14,9 @@ loop-rest-init t c = record {
 
 pub returns-then-relation-first_key : goal.returns-then-relation-first_key
 returns-then-relation-first_key t c =
-    let none = relation_late c.loop-rest.rest.now c.in-len1-up.len_at_least c.node-item.is c.args.relation (shown_rows c.args.a c.args.b) c.first_key.result c.first_key.ensures c.if-relation-first_key.true c.loop-rest.invariant.ordered in
+    let none =
+    relation_late c.loop-rest.rest.now c.in-len1-up.len_at_least c.node-item.is c.args.relation (shown_rows c.args.a c.args.b) c.first_key.result
+    c.first_key.ensures c.if-relation-first_key.true c.loop-rest.invariant.ordered in
     sym (append-nil c.loop-rest.found.items) ∙ ap (λ l. c.loop-rest.found.items ++ l) (sym none) ∙ c.loop-rest.invariant.left
 
 pub loop-rest-preserved : goal.loop-rest-preserved

@@ -12,7 +12,8 @@ abbrev pub invariant-loop-rest : goal.invariant-loop-rest
 invariant-loop-rest l = record {
   low : highest l.rest < l.self.height;
   ordered : IsOrdered (all_of l.rest);
-  left : l.found.items ++ of_relation l.relation (shown_rows l.a l.b) (all_of l.rest) ≡ l.fn.found.items ++ of_relation l.relation (shown_rows l.a l.b) l.self.pieces;
+  left : l.found.items ++ of_relation l.relation (shown_rows l.a l.b) (all_of l.rest) ≡ l.fn.found.items
+      ++ of_relation l.relation (shown_rows l.a l.b) l.self.pieces;
 }
 
 abbrev pub decreases-loop-rest : goal.decreases-loop-rest

@@ -17,15 +17,22 @@ returns-then-is_empty t c =
 
 pub add_leaves-requires : goal.add_leaves-requires
 add_leaves-requires t c =
-    rw (c.in_ok-add_with_writes-in-Chains.ensures, c.in_ok-all-in-Chains.ensures.items) (ordered-with_commit c.in-Chains.chains.now c.args.time c.args.writes.now c.in-Chains.ensures.1)
+    rw (
+      c.in_ok-add_with_writes-in-Chains.ensures,
+      c.in_ok-all-in-Chains.ensures.items,
+    ) (ordered-with_commit c.in-Chains.chains.now c.args.time c.args.writes.now c.in-Chains.ensures.1)
 
 pub add_written-requires : goal.add_written-requires
 add_written-requires t c =
     let rest = c.loop-rest.rest.now in
     let some = c.in-len1-up.len_at_least in
     let low : c.node-item.result.height < c.args.self.now.height = omega (arith, first_low rest some c.node-item.is, c.loop-rest.invariant.low) in
-    let later = (latest-parts c.node-item.result.pieces (all_of (behind rest)) c.args.time (subst (λ (m : List KeyWrites). latest m < c.args.time) (pieces_are rest some c.node-item.is) c.loop-rest.invariant.earlier)).0 in
-    let rising = (two-rising (all_of (behind rest)) c.loop-rest.left.now c.before_first.result.0.now c.before_first.result.1.now c.before_first.ensures c.loop-rest.invariant.rising).0 in
+    let later =
+    (latest-parts c.node-item.result.pieces (all_of (behind rest)) c.args.time
+    (subst (λ (m : List KeyWrites). latest m < c.args.time) (pieces_are rest some c.node-item.is) c.loop-rest.invariant.earlier)).0 in
+    let rising =
+    (two-rising (all_of (behind rest)) c.loop-rest.left.now c.before_first.result.0.now c.before_first.result.1.now c.before_first.ensures
+    c.loop-rest.invariant.rising).0 in
     search rules
 
 pub loop-rest-preserved : goal.loop-rest-preserved
@@ -36,13 +43,19 @@ loop-rest-preserved t c =
     let parted = c.before_first.ensures in
     let all = all_of c.loop-rest.all.items in
     let later = with_commit (all_of (behind rest)) c.args.time c.before_first.result.1.now in
-    let two = commit-two c.node-item.result.pieces (all_of (behind rest)) c.args.time c.loop-rest.left.now c.before_first.result.0.now c.before_first.result.1.now parted (subst IsOrdered whole c.loop-rest.invariant.ordered) in
+    let two =
+    commit-two c.node-item.result.pieces (all_of (behind rest)) c.args.time c.loop-rest.left.now c.before_first.result.0.now c.before_first.result.1.now
+    parted (subst IsOrdered whole c.loop-rest.invariant.ordered) in
     record {
       low = omega (arith, behind_low rest some c.node-item.is, c.loop-rest.invariant.low);
       ordered = behind_ordered rest some c.node-item.is c.loop-rest.invariant.ordered;
-      earlier = (latest-parts c.node-item.result.pieces (all_of (behind rest)) c.args.time (subst (λ (m : List KeyWrites). latest m < c.args.time) whole c.loop-rest.invariant.earlier)).1;
-      rising = (two-rising (all_of (behind rest)) c.loop-rest.left.now c.before_first.result.0.now c.before_first.result.1.now parted c.loop-rest.invariant.rising).1;
-      none = λ below. (subst (λ (m : List KeyWrites). ArePartedAt m c.loop-rest.left.now c.before_first.result.0.now c.before_first.result.1.now) (none-left (behind rest) below) parted).1;
+      earlier =
+          (latest-parts c.node-item.result.pieces (all_of (behind rest)) c.args.time
+          (subst (λ (m : List KeyWrites). latest m < c.args.time) whole c.loop-rest.invariant.earlier)).1;
+      rising = (two-rising (all_of (behind rest)) c.loop-rest.left.now c.before_first.result.0.now c.before_first.result.1.now parted
+          c.loop-rest.invariant.rising).1;
+      none = λ below. (subst (λ (m : List KeyWrites). ArePartedAt m c.loop-rest.left.now c.before_first.result.0.now c.before_first.result.1.now)
+          (none-left (behind rest) below) parted).1;
       put =
           ap (λ (l : List KeyWrites). l ++ later) c.in_ok-add_written.ensures
           ∙ append_assoc all (with_commit c.node-item.result.pieces c.args.time c.before_first.result.0.now) later
@@ -55,5 +68,6 @@ add_forks-requires t c =
     let all = all_of c.loop-rest.all.items in
     let none : all_of c.loop-rest.rest.now ≡ [] = none-left c.loop-rest.rest.now c.in_default.len_below in
     let left = c.loop-rest.invariant.none c.in_default.len_below in
-    let is : all ≡ with_commit c.args.self.now.pieces c.args.time c.args.writes.now = sym (append-nil all) ∙ (λ i. all ++ with_commit (sym none i) c.args.time (sym left i)) ∙ c.loop-rest.invariant.put in
+    let is : all ≡ with_commit c.args.self.now.pieces c.args.time c.args.writes.now =
+    sym (append-nil all) ∙ (λ i. all ++ with_commit (sym none i) c.args.time (sym left i)) ∙ c.loop-rest.invariant.put in
     rw is (ordered-with_commit c.args.self.now.pieces c.args.time c.args.writes.now (subst IsOrdered c.in-Nodes.ensures.chains c.in-Nodes.ensures.ordered))

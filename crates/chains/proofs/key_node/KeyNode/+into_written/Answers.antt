@@ -8,7 +8,12 @@ use Rattle.chains.proofs.CommitParts.{commit-nothing, commit-two, latest-parts, 
 use Rattle.chains.proofs.Order.{ordered-back}
 use Rattle.chains.proofs.Shapes.{all_of-append, highest-append, nothing, popped}
 use Rattle.chains.proofs.key_node.KeyNode.+into_written.Goals as goal
-use Rattle.chains.proofs.key_node.KeyNode.+into_written.Goals.{in-Some-last+in_ok-into_written, in_default, in-Some-last-2+in_ok-into_written-2, in_default-last}
+use Rattle.chains.proofs.key_node.KeyNode.+into_written.Goals.{
+  in-Some-last+in_ok-into_written,
+  in_default,
+  in-Some-last-2+in_ok-into_written-2,
+  in_default-last,
+}
 
 pub returns-then-is_empty : goal.returns-then-is_empty
 returns-then-is_empty t c =
@@ -18,7 +23,8 @@ returns-then-is_empty t c =
 
 pub add_leaves-requires : goal.add_leaves-requires
 add_leaves-requires t c =
-    let own : (c.args.self ≡ record { pieces = c.in-Ok-Chains.chains.items; height = 0 }) × IsOrdered c.in-Ok-Chains.chains.items = rw c.in-Ok-Chains.field-0-is at c.in-Ok-Chains.ensures in
+    let own : (c.args.self ≡ record { pieces = c.in-Ok-Chains.chains.items; height = 0 }) × IsOrdered c.in-Ok-Chains.chains.items =
+    rw c.in-Ok-Chains.field-0-is at c.in-Ok-Chains.ensures in
     rw c.in_ok-all-in-Ok-Chains.ensures (ordered-with_commit c.in-Ok-Chains.chains.items c.args.time c.args.writes.now own.1)
 
 pub into_written-requires : goal.into_written-requires
@@ -28,7 +34,8 @@ into_written-requires t c =
     let rest = c.next.new.self.rest.items in
     let all : highest (before ∷ node ∷ rest) < c.args.self.height = rw (c.in-Some-last.is, c.in-Some.ensures.steps.0) at c.loop-node.invariant.low in
     let low : before.height < c.args.self.height = omega (arith, all) in
-    let earlier : latest (before.pieces ++ all_of (node ∷ rest)) < c.args.time = rw (c.in-Some-last.is, c.in-Some.ensures.steps.0) at c.loop-node.invariant.earlier in
+    let earlier : latest (before.pieces ++ all_of (node ∷ rest)) < c.args.time =
+    rw (c.in-Some-last.is, c.in-Some.ensures.steps.0) at c.loop-node.invariant.earlier in
     let later = (latest-parts before.pieces (all_of (node ∷ rest)) c.args.time earlier).0 in
     let rising = c.parted.ensures.rising_before in
     search rules
@@ -39,12 +46,16 @@ loop-node-preserved t c =
     let node = c.in-Some.node in
     let rest = c.next.new.self.rest.items in
     let first = c.in-Some.ensures.steps.0 in
-    let whole : all_of (opt ++ c.loop-node.node-iterator.rest.items) ≡ all_of opt ++ all_of (node ∷ rest) = all_of-append opt c.loop-node.node-iterator.rest.items ∙ ap (λ (l : List (Shape KeyWrites)). all_of opt ++ all_of l) first in
-    let high : highest (node ∷ rest) ≤ highest (opt ++ c.loop-node.node-iterator.rest.items) = subst (λ (l : List (Shape KeyWrites)). highest (node ∷ rest) ≤ highest (opt ++ l)) (sym first) (highest-append opt (node ∷ rest)) in
+    let whole : all_of (opt ++ c.loop-node.node-iterator.rest.items) ≡ all_of opt ++ all_of (node ∷ rest) =
+    all_of-append opt c.loop-node.node-iterator.rest.items ∙ ap (λ (l : List (Shape KeyWrites)). all_of opt ++ all_of l) first in
+    let high : highest (node ∷ rest) ≤ highest (opt ++ c.loop-node.node-iterator.rest.items) =
+    subst (λ (l : List (Shape KeyWrites)). highest (node ∷ rest) ≤ highest (opt ++ l)) (sym first) (highest-append opt (node ∷ rest)) in
     record {
       low = omega (arith, high, c.loop-node.invariant.low);
       ordered = ordered-back (all_of opt) (all_of (node ∷ rest)) (subst IsOrdered whole c.loop-node.invariant.ordered);
-      earlier = (latest-parts (all_of opt) (all_of (node ∷ rest)) c.args.time (subst (λ (m : List KeyWrites). latest m < c.args.time) whole c.loop-node.invariant.earlier)).1;
+      earlier =
+          (latest-parts (all_of opt) (all_of (node
+          ∷ rest)) c.args.time (subst (λ (m : List KeyWrites). latest m < c.args.time) whole c.loop-node.invariant.earlier)).1;
       rising = elim c.match-last.branch [
         | in-Some-last+in_ok-into_written w ↦ rw w.left-is w.parted.ensures.rising_rest
         | in_default w ↦ rw w.left-is c.loop-node.invariant.rising
@@ -56,7 +67,8 @@ loop-node-preserved t c =
             let later = with_commit (all_of (node ∷ rest)) c.args.time w.parted.result.1.now in
             let ordered : IsOrdered (before.pieces ++ all_of (node ∷ rest)) = rw (w.in-Some-last.is, first) at c.loop-node.invariant.ordered in
             let two = commit-two before.pieces (all_of (node ∷ rest)) c.args.time c.loop-node.left.now w.parted.result.0.now w.parted.result.1.now
-            (parted-first node.pieces (all_of rest) w.first_key.result c.loop-node.left.now w.parted.result.0.now w.parted.result.1.now w.first_key.ensures w.parted.ensures) ordered in
+            (parted-first node.pieces (all_of rest) w.first_key.result c.loop-node.left.now w.parted.result.0.now w.parted.result.1.now w.first_key.ensures
+            w.parted.ensures) ordered in
             let so_far : all_of c.loop-node.all.items ++ with_commit (before.pieces ++ all_of (node ∷ rest)) c.args.time c.loop-node.left.now ≡ with_commit c.args.self.pieces c.args.time c.args.writes.now = rw (w.in-Some-last.is, first) at c.loop-node.invariant.put in
             rw (w.left-is, w.all-is)
             (ap (λ (l : List KeyWrites). l ++ later) w.in_ok-into_written.ensures
@@ -71,17 +83,21 @@ pub add_forks-requires : goal.add_forks-requires
 add_forks-requires t c =
     let fork : IsKeyFork c.args.self c.in-Ok-Nodes.nodes.items = rw c.in-Ok-Nodes.field-0-is at c.in-Ok-Nodes.ensures in
     let ordered = ordered-with_commit c.args.self.pieces c.args.time c.args.writes.now (subst IsOrdered fork.chains fork.ordered) in
-    let empty : c.loop-node.node-iterator.rest.items ≡ [] = nothing c.loop-node.node-iterator.rest.items (sym c.loop-node.node-iterator.rest.ok.0 ∙ c.in-None.ensures.steps.0) in
+    let empty : c.loop-node.node-iterator.rest.items ≡ [] =
+    nothing c.loop-node.node-iterator.rest.items (sym c.loop-node.node-iterator.rest.ok.0 ∙ c.in-None.ensures.steps.0) in
     elim c.match-last-2.branch [
       | in-Some-last-2+in_ok-into_written-2 w ↦
           let node = w.in-Some-last-2.node in
           let so_far : all_of c.loop-node.all.items ++ with_commit (node.pieces ++ []) c.args.time c.loop-node.left.now ≡ with_commit c.args.self.pieces c.args.time c.args.writes.now = rw (w.in-Some-last-2.is, empty) at c.loop-node.invariant.put in
-          let is = w.in_ok-into_written-2.ensures ∙ ap (λ (m : List KeyWrites). all_of c.loop-node.all.items ++ with_commit m c.args.time c.loop-node.left.now) (sym (append-nil node.pieces)) ∙ so_far in
+          let is = w.in_ok-into_written-2.ensures
+          ∙ ap (λ (m : List KeyWrites). all_of c.loop-node.all.items ++ with_commit m c.args.time c.loop-node.left.now) (sym (append-nil node.pieces))
+          ∙ so_far in
           rw (w.all-is, is) ordered
       | in_default-last w ↦
           let all = all_of c.loop-node.all.items in
           let left : c.loop-node.left.now ≡ [] = c.loop-node.invariant.none (rw (w.in_default-last.is, empty) (omega arith)) in
-          let so_far : all ++ with_commit [] c.args.time c.loop-node.left.now ≡ with_commit c.args.self.pieces c.args.time c.args.writes.now = rw (w.in_default-last.is, empty) at c.loop-node.invariant.put in
+          let so_far : all ++ with_commit [] c.args.time c.loop-node.left.now ≡ with_commit c.args.self.pieces c.args.time c.args.writes.now =
+          rw (w.in_default-last.is, empty) at c.loop-node.invariant.put in
           let is = sym (append-nil all) ∙ ap (λ ws. all ++ with_commit [] c.args.time ws) (sym left) ∙ so_far in
           rw (w.all-is, is) ordered
     ]

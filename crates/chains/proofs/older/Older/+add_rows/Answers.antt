@@ -18,7 +18,9 @@ loop-rest-init t c = record {
 pub returns-then-b-first_time : goal.returns-then-b-first_time
 returns-then-b-first_time t c =
     let late : c.args.b ≤ first_time c.branch-item.result.pieces = rw c.first_time.ensures.is at c.if-b-first_time.true in
-    let none = no_rows_late c.loop-rest.rest.now c.in-len1-up.len_at_least c.branch-item.is c.args.end c.args.a c.args.b c.loop-rest.invariant.rising c.first_time.ensures.some late in
+    let none =
+    no_rows_late c.loop-rest.rest.now c.in-len1-up.len_at_least c.branch-item.is c.args.end c.args.a c.args.b c.loop-rest.invariant.rising
+    c.first_time.ensures.some late in
     sym (append-nil c.loop-rest.found.items)
     ∙ ap (λ (l : List (Version Value)). c.loop-rest.found.items ++ l) (sym none)
     ∙ c.loop-rest.invariant.left
@@ -29,7 +31,8 @@ loop-rest-preserved t c =
     let some = c.in-len1-up.len_at_least in
     let here = rows (versions_upto (first_time_or c.args.end (all_of (behind rest))) c.branch-item.result.pieces) c.args.a c.args.b in
     let later = rows (versions_upto c.args.end (all_of (behind rest))) c.args.a c.args.b in
-    let put : c.add_rows.new.found.items ≡ c.loop-rest.found.items ++ here = rw (c.writes.ensures.is, c.first_time_or-next.ensures) at c.in_ok-add_rows.ensures in
+    let put : c.add_rows.new.found.items ≡ c.loop-rest.found.items ++ here =
+    rw (c.writes.ensures.is, c.first_time_or-next.ensures) at c.in_ok-add_rows.ensures in
     record {
       low = omega (arith, behind_low rest some c.branch-item.is, c.loop-rest.invariant.low);
       rising = behind_rising rest some c.branch-item.is c.loop-rest.invariant.rising;

@@ -8,7 +8,8 @@ use Rattle.chains.proofs.Shapes.{behind, behind_low}
 use Rattle.chains.proofs.older.Older.+ending_after.Goals as goal
 
 pub loop-rest-init : goal.loop-rest-init
-loop-rest-init t c = record { low = rest_low c.in-Branches.ensures c.from_begun-rest.ensures; found = rest_ending c.in-Branches.ensures c.from_begun-rest.ensures c.args.end }
+loop-rest-init t c =
+    record { low = rest_low c.in-Branches.ensures c.from_begun-rest.ensures; found = rest_ending c.in-Branches.ensures c.from_begun-rest.ensures c.args.end }
 
 pub returns-in-Some : goal.returns-in-Some
 returns-in-Some t c =

@@ -21,10 +21,16 @@ piece_at-requires t c =
 pub returns-in-len1-up-clause-is : goal.returns-in-len1-up-clause-is
 returns-in-len1-up-clause-is t c =
     let some = c.in-len1-up.len_at_least in
-    fork_front c.in-Branches.ensures c.from_begun.ensures some c.branch-item.is c.args.end c.piece_at.result.1 (versions_upto c.piece_at.result.1 c.piece_at.result.0.now)
+    fork_front c.in-Branches.ensures c.from_begun.ensures some c.branch-item.is c.args.end c.piece_at.result.1
+    (versions_upto c.piece_at.result.1 c.piece_at.result.0.now)
     (rw c.first_time_or.ensures at c.piece_at.ensures.upto) (rw (c.writes.ensures.is, c.first_time_or.ensures) at c.piece_at.ensures.is)
 
 pub returns-in-len1-up-clause-upto : goal.returns-in-len1-up-clause-upto
 returns-in-len1-up-clause-upto t c =
     let some = c.in-len1-up.len_at_least in
-    omega (arith, c.piece_at.ensures.upto, c.first_time_or.ensures, fork_upto c.in-Branches.ensures c.from_begun.ensures some c.branch-item.is c.args.end c.requires.ended)
+    omega (
+      arith,
+      c.piece_at.ensures.upto,
+      c.first_time_or.ensures,
+      fork_upto c.in-Branches.ensures c.from_begun.ensures some c.branch-item.is c.args.end c.requires.ended,
+    )

@@ -5,11 +5,13 @@ use Rattle.extents.proofs.extents.Extents.of_live.Goals as goal
 
 pub returns-in-Err-clause-fault : goal.returns-in-Err-clause-fault
 returns-in-Err-clause-fault c =
-    none_claims c.loop-number.extents c.args.numbers.now c.loop-number.number-index _ c.loop-number-test.true refl c.loop-number.invariant c.in-Err.ensures.err.0
+    none_claims c.loop-number.extents c.args.numbers.now c.loop-number.number-index _ c.loop-number-test.true refl c.loop-number.invariant
+    c.in-Err.ensures.err.0
 
 pub loop-number-preserved : goal.loop-number-preserved
 loop-number-preserved c =
-    next_claimed c.loop-number.extents c.claim.new.self c.args.numbers.now c.loop-number.number-index _ c.loop-number-test.true refl c.loop-number.invariant c.in-Ok.ensures.ok.0 c.in-Ok.ensures.ok.1
+    next_claimed c.loop-number.extents c.claim.new.self c.args.numbers.now c.loop-number.number-index _ c.loop-number-test.true refl c.loop-number.invariant
+    c.in-Ok.ensures.ok.0 c.in-Ok.ensures.ok.1
 
 pub returns-clause-kept : goal.returns-clause-kept
 returns-clause-kept c = λ number.

@@ -11,5 +11,6 @@ pub returns-in-None : goal.returns-in-None
 returns-in-None c =
     let floors = c.args.self.now in
     let is : c.every_below.result ≡ (nat_lt floors.every c.args.floor && all_below c.args.floor floors.own) =
-    c.every_below.ensures ∙ ap (λ t. nat_lt t c.args.floor && all_below c.args.floor c.own.result.now) c.every.ensures ∙ ap (λ own. nat_lt floors.every c.args.floor && all_below c.args.floor own) c.own.ensures.is in
+    c.every_below.ensures ∙ ap (λ t. nat_lt t c.args.floor && all_below c.args.floor c.own.result.now) c.every.ensures
+    ∙ ap (λ own. nat_lt floors.every c.args.floor && all_below c.args.floor own) c.own.ensures.is in
     rw (c.in-None.is, is) (below-every floors c.args.floor (subst AreRising c.own.ensures.is c.own.ensures.rising))

@@ -8,13 +8,17 @@ use Rattle.snapshot.proofs.txn.Txn.get.Goals as goal
 
 pub returns-in-Ok : goal.returns-in-Ok
 returns-in-Ok c =
-    let found = write_in-at c.args.key c.self.inside.writes.items c.in-Ok.place c.index.result.now c.self.invariant.rising (subst (λ ws. IsPlaceOf c.args.key ws c.in-Ok.place) c.deref.ensures.value c.in-Ok.ensures) in
+    let found =
+    write_in-at c.args.key c.self.inside.writes.items c.in-Ok.place c.index.result.now c.self.invariant.rising
+    (subst (λ ws. IsPlaceOf c.args.key ws c.in-Ok.place) c.deref.ensures.value c.in-Ok.ensures) in
     subst (λ (t : TxnValue). option_copied c.as_ref.result ≡ seen_by t c.args.key) c.self.view_is
     (c.as_ref.ensures.value ∙ ap (λ (w : KeyWrite Value). w.write) c.index.ensures
     ∙ ap (λ (f : Option (Option Value)). unwrap_or f (at_snapshot c.self.inside.frozen c.self.inside.snapshot c.args.key)) (sym found))
 
 pub returns-in-Err : goal.returns-in-Err
 returns-in-Err c =
-    let none = write_in-for c.args.key c.self.inside.writes.items c.in-Err.field-0 (subst (λ ws. IsPlaceFor c.args.key ws c.in-Err.field-0) c.deref.ensures.value c.in-Err.ensures) in
+    let none =
+    write_in-for c.args.key c.self.inside.writes.items c.in-Err.field-0
+    (subst (λ ws. IsPlaceFor c.args.key ws c.in-Err.field-0) c.deref.ensures.value c.in-Err.ensures) in
     subst (λ (t : TxnValue). option_copied c.at.result ≡ seen_by t c.args.key) c.self.view_is
     (c.at.ensures ∙ ap (λ (f : Option (Option Value)). unwrap_or f (at_snapshot c.self.inside.frozen c.self.inside.snapshot c.args.key)) (sym none))

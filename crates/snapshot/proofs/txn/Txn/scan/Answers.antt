@@ -20,9 +20,12 @@ returns c =
     let writes = c.self.inside.writes.items in
     let relation = c.args.relation in
     let pairs : c.deref.result.now ≡ scanned relation snapshot state = c.deref.ensures.value ∙ c.in_ok-published.ensures in
-    let scan = overlaid-is_scan (at_snapshot state snapshot) relation (scanned relation snapshot state) writes (scanned-is_scan relation snapshot state c.is_empty-none.ensures.ordered) c.self.invariant.rising in
+    let scan =
+    overlaid-is_scan (at_snapshot state snapshot) relation (scanned relation snapshot state) writes
+    (scanned-is_scan relation snapshot state c.is_empty-none.ensures.ordered) c.self.invariant.rising in
     if_ok _ _ c.overlay.result
     (λ found is.
     subst (λ (t : TxnValue). IsScan (seen_by t) relation found.items) c.self.view_is
-    (subst (λ (l : List (ℕ × Value)). IsScan (λ key. unwrap_or (write_in writes key) (at_snapshot state snapshot key)) relation l) (sym (is ∙ (λ i. overlaid relation (pairs i) (c.deref-2.ensures.value i)))) scan))
+    (subst (λ (l : List (ℕ × Value)). IsScan (λ key. unwrap_or (write_in writes key) (at_snapshot state snapshot key)) relation l) (sym (is
+    ∙ (λ i. overlaid relation (pairs i) (c.deref-2.ensures.value i)))) scan))
     c.overlay.ensures

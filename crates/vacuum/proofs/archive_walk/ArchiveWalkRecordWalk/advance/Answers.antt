@@ -9,7 +9,8 @@ use Rattle.vacuum.proofs.archive_walk.ArchiveWalkRecordWalk.advance.Goals as goa
 pub invariant_of-self : goal.invariant_of-self
 invariant_of-self c =
     let w = c.self.inside in
-    moved-ahead w.since w.upto w.place c.place_behind-behind.result w.frozen w.ahead c.moves.new.ahead c.args.head.now c.place_behind-behind.ensures.is c.self.invariant
+    moved-ahead w.since w.upto w.place c.place_behind-behind.result w.frozen w.ahead c.moves.new.ahead c.args.head.now c.place_behind-behind.ensures.is
+    c.self.invariant
     (ap (λ (v : Walked). option_map head_of (slice_get v.left 0)) c.self.view_is ∙ c.requires) (c.moves.ensures c.if-moves.true)
 
 pub returns-then-moves-clause-left : goal.returns-then-moves-clause-left

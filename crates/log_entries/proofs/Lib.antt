@@ -1,0 +1,11 @@
+pub mod Bases
+pub mod Codes
+pub mod CommitLengths
+pub mod Decoded
+pub mod Entries
+pub mod FixedRead
+pub mod Fronts
+pub mod Lists
+pub mod MembersRead
+pub mod NumbersRead
+pub mod Pushed

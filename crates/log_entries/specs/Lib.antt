@@ -1,0 +1,9 @@
+pub mod Spelling
+pub mod Ranges
+pub mod Reading
+pub mod Items
+pub mod Bases
+pub mod Decoding
+pub mod Lengths
+pub mod Laws
+pub mod Writing

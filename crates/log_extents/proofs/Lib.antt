@@ -1,0 +1,5 @@
+pub mod Bytes
+pub mod Pieces
+pub mod Numbers
+pub mod Agreeing
+pub mod Following

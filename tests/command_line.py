@@ -1,0 +1,65 @@
+#!/usr/bin/env python3
+"""The words of the command line as a shell sees them: help on standard output with status 0, what is no command on
+standard error with status 2, and a time that is none refused with status 1.
+
+    tests/command_line.py PROGRAM
+"""
+import os
+import sys
+import tempfile
+
+from trial import run
+
+COMMANDS = ("format", "run", "at", "between", "dump")
+LIMITS = ("16 to 65536", "65536 extents of 8 KiB", "1 to 1024 keys", "1 to 16 fields of 0 to 255 bytes",
+          "1 to 9223372036854775807", "status full", "heap full", "Exit status: 0 done, 1 refused, 2 words that are no command")
+LINES = ("begin NAME", "put NAME REL REC F..", "del NAME REL REC", "get NAME REL REC", "submit NAME LABEL TIME", "abort NAME",
+         "pump", "flush", "redeem NAME", "at REL REC TIME", "between REL REC TIME TIME", "scan REL TIME", "times LABEL",
+         "archive TIME", "reclaim", "floor TIME", "job", "finish", "reopen")
+
+
+def helps(program):
+    for words in (["--help"], ["-h"], ["help"]):
+        status, said, told = run(program, words)
+        assert (status, told) == (0, ""), (words, status, told)
+        missing = [it for it in LIMITS if it not in said] + [it for it in COMMANDS if f"\n  {it} " not in said]
+        assert not missing, (words, missing)
+    for command in COMMANDS:
+        assert run(program, ["help", command]) == run(program, [command, "--help"])
+        status, said, told = run(program, [command, "--help"])
+        assert (status, told) == (0, "") and "<DIR>" in said, (command, status, told)
+    missing = [it for it in LINES if it not in run(program, ["run", "--help"])[1]]
+    assert not missing, missing
+
+
+def no_commands(program, folder):
+    """Nothing is said on standard output, and no file is made or changed."""
+    for words in (["forget", folder], ["format"], ["format", folder, "--slots", "4294967296"], ["format", folder, "--slots", "many"],
+                  ["run"], ["run", folder, "more"], ["at", folder, "1", "7"], ["at", folder, "65536", "7", "1"],
+                  ["at", folder, "1", "18446744073709551616", "1"], ["at", folder, "1", "-7", "1"],
+                  ["between", folder, "1", "7", "0"], ["dump"], ["dump", folder, "more"], ["--slots", "16"]):
+        status, said, told = run(program, words)
+        assert (status, said) == (2, ""), (words, status, said)
+        assert told.startswith("error: ") and told.endswith("\n"), (words, told)
+    assert os.listdir(folder) == []
+
+
+def no_times(program, folder):
+    for time in ("soon", "-1", "", "2001-02-29T00:00:00Z", "2001-09-09T01:46:60Z", "18446744073709551616", "000000000000000000007"):
+        for words in (["at", folder, "1", "7", "--", time], ["between", folder, "1", "7", "--", time, "9"],
+                      ["between", folder, "1", "7", "--", "0", time]):
+            assert run(program, words)[:2] == (1, "refused: bad time\n"), words
+    assert os.listdir(folder) == []
+
+
+def main():
+    program = os.path.abspath(sys.argv[1])
+    with tempfile.TemporaryDirectory() as folder:
+        helps(program)
+        no_commands(program, folder)
+        no_times(program, folder)
+    print("command line: ok")
+
+
+if __name__ == "__main__":
+    main()
