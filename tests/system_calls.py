@@ -1,11 +1,13 @@
 #!/usr/bin/env python3
 """The calls that the program makes of the system, as `strace` sees them: which file each write goes
-to, that each is synced, and that answers are written a piece at a time and not a byte.
+to, that each is synced, and that answers are written a piece at a time and not a byte. It fails where
+there is no `strace`.
 
     tests/system_calls.py PROGRAM
 """
 import os
 import re
+import shutil
 import subprocess
 import sys
 import tempfile
@@ -95,6 +97,8 @@ def answers_are_gathered(program, base, log):
 
 def main():
     program = os.path.abspath(sys.argv[1])
+    if not shutil.which("strace"):
+        sys.exit("the system calls are not tested: there is no strace")
     with tempfile.TemporaryDirectory() as base:
         folder, log = os.path.join(base, "store"), os.path.join(base, "log")
         os.mkdir(folder)

@@ -1,5 +1,6 @@
 -- The device call that stands out after a step is the step's own.
-use Rattle.std.specs.Prelude.{ℕ, ◌≡◌, Bool, true, false, List, ◌∷◌, is_some, nat_lt, slice_get, if◌then◌else◌, [], Option, None, Some, Result, Ok, Err, MatchBool, MatchOption}
+use Rattle.std.specs.Prelude.{ℕ, ◌≡◌, Bool, true, false, List, ◌∷◌, is_some, nat_lt, slice_get, if◌then◌else◌, [], Option, None, Some, Result, Ok, Err}
+use Rattle.std.specs.Prelude.{MatchBool, MatchOption}
 use Rattle.std.proofs.Common.{◌∙◌, sym, ap, subst, refl, inl, inr, ◌⊎◌}
 use Rattle.std.proofs.lemmas.Bool.{false≢true}
 use Rattle.disk.specs.Areas.{Areas, AreSound, AreaState, area_of, with_area, written}

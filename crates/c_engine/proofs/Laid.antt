@@ -20,16 +20,19 @@ length-bytes_of-more : (shown : List Shown) (s : Shown) → length (bytes_of (sh
 length-bytes_of-more shown s = ap (λ (t : List ℕ). length t) (bytes_of-more shown s) ∙ length-append (bytes_of shown) (value_bytes s.value)
 
 -- the rows with one more
-pub rows_from-more : (at : ℕ) (shown : List Shown) (s : Shown) → rows_from at (shown ++ s ∷ []) ≡ rows_from at shown ++ row_at (at + length (bytes_of shown)) s ∷ []
+pub rows_from-more : (at : ℕ) (shown : List Shown) (s : Shown) → rows_from at (shown ++ s ∷ []) ≡ rows_from at shown ++ row_at (at + length (bytes_of shown)) s
+    ∷ []
 rows_from-more at [] s = let same : at ≡ at + 0 = omega arith in ap (λ (n : ℕ). row_at n s ∷ []) same
 rows_from-more at (x ∷ xs) s =
     let n : ℕ = at + length (value_bytes x.value) in
-    let len : length (value_bytes x.value ++ bytes_of xs) ≡ length (value_bytes x.value) + length (bytes_of xs) = length-append (value_bytes x.value) (bytes_of xs) in
+    let len : length (value_bytes x.value ++ bytes_of xs) ≡ length (value_bytes x.value) + length (bytes_of xs) =
+    length-append (value_bytes x.value) (bytes_of xs) in
     let same : n + length (bytes_of xs) ≡ at + length (value_bytes x.value ++ bytes_of xs) = omega (arith, len) in
     ap (λ (l : List Row). row_at at x ∷ l) (rows_from-more n xs s ∙ ap (λ (k : ℕ). rows_from n xs ++ row_at k s ∷ []) same)
 
 -- bytes at the front of a part, behind what stands before the part
-pub put_behind : (a k : ℕ) (xs ys zs : List ℕ) → a ≤ length xs → length zs ≤ length ys → take (length zs) ys ≡ zs → take (a + length zs) (put_mid a k xs ys) ≡ take a xs ++ zs
+pub put_behind : (a k : ℕ) (xs ys zs : List ℕ) → a ≤ length xs → length zs ≤ length ys → take (length zs) ys ≡ zs → take (a + length zs) (put_mid a k xs ys)
+    ≡ take a xs ++ zs
 put_behind a k xs ys zs within fits is =
     let le : a + length zs ≤ a + length ys = omega arith in
     let len : length (take a xs) ≡ a = length-take-le a xs within in

@@ -27,7 +27,8 @@ with_sound Archive a areas sound one Status = sound Status
 with_sound Archive a areas sound one Heap = sound Heap
 with_sound Archive a areas sound one Archive = one
 
-pub sound_after_write : (area : Area) (at : ℕ) (bytes : List ℕ) (areas : Areas) → AreSound areas → AreBytes bytes → AreSound (with_area area (written at bytes (area_of areas area)) areas)
+pub sound_after_write : (area : Area) (at : ℕ) (bytes : List ℕ) (areas : Areas) → AreSound areas → AreBytes bytes
+    → AreSound (with_area area (written at bytes (area_of areas area)) areas)
 sound_after_write area at bytes areas sound are_bytes = with_sound area _ areas sound (written_is_sound (area_of areas area) at bytes (sound area) are_bytes)
 
 pub sound_after_sync : (area : Area) (areas : Areas) → AreSound areas → AreSound (with_area area (synced (area_of areas area)) areas)

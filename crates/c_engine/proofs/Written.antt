@@ -16,8 +16,10 @@ short (field ∷ fields) all = let low : length field ≤ 255 = omega (arith, al
 has_sizes : (value : List (List ℕ)) → IsValue value → HasSizes value
 has_sizes value is = record { some = is.some; few = is.few; short = short value is.fields }
 
-pub puts : (key : Key) (txn after : TxnValue) (value fields : List (List ℕ)) (result : Result (Unit {0}) TxnFault) → fields ≡ value → IsValue value → OnOk result (after ≡ with_put txn key fields)
-    → result ≢ Err fault.Missing → (result ≡ Err fault.TooManyKeys) ↔ IsFullFor txn.writes key → (result ≡ Err fault.BadValue) ↔ ((¬ IsFullFor txn.writes key) × (¬ HasSizes fields)) → OnErr result (after ≡ txn)
+pub puts : (key : Key) (txn after : TxnValue) (value fields : List (List ℕ)) (result : Result (Unit {0}) TxnFault) → fields ≡ value → IsValue value
+    → OnOk result (after ≡ with_put txn key fields)
+    → result ≢ Err fault.Missing → (result ≡ Err fault.TooManyKeys) ↔ IsFullFor txn.writes key → (result ≡ Err fault.BadValue)
+    ↔ ((¬ IsFullFor txn.writes key) × (¬ HasSizes fields)) → OnErr result (after ≡ txn)
     → Puts key (value_bytes value) txn result after
 puts key txn after value fields (Ok done) same is ok missing full bad err = (value, refl, ok ∙ ap (λ (v : List (List ℕ)). with_put txn key v) same)
 puts key txn after value fields (Err fault.Missing) same is ok missing full bad err = absurd (missing refl)
@@ -25,8 +27,10 @@ puts key txn after value fields (Err fault.TooManyKeys) same is ok missing full 
 puts key txn after value fields (Err fault.BadValue) same is ok missing full bad err = absurd ((bad.0 refl).1 (subst HasSizes (sym same) (has_sizes value is)))
 puts key txn after value fields (Err fault.NoMemory) same is ok missing full bad err = (err, tt)
 
-pub deletes : (key : Key) (txn after : TxnValue) (result : Result (Unit {0}) TxnFault) → OnOk result (after ≡ with_delete txn key) → (result ≡ Err fault.Missing) ↔ (seen_by txn key ≡ None)
-    → (result ≡ Err fault.TooManyKeys) ↔ (IsSome (seen_by txn key) × IsFullFor txn.writes key) → result ≢ Err fault.BadValue → OnErr result (after ≡ txn) → Deletes key txn result after
+pub deletes : (key : Key) (txn after : TxnValue) (result : Result (Unit {0}) TxnFault) → OnOk result (after ≡ with_delete txn key)
+    → (result ≡ Err fault.Missing) ↔ (seen_by txn key ≡ None)
+    → (result ≡ Err fault.TooManyKeys) ↔ (IsSome (seen_by txn key) × IsFullFor txn.writes key) → result ≢ Err fault.BadValue → OnErr result (after ≡ txn)
+    → Deletes key txn result after
 deletes key txn after (Ok done) ok missing full bad err = (λ none. let no : Ok done ≡ Err fault.Missing = missing.1 none in cc, ok)
 deletes key txn after (Err fault.Missing) ok missing full bad err = (err, missing.0 refl)
 deletes key txn after (Err fault.TooManyKeys) ok missing full bad err = (err, full.0 refl)

@@ -1,5 +1,6 @@
 -- What the calls of an engine do to its store.
-use Rattle.std.specs.Prelude.{◌≡◌, ◌≢◌, ◌⊎◌, ◌==◌, ◌&&◌, ◌%◌, ℕ, Bool, true, false, ℤ, List, [], filter, length, take, nat_le, Result, Ok, Err, Option, Some, None, MatchBool, MatchOption}
+use Rattle.std.specs.Prelude.{◌≡◌, ◌≢◌, ◌⊎◌, ◌==◌, ◌&&◌, ◌%◌, ℕ, Bool, true, false, ℤ, List, [], filter, length, take, nat_le, Result, Ok, Err, Option, Some}
+use Rattle.std.specs.Prelude.{None, MatchBool, MatchOption}
 use Rattle.disk.specs.Areas.{Areas, AreSound}
 use Rattle.disk.specs.Calls.{fresh_on}
 use Rattle.group.specs.Tickets.{TicketValue}
@@ -109,12 +110,15 @@ pub record IsNew (mark : ℕ) (e : Engine) : Type 0 where
 
 -- a store that is opened from these bytes, with nothing made yet; the times of its last commit and of its floor are told
 abbrev pub OpensEngine : List ℕ → List ℕ → List ℕ → ℕ → Info → Engine → Type 0
-OpensEngine status heap archive mark info e = (opened : StoreValue) × Opens true (fresh_on (record { status = status; heap = heap; archive = archive })) mark opened
-    × (e.store ≡ record opened { disk = record { areas = opened.disk.areas; made = 0; refused = 0 } }) × IsNew mark e × (info.a ≡ last e.store) × (info.b ≡ (floors e.store).every)
+OpensEngine status heap archive mark info e =
+    (opened : StoreValue) × Opens true (fresh_on (record { status = status; heap = heap; archive = archive })) mark opened
+    × (e.store ≡ record opened { disk = record { areas = opened.disk.areas; made = 0; refused = 0 } }) × IsNew mark e × (info.a ≡ last e.store)
+    × (info.b ≡ (floors e.store).every)
 
 -- no store is opened from these bytes, and why is told: bytes that are lent refuse no read
 abbrev pub RefusesEngine : List ℕ → List ℕ → List ℕ → Code → Info → Type 0
-RefusesEngine status heap archive said info = (why : OpenFault) × (why ≢ Device) × IsImageFault (record { status = status; heap = heap; archive = archive }) why × IsOpenCode why said info
+RefusesEngine status heap archive said info =
+    (why : OpenFault) × (why ≢ Device) × IsImageFault (record { status = status; heap = heap; archive = archive }) why × IsOpenCode why said info
 
 -- the times of the last commit and of the floor; after a refused call those of before it
 abbrev pub TellsTimes : EngineState → Engine → Code → Info → Type 0
@@ -146,10 +150,14 @@ IsRefused why made published old said new = (new.store ≡ old.store) × (new.pl
 abbrev pub KeepsPublished : Engine → Engine → Type 0
 KeepsPublished old new = MatchOption new.before ⊥ (WasPublished old.store)
 
--- A step was taken: its device call stands out, if it has one, and is told to be due. It was refused: where its device call was, which is counted, the store goes on no more.
+-- A step was taken: its device call stands out, if it has one, and is told to be due. It was refused: where its device call was, which is counted, the store
+-- goes on no more.
 abbrev pub AfterStep : Result Step PumpFault → Engine → Code → Info → Engine → Type 0
-AfterStep (Ok step) old said info new = (said ≡ code.Ok) × (info ≡ told_due (call_of step)) × MatchOption (call_of step) (KeepsState old new) (λ due. (new.state ≡ Asks step) × KeepsPublished old new)
-AfterStep (Err why) old said info new = (said ≡ pump_code why) × MatchBool (new.store.disk.made == old.store.disk.made) (KeepsState old new) ((new.state ≡ Failed) × KeepsPublished old new)
+AfterStep (Ok step) old said info new =
+    (said ≡ code.Ok) × (info ≡ told_due (call_of step))
+    × MatchOption (call_of step) (KeepsState old new) (λ due. (new.state ≡ Asks step) × KeepsPublished old new)
+AfterStep (Err why) old said info new =
+    (said ≡ pump_code why) × MatchBool (new.store.disk.made == old.store.disk.made) (KeepsState old new) ((new.state ≡ Failed) × KeepsPublished old new)
 
 -- the device call that stands out, by its step
 abbrev pub due_in : EngineState → Option DeviceCall
@@ -170,7 +178,8 @@ TellsCall e said told out = Tells (due_call (due_in e.state) e.store.disk.areas)
 abbrev pub HasCalled : Bool → Engine → Code → Info → Engine → Type 0
 HasCalled made old said info new = MatchOption (step_in old.state) ((said ≡ code.None) × (new ≡ old))
     (λ step. (new.store ≡ old.store) × (new.places ≡ old.places)
-    × MatchBool made ((said ≡ code.Ok) × (info ≡ told_step step) × (new.state ≡ Settled) × (new.before ≡ None)) ((said ≡ code.Failed) × (new.state ≡ Failed) × (new.before ≡ old.before)))
+    × MatchBool made ((said ≡ code.Ok) × (info ≡ told_step step) × (new.state ≡ Settled) × (new.before ≡ None)) ((said ≡ code.Failed) × (new.state ≡ Failed)
+    × (new.before ≡ old.before)))
 
 -- ---- transactions
 
@@ -182,7 +191,8 @@ TellsBegin (Err why) old said info new = (said ≡ begin_code why) × SameNumber
 -- there is no number for it, or a transaction begins
 abbrev pub TakesTransaction : Engine → Code → Info → Engine → Type 0
 TakesTransaction old said info new = IsOutOfNumbers old said new
-    ⊎ ((new.state ≡ old.state) × (new.before ≡ old.before) × ((answer : Result TxnValue BeginFault) × Begins old.store answer new.store × TellsBegin answer old.places said info new.places))
+    ⊎ ((new.state ≡ old.state) × (new.before ≡ old.before)
+    × ((answer : Result TxnValue BeginFault) × Begins old.store answer new.store × TellsBegin answer old.places said info new.places))
 
 -- begin: a transaction is kept under the number that is told, or the code says why not
 abbrev pub BeginsEngine : Engine → Code → Info → Engine → Type 0
@@ -224,7 +234,8 @@ AbortsEngine number old said new = OfNumber (transaction_under old number) old s
 -- the store takes a step of its group; or there was no memory to keep what is published, and nothing changes
 abbrev pub PumpsEngine : Engine → Code → Info → Engine → Type 0
 PumpsEngine old said info new = WhileSettled old said new (((said ≡ code.NoMemory) × (new ≡ old))
-    ⊎ ((answer : Result Did PumpFault) × Pumps true old.store answer new.store × AreSound new.store.disk.areas × (new.places ≡ old.places) × AfterStep (of_group answer) old said info new))
+    ⊎ ((answer : Result Did PumpFault) × Pumps true old.store answer new.store × AreSound new.store.disk.areas × (new.places ≡ old.places)
+    × AfterStep (of_group answer) old said info new))
 
 -- a commit of this time was published, also where a call was refused since
 abbrev pub was_published : EngineState → Option Published → ℕ → Bool
@@ -236,7 +247,8 @@ was_published Failed (Some p) time = nat_le time p.last
 
 -- a ticket that waits is kept again; after a refused call it is in doubt
 abbrev pub TellsWaiting : TicketValue → Engine → Code → Info → Places → Type 0
-TellsWaiting ticket old said info new = MatchBool (is_failed old.state) ((said ≡ code.InDoubt) × (new ≡ old.places)) ((said ≡ code.Waiting) × IsKept (Ticket ticket) info.a old.places new)
+TellsWaiting ticket old said info new =
+    MatchBool (is_failed old.state) ((said ≡ code.InDoubt) × (new ≡ old.places)) ((said ≡ code.Waiting) × IsKept (Ticket ticket) info.a old.places new)
 
 -- a ticket that waits is kept again or is in doubt, and the store is what it was
 abbrev pub KeepsTicket : TicketValue → Engine → Code → Info → Engine → Type 0
@@ -244,7 +256,8 @@ KeepsTicket ticket old said info new = KeepsStore old new × TellsWaiting ticket
 
 -- what became of a ticket that was taken out is told
 abbrev pub TellsRedeemed : Redeemed → Engine → Code → Info → Places → Type 0
-TellsRedeemed (redeemed.Done time) old said info new = (new ≡ old.places) × MatchBool (was_published old.state old.before time) ((said ≡ code.Ok) × (info.a ≡ time)) (said ≡ code.InDoubt)
+TellsRedeemed (redeemed.Done time) old said info new =
+    (new ≡ old.places) × MatchBool (was_published old.state old.before time) ((said ≡ code.Ok) × (info.a ≡ time)) (said ≡ code.InDoubt)
 TellsRedeemed (redeemed.Waiting ticket) old said info new = TellsWaiting ticket old said info new
 TellsRedeemed redeemed.InDoubt old said info new = (new ≡ old.places) × (said ≡ code.InDoubt)
 TellsRedeemed redeemed.Stranger old said info new = (new ≡ old.places) × (said ≡ code.Stranger)
@@ -261,7 +274,8 @@ RedeemsEngine number old said info new = UnlessAsked old said new (OfNumber (tic
 
 -- a ticket is spent, and the store is what it was
 abbrev pub GivesUp : ℕ → Engine → Code → Engine → Type 0
-GivesUp number old said new = OfNumber (ticket_under old number) old said new (λ _. (said ≡ code.Ok) × KeepsStore old new × IsTaken number old.places new.places)
+GivesUp number old said new =
+    OfNumber (ticket_under old number) old said new (λ _. (said ≡ code.Ok) × KeepsStore old new × IsTaken number old.places new.places)
 
 -- of these times those that were published, also where a call was refused since
 abbrev pub published_of : EngineState → Option Published → List ℕ → List ℕ
@@ -272,7 +286,8 @@ published_of Failed (Some p) times = filter (λ time. nat_le time p.last) times
 
 -- so many times are told, and they stand in front, where there is room for all
 abbrev pub AreTimesTold : List ℕ → Code → Info → List ℕ → Type 0
-AreTimesTold found said info times = (info.a ≡ length found) × MatchBool (nat_le (length found) (length times)) ((said ≡ code.Ok) × (take info.a times ≡ found)) (said ≡ code.Small)
+AreTimesTold found said info times =
+    (info.a ≡ length found) × MatchBool (nat_le (length found) (length times)) ((said ≡ code.Ok) × (take info.a times ≡ found)) (said ≡ code.Small)
 
 -- the times of the commits with a label; after a refused call of those that were published before it
 abbrev pub TellsLabels : ℕ → Engine → Code → Info → List ℕ → Type 0
@@ -283,7 +298,9 @@ TellsLabels label e said info times = MatchBool (asks e.state) (said ≡ code.Pe
 
 -- there is no number or no memory for one, or its number is told
 abbrev pub TakesView : Engine → Code → Info → Engine → Type 0
-TakesView old said info new = IsOutOfNumbers old said new ⊎ LacksMemory old said new ⊎ ((said ≡ code.Ok) × KeepsStore old new × ((view : ViewValue) × IsViewOf old.store view × IsKept (View view) info.a old.places new.places))
+TakesView old said info new =
+    IsOutOfNumbers old said new ⊎ LacksMemory old said new
+    ⊎ ((said ≡ code.Ok) × KeepsStore old new × ((view : ViewValue) × IsViewOf old.store view × IsKept (View view) info.a old.places new.places))
 
 -- the number that is told names a view of what is published or, after a refused call, of what was before it
 abbrev pub GivesView : Engine → Code → Info → Engine → Type 0
@@ -294,7 +311,8 @@ GivesView old said info new = UnlessAsked old said new (MatchBool (is_failed old
 -- a view is given back; that of before a refused call stays
 abbrev pub EndsView : ℕ → Engine → Code → Engine → Type 0
 EndsView number old said new = MatchBool ((number == last_number old.places) && is_failed old.state) ((said ≡ code.Ok) × (new ≡ old))
-    (MatchOption (view_in (named old.places number)) ((said ≡ code.Unknown) × (new ≡ old)) (λ _. (said ≡ code.Ok) × KeepsStore old new × IsTaken number old.places new.places))
+    (MatchOption (view_in (named old.places number)) ((said ≡ code.Unknown) × (new ≡ old)) (λ _. (said ≡ code.Ok) × KeepsStore old new
+    × IsTaken number old.places new.places))
 
 -- ---- jobs
 
@@ -305,7 +323,9 @@ TellsStart (Err why) said info = IsStartCode why said info
 
 -- a job begins so
 abbrev pub StartsEngine : (StoreValue → Result (Unit {0}) StartFault → StoreValue → Type 0) → Engine → Code → Info → Engine → Type 0
-StartsEngine Starts old said info new = WhileSettled old said new (KeepsNumbers old new × ((answer : Result (Unit {0}) StartFault) × Starts old.store answer new.store × TellsStart answer said info))
+StartsEngine Starts old said info new =
+    WhileSettled old said new (KeepsNumbers old new
+    × ((answer : Result (Unit {0}) StartFault) × Starts old.store answer new.store × TellsStart answer said info))
 
 -- an archive up to a time begins, or the code says why not
 abbrev pub ArchivesEngine : ℕ → Engine → Code → Info → Engine → Type 0
@@ -330,7 +350,8 @@ RaisesFloorOf relation time = StartsEngine (λ old answer new. StartsFloor old (
 -- the store takes a step of its job, as it takes one of its group
 abbrev pub PumpsJobOf : Engine → Code → Info → Engine → Type 0
 PumpsJobOf old said info new = WhileSettled old said new (((said ≡ code.NoMemory) × (new ≡ old))
-    ⊎ ((answer : Result JobDid PumpFault) × PumpsJob true old.store answer new.store × AreSound new.store.disk.areas × (new.places ≡ old.places) × AfterStep (of_job answer) old said info new))
+    ⊎ ((answer : Result JobDid PumpFault) × PumpsJob true old.store answer new.store × AreSound new.store.disk.areas × (new.places ≡ old.places)
+    × AfterStep (of_job answer) old said info new))
 
 -- ---- handles
 

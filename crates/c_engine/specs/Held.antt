@@ -116,7 +116,8 @@ pub record IsTaken (number : ℕ) (old new : Places) : Type 0 where
   pub stamps : RaisesStamp number old new
 
 -- a transaction is written to so
-pub record IsWritten (number : ℕ) (Does : TxnValue → Result (Unit {0}) TxnFault → TxnValue → Type 0) (outcome : Result (Unit {0}) TxnFault) (old new : Places) : Type 0 where
+pub record IsWritten (number : ℕ) (Does : TxnValue → Result (Unit {0}) TxnFault → TxnValue
+    → Type 0) (outcome : Result (Unit {0}) TxnFault) (old new : Places) : Type 0 where
   pub before : TxnValue
   pub after : TxnValue
   pub named_is : transaction_in (named old number) ≡ Some before

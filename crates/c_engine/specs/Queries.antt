@@ -1,5 +1,6 @@
 -- What the engine's queries answer.
-use Rattle.std.specs.Prelude.{◌≡◌, ◌≤◌, ◌⊎◌, ◌==◌, ◌&&◌, ◌||◌, ◌-◌, nat_lt, slice_get, ℕ, Bool, true, false, List, [], length, map, Result, Ok, Err, Option, Some, None, MatchBool, MatchOption, MatchResult}
+use Rattle.std.specs.Prelude.{◌≡◌, ◌≤◌, ◌⊎◌, ◌==◌, ◌&&◌, ◌||◌, ◌-◌, nat_lt, slice_get, ℕ, Bool, true, false, List, [], length, map, Result, Ok, Err, Option}
+use Rattle.std.specs.Prelude.{Some, None, MatchBool, MatchOption, MatchResult}
 use Rattle.std.specs.declared.alloc.Global.{Global}
 use Rattle.std.specs.declared.vec.Vec.{Vec}
 use Rattle.disk.specs.Calls.{fresh_on}
@@ -59,17 +60,20 @@ RecentAt view key time answer = MatchResult answer (IsRecentAt view key time) (R
 -- a relation's records at a time from memory alone, or why they are refused
 abbrev pub RecentScanAt : ViewValue → ℕ → ℕ → Result (Vec (ℕ × Value) Global) QueryFault → Type 0
 RecentScanAt view relation time answer =
-    MatchResult answer (λ found. (view.reclaimed ≤ time) × AnswersAt view relation time found.items (scanned relation time view.state)) (RefusesRecentScan view relation time)
+    MatchResult answer (λ found. (view.reclaimed ≤ time)
+    × AnswersAt view relation time found.items (scanned relation time view.state)) (RefusesRecentScan view relation time)
 
 -- a key's rows of an interval from memory alone, or why they are refused
 abbrev pub RecentRows : ViewValue → Key → ℕ → ℕ → Result (Vec (Version Value) Global) QueryFault → Type 0
 RecentRows view key a b answer =
-    MatchResult answer (λ found. (view.reclaimed ≤ a) × AnswersBetween view key.relation a b found.items (rows_in view.state a b key)) (RefusesRecentRows view key.relation a b)
+    MatchResult answer (λ found. (view.reclaimed ≤ a)
+    × AnswersBetween view key.relation a b found.items (rows_in view.state a b key)) (RefusesRecentRows view key.relation a b)
 
 -- the rows of all records of a relation from memory alone, or why they are refused
 abbrev pub RecentScanRows : ViewValue → ℕ → ℕ → ℕ → Result (Vec (ℕ × Version Value) Global) QueryFault → Type 0
 RecentScanRows view relation a b answer =
-    MatchResult answer (λ found. (view.reclaimed ≤ a) × AnswersBetween view relation a b found.items (scanned_rows relation a b view.state)) (RefusesRecentRows view relation a b)
+    MatchResult answer (λ found. (view.reclaimed ≤ a)
+    × AnswersBetween view relation a b found.items (scanned_rows relation a b view.state)) (RefusesRecentRows view relation a b)
 
 -- a run begins or ends behind the first byte: runs up to it take bytes
 abbrev pub takes_bytes : Option RunEntry → Bool
@@ -82,15 +86,18 @@ is_none archive view = (length archive == 0) && takes_bytes (slice_get view.runs
 
 -- over the archive that is lent; where none is, from memory alone
 abbrev pub LentScanAt : List ℕ → StoreValue → ViewValue → ℕ → ℕ → Result (Vec (ℕ × Value) Global) QueryFault → Type 0
-LentScanAt archive v view relation time answer = MatchBool (is_none archive view) (RecentScanAt view relation time answer) (Over archive v (λ old new. FindsScanAt true old view relation time answer new))
+LentScanAt archive v view relation time answer =
+    MatchBool (is_none archive view) (RecentScanAt view relation time answer) (Over archive v (λ old new. FindsScanAt true old view relation time answer new))
 
 -- so for a key's rows of an interval
 abbrev pub LentRows : List ℕ → StoreValue → ViewValue → Key → ℕ → ℕ → Result (Vec (Version Value) Global) QueryFault → Type 0
-LentRows archive v view key a b answer = MatchBool (is_none archive view) (RecentRows view key a b answer) (Over archive v (λ old new. FindsRows true old view key a b answer new))
+LentRows archive v view key a b answer =
+    MatchBool (is_none archive view) (RecentRows view key a b answer) (Over archive v (λ old new. FindsRows true old view key a b answer new))
 
 -- so for the rows of all records of a relation
 abbrev pub LentScanRows : List ℕ → StoreValue → ViewValue → ℕ → ℕ → ℕ → Result (Vec (ℕ × Version Value) Global) QueryFault → Type 0
-LentScanRows archive v view relation a b answer = MatchBool (is_none archive view) (RecentScanRows view relation a b answer) (Over archive v (λ old new. FindsScanRows true old view relation a b answer new))
+LentScanRows archive v view relation a b answer =
+    MatchBool (is_none archive view) (RecentScanRows view relation a b answer) (Over archive v (λ old new. FindsScanRows true old view relation a b answer new))
 
 -- ---- codes and bytes
 
@@ -121,7 +128,8 @@ TellsRecent view key time said info out = (answer : Result (Option Value) QueryF
 
 -- the store has answered, by its own contract, where it reads what is lent
 abbrev pub TellsAt : Lent → Lent → StoreValue → ViewValue → Key → ℕ → Code → Info → List ℕ → Type 0
-TellsAt before after v view key time said info out = (answer : Result (Option Value) QueryFault) × FindsAt true (over before v) view key time answer (over after v) × TellsValue answer said info out
+TellsAt before after v view key time said info out =
+    (answer : Result (Option Value) QueryFault) × FindsAt true (over before v) view key time answer (over after v) × TellsValue answer said info out
 
 -- so it has over this archive
 abbrev pub TellsOver : List ℕ → StoreValue → ViewValue → Key → ℕ → Code → Info → List ℕ → Type 0
@@ -152,19 +160,24 @@ AsksRecent number key time e said info out =
 -- what the view of this number answers over the archive that is lent; where none is, from memory alone
 abbrev pub AsksAt : List ℕ → ℕ → Key → ℕ → Engine → Code → Info → List ℕ → Type 0
 AsksAt archive number key time e said info out =
-    MatchOption (view_under e number) (said ≡ code.Unknown) (λ view. MatchBool (is_none archive view) (TellsRecent view key time said info out) (TellsOver archive e.store view key time said info out))
+    MatchOption (view_under e number) (said
+    ≡ code.Unknown) (λ view. MatchBool (is_none archive view) (TellsRecent view key time said info out)
+    (TellsOver archive e.store view key time said info out))
 
 -- so for a relation's records at a time
 abbrev pub AsksScanAt : List ℕ → ℕ → ℕ → ℕ → Engine → Code → Info → List Row → List ℕ → Type 0
 AsksScanAt archive number relation time e said info rows out =
-    MatchOption (view_under e number) (said ≡ code.Unknown) (λ view. (answer : Result (Vec (ℕ × Value) Global) QueryFault) × LentScanAt archive e.store view relation time answer × TellsRows shown_record answer said info rows out)
+    MatchOption (view_under e number) (said ≡ code.Unknown) (λ view. (answer : Result (Vec (ℕ × Value) Global) QueryFault)
+    × LentScanAt archive e.store view relation time answer × TellsRows shown_record answer said info rows out)
 
 -- so for a key's rows of an interval
 abbrev pub AsksRows : List ℕ → ℕ → Key → ℕ → ℕ → Engine → Code → Info → List Row → List ℕ → Type 0
 AsksRows archive number key a b e said info rows out =
-    MatchOption (view_under e number) (said ≡ code.Unknown) (λ view. (answer : Result (Vec (Version Value) Global) QueryFault) × LentRows archive e.store view key a b answer × TellsRows (shown_version key.«record») answer said info rows out)
+    MatchOption (view_under e number) (said ≡ code.Unknown) (λ view. (answer : Result (Vec (Version Value) Global) QueryFault)
+    × LentRows archive e.store view key a b answer × TellsRows (shown_version key.«record») answer said info rows out)
 
 -- so for the rows of all records of a relation
 abbrev pub AsksScanRows : List ℕ → ℕ → ℕ → ℕ → ℕ → Engine → Code → Info → List Row → List ℕ → Type 0
 AsksScanRows archive number relation a b e said info rows out =
-    MatchOption (view_under e number) (said ≡ code.Unknown) (λ view. (answer : Result (Vec (ℕ × Version Value) Global) QueryFault) × LentScanRows archive e.store view relation a b answer × TellsRows shown_entry answer said info rows out)
+    MatchOption (view_under e number) (said ≡ code.Unknown) (λ view. (answer : Result (Vec (ℕ × Version Value) Global) QueryFault)
+    × LentScanRows archive e.store view relation a b answer × TellsRows shown_entry answer said info rows out)

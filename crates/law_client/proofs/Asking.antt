@@ -21,10 +21,12 @@ view-again public tells t i k l key time value said told first second =
     says-value (IsSure tells by.0 time) (inl told) value (at_answer (machine_at t i).published (machine_at t i).floors key time) said (was.2.2 (inl told)) by.2
 
 -- a time that is answered is published, and its answer is the state
-answered-time : (h : History Value) (floors : ℕ → ℕ) (key : Key) (time : ℕ) (value : Option Value) → at_answer h floors key time ≡ Ok value → (time ≤ last h) × (state h time key ≡ value)
+answered-time : (h : History Value) (floors : ℕ → ℕ) (key : Key) (time : ℕ) (value : Option Value) → at_answer h floors key time ≡ Ok value → (time ≤ last h)
+    × (state h time key ≡ value)
 answered-time h floors key time value =
     let Goal : Bool → Bool → Type 0 = λ early late. nat_lt time (floors key.relation) ≡ early → nat_lt (last h) time ≡ late
-    → answers.unless_refused (cond early (Some (answers.BeforeKept (floors key.relation))) (cond late (Some (answers.NotYet (last h))) None)) (state h time key) ≡ Ok value → (time ≤ last h) × (state h time key ≡ value) in
+    → answers.unless_refused (cond early (Some (answers.BeforeKept (floors key.relation))) (cond late (Some (answers.NotYet (last h))) None)) (state h time key)
+    ≡ Ok value → (time ≤ last h) × (state h time key ≡ value) in
     elim (nat_lt time (floors key.relation)) as (λ early. Goal early (nat_lt (last h) time)) [
       | true ↦ λ e l is. absurd (refused (answers.BeforeKept (floors key.relation)) is)
       | false ↦ elim (nat_lt (last h) time) as (λ late. Goal false late) [

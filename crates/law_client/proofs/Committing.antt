@@ -29,13 +29,15 @@ commit-by_last t (x ∷ xs) c up has = elim (Contains-cons_cases x xs c has) as 
 ]
 
 -- it stays published
-published-on : Public → {tells : Bool} (t : Trace tells) (p q : ℕ) (c : Commit Value) → p ≤ q → Contains (machine_at t p).published c → Contains (machine_at t q).published c
+published-on : Public → {tells : Bool} (t : Trace tells) (p q : ℕ) (c : Commit Value) → p ≤ q → Contains (machine_at t p).published c
+    → Contains (machine_at t q).published c
 published-on public t p q c low has =
     let on = goes-on public t p q low in
     subst (λ (h : History Value). Contains h c) (sym on.is) (Contains-append_left (machine_at t p).published on.more c has)
 
 -- and settles what it wrote
-commit-settles : Public → {tells : Bool} (t : Trace tells) (p n : ℕ) (c : Commit Value) (key : Key) (write : Option Value) (upto : ℕ) → p ≤ n → Contains (machine_at t p).published c → write_in c.writes key ≡ Some write → IsUnchanged t n key c.time upto
+commit-settles : Public → {tells : Bool} (t : Trace tells) (p n : ℕ) (c : Commit Value) (key : Key) (write : Option Value) (upto : ℕ) → p ≤ n
+    → Contains (machine_at t p).published c → write_in c.writes key ≡ Some write → IsUnchanged t n key c.time upto
     → IsSettled (machine_at t n) key upto write
 commit-settles public t p n c key write upto low has wrote same = record {
   kept = same.kept;
@@ -50,7 +52,9 @@ done-read public tells t i k time told done =
       submit.1,
       submit.3,
       λ n image key write upto low stop wrote same.
-          let settled = commit-settles public t k n submit.0 key write upto low submit.4 wrote (subst (λ (from : ℕ). IsUnchanged t n key from upto) (sym submit.1) same) in
+          let settled =
+          commit-settles public t k n submit.0 key write upto low submit.4 wrote (subst (λ (from : ℕ). IsUnchanged t n key from upto) (sym submit.1) same)
+          in
           settled-read public tells t n key upto write image told settled same.kept_next stop,
     )
 
@@ -69,7 +73,8 @@ done-kept public tells t i k time told done =
 -- ---- its own time
 
 -- what is queued is later than each floor, and than the one in the making
-raising-earlier : (m : Machine Value) (time relation : ℕ) (o : Option Raising) → last m.published ≤ time → MatchOption o (Unit {0}) (MayRaise m) → MatchOption o (Unit {0}) (λ r. IsTrue (covers r.scope relation) → r.floor ≤ time)
+raising-earlier : (m : Machine Value) (time relation : ℕ) (o : Option Raising) → last m.published ≤ time → MatchOption o (Unit {0}) (MayRaise m)
+    → MatchOption o (Unit {0}) (λ r. IsTrue (covers r.scope relation) → r.floor ≤ time)
 raising-earlier m time relation None later may = tt
 raising-earlier m time relation (Some r) later may = λ covered. omega (arith, may.upto_last, later)
 
@@ -90,12 +95,17 @@ done-unchanged public tells t i k n time key done low floors =
     let late : last (machine_at t i).published ≤ time = omega (arith, now-later (machine_at t i) submit.now machine, stamped) in
     let kept : IsKeptTime (machine_at t i) key.relation time = kept-at_last (machine_at t i) time key.relation machine late in
     let history = shown-is public t n in
-    let by = commit-by_last 0 (machine_at t n).published found.0 (rising-from_following IsValue [] (machine_at t n).published history) (published-on public t k n found.0 low found.4) in
+    let by = commit-by_last 0 (machine_at t n).published found.0 (rising-from_following IsValue [] (machine_at t n).published history)
+    (published-on public t k n found.0 low found.4) in
     record {
       later = omega arith;
       published = omega (arith, by, found.1);
       unwritten = λ c has later upto. absurd (omega (arith, later, upto));
-      kept = times-stay public tells t i n key.relation time (omega (arith, found.2, low)) kept (λ j scope floor from upto is. floors j scope floor from (omega (arith, upto)) is);
+      kept = times-stay public tells t i n key.relation time (omega (
+        arith,
+        found.2,
+        low,
+      )) kept (λ j scope floor from upto is. floors j scope floor from (omega (arith, upto)) is);
       kept_next = times-stay public tells t i (suc n) key.relation time (omega (arith, found.2, low)) kept floors;
     }
 
@@ -105,7 +115,8 @@ pub put-settles : Public → PutSettles
 put-settles public tells t k time n upto key value done low same =
     let submit = public.done tells t done.submit k time done.is_done in
     let wrote : write_in submit.0.writes key ≡ Some (Some value) =
-    public.put tells t done.submit done.put done.transaction done.label done.now submit.0 key done.fields done.said submit.3 done.is_submit done.earlier done.is_put done.last ∙ ap (λ (v : Value). Some (Some v)) (sym done.is_value) in
+    public.put tells t done.submit done.put done.transaction done.label done.now submit.0 key done.fields done.said submit.3 done.is_submit done.earlier
+    done.is_put done.last ∙ ap (λ (v : Value). Some (Some v)) (sym done.is_value) in
     commit-settles public t k n submit.0 key (Some value) upto low submit.4 wrote (subst (λ (from : ℕ). IsUnchanged t n key from upto) (sym submit.1) same)
 
 pub put-read : Public → PutIsRead
@@ -116,6 +127,8 @@ pub delete-read : Public → DeleteIsRead
 delete-read public tells t k time n upto key image told done low stop same =
     let submit = public.done tells t done.submit k time done.is_done in
     let wrote : write_in submit.0.writes key ≡ Some None =
-    public.delete tells t done.submit done.delete done.transaction done.label done.now done.snapshot done.writes submit.0 key done.said submit.3 done.is_submit done.earlier done.is_delete done.last done.running done.had in
-    let settled = commit-settles public t k n submit.0 key None upto low submit.4 wrote (subst (λ (from : ℕ). IsUnchanged t n key from upto) (sym submit.1) same) in
+    public.delete tells t done.submit done.delete done.transaction done.label done.now done.snapshot done.writes submit.0 key done.said submit.3 done.is_submit
+    done.earlier done.is_delete done.last done.running done.had in
+    let settled =
+    commit-settles public t k n submit.0 key None upto low submit.4 wrote (subst (λ (from : ℕ). IsUnchanged t n key from upto) (sym submit.1) same) in
     settled-read public tells t n key upto None image told settled same.kept_next stop

@@ -11,15 +11,19 @@ use Rattle.law_client.specs.Public.{Public}
 use Rattle.law_client.specs.Reopened.{ReopeningIsOnce, SecondAnswersAsFirst}
 
 -- nothing is in the writing
-front-is : (tells : Bool) (image : Image) (done : List ℕ) (h : History Value) (floors : ℕ → ℕ) → OnFront (IsKeptWith tells image done) (opened h floors) → IsKeptAs tells image h floors
+front-is : (tells : Bool) (image : Image) (done : List ℕ) (h : History Value) (floors : ℕ → ℕ) → OnFront (IsKeptWith tells image done) (opened h floors)
+    → IsKeptAs tells image h floors
 front-is tells image done h floors (inl on) = on.kept
 front-is tells image done h floors (inr on) = absurd on
 
 pub reopening-once : Public → ReopeningIsOnce
 reopening-once public tells image h floors disk mark v told kept same sound opens =
     let is = kept.answers disk mark v same sound opens in
-    let first = public.first tells v (opened h floors) is.0 in
-    (is, λ left leaves. front-is tells left (first_moment v (opened h floors)).done h floors (public.survives tells v [] (first_moment v (opened h floors)) first told left leaves).front)
+    let first = public.first tells v (opened h floors) is.0 in (
+      is,
+      λ left leaves. front-is tells left (first_moment v (opened h floors)).done h floors
+          (public.survives tells v [] (first_moment v (opened h floors)) first told left leaves).front,
+    )
 
 pub second-as-first : Public → SecondAnswersAsFirst
 second-as-first public tells image h floors disk next mark other v w told kept same sound opens leaves sound_next opens_next =

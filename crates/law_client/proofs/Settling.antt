@@ -32,7 +32,8 @@ goes-on public {tells} t p q low =
     }
 
 -- a value that stands at a moment stands at each later one
-pub value-on : Public → {tells : Bool} (t : Trace tells) (p q : ℕ) (key : Key) (time : ℕ) (value : Option Value) → p ≤ q → time ≤ last (machine_at t p).published → state (machine_at t p).published time key ≡ value → IsKeptTime (machine_at t q) key.relation time
+pub value-on : Public → {tells : Bool} (t : Trace tells) (p q : ℕ) (key : Key) (time : ℕ) (value : Option Value) → p ≤ q
+    → time ≤ last (machine_at t p).published → state (machine_at t p).published time key ≡ value → IsKeptTime (machine_at t q) key.relation time
     → IsSettled (machine_at t q) key time value
 value-on public t p q key time value low reached is kept =
     let on = goes-on public t p q low in
@@ -51,7 +52,8 @@ settled-reopens public tells t n key time value image told settled kept stop =
     let next : IsSettled (machine_at t (suc n)) key time value = settled-stays public tells t n (suc n) key time value (omega arith) settled kept in
     elim (public.stops tells t n image told stop) as (λ o. KeptLike tells image (λ h floors. IsSettled (opened h floors) key time value)) [
       | inl here ↦ survivor-settled public.later tells (moment_at t n) image key time value (public.runs tells t n n (omega arith)).0 settled here
-      | inr there ↦ survivor-settled public.later tells (moment_at t (suc n)) image key time value (public.runs tells t (suc n) (suc n) (omega arith)).0 next there
+      | inr there ↦ survivor-settled public.later tells (moment_at t (suc n)) image key time value (public.runs tells t (suc n) (suc n) (omega arith)).0 next
+          there
     ]
 
 pub settled-read : Public → SettledIsRead

@@ -39,17 +39,21 @@ IsAnswer value answer = (answer ≡ Ok value) ⊎ ((answer ≡ Err query.NoMemor
 -- Whoever opens a store on this image reads this value of the key at this time, unless the device or memory gives out.
 pub record IsReadBack (tells : Bool) (image : Image) (key : Key) (time : ℕ) (value : Option Value) : Type 0 where
   pub opens : (disk new : DiskState) (why : OpenFault) → image_of disk.areas ≡ image → OpenRefuses tells disk why new → IsReadFault why
-  pub reads : (disk : DiskState) (mark : ℕ) (again asked new : StoreValue) (later : Machine Value) (view : ViewValue) (answer : Result (Option Value) QueryFault) → IsTrue tells
-      → image_of disk.areas ≡ image → AreSound disk.areas → Opens tells disk mark again → IsViewOf again view → Stands tells asked later → GoesOn tells again asked → AnswersAtView tells asked view key time answer new → IsAnswer value answer
+  pub reads : (disk : DiskState) (mark : ℕ) (again asked new : StoreValue) (later : Machine Value) (view : ViewValue)
+      (answer : Result (Option Value) QueryFault) → IsTrue tells
+      → image_of disk.areas ≡ image → AreSound disk.areas → Opens tells disk mark again → IsViewOf again view → Stands tells asked later
+      → GoesOn tells again asked → AnswersAtView tells asked view key time answer new → IsAnswer value answer
 
 -- ---- times
 
 -- No call of these numbers begins a floor of the relation that is later than the time.
 abbrev pub BeginsNoLaterFloor : {tells : Bool} → Trace tells → (from upto relation time : ℕ) → Type 0
 BeginsNoLaterFloor t from upto relation time =
-    (i : ℕ) (scope : Option ℕ) (floor : ℕ) → from ≤ i → i < upto → IsCall t i (call.Floor scope floor) (answer.Floor (Ok tt)) → IsTrue (covers scope relation) → floor ≤ time
+    (i : ℕ) (scope : Option ℕ) (floor : ℕ) → from ≤ i → i < upto → IsCall t i (call.Floor scope floor) (answer.Floor (Ok tt)) → IsTrue (covers scope relation)
+    → floor ≤ time
 
--- A value that was written at the one time is still the key's at the other: after this many calls that time is published, no commit between the two writes the key, and it is kept then and after the next call.
+-- A value that was written at the one time is still the key's at the other: after this many calls that time is published, no commit between the two writes the
+-- key, and it is kept then and after the next call.
 pub record IsUnchanged {tells : Bool} (t : Trace tells) (n : ℕ) (key : Key) (from upto : ℕ) : Type 0 where
   pub later : from ≤ upto
   pub published : upto ≤ last (machine_at t n).published
@@ -63,20 +67,25 @@ pub record IsUnchanged {tells : Bool} (t : Trace tells) (n : ℕ) (key : Key) (f
 abbrev pub IsDone : {tells : Bool} → Trace tells → ℕ → ℕ → ℕ → Type 0
 IsDone t k i time = IsCall t k (call.Redeem (place_of t i)) (answer.Redeem (told.Done time))
 
--- An acknowledged commit is read: where Done was answered, the ticket's call submitted a write set, and whoever opens a store on what any later stop leaves reads each of its writes, at the commit's time and until a later commit of the key.
+-- An acknowledged commit is read: where Done was answered, the ticket's call submitted a write set, and whoever opens a store on what any later stop leaves
+-- reads each of its writes, at the commit's time and until a later commit of the key.
 abbrev pub DoneIsRead : Type 0
 DoneIsRead = (tells : Bool) (t : Trace tells) (i k time : ℕ) → IsTrue tells → IsDone t k i time
     → (c : Commit Value) × (c.time ≡ time) × IsSubmit t i c
-    × ((n : ℕ) (image : Image) (key : Key) (write : Option Value) (upto : ℕ) → k ≤ n → StopLeaves t n image → write_in c.writes key ≡ Some write → IsUnchanged t n key time upto → IsReadBack tells image key upto write)
+    × ((n : ℕ) (image : Image) (key : Key) (write : Option Value) (upto : ℕ) → k ≤ n → StopLeaves t n image → write_in c.writes key ≡ Some write
+    → IsUnchanged t n key time upto → IsReadBack tells image key upto write)
 
 -- The commit itself, with its label and all that it wrote, is in the history as which any such image is kept.
 abbrev pub DoneIsKept : Type 0
 DoneIsKept = (tells : Bool) (t : Trace tells) (i k time : ℕ) → IsTrue tells → IsDone t k i time
-    → (c : Commit Value) × (c.time ≡ time) × IsSubmit t i c × ((n : ℕ) (image : Image) → k ≤ n → StopLeaves t n image → (h : History Value) × (floors : ℕ → ℕ) × IsKeptAs tells image h floors × Contains h c)
+    → (c : Commit Value) × (c.time ≡ time) × IsSubmit t i c
+    × ((n : ℕ) (image : Image) → k ≤ n → StopLeaves t n image → (h : History Value) × (floors : ℕ → ℕ) × IsKeptAs tells image h floors × Contains h c)
 
 -- At its own time nothing else has to be asked for than that no floor later than it is begun: a commit is later than each floor before it.
 abbrev pub DoneIsUnchanged : Type 0
-DoneIsUnchanged = (tells : Bool) (t : Trace tells) (i k n time : ℕ) (key : Key) → IsDone t k i time → k ≤ n → BeginsNoLaterFloor t i (suc n) key.relation time → IsUnchanged t n key time time
+DoneIsUnchanged =
+    (tells : Bool) (t : Trace tells) (i k n time : ℕ) (key : Key) → IsDone t k i time → k ≤ n → BeginsNoLaterFloor t i (suc n) key.relation time
+    → IsUnchanged t n key time time
 
 -- Done was answered, with this time, for a transaction that put this value last under the key.
 pub record IsPutDone {tells : Bool} (t : Trace tells) (k time : ℕ) (key : Key) (value : Value) : Type 0 where
@@ -96,7 +105,9 @@ pub record IsPutDone {tells : Bool} (t : Trace tells) (k time : ℕ) (key : Key)
 
 -- That value is what whoever opens a store on what any later stop leaves reads of the key.
 abbrev pub PutIsRead : Type 0
-PutIsRead = (tells : Bool) (t : Trace tells) (k time n upto : ℕ) (key : Key) (value : Value) (image : Image) → IsTrue tells → IsPutDone t k time key value → k ≤ n → StopLeaves t n image → IsUnchanged t n key time upto → IsReadBack tells image key upto (Some value)
+PutIsRead =
+    (tells : Bool) (t : Trace tells) (k time n upto : ℕ) (key : Key) (value : Value) (image : Image) → IsTrue tells → IsPutDone t k time key value → k ≤ n
+    → StopLeaves t n image → IsUnchanged t n key time upto → IsReadBack tells image key upto (Some value)
 
 -- Done was answered, with this time, for a transaction that deleted the key last, and whose snapshot had a value of it.
 pub record IsDeleteDone {tells : Bool} (t : Trace tells) (k time : ℕ) (key : Key) : Type 0 where
@@ -118,4 +129,6 @@ pub record IsDeleteDone {tells : Bool} (t : Trace tells) (k time : ℕ) (key : K
 
 -- Then it is read as gone.
 abbrev pub DeleteIsRead : Type 0
-DeleteIsRead = (tells : Bool) (t : Trace tells) (k time n upto : ℕ) (key : Key) (image : Image) → IsTrue tells → IsDeleteDone t k time key → k ≤ n → StopLeaves t n image → IsUnchanged t n key time upto → IsReadBack tells image key upto None
+DeleteIsRead =
+    (tells : Bool) (t : Trace tells) (k time n upto : ℕ) (key : Key) (image : Image) → IsTrue tells → IsDeleteDone t k time key → k ≤ n → StopLeaves t n image
+    → IsUnchanged t n key time upto → IsReadBack tells image key upto None

@@ -1,7 +1,8 @@
 -- The public clauses on which the laws of this crate stand: those of `run`, and of its histories.
 use Rattle.history.specs.Laws.{LaterChangesNothing, RunAdds, RunPublishes, ConflictIsDecided}
 use Rattle.law_image.specs.Values.{Value, IsValue}
-use Rattle.run.specs.Laws.{FirstMoment, MomentSurvives, WriteStands, StopsSurvive, MachineRuns, TimesStayKept, DoneNamesItsSubmit, PutIsSubmitted, DeleteIsSubmitted, ViewAnswersByItsMoment}
+use Rattle.run.specs.Laws.{FirstMoment, MomentSurvives, WriteStands, StopsSurvive, MachineRuns, TimesStayKept, DoneNamesItsSubmit, PutIsSubmitted}
+use Rattle.run.specs.Laws.{DeleteIsSubmitted, ViewAnswersByItsMoment}
 
 -- the laws of lists of calls and of histories from which those of this crate follow
 pub record Public : Type 0 where

@@ -18,18 +18,24 @@ pub record IsSettled (m : Machine Value) (key : Key) (time : ℕ) (value : Optio
 
 -- Done settles what a transaction put last,
 abbrev pub PutSettles : Type 0
-PutSettles = (tells : Bool) (t : Trace tells) (k time n upto : ℕ) (key : Key) (value : Value) → IsPutDone t k time key value → k ≤ n → IsUnchanged t n key time upto → IsSettled (machine_at t n) key upto (Some value)
+PutSettles =
+    (tells : Bool) (t : Trace tells) (k time n upto : ℕ) (key : Key) (value : Value) → IsPutDone t k time key value → k ≤ n → IsUnchanged t n key time upto
+    → IsSettled (machine_at t n) key upto (Some value)
 
 -- it stays settled over every list of calls, while its time is kept,
 abbrev pub SettledStays : Type 0
-SettledStays = (tells : Bool) (t : Trace tells) (p q : ℕ) (key : Key) (time : ℕ) (value : Option Value) → p ≤ q → IsSettled (machine_at t p) key time value → IsKeptTime (machine_at t q) key.relation time → IsSettled (machine_at t q) key time value
+SettledStays =
+    (tells : Bool) (t : Trace tells) (p q : ℕ) (key : Key) (time : ℕ) (value : Option Value) → p ≤ q → IsSettled (machine_at t p) key time value
+    → IsKeptTime (machine_at t q) key.relation time → IsSettled (machine_at t q) key time value
 
 -- is read after any stop,
 abbrev pub SettledIsRead : Type 0
 SettledIsRead = (tells : Bool) (t : Trace tells) (n : ℕ) (key : Key) (time : ℕ) (value : Option Value) (image : Image)
-    → IsTrue tells → IsSettled (machine_at t n) key time value → IsKeptTime (machine_at t (suc n)) key.relation time → StopLeaves t n image → IsReadBack tells image key time value
+    → IsTrue tells → IsSettled (machine_at t n) key time value → IsKeptTime (machine_at t (suc n)) key.relation time → StopLeaves t n image
+    → IsReadBack tells image key time value
 
--- and is settled in the history that is kept then: a store that opens it stands for that, and the same holds of the calls that are made of it and of the next stop.
+-- and is settled in the history that is kept then: a store that opens it stands for that, and the same holds of the calls that are made of it and of the next
+-- stop.
 abbrev pub SettledReopens : Type 0
 SettledReopens = (tells : Bool) (t : Trace tells) (n : ℕ) (key : Key) (time : ℕ) (value : Option Value) (image : Image)
     → IsTrue tells → IsSettled (machine_at t n) key time value → IsKeptTime (machine_at t (suc n)) key.relation time → StopLeaves t n image
@@ -37,4 +43,6 @@ SettledReopens = (tells : Bool) (t : Trace tells) (n : ℕ) (key : Key) (time : 
 
 -- A time that is kept stays so, unless a call between begins a later floor.
 abbrev pub TimesStayKept : Type 0
-TimesStayKept = (tells : Bool) (t : Trace tells) (p q relation time : ℕ) → p ≤ q → IsKeptTime (machine_at t p) relation time → BeginsNoLaterFloor t p q relation time → IsKeptTime (machine_at t q) relation time
+TimesStayKept =
+    (tells : Bool) (t : Trace tells) (p q relation time : ℕ) → p ≤ q → IsKeptTime (machine_at t p) relation time → BeginsNoLaterFloor t p q relation time
+    → IsKeptTime (machine_at t q) relation time

@@ -16,8 +16,12 @@ IsAsked t k i key time said = IsCall t k (call.At (place_of t i) key time) (answ
 
 -- What a view answered it answers again, whatever is called in between, unless memory or the device gives out. The disk tells its bytes.
 abbrev pub ViewAnswersAgain : Type 0
-ViewAnswersAgain = (tells : Bool) (t : Trace tells) (i k l : ℕ) (key : Key) (time : ℕ) (value : Option Value) (said : Result (Option Value) QueryFault) → IsTrue tells → IsAsked t k i key time (Ok value) → IsAsked t l i key time said → IsAnswer value said
+ViewAnswersAgain =
+    (tells : Bool) (t : Trace tells) (i k l : ℕ) (key : Key) (time : ℕ) (value : Option Value) (said : Result (Option Value) QueryFault) → IsTrue tells
+    → IsAsked t k i key time (Ok value) → IsAsked t l i key time said → IsAnswer value said
 
 -- It is settled, so that every later view and every store that is opened after a stop answers it too, while the time is kept.
 abbrev pub AnsweredIsSettled : Type 0
-AnsweredIsSettled = (tells : Bool) (t : Trace tells) (i k n : ℕ) (key : Key) (time : ℕ) (value : Option Value) → IsTrue tells → IsAsked t k i key time (Ok value) → k ≤ n → IsKeptTime (machine_at t n) key.relation time → IsSettled (machine_at t n) key time value
+AnsweredIsSettled =
+    (tells : Bool) (t : Trace tells) (i k n : ℕ) (key : Key) (time : ℕ) (value : Option Value) → IsTrue tells → IsAsked t k i key time (Ok value) → k ≤ n
+    → IsKeptTime (machine_at t n) key.relation time → IsSettled (machine_at t n) key time value

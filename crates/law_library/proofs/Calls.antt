@@ -1,5 +1,6 @@
 -- The calls that make no device call.
-use Rattle.std.proofs.Common.{◌≡◌, ℕ, ◌==◌, ◌&&◌, ◌++◌, Bool, true, false, List, [], ◌∷◌, length, Option, Some, None, Result, Ok, Err, MatchBool, MatchOption, refl, sym, ap, subst, inl, inr, ◌<◌, ◌^◌}
+use Rattle.std.proofs.Common.{◌≡◌, ℕ, ◌==◌, ◌&&◌, ◌++◌, Bool, true, false, List, [], ◌∷◌, length, Option, Some, None, Result, Ok, Err, MatchBool, MatchOption}
+use Rattle.std.proofs.Common.{refl, sym, ap, subst, inl, inr, ◌<◌, ◌^◌}
 use Rattle.std.specs.Prelude.{slice_get, slice_set, if◌then◌else◌}
 use Rattle.disk.specs.Calls.{DiskState}
 use Rattle.history.specs.declared.key.Key.{Key}
@@ -41,7 +42,8 @@ use Rattle.run.proofs.Steps.{begin-goes, abort-goes}
 use Rattle.run.proofs.Submitting.{submit-goes}
 use Rattle.run.proofs.Tickets.{give_up-goes}
 use Rattle.run.proofs.Views.{view-goes, end-goes}
-use Rattle.c_engine.specs.Engines.{WhileSettled, stopped_by, UnlessAsked, asks, is_failed, OfNumber, KeepsStore, TakesTransaction, TellsBegin, Writes, SubmitsEngine, TellsSubmit, AbortsEngine, GivesUp, GivesView, TakesView, EndsView, StartsEngine}
+use Rattle.c_engine.specs.Engines.{WhileSettled, stopped_by, UnlessAsked, asks, is_failed, OfNumber, KeepsStore, TakesTransaction, TellsBegin, Writes}
+use Rattle.c_engine.specs.Engines.{SubmitsEngine, TellsSubmit, AbortsEngine, GivesUp, GivesView, TakesView, EndsView, StartsEngine}
 use Rattle.c_engine.specs.Held.{named, transaction_in, view_in, transaction_under, ticket_under, last_number, IsKept, IsTaken}
 use Rattle.c_engine.specs.Writes.{Puts, Deletes}
 use Rattle.c_engine.specs.declared.code.Code.{Code}

@@ -1,5 +1,6 @@
 -- A ticket is redeemed.
-use Rattle.std.proofs.Common.{◌≡◌, ℕ, ◌<◌, ◌≤◌, ◌++◌, Bool, true, false, List, [], ◌∷◌, Option, Some, None, MatchBool, MatchOption, refl, sym, ◌∙◌, ap, subst, inl, inr, arith, Contains}
+use Rattle.std.proofs.Common.{◌≡◌, ℕ, ◌<◌, ◌≤◌, ◌++◌, Bool, true, false, List, [], ◌∷◌, Option, Some, None, MatchBool, MatchOption, refl, sym, ◌∙◌, ap, subst}
+use Rattle.std.proofs.Common.{inl, inr, arith, Contains}
 use Rattle.std.specs.Prelude.{slice_get, slice_set}
 use Rattle.std.proofs.lemmas.Bool.{false≢true, leb-true}
 use Rattle.std.proofs.lemmas.List.Elements.{Contains-append_cases}

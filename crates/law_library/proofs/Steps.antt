@@ -1,5 +1,6 @@
 -- Steps, the host's device calls, and tickets that are redeemed.
-use Rattle.std.proofs.Common.{◌≡◌, ◌==◌, ◌++◌, Bool, true, false, List, [], ◌∷◌, Option, Some, None, Result, Ok, Err, MatchBool, MatchOption, refl, sym, ◌∙◌, ap, subst, inl, inr, ◌⊎◌}
+use Rattle.std.proofs.Common.{◌≡◌, ◌==◌, ◌++◌, Bool, true, false, List, [], ◌∷◌, Option, Some, None, Result, Ok, Err, MatchBool, MatchOption, refl, sym, ◌∙◌}
+use Rattle.std.proofs.Common.{ap, subst, inl, inr, ◌⊎◌}
 use Rattle.disk.specs.Areas.{Areas, AreSound, LeavesImage}
 use Rattle.disk.specs.Within.{LeavesWithin}
 use Rattle.history.specs.Histories.{last}

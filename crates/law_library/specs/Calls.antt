@@ -1,7 +1,8 @@
 -- What a program calls of an open store, and what each call does.
 use Rattle.std.specs.Prelude.{ℕ, ◌≡◌, ◌<◌, ◌^◌, List, ◌∷◌, Option, None, Some}
 use Rattle.history.specs.declared.key.Key.{Key}
-use Rattle.c_engine.specs.Engines.{BeginsEngine, Writes, SubmitsEngine, AbortsEngine, PumpsEngine, RedeemsEngine, GivesUp, GivesView, EndsView, ArchivesEngine, ReclaimsEngine, RaisesEngine, RaisesFloorOf, GrowsEngine, PumpsJobOf}
+use Rattle.c_engine.specs.Engines.{BeginsEngine, Writes, SubmitsEngine, AbortsEngine, PumpsEngine, RedeemsEngine, GivesUp, GivesView, EndsView, ArchivesEngine}
+use Rattle.c_engine.specs.Engines.{ReclaimsEngine, RaisesEngine, RaisesFloorOf, GrowsEngine, PumpsJobOf}
 use Rattle.c_engine.specs.Writes.{Puts, Deletes}
 use Rattle.c_engine.specs.declared.code.Code.{Code}
 use Rattle.c_engine.specs.declared.code.Code.TheVariants as code

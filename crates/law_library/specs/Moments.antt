@@ -43,7 +43,8 @@ pub record HostMoment : Type 0 where
   -- while a device call is due, and after one that was refused: the store before its step
   pub before : Option Moment
 
--- It survives: it is kept as a front of what the store stands for or, where a device call was not made yet, of what it stood for before its step; with every commit that was acknowledged.
+-- It survives: it is kept as a front of what the store stands for or, where a device call was not made yet, of what it stood for before its step; with every
+-- commit that was acknowledged.
 abbrev pub HostSurvives : HostMoment → Image → Type 0
 HostSurvives m image = Survives true m.at image ⊎ MatchOption m.before ⊥ (λ before. Survives true before image)
 
@@ -58,7 +59,8 @@ HostLeavesWithin m = MatchOption (due_call (due_in m.host.engine.state) m.host.e
 
 -- ---- what holds at each
 
--- the moment before the step whose device call is not made: it is a moment of a store, all that is acknowledged was published then, and what views after a refusal show is what was
+-- the moment before the step whose device call is not made: it is a moment of a store, all that is acknowledged was published then, and what views after a
+-- refusal show is what was
 pub record WasBefore (m : HostMoment) (before : Moment) : Type 0 where
   pub is_before : m.before ≡ Some before
   pub held : List Held

@@ -37,7 +37,8 @@ OpensAtMoment = (status heap archive : List ℕ) (mark : ℕ) (info : Info) (e :
     → (m : HostMoment) × (m.host ≡ record { engine = e; areas = settled_on (record { status = status; heap = heap; archive = archive }) }) × (m.at.done ≡ [])
     × (m.at.world.machine ≡ opened h floors) × IsHostMoment m
 
--- what holds after some events: the host is at a moment that the machine has come to, and whatever a stop may leave of its areas survives, with every commit that was acknowledged
+-- what holds after some events: the host is at a moment that the machine has come to, and whatever a stop may leave of its areas survives, with every commit
+-- that was acknowledged
 pub record HostKeeps (h : History Value) (floors : ℕ → ℕ) (events : List Event) (host : Host) : Type 0 where
   pub moment : HostMoment
   pub is_host : moment.host ≡ host

@@ -1,5 +1,6 @@
 -- A base in the place of the front of a log tells the same, but for the reclaim mark.
-use Rattle.std.proofs.Common.{◌≡◌, ℕ, ◌+◌, ◌-◌, ◌<◌, ◌≤◌, ◌^◌, max, nat_lt, nat_le, Bool, true, false, cond, zero, suc, List, [], ◌∷◌, ◌++◌, map, length, take, Option, refl, ap, sym, subst, ◌∙◌, arith, append_assoc, ⊎_elim}
+use Rattle.std.proofs.Common.{◌≡◌, ℕ, ◌+◌, ◌-◌, ◌<◌, ◌≤◌, ◌^◌, max, nat_lt, nat_le, Bool, true, false, cond, zero, suc, List, [], ◌∷◌, ◌++◌, map, length, take}
+use Rattle.std.proofs.Common.{Option, refl, ap, sym, subst, ◌∙◌, arith, append_assoc, ⊎_elim}
 use Rattle.std.specs.Prelude.{filter}
 use Rattle.std.specs.List.{AllByRecursion}
 use Rattle.std.proofs.Math.Nat.{le-max_left, le-max_right, max-le}
@@ -12,12 +13,15 @@ use Rattle.law_image.specs.Reading.{Head, Slot, Commits, Archived, Reclaimed, Me
 use Rattle.law_image.specs.Reading as slots
 use Rattle.history.specs.Floors.{raised}
 use Rattle.std.proofs.lemmas.Bool.Decides.{nat_tests}
-use Rattle.law_image.specs.Log.{heads_of, last_time_after, last_time, told_time, archive_mark, reclaim_mark_after, reclaim_mark, floors_after, floor_of, AreRisingAfter, AllCome, MayComeInHeap}
+use Rattle.law_image.specs.Log.{heads_of, last_time_after, last_time, told_time, archive_mark, reclaim_mark_after, reclaim_mark, floors_after, floor_of}
+use Rattle.law_image.specs.Log.{AreRisingAfter, AllCome, MayComeInHeap}
 use Rattle.law_image.specs.HeapPlans.{marks_of, first_runs, IsBased}
 use Rattle.law_image.proofs.GroupStep.{length-map}
 use Rattle.law_image.proofs.Logs.{heads_of-append, last_time_after-append, same_last, marked-heap, archive_mark-append, reclaim_mark-append, floors-append}
 use Rattle.law_image.proofs.HeapRuns.{marks-append, first-marks, last_mark, last_mark-is, floors-alike}
-use Rattle.law_log.specs.Chains.{RelationFloor, Base, LogChain, OfBase, OfGroup, OfRun, OfFloor, commits_slot, later_heads, floor_slot, base_slots, heads_in, told_behind, told_from, told, reclaimed_by, commits_in, last_commit, IsBase, MayFollow, MayAllFollow, KeepsChainRules, IsUpTo, IsLater, BeginsLater, IsNoBase, TakesPlace}
+use Rattle.law_log.specs.Chains.{RelationFloor, Base, LogChain, OfBase, OfGroup, OfRun, OfFloor, commits_slot, later_heads, floor_slot, base_slots, heads_in}
+use Rattle.law_log.specs.Chains.{told_behind, told_from, told, reclaimed_by, commits_in, last_commit, IsBase, MayFollow, MayAllFollow, KeepsChainRules, IsUpTo}
+use Rattle.law_log.specs.Chains.{IsLater, BeginsLater, IsNoBase, TakesPlace}
 use Rattle.law_log.proofs.Telling.{TellsSo, tells-all, tells-from, tells-base, told-keeps, commits-heads, last-rises}
 
 -- ---- what the first runs alone tell
@@ -60,7 +64,8 @@ first-reclaimed (suc kept) (slots.Floor scope floor ∷ rest) t = first-reclaime
 
 -- ---- one chain more
 
--- This is told with the base, where that is told without it: the runs and floors are the same, and the commits are those that the base names, and those later than its mark.
+-- This is told with the base, where that is told without it: the runs and floors are the same, and the commits are those that the base names, and those later
+-- than its mark.
 pub record TellBased (mark : ℕ) (names : List Head) (before after : List Slot) : Type 0 where
   pub marks : marks_of after ≡ marks_of before
   pub floors : (relation : ℕ) → floor_of after relation ≡ floor_of before relation
@@ -68,7 +73,9 @@ pub record TellBased (mark : ℕ) (names : List Head) (before after : List Slot)
   pub heads : heads_of after ≡ names ++ later_heads mark (heads_of before)
 
 later-later : (old mark : ℕ) (heads : List Head) → old ≤ mark → later_heads mark (later_heads old heads) ≡ later_heads mark heads
-later-later old mark heads le = filter-filter (λ (head : Head). nat_lt mark head.time) (λ (head : Head). nat_lt old head.time) heads (λ head e. is_lt (omega (arith, le, of_lt mark head.time e)))
+later-later old mark heads le =
+    filter-filter (λ (head : Head). nat_lt mark head.time) (λ (head : Head). nat_lt old head.time) heads
+    (λ head e. is_lt (omega (arith, le, of_lt mark head.time e)))
   where
     of_lt : (a b : ℕ) → nat_lt a b ≡ true → a < b
     of_lt a b e = grind (arith, nat_tests)
@@ -122,7 +129,8 @@ based-behind old mark names before after (OfRun upto runs) le none so =
     record {
       marks =
           marks-append (first_runs kept' after) (Archived upto ∷ [])
-          ∙ ap (λ l. l ++ upto ∷ []) (first-marks kept' after ∙ ap (λ (n : ℕ). take n (marks_of after)) same ∙ ap (take kept) so.marks ∙ sym (first-marks kept before))
+          ∙ ap (λ l. l ++ upto ∷ []) (first-marks kept' after ∙ ap (λ (n : ℕ). take n (marks_of after)) same ∙ ap (take kept) so.marks
+          ∙ sym (first-marks kept before))
           ∙ sym (marks-append (first_runs kept before) (Archived upto ∷ []));
       floors = λ relation.
           ap (λ (f : ℕ → ℕ). f relation) (floors-append (λ q. 0) (first_runs kept' after) (Archived upto ∷ []) ∙ first-floors (λ q. 0) kept' after)
@@ -131,7 +139,8 @@ based-behind old mark names before after (OfRun upto runs) le none so =
       reclaimed = reclaim_mark-append 0 (first_runs kept' after) (Archived upto ∷ []) ∙ first-reclaimed kept' after 0 ∙ so.reclaimed;
       heads =
           heads_of-append (first_runs kept' after) (Archived upto ∷ []) ∙ append-nil (heads_of (first_runs kept' after)) ∙ first-heads kept' after ∙ so.heads
-          ∙ ap (λ l. names ++ later_heads mark l) (sym (heads_of-append (first_runs kept before) (Archived upto ∷ []) ∙ append-nil (heads_of (first_runs kept before)) ∙ first-heads kept before));
+          ∙ ap (λ l. names ++ later_heads mark l) (sym (heads_of-append (first_runs kept before) (Archived upto ∷ [])
+          ∙ append-nil (heads_of (first_runs kept before)) ∙ first-heads kept before));
     }
 based-behind old mark names before after (OfFloor f) le none so = record {
   marks = marks-append after (floor_slot f ∷ []) ∙ ap (λ l. l ++ []) so.marks ∙ sym (marks-append before (floor_slot f ∷ []));
@@ -148,11 +157,14 @@ based-behind old mark names before after (OfFloor f) le none so = record {
 pub based-from : (old mark : ℕ) (names : List Head) (before after : List Slot) (chains : List LogChain) → old ≤ mark → AllByRecursion IsNoBase chains
     → TellBased mark names before after → TellBased mark names (told_from old before chains) (told_from mark after chains)
 based-from old mark names before after [] le none so = so
-based-from old mark names before after (chain ∷ chains) le none so = based-from old mark names (told_behind old before chain) (told_behind mark after chain) chains le none.1 (based-behind old mark names before after chain le none.0 so)
+based-from old mark names before after (chain ∷ chains) le none so =
+    based-from old mark names (told_behind old before chain) (told_behind mark after chain) chains le none.1
+    (based-behind old mark names before after chain le none.0 so)
 
 -- ---- a log in two parts
 
-pub told-split : (mark : ℕ) (before : List Slot) (front back : List LogChain) → told_from mark before (front ++ back) ≡ told_from mark (told_from mark before front) back
+pub told-split : (mark : ℕ) (before : List Slot) (front back : List LogChain) → told_from mark before (front ++ back)
+    ≡ told_from mark (told_from mark before front) back
 told-split mark before [] back = refl
 told-split mark before (chain ∷ chains) back = told-split mark (told_behind mark before chain) chains back
 
@@ -198,23 +210,27 @@ one-later old mark last names before after (OfFloor f) le late none so may =
     let up = max-more old last mark last le (omega arith) in
     (omega (arith, same, may.0), omega (arith, may.1, up))
 
-later-stays : (old mark last : ℕ) (names : List Head) (before : List Slot) (chain : LogChain) → mark ≤ last → MayFollow old last before chain → mark ≤ last_time_after last (commits_in chain)
+later-stays : (old mark last : ℕ) (names : List Head) (before : List Slot) (chain : LogChain) → mark ≤ last → MayFollow old last before chain
+    → mark ≤ last_time_after last (commits_in chain)
 later-stays old mark last names before (OfBase b) late may = late
 later-stays old mark last names before (OfGroup members) late may = omega (arith, late, last-rises last (heads_in members) may.2)
 later-stays old mark last names before (OfRun upto runs) late may = late
 later-stays old mark last names before (OfFloor f) late may = late
 
-all-later : (old mark last : ℕ) (names : List Head) (before after : List Slot) (chains : List LogChain) → old ≤ mark → mark ≤ last → AllByRecursion IsNoBase chains
+all-later : (old mark last : ℕ) (names : List Head) (before after : List Slot) (chains : List LogChain) → old ≤ mark → mark ≤ last
+    → AllByRecursion IsNoBase chains
     → TellBased mark names before after → MayAllFollow old last before chains → MayAllFollow mark last after chains
 all-later old mark last names before after [] le late none so may = tt
 all-later old mark last names before after (chain ∷ chains) le late none so may = (
   one-later old mark last names before after chain le late none.0 so may.0,
-  all-later old mark (last_time_after last (commits_in chain)) names (told_behind old before chain) (told_behind mark after chain) chains le (later-stays old mark last names before chain late may.0) none.1
-  (based-behind old mark names before after chain le none.0 so) may.1,
+  all-later old mark (last_time_after last (commits_in chain)) names (told_behind old before chain) (told_behind mark after chain) chains le
+      (later-stays old mark last names before chain late may.0) none.1
+      (based-behind old mark names before after chain le none.0 so) may.1,
 )
 
 -- the rest of the log, whose first chain has a commit later than the mark, may follow the base
-pub rest-follows : (old mark last : ℕ) (names : List Head) (before after : List Slot) (back : List LogChain) → old ≤ mark → BeginsLater mark back → AllByRecursion IsNoBase back
+pub rest-follows : (old mark last : ℕ) (names : List Head) (before after : List Slot) (back : List LogChain) → old ≤ mark → BeginsLater mark back
+    → AllByRecursion IsNoBase back
     → TellBased mark names before after → MayAllFollow old last before back → MayAllFollow mark 0 after back
 rest-follows old mark last names before after [] le begins none so may = tt
 rest-follows old mark last names before after (OfBase b ∷ chains) le begins none so may = absurd none.0
@@ -223,8 +239,9 @@ rest-follows old mark last names before after (OfGroup members ∷ chains) le be
     let same : last_time_after 0 (heads_in members) ≡ last_time_after last (heads_in members) = last-same 0 last (heads_in members) some in (
       (may.0.0, may.0.1, rising-lower 0 last (heads_in members) (omega arith) may.0.2, begins),
       subst (λ (t : ℕ). MayAllFollow mark t (told_behind mark after (OfGroup members)) chains) (sym same)
-      (all-later old mark (last_time_after last (heads_in members)) names (told_behind old before (OfGroup members)) (told_behind mark after (OfGroup members)) chains le (omega (arith, begins, same)) none.1
-      (based-behind old mark names before after (OfGroup members) le tt so) may.1),
+          (all-later old mark (last_time_after last (heads_in members)) names (told_behind old before (OfGroup members)) (told_behind mark after (OfGroup members))
+          chains le (omega (arith, begins, same)) none.1
+          (based-behind old mark names before after (OfGroup members) le tt so) may.1),
     )
 rest-follows old mark last names before after (OfRun upto runs ∷ chains) le begins none so may = absurd (omega (arith, begins))
 rest-follows old mark last names before after (OfFloor f ∷ chains) le begins none so may = absurd (omega (arith, begins))
@@ -249,7 +266,9 @@ up-rising mark t [] up le = tt
 up-rising mark t (head ∷ heads) up le = (omega (arith, last-rises head.time heads up.2, le), up-rising mark head.time heads up.2 le)
 
 base-heads : (b : Base) → heads_of (base_slots b) ≡ b.names
-base-heads b = heads_of-append (commits_slot b.names) (Reclaimed b.upto ∷ (map Archived b.marks ++ map floor_slot b.floors)) ∙ ap (λ l. l ++ heads_of (map Archived b.marks ++ map floor_slot b.floors)) (commits-heads b.names)
+base-heads b =
+    heads_of-append (commits_slot b.names) (Reclaimed b.upto ∷ (map Archived b.marks ++ map floor_slot b.floors))
+    ∙ ap (λ l. l ++ heads_of (map Archived b.marks ++ map floor_slot b.floors)) (commits-heads b.names)
     ∙ ap (λ l. b.names ++ l) (no-heads b.marks b.floors) ∙ append-nil b.names
   where
     floors-no : (floors : List RelationFloor) → heads_of (map floor_slot floors) ≡ []
@@ -261,7 +280,9 @@ base-heads b = heads_of-append (commits_slot b.names) (Reclaimed b.upto ∷ (map
     no-heads (m ∷ marks) floors = no-heads marks floors
 
 base-marks : (b : Base) → marks_of (base_slots b) ≡ b.marks
-base-marks b = marks-append (commits_slot b.names) (Reclaimed b.upto ∷ (map Archived b.marks ++ map floor_slot b.floors)) ∙ ap (λ l. l ++ marks_of (map Archived b.marks ++ map floor_slot b.floors)) (commits-no_marks b.names)
+base-marks b =
+    marks-append (commits_slot b.names) (Reclaimed b.upto ∷ (map Archived b.marks ++ map floor_slot b.floors))
+    ∙ ap (λ l. l ++ marks_of (map Archived b.marks ++ map floor_slot b.floors)) (commits-no_marks b.names)
     ∙ own b.marks b.floors
   where
     floors-no : (floors : List RelationFloor) → marks_of (map floor_slot floors) ≡ []
@@ -272,21 +293,27 @@ base-marks b = marks-append (commits_slot b.names) (Reclaimed b.upto ∷ (map Ar
     own [] floors = floors-no floors
     own (m ∷ marks) floors = ap (λ l. m ∷ l) (own marks floors)
 
-front-behind : (old mark last : ℕ) (before : List Slot) (chain : LogChain) → old ≤ mark → AreUpTo mark (heads_of before) → IsUpTo mark chain → MayFollow old last before chain → AreUpTo mark (heads_of (told_behind old before chain))
+front-behind : (old mark last : ℕ) (before : List Slot) (chain : LogChain) → old ≤ mark → AreUpTo mark (heads_of before) → IsUpTo mark chain
+    → MayFollow old last before chain → AreUpTo mark (heads_of (told_behind old before chain))
 front-behind old mark last before (OfBase b) le all up may =
     subst (AreUpTo mark) (sym (heads_of-append before (base_slots b) ∙ ap (λ l. heads_of before ++ l) (base-heads b)))
     (up-append mark (heads_of before) b.names all (let named = may.3.named in up-rising mark 0 b.names may.3.rising (omega (arith, named, le, may.2))))
 front-behind old mark last before (OfGroup members) le all up may =
-    subst (AreUpTo mark) (sym (heads-behind before (later_heads old (heads_in members)))) (up-append mark (heads_of before) (later_heads old (heads_in members)) all (up-later mark old (heads_in members) up))
+    subst (AreUpTo mark) (sym (heads-behind before (later_heads old (heads_in members))))
+    (up-append mark (heads_of before) (later_heads old (heads_in members)) all (up-later mark old (heads_in members) up))
 front-behind old mark last before (OfRun upto runs) le all up may =
     let kept = length (marks_of before) - runs in
-    subst (AreUpTo mark) (sym (heads_of-append (first_runs kept before) (Archived upto ∷ []) ∙ append-nil (heads_of (first_runs kept before)) ∙ first-heads kept before)) all
-front-behind old mark last before (OfFloor f) le all up may = subst (AreUpTo mark) (sym (heads_of-append before (floor_slot f ∷ []) ∙ append-nil (heads_of before))) all
+    subst (AreUpTo mark) (sym (heads_of-append (first_runs kept before) (Archived upto ∷ []) ∙ append-nil (heads_of (first_runs kept before))
+    ∙ first-heads kept before)) all
+front-behind old mark last before (OfFloor f) le all up may =
+    subst (AreUpTo mark) (sym (heads_of-append before (floor_slot f ∷ []) ∙ append-nil (heads_of before))) all
 
-front-from : (old mark last : ℕ) (before : List Slot) (chains : List LogChain) → old ≤ mark → AreUpTo mark (heads_of before) → AllByRecursion (IsUpTo mark) chains → MayAllFollow old last before chains → AreUpTo mark (heads_of (told_from old before chains))
+front-from : (old mark last : ℕ) (before : List Slot) (chains : List LogChain) → old ≤ mark → AreUpTo mark (heads_of before)
+    → AllByRecursion (IsUpTo mark) chains → MayAllFollow old last before chains → AreUpTo mark (heads_of (told_from old before chains))
 front-from old mark last before [] le all up may = all
 front-from old mark last before (chain ∷ chains) le all up may =
-    front-from old mark (last_time_after last (commits_in chain)) (told_behind old before chain) chains le (front-behind old mark last before chain le all up.0 may.0) up.1 may.1
+    front-from old mark (last_time_after last (commits_in chain)) (told_behind old before chain) chains le
+    (front-behind old mark last before chain le all up.0 may.0) up.1 may.1
 
 none-later : (mark : ℕ) (heads : List Head) → AreUpTo mark heads → later_heads mark heads ≡ []
 none-later mark [] all = refl
@@ -302,14 +329,21 @@ heads-rise : (before log : List Slot) → AllCome MayComeInHeap before log → A
 heads-rise before [] may = tt
 heads-rise before (Commits heads ∷ log) may =
     let at : last_time (before ++ Commits heads ∷ []) ≡ last_time_after (last_time before) heads =
-    ap (last_time_after 0) (heads_of-append before (Commits heads ∷ []) ∙ ap (λ l. heads_of before ++ l) (append-nil heads)) ∙ last_time_after-append 0 (heads_of before) heads in
-    rising-append (last_time before) heads (heads_of log) (rising-lower (last_time before) (told_time before) heads (le-max_left (last_time before) (reclaim_mark before)) may.0.1)
+    ap (last_time_after 0) (heads_of-append before (Commits heads ∷ []) ∙ ap (λ l. heads_of before ++ l) (append-nil heads))
+    ∙ last_time_after-append 0 (heads_of before) heads in
+    rising-append (last_time before) heads (heads_of log)
+    (rising-lower (last_time before) (told_time before) heads (le-max_left (last_time before) (reclaim_mark before)) may.0.1)
     (subst (λ (t : ℕ). AreRisingAfter t (heads_of log)) at (heads-rise (before ++ Commits heads ∷ []) log may.1))
-heads-rise before (Archived upto ∷ log) may = subst (λ (t : ℕ). AreRisingAfter t (heads_of log)) (same_last before (Archived upto) refl) (heads-rise (before ++ Archived upto ∷ []) log may.1)
-heads-rise before (Reclaimed upto ∷ log) may = subst (λ (t : ℕ). AreRisingAfter t (heads_of log)) (same_last before (Reclaimed upto) refl) (heads-rise (before ++ Reclaimed upto ∷ []) log may.1)
-heads-rise before (slots.Floor scope floor ∷ log) may = subst (λ (t : ℕ). AreRisingAfter t (heads_of log)) (same_last before (slots.Floor scope floor) refl) (heads-rise (before ++ slots.Floor scope floor ∷ []) log may.1)
+heads-rise before (Archived upto ∷ log) may =
+    subst (λ (t : ℕ). AreRisingAfter t (heads_of log)) (same_last before (Archived upto) refl) (heads-rise (before ++ Archived upto ∷ []) log may.1)
+heads-rise before (Reclaimed upto ∷ log) may =
+    subst (λ (t : ℕ). AreRisingAfter t (heads_of log)) (same_last before (Reclaimed upto) refl) (heads-rise (before ++ Reclaimed upto ∷ []) log may.1)
+heads-rise before (slots.Floor scope floor ∷ log) may =
+    subst (λ (t : ℕ). AreRisingAfter t (heads_of log)) (same_last before (slots.Floor scope floor) refl) (heads-rise (before ++ slots.Floor scope floor
+    ∷ []) log may.1)
 
-all-above : (mark t : ℕ) (heads : List Head) → mark ≤ t → AreRisingAfter t heads → (filter (λ (head : Head). nat_le head.time mark) heads ≡ []) × (later_heads mark heads ≡ heads)
+all-above : (mark t : ℕ) (heads : List Head) → mark ≤ t → AreRisingAfter t heads → (filter (λ (head : Head). nat_le head.time mark) heads ≡ [])
+    × (later_heads mark heads ≡ heads)
 all-above mark t [] le up = (refl, refl)
 all-above mark t (head ∷ heads) le up =
     let rest = all-above mark head.time heads (omega (arith, le, up.0)) up.2 in
@@ -334,7 +368,8 @@ parted mark t (head ∷ heads) up =
 
 -- ---- the base in its place
 
-pub base-placed : (front back : List LogChain) (b : Base) → KeepsChainRules (front ++ back) → reclaimed_by (front ++ back) ≤ last_time (told (front ++ back)) → TakesPlace front back b
+pub base-placed : (front back : List LogChain) (b : Base) → KeepsChainRules (front ++ back) → reclaimed_by (front ++ back) ≤ last_time (told (front ++ back))
+    → TakesPlace front back b
     → KeepsChainRules (OfBase b ∷ back) × IsBased b.upto (told (front ++ back)) (told (OfBase b ∷ back))
 base-placed front back b rules le place =
     let old = reclaimed_by (front ++ back) in
@@ -352,11 +387,15 @@ base-placed front back b rules le place =
       heads = base-heads b ∙ sym (append-nil b.names) ∙ ap (λ l. b.names ++ l) (sym (none-later b.upto (heads_of before) ups));
     } in
     let whole : TellBased b.upto b.names all after =
-    subst (λ (l : List Slot). TellBased b.upto b.names l after) (sym (told-split old [] front back)) (based-from old b.upto b.names before (base_slots b) back under place.no_base first) in
-    let heads : heads_of after ≡ heads_of all = whole.heads ∙ ap (λ l. l ++ later_heads b.upto (heads_of all)) place.names ∙ parted b.upto 0 (heads_of all) (heads-rise [] all keeps.each) in
+    subst (λ (l : List Slot). TellBased b.upto b.names l after) (sym (told-split old [] front back))
+    (based-from old b.upto b.names before (base_slots b) back under place.no_base first) in
+    let heads : heads_of after ≡ heads_of all =
+    whole.heads ∙ ap (λ l. l ++ later_heads b.upto (heads_of all)) place.names ∙ parted b.upto 0 (heads_of all) (heads-rise [] all keeps.each) in
     let mark : archive_mark after ≡ archive_mark all = same-mark all after whole.marks in
-    let follows : MayAllFollow b.upto 0 (base_slots b) back = rest-follows old b.upto (last_commit 0 front) b.names before (base_slots b) back under place.back_begins place.no_base first split.1 in
-    let new-rules : KeepsChainRules (OfBase b ∷ back) = record { each = ((refl, refl, refl, place.in_range), follows); archived = omega (arith, mark, place.upto) } in
+    let follows : MayAllFollow b.upto 0 (base_slots b) back =
+    rest-follows old b.upto (last_commit 0 front) b.names before (base_slots b) back under place.back_begins place.no_base first split.1 in
+    let new-rules : KeepsChainRules (OfBase b ∷ back) =
+    record { each = ((refl, refl, refl, place.in_range), follows); archived = omega (arith, mark, place.upto) } in
     let ranges = marked-heap all keeps in
     let last : last_time after ≡ last_time all = ap (last_time_after 0) heads in (
       new-rules,

@@ -1,5 +1,6 @@
 -- What a log tells keeps the rules of a log.
-use Rattle.std.proofs.Common.{◌≡◌, ℕ, ◌+◌, ◌-◌, ◌<◌, ◌≤◌, ◌^◌, ◌==◌, max, nat_lt, nat_le, Bool, true, false, cond, List, [], ◌∷◌, ◌++◌, map, length, Option, Some, refl, ap, sym, subst, ◌∙◌, arith, append_assoc, ⊎_elim}
+use Rattle.std.proofs.Common.{◌≡◌, ℕ, ◌+◌, ◌-◌, ◌<◌, ◌≤◌, ◌^◌, ◌==◌, max, nat_lt, nat_le, Bool, true, false, cond, List, [], ◌∷◌, ◌++◌, map, length, Option}
+use Rattle.std.proofs.Common.{Some, refl, ap, sym, subst, ◌∙◌, arith, append_assoc, ⊎_elim}
 use Rattle.std.specs.Prelude.{filter, IsTrue, IsSome}
 use Rattle.std.proofs.Math.Nat.{le-max_left, le-max_right, max_comm}
 use Rattle.std.proofs.lemmas.Bool.{cases_lt}
@@ -9,14 +10,19 @@ use Rattle.history.specs.Floors.{covers, raised}
 use Rattle.history.proofs.Orders.{is_lt, not_lt}
 use Rattle.law_image.specs.Reading.{Head, Slot, Commits, Archived, Reclaimed, Member}
 use Rattle.law_image.specs.Reading as slots
-use Rattle.law_image.specs.Log.{heads_of, last_time_after, last_time, told_time, archive_mark_after, archive_mark, reclaim_mark, floors_after, floor_of, AreRisingAfter, AllCome, MayComeInHeap, KeepsHeapRules}
+use Rattle.law_image.specs.Log.{heads_of, last_time_after, last_time, told_time, archive_mark_after, archive_mark, reclaim_mark, floors_after, floor_of}
+use Rattle.law_image.specs.Log.{AreRisingAfter, AllCome, MayComeInHeap, KeepsHeapRules}
 use Rattle.law_image.specs.HeapPlans.{marks_of, first_runs}
-use Rattle.law_image.proofs.Logs.{heads_of-append, last_time_after-append, archive_mark-append, reclaim_mark-append, floors-append, all-more, same_last, told-is_last}
+use Rattle.law_image.proofs.Logs.{heads_of-append, last_time_after-append, archive_mark-append, reclaim_mark-append, floors-append, all-more, same_last}
+use Rattle.law_image.proofs.Logs.{told-is_last}
 use Rattle.law_image.proofs.GroupStep.{length-map}
 use Rattle.law_image.proofs.HeapRuns.{first-rules, TellAlike, alike-told}
-use Rattle.law_log.specs.Chains.{RelationFloor, Base, LogChain, OfBase, OfGroup, OfRun, OfFloor, commits_slot, later_heads, floor_slot, base_slots, heads_in, told_behind, told_from, told, reclaimed_by, commits_in, last_commit, AreMarksTo, AreFloorsTo, IsBase, MayFollow, MayAllFollow, KeepsChainRules}
+use Rattle.law_log.specs.Chains.{RelationFloor, Base, LogChain, OfBase, OfGroup, OfRun, OfFloor, commits_slot, later_heads, floor_slot, base_slots, heads_in}
+use Rattle.law_log.specs.Chains.{told_behind, told_from, told, reclaimed_by, commits_in, last_commit, AreMarksTo, AreFloorsTo, IsBase, MayFollow, MayAllFollow}
+use Rattle.law_log.specs.Chains.{KeepsChainRules}
 
-pub all-append : (May : List Slot → Slot → Type 0) (before log more : List Slot) → AllCome May before log → AllCome May (before ++ log) more → AllCome May before (log ++ more)
+pub all-append : (May : List Slot → Slot → Type 0) (before log more : List Slot) → AllCome May before log → AllCome May (before ++ log) more
+    → AllCome May before (log ++ more)
 all-append May before [] more may next = subst (λ b. AllCome May b more) (append-nil before) next
 all-append May before (s ∷ slots) more may next =
     (may.0, all-append May (before ++ s ∷ []) slots more may.1 (subst (λ b. AllCome May b more) (sym (append_assoc before (s ∷ []) slots)) next))
@@ -96,25 +102,34 @@ tells-group mark last before members so may = by (later_heads mark (heads_in mem
     some : 0 < length (heads_in members)
     some = omega (arith, may.0, length-map (λ (m : Member). m.head) members)
 
-    found : (0 < length (later_heads mark (heads_in members))) × ((before : ℕ) → last_time_after before (later_heads mark (heads_in members)) ≡ last_time_after last (heads_in members))
+    found : (0 < length (later_heads mark (heads_in members)))
+        × ((before : ℕ) → last_time_after before (later_heads mark (heads_in members)) ≡ last_time_after last (heads_in members))
     found = later-any mark last (heads_in members) may.2 some may.3
 
-    by : (heads : List Head) → later_heads mark (heads_in members) ≡ heads → TellsSo mark (last_time_after last (heads_in members)) (before ++ commits_slot heads)
+    by : (heads : List Head) → later_heads mark (heads_in members) ≡ heads
+        → TellsSo mark (last_time_after last (heads_in members)) (before ++ commits_slot heads)
     by [] is = absurd (omega (arith, (found).0, ap (λ (l : List Head). length l) is))
     by (h ∷ hs) is =
         let at : last_time (before ++ Commits (h ∷ hs) ∷ []) ≡ last_time_after last (heads_in members) =
-        ap (last_time_after 0) (heads_of-append before (Commits (h ∷ hs) ∷ []) ∙ ap (λ l. heads_of before ++ l) (append-nil (h ∷ hs))) ∙ last_time_after-append 0 (heads_of before) (h ∷ hs)
+        ap (last_time_after 0) (heads_of-append before (Commits (h ∷ hs) ∷ []) ∙ ap (λ l. heads_of before ++ l) (append-nil (h ∷ hs)))
+        ∙ last_time_after-append 0 (heads_of before) (h ∷ hs)
         ∙ ap (last_time_after (last_time before)) (sym is) ∙ (found).1 (last_time before) in
         let r : reclaim_mark (before ++ Commits (h ∷ hs) ∷ []) ≡ mark = reclaim_mark-append 0 before (Commits (h ∷ hs) ∷ []) ∙ so.reclaimed in
         record {
-          each = all-more MayComeInHeap [] before (Commits (h ∷ hs)) so.each
-              (omega arith, subst (λ (t : ℕ). AreRisingAfter t (h ∷ hs)) (sym so.telling) (subst (AreRisingAfter (max mark last)) is (later-rising mark last (heads_in members) may.2)));
+          each = all-more MayComeInHeap [] before (Commits (h ∷ hs)) so.each (
+            omega arith,
+            subst (λ (t : ℕ). AreRisingAfter t (h
+                ∷ hs)) (sym so.telling) (subst (AreRisingAfter (max mark last)) is (later-rising mark last (heads_in members) may.2)),
+          );
           reclaimed = r;
-          telling = ap (λ (t : ℕ). max t (reclaim_mark (before ++ Commits (h ∷ hs) ∷ []))) at ∙ ap (max (last_time_after last (heads_in members))) r ∙ max_comm (last_time_after last (heads_in members)) mark;
+          telling =
+              ap (λ (t : ℕ). max t (reclaim_mark (before ++ Commits (h ∷ hs) ∷ []))) at ∙ ap (max (last_time_after last (heads_in members))) r
+              ∙ max_comm (last_time_after last (heads_in members)) mark;
         }
 
 -- a slot that names no commit and no reclaim mark tells of the same time
-pub tells-more : (mark last : ℕ) (before : List Slot) (slot : Slot) → TellsSo mark last before → heads_of (slot ∷ []) ≡ [] → reclaim_mark (before ++ slot ∷ []) ≡ reclaim_mark before → MayComeInHeap before slot → TellsSo mark last (before ++ slot ∷ [])
+pub tells-more : (mark last : ℕ) (before : List Slot) (slot : Slot) → TellsSo mark last before → heads_of (slot ∷ []) ≡ [] → reclaim_mark (before ++ slot ∷ [])
+    ≡ reclaim_mark before → MayComeInHeap before slot → TellsSo mark last (before ++ slot ∷ [])
 tells-more mark last before slot so none same may = record {
   each = all-more MayComeInHeap [] before slot so.each may;
   reclaimed = same ∙ so.reclaimed;
@@ -127,7 +142,8 @@ tells-first mark last kept before so =
     let first = first-rules kept before so.each in
     record { each = first.0; reclaimed = first.1.reclaimed ∙ so.reclaimed; telling = alike-told before (first_runs kept before) first.1 ∙ so.telling }
 
-pub tells-run : (mark last : ℕ) (before : List Slot) (upto runs : ℕ) → TellsSo mark last before → MayFollow mark last before (OfRun upto runs) → TellsSo mark last (told_behind mark before (OfRun upto runs))
+pub tells-run : (mark last : ℕ) (before : List Slot) (upto runs : ℕ) → TellsSo mark last before → MayFollow mark last before (OfRun upto runs)
+    → TellsSo mark last (told_behind mark before (OfRun upto runs))
 tells-run mark last before upto runs so may =
     let kept = length (marks_of before) - runs in
     let first = first-rules kept before so.each in
@@ -139,32 +155,44 @@ tells-run mark last before upto runs so may =
 covered-is : (only relation : ℕ) → IsTrue (covers (Some only) relation) → relation ≡ only
 covered-is only relation is = grind (arith, nat_tests, is)
 
-pub tells-floor : (mark last : ℕ) (before : List Slot) (f : RelationFloor) → TellsSo mark last before → floor_of before f.relation < f.floor → f.floor ≤ max mark last → TellsSo mark last (before ++ floor_slot f ∷ [])
+pub tells-floor : (mark last : ℕ) (before : List Slot) (f : RelationFloor) → TellsSo mark last before → floor_of before f.relation < f.floor
+    → f.floor ≤ max mark last → TellsSo mark last (before ++ floor_slot f ∷ [])
 tells-floor mark last before f so above le =
-    tells-more mark last before (floor_slot f) so refl (reclaim_mark-append 0 before (floor_slot f ∷ []))
-    (refl, omega (arith, le, so.telling), λ relation covered. let is = ap (floor_of before) (covered-is f.relation relation covered) in omega (arith, is, above))
+    tells-more mark last before (floor_slot f) so refl (reclaim_mark-append 0 before (floor_slot f ∷ [])) (
+      refl,
+      omega (arith, le, so.telling),
+      λ relation covered. let is =
+          ap (floor_of before) (covered-is f.relation relation covered) in omega (arith, is, above),
+    )
 
 -- ---- the base
 
 -- runs with rising marks come behind what tells as late as the last of them
-tells-marks : (mark last end from : ℕ) (before : List Slot) (marks : List ℕ) → TellsSo mark last before → archive_mark before ≡ from → AreMarksTo end from marks → end ≤ max mark last → TellsSo mark last (before ++ map Archived marks)
+tells-marks : (mark last end from : ℕ) (before : List Slot) (marks : List ℕ) → TellsSo mark last before → archive_mark before ≡ from → AreMarksTo end from marks
+    → end ≤ max mark last → TellsSo mark last (before ++ map Archived marks)
 tells-marks mark last end from before [] so at rising le = subst (TellsSo mark last) (sym (append-nil before)) so
 tells-marks mark last end from before (upto ∷ marks) so at rising le =
     subst (TellsSo mark last) (append_assoc before (Archived upto ∷ []) (map Archived marks))
     (tells-marks mark last end upto (before ++ Archived upto ∷ []) marks
-    (tells-more mark last before (Archived upto) so refl (reclaim_mark-append 0 before (Archived upto ∷ [])) (omega (arith, at, rising.0), omega (arith, rising.1, le, so.telling)))
+    (tells-more mark last before (Archived upto) so refl (reclaim_mark-append 0 before (Archived upto ∷ [])) (
+      omega (arith, at, rising.0),
+      omega (arith, rising.1, le, so.telling),
+    ))
     (archive_mark-append 0 before (Archived upto ∷ [])) rising.2 le)
 
 none-raised : (only floor relation : ℕ) (floors : ℕ → ℕ) → only < relation → raised (Some only) floor floors relation ≡ floors relation
 none-raised only floor relation floors lt = let test : (only == relation) ≡ false = grind (arith, nat_tests, lt) in rw test refl
 
-tells-floors : (mark last end from : ℕ) (before : List Slot) (floors : List RelationFloor) → TellsSo mark last before → ((relation : ℕ) → from ≤ relation → floor_of before relation ≡ 0) → AreFloorsTo end from floors → end ≤ max mark last → TellsSo mark last (before ++ map floor_slot floors)
+tells-floors : (mark last end from : ℕ) (before : List Slot) (floors : List RelationFloor) → TellsSo mark last before
+    → ((relation : ℕ) → from ≤ relation → floor_of before relation ≡ 0) → AreFloorsTo end from floors → end ≤ max mark last
+    → TellsSo mark last (before ++ map floor_slot floors)
 tells-floors mark last end from before [] so none rising le = subst (TellsSo mark last) (sym (append-nil before)) so
 tells-floors mark last end from before (f ∷ floors) so none rising le =
     subst (TellsSo mark last) (append_assoc before (floor_slot f ∷ []) (map floor_slot floors))
     (tells-floors mark last end (f.relation + 1) (before ++ floor_slot f ∷ []) floors
     (tells-floor mark last before f so (let zero = none f.relation rising.0 in omega (arith, zero, rising.1)) (omega (arith, rising.2, le)))
-    (λ relation from. ap (λ (g : ℕ → ℕ). g relation) (floors-append (λ q. 0) before (floor_slot f ∷ [])) ∙ none-raised f.relation f.floor relation (floor_of before) (omega (arith, from)) ∙ none relation (omega (arith, rising.0, from)))
+    (λ relation from. ap (λ (g : ℕ → ℕ). g relation) (floors-append (λ q. 0) before (floor_slot f ∷ []))
+    ∙ none-raised f.relation f.floor relation (floor_of before) (omega (arith, from)) ∙ none relation (omega (arith, rising.0, from)))
     rising.3 le)
 
 -- the commits that the rolls name, and the mark
@@ -196,8 +224,10 @@ tells-base b is =
     let marked : archive_mark first ≡ 0 = archive_mark-append 0 (commits_slot b.names) (Reclaimed b.upto ∷ []) ∙ commits-marks b.names 0 in
     let runs : TellsSo b.upto 0 (first ++ map Archived b.marks) = tells-marks b.upto 0 b.upto 0 first b.marks (tells-mark b is) marked is.marks up in
     let none : (relation : ℕ) → 0 ≤ relation → floor_of (first ++ map Archived b.marks) relation ≡ 0 =
-    λ relation le. ap (λ (f : ℕ → ℕ). f relation) (floors-append (λ q. 0) first (map Archived b.marks)) ∙ marks-floors (floors_after (λ q. 0) first) b.marks relation ∙ first-floors b.names b.upto relation in
-    subst (TellsSo b.upto 0) (append_assoc first (map Archived b.marks) (map floor_slot b.floors) ∙ append_assoc (commits_slot b.names) (Reclaimed b.upto ∷ []) (map Archived b.marks ++ map floor_slot b.floors))
+    λ relation le. ap (λ (f : ℕ → ℕ). f relation) (floors-append (λ q. 0) first (map Archived b.marks))
+    ∙ marks-floors (floors_after (λ q. 0) first) b.marks relation ∙ first-floors b.names b.upto relation in
+    subst (TellsSo b.upto 0) (append_assoc first (map Archived b.marks) (map floor_slot b.floors)
+    ∙ append_assoc (commits_slot b.names) (Reclaimed b.upto ∷ []) (map Archived b.marks ++ map floor_slot b.floors))
     (tells-floors b.upto 0 b.upto 0 (first ++ map Archived b.marks) b.floors runs none is.floors up)
   where
     marks-floors : (f : ℕ → ℕ) (marks : List ℕ) (relation : ℕ) → floors_after f (map Archived marks) relation ≡ f relation
@@ -210,7 +240,8 @@ tells-base b is =
 
 -- ---- the whole log
 
-pub tells-behind : (mark last : ℕ) (before : List Slot) (chain : LogChain) → TellsSo mark last before → MayFollow mark last before chain → TellsSo mark (last_time_after last (commits_in chain)) (told_behind mark before chain)
+pub tells-behind : (mark last : ℕ) (before : List Slot) (chain : LogChain) → TellsSo mark last before → MayFollow mark last before chain
+    → TellsSo mark (last_time_after last (commits_in chain)) (told_behind mark before chain)
 tells-behind mark last before (OfBase b) so may =
     let none : max mark last ≡ 0 = sym so.telling ∙ ap told_time may.0 in
     let low = le-max_left mark last in
@@ -220,7 +251,8 @@ tells-behind mark last before (OfGroup members) so may = tells-group mark last b
 tells-behind mark last before (OfRun upto runs) so may = tells-run mark last before upto runs so may
 tells-behind mark last before (OfFloor f) so may = tells-floor mark last before f so may.0 may.1
 
-pub tells-from : (mark last : ℕ) (before : List Slot) (chains : List LogChain) → TellsSo mark last before → MayAllFollow mark last before chains → TellsSo mark (last_commit last chains) (told_from mark before chains)
+pub tells-from : (mark last : ℕ) (before : List Slot) (chains : List LogChain) → TellsSo mark last before → MayAllFollow mark last before chains
+    → TellsSo mark (last_commit last chains) (told_from mark before chains)
 tells-from mark last before [] so may = so
 tells-from mark last before (chain ∷ chains) so may =
     tells-from mark (last_time_after last (commits_in chain)) (told_behind mark before chain) chains (tells-behind mark last before chain so may.0) may.1

@@ -108,14 +108,16 @@ pub record IsBase (b : Base) : Type 0 where
 -- The chain may follow these, which tell this so far, where the reclaim mark is this one and the last commit had this time.
 abbrev pub MayFollow : ℕ → ℕ → List Slot → LogChain → Type 0
 MayFollow mark last before (OfBase b) = (before ≡ []) × (last ≡ 0) × (mark ≡ b.upto) × IsBase b
-MayFollow mark last before (OfGroup members) = (0 < length members) × (length members ≤ 1024) × AreRisingAfter last (heads_in members) × (mark < last_time_after last (heads_in members))
+MayFollow mark last before (OfGroup members) =
+    (0 < length members) × (length members ≤ 1024) × AreRisingAfter last (heads_in members) × (mark < last_time_after last (heads_in members))
 MayFollow mark last before (OfRun upto runs) = (archive_mark before < upto) × (upto ≤ max mark last) × (runs ≤ length (marks_of before))
 MayFollow mark last before (OfFloor f) = (floor_of before f.relation < f.floor) × (f.floor ≤ max mark last)
 
 -- and so may each behind those before it
 abbrev pub MayAllFollow : ℕ → ℕ → List Slot → List LogChain → Type 0
 MayAllFollow mark last before [] = Unit {0}
-MayAllFollow mark last before (chain ∷ chains) = MayFollow mark last before chain × MayAllFollow mark (last_time_after last (commits_in chain)) (told_behind mark before chain) chains
+MayAllFollow mark last before (chain ∷ chains) =
+    MayFollow mark last before chain × MayAllFollow mark (last_time_after last (commits_in chain)) (told_behind mark before chain) chains
 
 -- The log keeps its rules.
 pub record KeepsChainRules (chains : List LogChain) : Type 0 where
@@ -137,7 +139,8 @@ members_of chains = filter (λ m. nat_lt (reclaimed_by chains) m.head.time) (fla
 
 -- the image of a heap of this many extents whose log, anchors and runs are these
 abbrev pub reading_of : ℕ → List LogChain → List OldRecord → List (List ArchiveRecord) → Reading
-reading_of extents chains anchors runs = record { profile = 4; slots = extents; pieces = 0; log = told chains; members = members_of chains; anchors = anchors; runs = runs }
+reading_of extents chains anchors runs =
+    record { profile = 4; slots = extents; pieces = 0; log = told chains; members = members_of chains; anchors = anchors; runs = runs }
 
 -- ---- a reclaim
 
@@ -161,7 +164,8 @@ IsNoBase (OfGroup members) = Unit {0}
 IsNoBase (OfRun upto runs) = Unit {0}
 IsNoBase (OfFloor f) = Unit {0}
 
--- A base that takes the place of the front of a log, up to the archive mark: it names the commits up to the mark, and has the runs and the floors as the front leaves them.
+-- A base that takes the place of the front of a log, up to the archive mark: it names the commits up to the mark, and has the runs and the floors as the front
+-- leaves them.
 pub record TakesPlace (front back : List LogChain) (b : Base) : Type 0 where
   pub upto : b.upto ≡ archive_mark (told (front ++ back))
   pub front_ends : AllByRecursion (IsUpTo b.upto) front

@@ -1,23 +1,24 @@
 -- What each device call of a chain leaves, and where it leads.
-use Rattle.std.proofs.Common.{◌≡◌, ◌≢◌, ℕ, ◌+◌, ◌<◌, ◌≤◌, List, [], ◌∷◌, ◌++◌, length, refl, sym, ap, subst, ◌∙◌, arith, append_assoc, Result, Ok, ⊎_elim, ◌⊎◌}
+use Rattle.std.proofs.Common.{◌≡◌, ℕ, ◌+◌, ◌≤◌, List, [], ◌∷◌, ◌++◌, length, sym, ap, subst, ◌∙◌, arith, append_assoc, Result, Ok, ⊎_elim, ◌⊎◌}
 use Rattle.std.proofs.Common.{inl, inr}
 use Rattle.std.proofs.lemmas.List.{append-nil}
 use Rattle.std.specs.List.{AllByRecursion}
 use Rattle.history.proofs.Filters.{AllByRecursion-append}
 use Rattle.disk.specs.declared.area.Area.TheVariants.{Heap}
 use Rattle.disk.specs.declared.area.DeviceFault.{DeviceFault}
-use Rattle.disk.specs.Areas.{AreaState, Areas, Image, AreSound, IsSound, LeavesImage, MayLeave, overlaid, written, loosened, synced}
+use Rattle.disk.specs.Areas.{AreaState, Areas, Image, AreSound, LeavesImage, MayLeave, written, loosened, synced}
 use Rattle.disk.specs.Calls.{Writes, Syncs}
 use Rattle.disk.specs.Parts.{HoldsPart, KeepsPart, IsLoosened}
-use Rattle.disk.proofs.Parts.{synced_part, kept_by_sync, written_part, part_beside, kept_by_write}
+use Rattle.disk.proofs.Parts.{synced_part, kept_by_sync, written_part, kept_by_write}
 use Rattle.disk.proofs.Stops.{left_by_write, left_by_sync}
 use Rattle.law_layout.proofs.Extents.{loosened_is, written_is}
-use Rattle.law_log_layout.specs.Turns.{Part, HoldsAll, KeepsAll, open_gate, gate_part, KeepsClosed, Turn, ArePartsApart, AreApartFrom, IsFree, HoldsOld}
-use Rattle.law_log_layout.specs.Turns.{HoldsNew, Stage, Writing, Syncing, Opening, Settling, Done, IsCallOf, stage_after, IsWriting, IsWritten, IsSynced}
+use Rattle.law_log_layout.specs.Turns.{HoldsAll, KeepsAll, gate_part, KeepsClosed, ArePartsApart, AreApartFrom, IsFree, HoldsOld}
+use Rattle.law_log_layout.specs.Turns.{HoldsNew, IsWriting, IsWritten, IsSynced}
 use Rattle.law_log_layout.specs.Turns.{IsOpening, IsDone, IsAt, MayBe, MayBecome}
 use Rattle.law_log_layout.specs.Laws.{IsChainWay}
 use Rattle.law_log_layout.proofs.Parts.{all-kept, closed-kept, all-left, closed-left, all-still, closed-still, all-synced, all-beside, before-apart, one-of}
 use Rattle.law_log_layout.proofs.Parts.{gate-either}
+use Rattle.log_writer.specs.Turns.{open_gate, stage_after, Done, IsCallOf, Opening, Part, Settling, Stage, Syncing, Turn, Writing}
 
 module _ (log : List Part) (t : Turn) (free : IsFree log t) (areas : Areas) (sound : AreSound areas) where
   abbrev heap : AreaState

@@ -1,6 +1,6 @@
 -- The way of a group to the disk, told of histories.
-use Rattle.std.proofs.Common.{◌≡◌, ℕ, ◌+◌, ◌≤◌, zero, suc, true, List, [], ◌∷◌, ◌++◌, length, map, take, drop, refl, sym, ap, subst, ◌∙◌, arith, Result, Ok}
-use Rattle.std.proofs.Common.{◌⊎◌, inl, inr, ⊎_elim}
+use Rattle.std.proofs.Common.{◌≡◌, ℕ, ◌+◌, suc, true, List, [], ◌∷◌, ◌++◌, length, map, take, drop, refl, sym, ap, subst, ◌∙◌, arith, Result}
+use Rattle.std.proofs.Common.{inl, inr, ⊎_elim}
 use Rattle.std.specs.Prelude.{flat_map}
 use Rattle.std.specs.List.{AllByRecursion}
 use Rattle.history.proofs.Filters.{AllByRecursion-append}
@@ -8,8 +8,7 @@ use Rattle.history.specs.Histories.{History}
 use Rattle.disk.specs.declared.area.Area.TheVariants.{Heap}
 use Rattle.disk.specs.declared.area.DeviceFault.{DeviceFault}
 use Rattle.disk.specs.Areas.{AreaState, Areas, Image, AreSound, LeavesImage, MayLeave}
-use Rattle.disk.specs.Calls.{Writes, Syncs}
-use Rattle.disk.specs.Parts.{HoldsPart, KeepsPart}
+use Rattle.disk.specs.Parts.{KeepsPart}
 use Rattle.disk.proofs.Stops.{left_by_write, left_by_sync}
 use Rattle.law_image.specs.Values.{Value}
 use Rattle.law_image.specs.Reading.{Reading}
@@ -23,14 +22,16 @@ use Rattle.log_extents.specs.Extents.{LinkedExtent, linked_bytes}
 use Rattle.log_extents.specs.Chains.{first_or, chain_of}
 use Rattle.log_entries.specs.Spelling.{entry_bytes}
 use Rattle.log_entries.specs.declared.entry.Member.{Member}
-use Rattle.law_log_layout.specs.Turns.{Part, HoldsAll, KeepsAll, open_gate, gate_part, KeepsClosed, Turn, IsFree, HoldsOld, HoldsNew, Stage, Writing, Syncing}
-use Rattle.law_log_layout.specs.Turns.{Opening, Settling, Done, IsCallOf, stage_after, IsAt, IsDone, MayBe, MayBecome}
-use Rattle.law_log_layout.specs.HeapLog.{PlacedChain, PlacedRoll, HeapLog, extent_part, extents_of, heap_parts, name_bytes, HoldsRoll, HoldsLog, HeapStandsFor}
-use Rattle.law_log_layout.specs.HeapLog.{IsLogOf, member_told, written_parts, with_chain, turn_of, placed_group, MayJoin}
-use Rattle.law_log_layout.specs.Laws.{KeepsArchive, KeepsLog, IsGroupWay, stage_after_all}
+use Rattle.law_log_layout.specs.Turns.{KeepsAll, HoldsOld, HoldsNew}
+use Rattle.law_log_layout.specs.Turns.{IsAt, IsDone, MayBe, MayBecome}
+use Rattle.law_log_layout.specs.HeapLog.{PlacedChain, PlacedRoll, HeapLog, extents_of, heap_parts, name_bytes, HoldsRoll, HeapStandsFor}
+use Rattle.law_log_layout.specs.HeapLog.{IsLogOf, member_told, with_chain, with_runs, turn_of, placed_group, MayJoin}
+use Rattle.law_log_layout.specs.Laws.{KeepsArchive, IsEntryWay, stage_after_all}
 use Rattle.law_log_layout.proofs.Goes.{goes}
 use Rattle.law_log_layout.proofs.Joining.{joined-part, opened-bytes, parts-more, chain-free, chain-joined}
 use Rattle.law_log_layout.proofs.GroupJoins.{room, group-is_log}
+use Rattle.log_writer.specs.Turns.{open_gate, Done, IsCallOf, Opening, Part, Settling, Stage, Syncing, Turn, Writing}
+use Rattle.log_writer.specs.Turns.{extent_part, written_parts}
 
 may-be : (stage : Stage) (A B C D : Type 0) → (A → C) → (B → D) → MayBe stage A B → MayBe stage C D
 may-be (Writing done rest) A B C D f g is = f is
@@ -59,13 +60,13 @@ same-archive t Opening result areas new image sound call left = let l =
 same-archive t Settling result areas new image sound call left = let l = (left_by_sync Heap result areas new call sound).each image left in l.archive
 same-archive t Done result areas new image sound call left = absurd call
 
-rolls-left : (rolls : List PlacedRoll) (a : AreaState) (content : List ℕ)
+pub rolls-left : (rolls : List PlacedRoll) (a : AreaState) (content : List ℕ)
     → AllByRecursion (λ (r : PlacedRoll). KeepsPart r.roll.start (flat_map name_bytes r.names) a) rolls → MayLeave a content
     → AllByRecursion (HoldsRoll content) rolls
 rolls-left [] a content keeps left = tt
 rolls-left (r ∷ rolls) a content keeps left = (let k = keeps.0 in k.left content left, rolls-left rolls a content keeps.1 left)
 
-runs-left : (runs : List StoredRun) (a : AreaState) (content : List ℕ)
+pub runs-left : (runs : List StoredRun) (a : AreaState) (content : List ℕ)
     → AllByRecursion (λ (s : StoredRun). KeepsPart s.entry.start (run_bytes s.records) a) runs → MayLeave a content → AllByRecursion (HoldsRun content) runs
 runs-left [] a content keeps left = tt
 runs-left (s ∷ runs) a content keeps left = (let k = keeps.0 in k.left content left, runs-left runs a content keeps.1 left)
@@ -89,16 +90,14 @@ chain-kept link next (n ∷ ns) content a head gate kept =
       kept.1,
     )
 
-pub group-goes : (most root : ℕ) (l : HeapLog) (reading : Reading) (h next : History Value) (floors : ℕ
-    → ℕ) (numbers : List ℕ) (link : ℕ) (members : List Member) (stage : Stage) (areas : Areas)
-    → IsLogOf most root l reading → StandsFor reading h floors → IsGroupOf reading h next (map member_told members)
-    → MayJoin most l (placed_group numbers link members)
-    → AreSound areas → KeepsArchive l areas.archive → IsAt (heap_parts l) (turn_of l.next (placed_group numbers link members)) stage areas.heap
-    → IsGroupWay most root l (placed_group numbers link members) h next floors stage areas
-group-goes most root l reading h next floors numbers link members stage areas is stands group joins sound archive at =
-    let c = placed_group numbers link members in
+pub entry-goes : (most root : ℕ) (l : HeapLog) (c : PlacedChain) (runs : List StoredRun) (reading new : Reading) (h next : History Value) (floors raised : ℕ
+    → ℕ)
+    (stage : Stage) (areas : Areas)
+    → IsLogOf most root l reading → StandsFor reading h floors → MayJoin most l c → IsLogOf most root (with_runs l c runs) new → StandsFor new next raised
+    → AreSound areas → KeepsArchive l areas.archive → KeepsArchive (with_runs l c runs) areas.archive → IsAt (heap_parts l) (turn_of l.next c) stage areas.heap
+    → IsEntryWay most root l (with_runs l c runs) c h next floors raised stage areas
+entry-goes most root l c runs reading new h next floors raised stage areas is stands joins is_new new_stands sound archive new_archive at =
     let t = turn_of l.next c in
-    let heap : is_in_heap reading.profile ≡ true = ap (λ (r : Reading). is_in_heap r.profile) is.reading_is in
     let way = goes (heap_parts l) t (chain-free most l c is.placed is.anchors joins) areas sound stage at in
     let old-stands : (bytes kept : List ℕ) → MayLeave areas.archive kept → HoldsOld (heap_parts l) t bytes → HeapStandsFor most root bytes kept h floors =
     λ bytes kept left held. record {
@@ -114,41 +113,56 @@ group-goes most root l reading h next floors numbers link members stage areas is
       };
     } in
     let new-stands : (bytes kept : List ℕ) → MayLeave areas.archive kept → HoldsNew (heap_parts l) t bytes
-    → HeapStandsFor most root bytes kept (h ++ next) floors =
+    → HeapStandsFor most root bytes kept next raised =
     λ bytes kept left held.
     let joined = chain-joined most l c bytes joins held in
     record {
-      log = with_chain l c;
-      reading = with_group reading (map member_told members);
-      is_log = group-is_log most root l reading h next floors numbers link members is stands group joins;
-      stands = group-stands_for reading h floors stands (map member_told members) next group (room reading heap);
+      log = with_runs l c runs;
+      reading = new;
+      is_log = is_new;
+      stands = new_stands;
       held = record {
         parts = joined.0;
         ends = joined.1;
         rolls = rolls-left l.rolls areas.archive kept archive.rolls left;
-        runs = runs-left l.runs areas.archive kept archive.runs left;
+        runs = runs-left runs areas.archive kept new_archive.runs left;
       };
     } in
     record {
       before = λ image left.
           may-be stage (HoldsOld (heap_parts l) t image.heap) (HoldsNew (heap_parts l) t image.heap) (HeapStandsFor most root image.heap image.archive h floors)
-          (HeapStandsFor most root image.heap image.archive (h ++ next) floors)
+          (HeapStandsFor most root image.heap image.archive next raised)
           (old-stands image.heap image.archive left.archive) (new-stands image.heap image.archive left.archive) (way.before image.heap left.heap);
-      within = λ result new image call left.
-          let kept = same-archive t stage result areas new image sound call left in
+      within = λ result after image call left.
+          let kept = same-archive t stage result areas after image sound call left in
           may-become stage (HoldsOld (heap_parts l) t image.heap) (HoldsNew (heap_parts l) t image.heap)
-          (HeapStandsFor most root image.heap image.archive h floors) (HeapStandsFor most root image.heap image.archive (h ++ next) floors)
-          (old-stands image.heap image.archive kept) (new-stands image.heap image.archive kept) (way.within result new image call left);
+          (HeapStandsFor most root image.heap image.archive h floors) (HeapStandsFor most root image.heap image.archive next raised)
+          (old-stands image.heap image.archive kept) (new-stands image.heap image.archive kept) (way.within result after image call left);
       leads = way.leads;
       rests = λ done.
           let d : IsDone (heap_parts l) t areas.heap = subst (λ (s : Stage). IsAt (heap_parts l) t s areas.heap) done at in
           record {
             parts = subst (λ (ps : List Part). KeepsAll ps areas.heap) (sym (parts-more l c))
                 (AllByRecursion-append (λ (p : Part). KeepsPart p.place p.bytes areas.heap) (heap_parts l) (map extent_part (extents_of c)) d.live
-                (chain-kept link l.next numbers (entry_bytes c.entry) areas.heap joins.head d.opened d.written));
+                (chain-kept c.link l.next c.numbers (entry_bytes c.entry) areas.heap joins.head d.opened d.written));
             ends = d.ends;
           };
     }
+
+pub group-goes : (most root : ℕ) (l : HeapLog) (reading : Reading) (h next : History Value) (floors : ℕ
+    → ℕ) (numbers : List ℕ) (link : ℕ) (members : List Member) (stage : Stage) (areas : Areas)
+    → IsLogOf most root l reading → StandsFor reading h floors → IsGroupOf reading h next (map member_told members)
+    → MayJoin most l (placed_group numbers link members)
+    → AreSound areas → KeepsArchive l areas.archive → IsAt (heap_parts l) (turn_of l.next (placed_group numbers link members)) stage areas.heap
+    → (let c = placed_group numbers link members in IsEntryWay most root l (with_chain l c) c h (h ++ next) floors floors stage areas)
+group-goes most root l reading h next floors numbers link members stage areas is stands group joins sound archive at =
+    let heap : is_in_heap reading.profile ≡ true = ap (λ (r : Reading). is_in_heap r.profile) is.reading_is in
+    entry-goes most root l (placed_group numbers link members) l.runs reading (with_group reading (map member_told members)) h (h ++ next) floors floors stage
+    areas is stands joins (group-is_log most root l reading h next floors numbers link members is stands group joins)
+    (group-stands_for reading h floors stands (map member_told members) next group (room reading heap)) sound archive (record {
+      rolls = archive.rolls;
+      runs = archive.runs;
+    }) at
 
 -- ---- how many calls it takes
 

@@ -1,7 +1,6 @@
 -- A group that comes behind the log in the heap: the image then reads with the group's commits.
-use Rattle.std.proofs.Common.{◌≡◌, ◌≢◌, ℕ, ◌+◌, ◌<◌, ◌≤◌, true, List, [], ◌∷◌, ◌++◌, length, map, refl, sym, ap, subst, ◌∙◌, arith, append_assoc}
+use Rattle.std.proofs.Common.{◌≡◌, ℕ, ◌≤◌, true, List, [], ◌∷◌, ◌++◌, length, map, refl, sym, ap, subst, ◌∙◌, arith, append_assoc}
 use Rattle.std.specs.Prelude.{flat_map}
-use Rattle.std.specs.List.{AllByRecursion}
 use Rattle.std.proofs.lemmas.List.{append-nil, map-append}
 use Rattle.std.proofs.lemmas.Grind.{flat_map-append}
 use Rattle.history.proofs.Filters.{AllByRecursion-append}
@@ -13,34 +12,32 @@ use Rattle.law_image.specs.Log.{last_time, reclaim_mark, AreRisingAfter, is_in_h
 use Rattle.law_image.specs.StandsFor.{StandsFor, IsHeapLog}
 use Rattle.law_image.specs.Plans.{IsGroupOf, HasRoom, most_members, with_group}
 use Rattle.law_image.proofs.Forms.{in-heap}
-use Rattle.law_image.proofs.GroupStep.{length-map, group-rise, group-stands_for}
-use Rattle.law_log.specs.Chains.{OfGroup, LogChain, told, reclaimed_by, heads_in, KeepsChainRules, reading_of, members_of, IsWithGroup}
+use Rattle.law_image.proofs.GroupStep.{length-map, group-rise}
+use Rattle.law_log.specs.Chains.{OfGroup, LogChain, told, reclaimed_by, heads_in, KeepsChainRules, reading_of, IsWithGroup}
 use Rattle.law_log.proofs.Telling.{tells-all}
 use Rattle.law_log.proofs.Behind.{comes-behind}
-use Rattle.law_layout.specs.Runs.{StoredRun, IsStoredRun}
+use Rattle.law_layout.specs.Runs.{StoredRun}
 use Rattle.wire.specs.declared.slot.Run.{Run}
-use Rattle.log_extents.specs.Chains.{first_or, IsNumberOf, AreDistinct}
+use Rattle.log_extents.specs.Chains.{first_or, AreDistinct}
 use Rattle.log_entries.specs.declared.entry.Member.{Member}
-use Rattle.log_entries.specs.declared.entry.Roll.{Roll}
 use Rattle.log_entries.specs.declared.entry.AnchorName.{AnchorName}
-use Rattle.log_entries.specs.declared.entry.Entry.{Entry}
-use Rattle.log_entries.specs.declared.entry.Entry.TheVariants.{Group}
-use Rattle.law_log_layout.specs.HeapLog.{PlacedChain, PlacedRoll, HeapLog, live_numbers, IsPlaced, AreChained, member_told, chain_told, chains_told}
+use Rattle.law_log_layout.specs.HeapLog.{PlacedChain, HeapLog, live_numbers, IsPlaced, AreChained, member_told, chain_told, chains_told}
 use Rattle.law_log_layout.specs.HeapLog.{runs_behind, runs_from, rolls_in, anchors_in, AreNamed, IsLogOf, with_chain, placed_group, MayJoin}
 
-chained-more : (root next : ℕ) (chains : List PlacedChain) (c : PlacedChain) → AreChained root chains next → first_or 0 c.numbers ≡ next
+pub chained-more : (root next : ℕ) (chains : List PlacedChain) (c : PlacedChain) → AreChained root chains next → first_or 0 c.numbers ≡ next
     → AreChained root (chains ++ c ∷ []) c.link
 chained-more root next [] c chained head = (head ∙ sym chained, refl)
 chained-more root next (d ∷ chains) c chained head = (chained.0, chained-more d.link next chains c chained.1 head)
 
-runs-split : (before : List Run) (chains more : List PlacedChain) → runs_from before (chains ++ more) ≡ runs_from (runs_from before chains) more
+pub runs-split : (before : List Run) (chains more : List PlacedChain) → runs_from before (chains ++ more) ≡ runs_from (runs_from before chains) more
 runs-split before [] more = refl
 runs-split before (c ∷ chains) more = runs-split (runs_behind before c.entry) chains more
 
-none-more : {X : Type 0} (f : PlacedChain → List X) (chains : List PlacedChain) (c : PlacedChain) → f c ≡ [] → flat_map f (chains ++ c ∷ []) ≡ flat_map f chains
+pub none-more : {X : Type 0} (f : PlacedChain → List X) (chains : List PlacedChain) (c : PlacedChain) → f c ≡ [] → flat_map f (chains ++ c ∷ [])
+    ≡ flat_map f chains
 none-more f chains c none = flat_map-append f chains (c ∷ []) ∙ ap (λ l. flat_map f chains ++ l) (append-nil (f c) ∙ none) ∙ append-nil (flat_map f chains)
 
-live-more : (l : HeapLog) (c : PlacedChain) → live_numbers (with_chain l c) ≡ live_numbers l ++ c.numbers
+pub live-more : (l : HeapLog) (c : PlacedChain) → live_numbers (with_chain l c) ≡ live_numbers l ++ c.numbers
 live-more l c =
     ap (λ ns. l.anchors.numbers ++ ns) (flat_map-append (λ (d : PlacedChain). d.numbers) l.chains (c ∷ [])
     ∙ ap (λ ns. flat_map (λ (d : PlacedChain). d.numbers) l.chains ++ ns) (append-nil c.numbers))

@@ -1,6 +1,6 @@
 -- A chain that comes behind the log: what is written of it is free, and once its gate is open the heap holds the log with it.
-use Rattle.std.proofs.Common.{◌≡◌, ◌≢◌, ℕ, ◌+◌, ◌-◌, ◌<◌, ◌≤◌, List, [], ◌∷◌, ◌++◌, length, map, take, drop, refl, sym, ap, subst, ◌∙◌, arith, append_assoc}
-use Rattle.std.specs.Prelude.{flat_map, slice_range}
+use Rattle.std.proofs.Common.{◌≡◌, ◌≢◌, ℕ, ◌+◌, ◌-◌, ◌<◌, List, [], ◌∷◌, ◌++◌, length, map, take, drop, refl, sym, ap, subst, ◌∙◌, arith, append_assoc}
+use Rattle.std.specs.Prelude.{flat_map}
 use Rattle.std.specs.List.{AllByRecursion}
 use Rattle.std.proofs.lemmas.List.{append-nil, map-append, drop-drop}
 use Rattle.std.proofs.Math.Seq.{take-add}
@@ -11,12 +11,14 @@ use Rattle.disk.specs.Parts.{HoldsPart}
 use Rattle.log_extents.specs.Extents.{LinkedExtent, linked_bytes}
 use Rattle.log_extents.specs.Chains.{first_or, chain_to, chain_of, IsNumberOf, IsNew, AreDistinct}
 use Rattle.log_entries.specs.Spelling.{entry_bytes}
-use Rattle.law_log_layout.specs.Turns.{Part, HoldsAll, gate_part, open_gate, IsClosed, ArePartsApart, AreApartFrom, AreInTurn, Turn, IsFree, HoldsOld, HoldsNew}
-use Rattle.law_log_layout.specs.HeapLog.{PlacedChain, PlacedAnchors, HeapLog, extent_part, extents_of, anchor_extents, heap_parts, live_numbers, IsPlaced}
-use Rattle.law_log_layout.specs.HeapLog.{ArePlaced, head_part, written_parts, with_chain, turn_of, MayJoin}
+use Rattle.law_log_layout.specs.Turns.{HoldsAll, gate_part, IsClosed, ArePartsApart, AreApartFrom, IsFree, HoldsNew}
+use Rattle.law_log_layout.specs.HeapLog.{PlacedChain, HeapLog, extents_of, anchor_extents, heap_parts, live_numbers, IsPlaced}
+use Rattle.law_log_layout.specs.HeapLog.{ArePlaced, with_chain, turn_of, MayJoin}
 use Rattle.law_layout.specs.Records.{old_bytes}
-use Rattle.law_log_layout.proofs.Places.{new-front, new-back, none-new, within-apart, IsWithin, AreWithin, within-append, one-apart, apart-one, all-apart}
-use Rattle.law_log_layout.proofs.Places.{AreNew, ArePart, distinct-parts, in-turn, chain-within, written-within, gate-within, head-apart}
+use Rattle.law_log_layout.proofs.Places.{new-front, new-back, none-new, within-apart, AreWithin, within-append, one-apart, apart-one, all-apart}
+use Rattle.law_log_layout.proofs.Places.{distinct-parts, in-turn, chain-within, written-within, gate-within, head-apart}
+use Rattle.log_writer.specs.Turns.{open_gate, Part}
+use Rattle.log_writer.specs.Turns.{extent_part, written_parts}
 
 -- ---- a byte and what follows it
 

@@ -5,3 +5,7 @@ pub mod Places
 pub mod Joining
 pub mod GroupJoins
 pub mod GroupGoes
+pub mod ReclaimGoes
+pub mod BaseJoins
+pub mod EntryJoins
+pub mod BaseGoes

@@ -1,16 +1,16 @@
 -- Parts of the heap while something else is written.
-use Rattle.std.proofs.Common.{◌≡◌, ◌≢◌, ℕ, ◌+◌, ◌<◌, ◌≤◌, ◌==◌, Bool, true, false, List, [], ◌∷◌, ◌++◌, length, refl, sym, ap, subst, ◌∙◌, arith, append_assoc}
-use Rattle.std.proofs.Common.{⊎_elim, ◌⊎◌, inl, inr}
+use Rattle.std.proofs.Common.{◌≡◌, ℕ, ◌+◌, ◌≤◌, ◌==◌, Bool, true, false, List, [], ◌∷◌, ◌++◌, length, refl, sym, ap, subst, ◌∙◌, arith, append_assoc}
+use Rattle.std.proofs.Common.{◌⊎◌, inl, inr}
 use Rattle.std.specs.Prelude.{slice_index}
 use Rattle.std.proofs.lemmas.Bool.Decides.{nat_tests}
 use Rattle.std.proofs.lemmas.List.{append-nil}
 use Rattle.std.specs.List.{AllByRecursion}
-use Rattle.history.proofs.Filters.{AllByRecursion-append}
-use Rattle.disk.specs.Areas.{AreaState, MayLeave, IsSound, overlaid, written, loosened, synced}
-use Rattle.disk.specs.Parts.{HoldsPart, KeepsPart, AreApart, IsLoosened}
+use Rattle.disk.specs.Areas.{AreaState, MayLeave, IsSound, overlaid, synced}
+use Rattle.disk.specs.Parts.{HoldsPart, IsLoosened}
 use Rattle.disk.proofs.Parts.{held_again, synced_part, kept_by_sync, written_part, part_beside, kept_by_write}
 use Rattle.law_layout.proofs.SlotTurns.{read_first}
-use Rattle.law_log_layout.specs.Turns.{Part, HoldsAll, KeepsAll, open_gate, gate_part, IsClosed, KeepsClosed, ArePartsApart, AreApartFrom, AreInTurn}
+use Rattle.law_log_layout.specs.Turns.{HoldsAll, KeepsAll, gate_part, IsClosed, KeepsClosed, ArePartsApart, AreApartFrom, AreInTurn}
+use Rattle.log_writer.specs.Turns.{open_gate, Part}
 
 -- a write, in full or in part, keeps all that lies apart from it
 pub all-kept : (q : Part) (parts : List Part) (old new : AreaState) → IsSound old → AreApartFrom q parts → IsLoosened q.place (length q.bytes) old new

@@ -1,17 +1,17 @@
 -- Where the extents of chains lie: those of different numbers have no place in common.
-use Rattle.std.proofs.Common.{◌≡◌, ◌≢◌, ℕ, ◌+◌, ◌-◌, ◌*◌, ◌<◌, ◌≤◌, List, [], ◌∷◌, ◌++◌, length, map, take, drop, replicate, refl, sym, ap, subst, ◌∙◌, arith}
-use Rattle.std.proofs.Common.{length-append, append_assoc, ⊎_elim, ◌⊎◌, inl, inr}
-use Rattle.std.specs.Prelude.{flat_map, slice_index}
+use Rattle.std.proofs.Common.{◌≡◌, ◌≢◌, ℕ, ◌+◌, ◌-◌, ◌<◌, ◌≤◌, List, [], ◌∷◌, ◌++◌, length, map, take, drop, replicate, refl, sym, arith}
+use Rattle.std.proofs.Common.{length-append, ⊎_elim, inl, inr}
 use Rattle.std.specs.List.{AllByRecursion}
-use Rattle.std.proofs.lemmas.List.{append-nil, length-take, length-drop, length-replicate, map-append}
+use Rattle.std.proofs.lemmas.List.{length-take, length-drop, length-replicate}
 use Rattle.wire.specs.Numbers.{u32_bytes}
 use Rattle.deltas.specs.Extents.{extent_start}
-use Rattle.disk.specs.Parts.{HoldsPart, AreApart}
+use Rattle.disk.specs.Parts.{AreApart}
 use Rattle.law_layout.proofs.Lists.{numbers_apart}
 use Rattle.log_extents.specs.Extents.{LinkedExtent, linked_bytes}
 use Rattle.log_extents.specs.Chains.{first_or, chain_to, chain_of, IsNumberOf, IsNew, AreDistinct}
-use Rattle.law_log_layout.specs.Turns.{Part, HoldsAll, gate_part, open_gate, ArePartsApart, AreApartFrom, AreInTurn, Turn, IsFree}
-use Rattle.law_log_layout.specs.HeapLog.{extent_part, head_part, written_parts}
+use Rattle.law_log_layout.specs.Turns.{gate_part, ArePartsApart, AreApartFrom, AreInTurn}
+use Rattle.log_writer.specs.Turns.{Part}
+use Rattle.log_writer.specs.Turns.{extent_part, head_part, written_parts}
 
 -- an extent whose body fits has 8,192 bytes
 linked-length : (e : LinkedExtent) → length e.body ≤ 8168 → length (linked_bytes e) ≡ 8192

@@ -1,20 +1,20 @@
 -- What each device call on the way from one root to the other leaves, and where it leads.
-use Rattle.std.proofs.Common.{◌≡◌, ◌≢◌, ℕ, ◌+◌, ◌<◌, ◌≤◌, Bool, true, false, List, [], ◌∷◌, length, refl, sym, ap, subst, ◌∙◌, arith, Result, Ok, ⊎_elim, ◌⊎◌}
+use Rattle.std.proofs.Common.{◌≡◌, ℕ, ◌+◌, ◌≤◌, Bool, true, false, List, [], ◌∷◌, length, sym, ap, subst, arith, Result, Ok, ⊎_elim, ◌⊎◌}
 use Rattle.std.proofs.Common.{inl, inr}
-use Rattle.std.specs.Prelude.{MatchBool}
 use Rattle.disk.specs.declared.area.Area.TheVariants.{Status}
 use Rattle.disk.specs.declared.area.DeviceFault.{DeviceFault}
-use Rattle.disk.specs.Areas.{AreaState, Areas, Image, AreSound, IsSound, LeavesImage, MayLeave, overlaid, written, loosened, synced}
+use Rattle.disk.specs.Areas.{AreaState, Areas, Image, AreSound, IsSound, LeavesImage, MayLeave, written, loosened, synced}
 use Rattle.disk.specs.Calls.{Writes, Syncs}
 use Rattle.disk.specs.Parts.{HoldsPart, KeepsPart, AreApart, IsLoosened}
 use Rattle.disk.proofs.Parts.{synced_part, kept_by_sync, written_part, kept_by_write}
 use Rattle.disk.proofs.Stops.{left_by_write, left_by_sync}
 use Rattle.law_layout.proofs.Extents.{loosened_is, written_is}
-use Rattle.law_log_layout.specs.Turns.{Part, HoldsAll, KeepsAll, open_gate, gate_part, IsClosed, KeepsClosed, AreApartFrom}
+use Rattle.law_log_layout.specs.Turns.{KeepsAll, gate_part, AreApartFrom}
 use Rattle.law_log_layout.specs.Roots.{turn_place, root_place, other, turn_byte, IsTurned, KeepsTurned, NamesRoot, IsHeaderApart, Stage, Writing, Syncing}
 use Rattle.law_log_layout.specs.Roots.{Turning, Settling, Done, IsCallOf, stage_after, Rests, IsWritten, IsSynced, IsTurning, IsAt, MayBe, MayBecome}
 use Rattle.law_log_layout.specs.Laws.{IsRootWay}
 use Rattle.law_log_layout.proofs.Parts.{all-kept, closed-kept, all-left, closed-left, all-still, closed-still, gate-either}
+use Rattle.log_writer.specs.Turns.{open_gate, Part}
 
 -- ---- the gate, by which root counts
 

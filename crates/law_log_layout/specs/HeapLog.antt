@@ -1,7 +1,6 @@
 -- The log in the heap where it lies, and what an image that has it reads as.
-use Rattle.std.specs.Prelude.{ℕ, ◌≡◌, ◌≢◌, ◌<◌, ◌≤◌, ◌-◌, ◌+◌, List, [], ◌∷◌, ◌++◌, length, map, take, drop, flat_map, Contains, ◌↔◌}
+use Rattle.std.specs.Prelude.{ℕ, ◌≡◌, ◌<◌, ◌-◌, List, [], ◌∷◌, ◌++◌, length, map, take, flat_map, Contains, ◌↔◌}
 use Rattle.std.specs.List.{AllByRecursion}
-use Rattle.std.specs.List.Sorted.{IsStrictlySortedBy}
 use Rattle.wire.specs.Numbers.{u64_bytes}
 use Rattle.wire.specs.declared.slot.Run.{Run}
 use Rattle.history.specs.Histories.{History}
@@ -13,12 +12,11 @@ use Rattle.law_image.specs.StandsFor.{StandsFor}
 use Rattle.law_log.specs.Chains.{LogChain, OfBase, OfGroup, OfRun, OfFloor, KeepsChainRules, reading_of}
 use Rattle.law_log.specs.Chains as logs
 use Rattle.deltas.specs.Extents.{extent_start}
-use Rattle.deltas.specs.Records.{spelling, heap_record, old_record_of}
+use Rattle.deltas.specs.Records.{heap_record}
 use Rattle.law_layout.specs.Records.{old_bytes, IsOldRecord}
 use Rattle.law_layout.specs.Runs.{StoredRun, IsStoredRun, HoldsRun}
-use Rattle.disk.specs.Areas.{Image}
 use Rattle.disk.specs.Parts.{HoldsPart}
-use Rattle.log_extents.specs.Extents.{LinkedExtent, linked_bytes}
+use Rattle.log_extents.specs.Extents.{LinkedExtent}
 use Rattle.log_extents.specs.Chains.{count_of, first_or, chain_of, IsNumberOf, AreDistinct}
 use Rattle.log_entries.specs.declared.entry.Member.{Member}
 use Rattle.log_entries.specs.declared.entry.Roll.{Roll}
@@ -30,7 +28,8 @@ use Rattle.log_entries.specs.declared.entry.Entry.TheVariants.{Group, Archived, 
 use Rattle.log_entries.specs.declared.entry.Entry.TheVariants as entries
 use Rattle.log_entries.specs.Spelling.{entry_bytes}
 use Rattle.log_entries.specs.Ranges.{IsEntry, run_of}
-use Rattle.law_log_layout.specs.Turns.{Part, HoldsAll, open_gate, IsClosed, Turn}
+use Rattle.law_log_layout.specs.Turns.{HoldsAll, IsClosed}
+use Rattle.log_writer.specs.Turns.{open_gate, extent_part, written_parts, Part, Turn}
 
 -- ---- what lies where
 
@@ -59,10 +58,6 @@ pub record HeapLog : Type 0 where
   pub runs : List StoredRun
 
 -- ---- its bytes
-
--- an extent at its place
-abbrev pub extent_part : LinkedExtent → Part
-extent_part e = record { place = extent_start e.number; bytes = linked_bytes e }
 
 -- the extents of a chain of the log, whose gate is open
 abbrev pub extents_of : PlacedChain → List LinkedExtent
@@ -211,14 +206,9 @@ pub record HeapStandsFor (most root : ℕ) (heap archive : List ℕ) (h : Histor
 abbrev pub with_chain : HeapLog → PlacedChain → HeapLog
 with_chain l c = record l { chains = l.chains ++ c ∷ []; next = c.link }
 
--- its head: all but the gate, and then its other extents
-abbrev pub head_part : LinkedExtent → Part
-head_part e = record { place = extent_start e.number + 1; bytes = drop 1 (linked_bytes e) }
-
--- what is written of it, in order
-abbrev pub written_parts : List LinkedExtent → List Part
-written_parts [] = []
-written_parts (e ∷ es) = head_part e ∷ map extent_part es
+-- and with these runs
+abbrev pub with_runs : HeapLog → PlacedChain → List StoredRun → HeapLog
+with_runs l c runs = record (with_chain l c) { runs = runs }
 
 -- how it comes behind the log
 abbrev pub turn_of : ℕ → PlacedChain → Turn

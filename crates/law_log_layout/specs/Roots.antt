@@ -1,11 +1,12 @@
 -- The way from one root to the other, one device call at a time. The status area names two roots, and the turn gate says which one counts.
-use Rattle.std.specs.Prelude.{ℕ, ◌≡◌, ◌≤◌, ◌+◌, ◌⊎◌, Bool, true, false, List, [], ◌∷◌, length, Result, if◌then◌else◌, MatchBool}
+use Rattle.std.specs.Prelude.{ℕ, ◌≤◌, ◌+◌, ◌⊎◌, Bool, true, false, List, [], ◌∷◌, Result, if◌then◌else◌, MatchBool}
 use Rattle.disk.specs.Areas.{AreaState, Areas}
 use Rattle.disk.specs.Parts.{HoldsPart, KeepsPart}
 use Rattle.disk.specs.Calls.{Writes, Syncs}
 use Rattle.disk.specs.declared.area.Area.TheVariants.{Status}
 use Rattle.disk.specs.declared.area.DeviceFault.{DeviceFault}
-use Rattle.law_log_layout.specs.Turns.{Part, HoldsAll, KeepsAll, open_gate, IsClosed, KeepsClosed, AreApartFrom}
+use Rattle.law_log_layout.specs.Turns.{HoldsAll, KeepsAll, IsClosed, KeepsClosed, AreApartFrom}
+use Rattle.log_writer.specs.Turns.{open_gate, Part}
 
 -- the place of the turn gate, and those of the roots: the second one counts where the gate is open
 abbrev pub turn_place : ℕ

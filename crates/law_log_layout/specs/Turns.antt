@@ -1,16 +1,9 @@
 -- The way of one chain to the heap, behind the log that lies there, one device call at a time.
-use Rattle.std.specs.Prelude.{ℕ, ◌≡◌, ◌≢◌, ◌<◌, ◌≤◌, ◌+◌, ◌⊎◌, List, [], ◌∷◌, ◌++◌, length, Result}
+use Rattle.std.specs.Prelude.{ℕ, ◌≡◌, ◌≢◌, ◌≤◌, ◌+◌, ◌⊎◌, List, [], ◌∷◌, ◌++◌, length}
 use Rattle.std.specs.List.{AllByRecursion}
-use Rattle.disk.specs.Areas.{AreaState, Areas, MayLeave}
-use Rattle.disk.specs.Parts.{HoldsPart, KeepsPart, AreApart, IsSettled}
-use Rattle.disk.specs.Calls.{Writes, Syncs}
-use Rattle.disk.specs.declared.area.Area.TheVariants.{Heap}
-use Rattle.disk.specs.declared.area.DeviceFault.{DeviceFault}
-
--- some bytes and their place in the heap
-pub record Part : Type 0 where
-  pub place : ℕ
-  pub bytes : List ℕ
+use Rattle.disk.specs.Areas.{AreaState}
+use Rattle.disk.specs.Parts.{HoldsPart, KeepsPart, AreApart}
+use Rattle.log_writer.specs.Turns.{open_gate, Done, Opening, Part, Settling, Stage, Syncing, Turn, Writing}
 
 -- the heap holds each of them
 abbrev pub HoldsAll : List Part → List ℕ → Type 0
@@ -19,10 +12,6 @@ HoldsAll parts content = AllByRecursion (λ (p : Part). HoldsPart p.place p.byte
 -- whatever a stop may leave of the heap holds each of them
 abbrev pub KeepsAll : List Part → AreaState → Type 0
 KeepsAll parts a = AllByRecursion (λ (p : Part). KeepsPart p.place p.bytes a) parts
-
--- the byte that opens a chain
-abbrev pub open_gate : ℕ
-open_gate = 0xC7
 
 -- one byte
 abbrev pub gate_part : ℕ → ℕ → Part
@@ -39,12 +28,6 @@ pub record KeepsClosed (place : ℕ) (a : AreaState) : Type 0 where
   pub gate : ℕ
   pub closed : gate ≢ open_gate
   pub kept : KeepsPart place (gate ∷ []) a
-
--- A chain that is to come behind the log: the place of its gate, all else that is written of it, in order, and the place of the gate where the log then ends.
-pub record Turn : Type 0 where
-  pub gate : ℕ
-  pub parts : List Part
-  pub closes : ℕ
 
 -- the two have no place in common
 abbrev pub ArePartsApart : Part → Part → Type 0
@@ -86,34 +69,6 @@ pub record HoldsNew (log : List Part) (t : Turn) (content : List ℕ) : Type 0 w
   pub ends : IsClosed t.closes content
 
 -- ---- stages
-
--- Where the chain is: some parts are written and others not yet, and behind the last one the gate where the log then ends is closed; all is to be synced; its
--- gate is to be
--- opened; that is to be synced; the chain is the log's.
-pub data Stage : Type 0 where
-  Writing : List Part → List Part → Stage
-  Syncing : Stage
-  Opening : Stage
-  Settling : Stage
-  Done : Stage
-
--- the device call of a stage, with its answer
-abbrev pub IsCallOf : Turn → Stage → Result (Unit {0}) DeviceFault → Areas → Areas → Type 0
-IsCallOf t (Writing done (p ∷ rest)) result old new = Writes Heap p.place p.bytes result old new
-IsCallOf t (Writing done []) result old new = Writes Heap t.closes (0 ∷ []) result old new
-IsCallOf t Syncing result old new = Syncs Heap result old new
-IsCallOf t Opening result old new = Writes Heap t.gate (open_gate ∷ []) result old new
-IsCallOf t Settling result old new = Syncs Heap result old new
-IsCallOf t Done result old new = ⊥
-
--- the stage after a call that was answered Ok
-abbrev pub stage_after : Stage → Stage
-stage_after (Writing done (p ∷ rest)) = Writing (done ++ p ∷ []) rest
-stage_after (Writing done []) = Syncing
-stage_after Syncing = Opening
-stage_after Opening = Settling
-stage_after Settling = Done
-stage_after Done = Done
 
 -- so many parts are written, and nothing else has changed
 pub record IsWriting (log : List Part) (t : Turn) (done rest : List Part) (a : AreaState) : Type 0 where

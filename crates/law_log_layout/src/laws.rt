@@ -1,5 +1,7 @@
 //! Laws of the log that lies in the heap, as bytes.
-ghost use Rattle.law_log_layout.specs.Laws.{ChainGoes, GroupEnds, GroupGoes, RootGoes};
+ghost use Rattle.law_log_layout.specs.Laws.{ChainGoes, EntryGoes, GroupEnds, GroupGoes, ReclaimGoes, RootGoes};
+ghost use Rattle.law_log_layout.specs.Reclaims.{BaseGoes, BaseIsLog, BaseRests};
+ghost use Rattle.law_log_layout.specs.Entries.{FloorIsLog, RunIsLog};
 
 /// A chain's way behind the log, at every moment: a stop leaves the log without it, or, from the write
 /// of its gate on, with it or without; and once that is synced with it.
@@ -18,4 +20,35 @@ pub fn root_goes()
 pub fn group_goes()
     ensures goes { GroupGoes }
     ensures ends { GroupEnds }
+{}
+
+/// The same of any chain, told of histories: what a stop leaves stands for what the log tells without the
+/// chain, or, from the write of its gate on, without or with it; and once that is synced with it.
+pub fn entry_goes()
+    ensures { EntryGoes }
+{}
+
+/// A reclaim, once its base and anchors are on the disk: at every moment of the way from the old root to
+/// the base, what a stop leaves stands for the history.
+pub fn reclaim_goes()
+    ensures { ReclaimGoes }
+{}
+
+/// A base in the place of the log's front is a log that stands for the same history.
+pub fn base_is_log()
+    ensures { BaseIsLog }
+{}
+
+/// The entry of a floor behind the log raises that floor alone, and that of an archive, whose run may take
+/// the place of the last ones, changes neither history nor floors.
+pub fn entry_is_log()
+    ensures floor { FloorIsLog }
+    ensures run { RunIsLog }
+{}
+
+/// The writing of a base and its anchors, at every moment: what a stop leaves stands for the history, and
+/// once all is synced the log that the base begins is at rest.
+pub fn base_goes()
+    ensures goes { BaseGoes }
+    ensures rests { BaseRests }
 {}

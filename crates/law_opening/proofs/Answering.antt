@@ -1,5 +1,6 @@
 -- Views are answered by the history, after a stop as before it.
-use Rattle.std.proofs.Common.{◌≡◌, inl, inr, ℕ, zero, suc, ◌≤◌, ◌==◌, nat_lt, Bool, true, false, IsTrue, List, [], ◌∷◌, ◌++◌, map, take, Option, Some, Result, MatchOption, ◌⊎◌, refl, arith, ap, sym, subst, ◌∙◌}
+use Rattle.std.proofs.Common.{◌≡◌, inl, inr, ℕ, zero, suc, ◌≤◌, ◌==◌, nat_lt, Bool, true, false, IsTrue, List, [], ◌∷◌, ◌++◌, map, take, Option, Some, Result}
+use Rattle.std.proofs.Common.{MatchOption, ◌⊎◌, refl, arith, ap, sym, subst, ◌∙◌}
 use Rattle.std.specs.List.{filter}
 use Rattle.std.proofs.lemmas.Bool.Decides.{nat_tests}
 use Rattle.std.proofs.lemmas.List.{append-nil, map-append}
@@ -34,20 +35,25 @@ use Rattle.law_opening.proofs.Reopened.{reopen-stands}
 pub stands-answers : (tells : Bool) (v : StoreValue) (m : Machine Value) → Stands tells v m → AnswersBy tells v m.published m.floors
 stands-answers tells v m stands = record {
   at = λ view asked new later key time answer is now goes says.
-      let of = view-of-history tells v view m stands is in at-answered tells asked new later view m.published m.floors key time answer now of.0 (view-goes-on tells v asked view m.published m.floors of.1 goes) says;
+      let of = view-of-history tells v view m stands is in at-answered tells asked new later view m.published m.floors key time answer now of.0
+      (view-goes-on tells v asked view m.published m.floors of.1 goes) says;
   scan_at = λ view asked new later relation time answer is now goes says.
-      let of = view-of-history tells v view m stands is in scan_at-answered tells asked new later view m.published m.floors relation time answer now of.0 (view-goes-on tells v asked view m.published m.floors of.1 goes) says;
+      let of = view-of-history tells v view m stands is in scan_at-answered tells asked new later view m.published m.floors relation time answer now of.0
+      (view-goes-on tells v asked view m.published m.floors of.1 goes) says;
   recent = λ view key time answer is says. recent-answered view m.published m.floors key time answer (view-of-history tells v view m stands is).0 says;
   between = λ view asked new later key a b answer is now goes says.
-      let of = view-of-history tells v view m stands is in between-answered tells asked new later view m.published m.floors key a b answer now of.0 (view-goes-on tells v asked view m.published m.floors of.1 goes) says;
+      let of = view-of-history tells v view m stands is in between-answered tells asked new later view m.published m.floors key a b answer now of.0
+      (view-goes-on tells v asked view m.published m.floors of.1 goes) says;
   scan_between = λ view asked new later relation a b answer is now goes says.
-      let of = view-of-history tells v view m stands is in scan_between-answered tells asked new later view m.published m.floors relation a b answer now of.0 (view-goes-on tells v asked view m.published m.floors of.1 goes) says;
+      let of = view-of-history tells v view m stands is in scan_between-answered tells asked new later view m.published m.floors relation a b answer now of.0
+      (view-goes-on tells v asked view m.published m.floors of.1 goes) says;
 }
 
 pub kept-answers : (tells : Bool) (v : StoreValue) (m : Machine Value) (disk : DiskState) (mark : ℕ) (again : StoreValue)
     → Stands tells v m → IsTrue tells → OpensAgain tells v disk mark again → OnFront (AnswersBy tells again) m
 kept-answers tells v m disk mark again stands told opens =
-    front-says (λ h floors. Stands tells again (opened h floors)) (AnswersBy tells again) m (λ h floors now. stands-answers tells again (opened h floors) now) (reopen-stands tells v m disk mark again stands told opens)
+    front-says (λ h floors. Stands tells again (opened h floors)) (AnswersBy tells again) m (λ h floors now. stands-answers tells again (opened h floors) now)
+    (reopen-stands tells v m disk mark again stands told opens)
 
 -- ---- answers that stay
 
@@ -61,7 +67,8 @@ no_earlier t [] up = omega arith
 no_earlier t (c ∷ cs) up = let rest = no_earlier c.time cs up.2 in omega (arith, up.0, rest)
 
 -- a query up to the last time is answered as before, also with more commits
-answer-append : (h more : History Value) (floors : ℕ → ℕ) (key : Key) (time : ℕ) → HasRisingTimes (last h) more → time ≤ last h → at_answer (h ++ more) floors key time ≡ at_answer h floors key time
+answer-append : (h more : History Value) (floors : ℕ → ℕ) (key : Key) (time : ℕ) → HasRisingTimes (last h) more → time ≤ last h
+    → at_answer (h ++ more) floors key time ≡ at_answer h floors key time
 answer-append h more floors key time up early =
     let later : last h ≤ last (h ++ more) = let low = no_earlier (last h) more up in omega (arith, low, last_after-append 0 h more) in
     let before : nat_lt (last h) time ≡ false = grind (arith, nat_tests) in
@@ -73,30 +80,41 @@ answer-raised : (m : Machine Value) (r : Raising) (key : Key) (time : ℕ) → M
     → at_answer m.published (raised r.scope r.floor m.floors) key time ≡ at_answer m.published m.floors key time
 answer-raised m r key time may keeps = by-scope (covers r.scope key.relation) refl
   where
-    by-scope : (b : Bool) → covers r.scope key.relation ≡ b → at_answer m.published (raised r.scope r.floor m.floors) key time ≡ at_answer m.published m.floors key time
+    by-scope : (b : Bool) → covers r.scope key.relation ≡ b → at_answer m.published (raised r.scope r.floor m.floors) key time
+        ≡ at_answer m.published m.floors key time
     by-scope true is =
         let kept = keeps is in
         let low = may.rises key.relation is in
         let now : nat_lt time r.floor ≡ false = grind (arith, nat_tests) in
-        let before : nat_lt time (m.floors key.relation) ≡ false = (let early : m.floors key.relation ≤ time = omega (arith, low, kept) in grind (arith, nat_tests)) in
+        let before : nat_lt time (m.floors key.relation) ≡ false =
+        (let early : m.floors key.relation ≤ time = omega (arith, low, kept) in grind (arith, nat_tests)) in
         rw (is, now, before) refl
     by-scope false is = rw is refl
 
-pub answers-stay : (tells : Bool) (v : StoreValue) (m : Machine Value) (disk : DiskState) (mark : ℕ) (again asked new : StoreValue) (later : Machine Value) (view : ViewValue) (key : Key) (time : ℕ) (answer : Result (Option Value) QueryFault)
-    → Stands tells v m → IsTrue tells → OpensAgain tells v disk mark again → IsViewOf again view → Stands tells asked later → GoesOn tells again asked → AnswersAtView tells asked view key time answer new
+pub answers-stay : (tells : Bool) (v : StoreValue) (m : Machine Value) (disk : DiskState) (mark : ℕ) (again asked new : StoreValue) (later : Machine Value)
+    (view : ViewValue) (key : Key) (time : ℕ) (answer : Result (Option Value) QueryFault)
+    → Stands tells v m → IsTrue tells → OpensAgain tells v disk mark again → IsViewOf again view → Stands tells asked later → GoesOn tells again asked
+    → AnswersAtView tells asked view key time answer new
     → time ≤ last m.published → IsKeptThen m key.relation time → SaysAt (IsSure tells view.reclaimed time) (at_answer m.published m.floors key time) answer
-answers-stay tells v m disk mark again asked new later view key time answer stands told opens is now goes answers early kept = by-front (kept-answers tells v m disk mark again stands told opens)
+answers-stay tells v m disk mark again asked new later view key time answer stands told opens is now goes answers early kept =
+    by-front (kept-answers tells v m disk mark again stands told opens)
   where
-    by-opened : AnswersBy tells again (m.published ++ take m.group m.queue) m.floors ⊎ ((r : Raising) × (m.raising ≡ Some r) × AnswersBy tells again m.published (raised r.scope r.floor m.floors)) → SaysAt (IsSure tells view.reclaimed time) (at_answer m.published m.floors key time) answer
+    by-opened : AnswersBy tells again (m.published ++ take m.group m.queue) m.floors
+        ⊎ ((r : Raising) × (m.raising ≡ Some r) × AnswersBy tells again m.published (raised r.scope r.floor m.floors))
+        → SaysAt (IsSure tells view.reclaimed time) (at_answer m.published m.floors key time) answer
     by-opened (inr floor) =
         let r = floor.0 in
         let may : MayRaise m r = subst (λ (o : Option Raising). MatchOption o (Unit {0}) (MayRaise m)) floor.1 stands.machine.raising in
-        let keeps : IsTrue (covers r.scope key.relation) → r.floor ≤ time = subst (λ (o : Option Raising). MatchOption o (Unit {0}) (λ x. IsTrue (covers x.scope key.relation) → x.floor ≤ time)) floor.1 kept in
-        subst (λ said. SaysAt (IsSure tells view.reclaimed time) said answer) (answer-raised m r key time may keeps) (floor.2.at view asked new later key time answer is now goes answers)
+        let keeps : IsTrue (covers r.scope key.relation) → r.floor ≤ time =
+        subst (λ (o : Option Raising). MatchOption o (Unit {0}) (λ x. IsTrue (covers x.scope key.relation) → x.floor ≤ time)) floor.1 kept in
+        subst (λ said. SaysAt (IsSure tells view.reclaimed time) said answer) (answer-raised m r key time may keeps)
+        (floor.2.at view asked new later key time answer is now goes answers)
     by-opened (inl by) =
         let up : HasRisingTimes (last m.published) (take m.group m.queue) =
-        rising-take (last m.published) m.group m.queue (rising-from_following IsValue m.published m.queue (may_follow-behind IsValue [] m.published m.queue stands.machine.history)) in
-        subst (λ said. SaysAt (IsSure tells view.reclaimed time) said answer) (answer-append m.published (take m.group m.queue) m.floors key time up early) (by.at view asked new later key time answer is now goes answers)
+        rising-take (last m.published) m.group m.queue
+        (rising-from_following IsValue m.published m.queue (may_follow-behind IsValue [] m.published m.queue stands.machine.history)) in
+        subst (λ said. SaysAt (IsSure tells view.reclaimed time) said answer) (answer-append m.published (take m.group m.queue) m.floors key time up early)
+        (by.at view asked new later key time answer is now goes answers)
 
     by-front : OnFront (AnswersBy tells again) m → SaysAt (IsSure tells view.reclaimed time) (at_answer m.published m.floors key time) answer
     by-front (inl by) = by.at view asked new later key time answer is now goes answers
@@ -109,17 +127,23 @@ times-append label h more =
     ap (λ (l : History Value). map (λ (c : Commit Value). c.time) l) (filter-append (λ (c : Commit Value). c.label == label) h more)
     ∙ map-append (λ (c : Commit Value). c.time) (filter (λ (c : Commit Value). c.label == label) h) (filter (λ (c : Commit Value). c.label == label) more)
 
-pub labels-stay : (tells : Bool) (v : StoreValue) (m : Machine Value) (disk : DiskState) (mark : ℕ) (again : StoreValue) (label : ℕ) → Stands tells v m → IsTrue tells → OpensAgain tells v disk mark again
+pub labels-stay : (tells : Bool) (v : StoreValue) (m : Machine Value) (disk : DiskState) (mark : ℕ) (again : StoreValue) (label : ℕ) → Stands tells v m
+    → IsTrue tells → OpensAgain tells v disk mark again
     → (more : List ℕ) × (orders.times_of label (order_of again.transactions) ≡ orders.times_of label (order_of v.transactions) ++ more)
 labels-stay tells v m disk mark again label stands told opens = by-front (reopen-stands tells v m disk mark again stands told opens)
   where
     before : orders.times_of label (order_of v.transactions) ≡ times_of m.published label
     before = times-of_label v.transactions m label stands.memory
 
-    by-opened : Stands tells again (opened (m.published ++ take m.group m.queue) m.floors) ⊎ ((r : Raising) × (m.raising ≡ Some r) × Stands tells again (opened m.published (raised r.scope r.floor m.floors)))
+    by-opened : Stands tells again (opened (m.published ++ take m.group m.queue) m.floors)
+        ⊎ ((r : Raising) × (m.raising ≡ Some r) × Stands tells again (opened m.published (raised r.scope r.floor m.floors)))
         → (more : List ℕ) × (orders.times_of label (order_of again.transactions) ≡ orders.times_of label (order_of v.transactions) ++ more)
     by-opened (inr floor) =
-        let r = floor.0 in ([], times-of_label again.transactions (opened m.published (raised r.scope r.floor m.floors)) label floor.2.memory ∙ sym before ∙ sym (append-nil (orders.times_of label (order_of v.transactions))))
+        let r = floor.0 in (
+          [],
+          times-of_label again.transactions (opened m.published (raised r.scope r.floor m.floors)) label floor.2.memory ∙ sym before
+              ∙ sym (append-nil (orders.times_of label (order_of v.transactions))),
+        )
     by-opened (inl now) =
         let group : History Value = take m.group m.queue in (
           times_of group label,
@@ -128,6 +152,11 @@ labels-stay tells v m disk mark again label stands told opens = by-front (reopen
               ∙ ap (λ (ts : List ℕ). ts ++ times_of group label) (sym before),
         )
 
-    by-front : OnFront (λ h floors. Stands tells again (opened h floors)) m → (more : List ℕ) × (orders.times_of label (order_of again.transactions) ≡ orders.times_of label (order_of v.transactions) ++ more)
-    by-front (inl now) = ([], times-of_label again.transactions (opened m.published m.floors) label now.memory ∙ sym before ∙ sym (append-nil (orders.times_of label (order_of v.transactions))))
+    by-front : OnFront (λ h floors. Stands tells again (opened h floors)) m → (more : List ℕ)
+        × (orders.times_of label (order_of again.transactions) ≡ orders.times_of label (order_of v.transactions) ++ more)
+    by-front (inl now) = (
+      [],
+      times-of_label again.transactions (opened m.published m.floors) label now.memory ∙ sym before
+          ∙ sym (append-nil (orders.times_of label (order_of v.transactions))),
+    )
     by-front (inr behind) = by-opened (by-change (λ h floors. Stands tells again (opened h floors)) m m.gate behind)

@@ -31,7 +31,8 @@ empty-image header image log built = record {
   built = λ n slot at. cc;
 }
 
-pub formatted-leaves : (slots : ℕ) (old new : Areas) (image : Image) → IsFormatted slots old new → LeavesImage new image → IsImageOf (new_header 3 slots) image [] (λ relation. 0)
+pub formatted-leaves : (slots : ℕ) (old new : Areas) (image : Image) → IsFormatted slots old new → LeavesImage new image
+    → IsImageOf (new_header 3 slots) image [] (λ relation. 0)
 formatted-leaves slots old new image is left =
     let just : image.status ≡ new.status.bytes = left.status.settled is.settled.loose in
     empty-image (new_header 3 slots) image (subst (λ (bytes : List ℕ). IsLog (new_header 3 slots) bytes []) (sym just) is.log) refl
@@ -40,14 +41,16 @@ pub formatted-stands : (slots : ℕ) (old new : Areas) → IsFormatted slots old
 formatted-stands slots old new is = empty-image (new_header 3 slots) (image_of new) is.log refl
 
 pub formatted-opens : (tells : Bool) (slots : ℕ) (old new : Areas) (disk : DiskState) (mark : ℕ) (v : StoreValue)
-    → IsFormatted slots old new → LeavesImage new (image_of disk.areas) → AreSound disk.areas → Opens tells disk mark v → IsTrue tells → Stands tells v (opened [] (λ relation. 0))
+    → IsFormatted slots old new → LeavesImage new (image_of disk.areas) → AreSound disk.areas → Opens tells disk mark v → IsTrue tells
+    → Stands tells v (opened [] (λ relation. 0))
 formatted-opens tells slots old new disk mark v is left sound opens told =
     open-stands tells disk mark v (new_header 3 slots) [] (λ relation. 0) opens told sound (formatted-leaves slots old new (image_of disk.areas) is left)
 
 -- ---- a stop within a format
 
 -- a header of the first profile has no open piece, and none behind it
-shut-log : (header : Header) (bytes : List ℕ) (slots : ℕ) → ReadsHeader bytes header → total header ≤ slots → HasNoPieceBehind header bytes → ((n : ℕ) → n < slots → ¬ IsOpen bytes n) → IsLog header bytes []
+shut-log : (header : Header) (bytes : List ℕ) (slots : ℕ) → ReadsHeader bytes header → total header ≤ slots → HasNoPieceBehind header bytes
+    → ((n : ℕ) → n < slots → ¬ IsOpen bytes n) → IsLog header bytes []
 shut-log header bytes slots reads within behind shut = record {
   header_is = reads.stands;
   opens = record {
@@ -66,7 +69,8 @@ shut-log header bytes slots reads within behind shut = record {
   ];
 }
 
-pub shut-stands : (slots : ℕ) (new : Areas) (image : Image) (header : Header) → LeavesShut slots new.status → LeavesImage new image → ReadsHeader image.status header → total header ≤ slots
+pub shut-stands : (slots : ℕ) (new : Areas) (image : Image) (header : Header) → LeavesShut slots new.status → LeavesImage new image
+    → ReadsHeader image.status header → total header ≤ slots
     → HasNoPieceBehind header image.status → IsImageOf header image [] (λ relation. 0)
 shut-stands slots new image header shut left reads within behind =
     let log = shut-log header image.status slots reads within behind (λ n below. shut.left image.status n left.status below) in

@@ -1,5 +1,6 @@
 -- A store that is opened on an image that stands for a history.
-use Rattle.std.proofs.Common.{◌≡◌, ◌≢◌, ℕ, ◌≤◌, ◌==◌, Bool, false, IsTrue, List, [], ◌∷◌, ◌++◌, length, map, Option, Some, None, MatchBool, refl, arith, ap, sym, subst, ◌∙◌, inl}
+use Rattle.std.proofs.Common.{◌≡◌, ◌≢◌, ℕ, ◌≤◌, ◌==◌, Bool, false, IsTrue, List, [], ◌∷◌, ◌++◌, length, map, Option, Some, None, MatchBool, refl, arith, ap}
+use Rattle.std.proofs.Common.{sym, subst, ◌∙◌, inl}
 use Rattle.law_refinement.proofs.Jobs.{built-slots}
 use Rattle.law_image.proofs.Forms.{in-slots}
 use Rattle.std.specs.Prelude.{Contains, IsSome, IsNone}
@@ -98,7 +99,8 @@ named (n ∷ ns) (c ∷ cs) same =
     let one : name_at (head_as n) ≡ name_of c = ap (λ (x : Head). record { time = x.time; label = x.label }) first in
     ap (λ (x : Name). x ∷ map name_at (map head_as ns)) one ∙ ap (λ (xs : List Name). name_of c ∷ xs) (named ns cs rest)
 
-kept-numbers : (usages : List Usage) (es : List Extent) → AllByRecursion (IsKept usages) (numbers_in es) → AllByRecursion (λ (e : Extent). IsKept usages e.number) es
+kept-numbers : (usages : List Usage) (es : List Extent) → AllByRecursion (IsKept usages) (numbers_in es)
+    → AllByRecursion (λ (e : Extent). IsKept usages e.number) es
 kept-numbers usages [] kept = tt
 kept-numbers usages (e ∷ es) kept = (kept.0, kept-numbers usages es kept.1)
 
@@ -110,19 +112,25 @@ rising-first-of (x ∷ xs) ys t up = (up.0, up.1, rising-first-of xs ys x.time u
 -- ---- what was read
 
 -- where no floor is of one relation, relations have the same one
-one-alike : (before : ℕ → ℕ) (profile : ℕ) → profile ≢ 3 → (scope : Option ℕ) (floor : ℕ) → IsScopeOf profile scope → ((relation : ℕ) → before relation ≡ before 0) → (relation : ℕ) → raised scope floor before relation ≡ raised scope floor before 0
+one-alike : (before : ℕ → ℕ) (profile : ℕ) → profile ≢ 3 → (scope : Option ℕ) (floor : ℕ) → IsScopeOf profile scope
+    → ((relation : ℕ) → before relation ≡ before 0) → (relation : ℕ) → raised scope floor before relation ≡ raised scope floor before 0
 one-alike before profile other None floor is same relation = refl
 one-alike before profile other (Some only) floor is same relation =
     let test : (profile == 3) ≡ false = grind (arith, nat_tests, other) in
     absurd (let no : IsNone (Some only) = subst (λ (b : Bool). MatchBool b (IsSome (Some only)) (IsNone (Some only))) test is in cc)
 
-after-alike : (profile : ℕ) → profile ≢ 3 → (log before : List Slot) (floors : ℕ → ℕ) → MayAllCome profile before log → ((relation : ℕ) → floors relation ≡ floors 0) → (relation : ℕ) → floors_after floors log relation ≡ floors_after floors log 0
+after-alike : (profile : ℕ) → profile ≢ 3 → (log before : List Slot) (floors : ℕ → ℕ) → MayAllCome profile before log
+    → ((relation : ℕ) → floors relation ≡ floors 0) → (relation : ℕ) → floors_after floors log relation ≡ floors_after floors log 0
 after-alike profile other [] before floors may same relation = same relation
-after-alike profile other (Commits heads ∷ log) before floors may same relation = after-alike profile other log (before ++ Commits heads ∷ []) floors may.1 same relation
-after-alike profile other (Archived upto ∷ log) before floors may same relation = after-alike profile other log (before ++ Archived upto ∷ []) floors may.1 same relation
-after-alike profile other (Reclaimed upto ∷ log) before floors may same relation = after-alike profile other log (before ++ Reclaimed upto ∷ []) floors may.1 same relation
+after-alike profile other (Commits heads ∷ log) before floors may same relation =
+    after-alike profile other log (before ++ Commits heads ∷ []) floors may.1 same relation
+after-alike profile other (Archived upto ∷ log) before floors may same relation =
+    after-alike profile other log (before ++ Archived upto ∷ []) floors may.1 same relation
+after-alike profile other (Reclaimed upto ∷ log) before floors may same relation =
+    after-alike profile other log (before ++ Reclaimed upto ∷ []) floors may.1 same relation
 after-alike profile other (Floor scope floor ∷ log) before floors may same relation =
-    after-alike profile other log (before ++ Floor scope floor ∷ []) (raised scope floor floors) may.1 (one-alike floors profile other scope floor (may.0).0 same) relation
+    after-alike profile other log (before ++ Floor scope floor
+    ∷ []) (raised scope floor floors) may.1 (one-alike floors profile other scope floor (may.0).0 same) relation
 
 alike : (profile : ℕ) → profile ≢ 3 → (log before : List Slot) → MayAllCome profile before log → (relation : ℕ) → floor_of log relation ≡ floor_of log 0
 alike profile other log before may relation = after-alike profile other log before (λ q. 0) may (λ q. refl) relation
@@ -134,7 +142,8 @@ module _ (old : DiskState) (mark : ℕ) (disk : DiskState) (r : Recovered) (arch
   opening = stands_opening header (image_of old.areas) image.layout image.reading h floors image.laid image.held image.stands image.profile_built image.built
 
   same : (r.header ≡ header) × (read.layout ≡ unread_layout image.layout) × (read.reading ≡ unread image.reading)
-  same = opens_once r.header header (image_of old.areas) read.layout (unread_layout image.layout) read.reading (unread image.reading) read.opening.opens opening.opens
+  same = opens_once r.header header (image_of old.areas) read.layout (unread_layout image.layout) read.reading (unread image.reading) read.opening.opens
+      opening.opens
 
   is : IsReadAs (unread_layout image.layout) (unread image.reading) r
   is = subst (λ (l : Layout). IsReadAs l (unread image.reading) r) same.1 (subst (λ (x : Reading). IsReadAs read.layout x r) same.2 read.is)
@@ -168,8 +177,12 @@ module _ (old : DiskState) (mark : ℕ) (disk : DiskState) (r : Recovered) (arch
     ordered = ordered;
     marked = let reached = image.stands.homes.marks in let upto = archived-range image.reading h floors image.stands in omega (arith, marked);
     before = anchors;
-    rising = λ key. rising-first-of (anchors key) (later key) 0 (subst (λ (ws : List (TimedWrite Value)). IsRisingAfter 0 ws) (facts_are header (image_of old.areas) image.layout image.reading h floors image.laid image.held image.stands image.profile_built image.built key) (facts-rise image.reading h floors image.stands key));
-    early = λ key. subst (λ (n : ℕ). last_time (anchors key) ≤ n) (sym marked) (anchors_upto (reclaimed_upto image.reading) 0 image.reading.anchors key image.stands.opens.reads.anchor_times (omega arith));
+    rising = λ key. rising-first-of (anchors key) (later key) 0
+        (subst (λ (ws : List (TimedWrite Value)). IsRisingAfter 0 ws)
+        (facts_are header (image_of old.areas) image.layout image.reading h floors image.laid image.held image.stands image.profile_built image.built key)
+        (facts-rise image.reading h floors image.stands key));
+    early = λ key. subst (λ (n : ℕ). last_time (anchors key) ≤ n) (sym marked)
+        (anchors_upto (reclaimed_upto image.reading) 0 image.reading.anchors key image.stands.opens.reads.anchor_times (omega arith));
     writes = λ key.
         is.writes key
         ∙ facts_are header (image_of old.areas) image.layout image.reading h floors image.laid image.held image.stands image.profile_built image.built key
@@ -282,7 +295,9 @@ module _ (old : DiskState) (mark : ℕ) (disk : DiskState) (r : Recovered) (arch
 
   -- the floors are of the header's profile
   of_profile : AreOfProfile image.reading.profile floors
-  of_profile = λ other relation. sym (image.stands.opens.floors_given relation) ∙ alike image.reading.profile other image.reading.log [] (form).log relation ∙ image.stands.opens.floors_given 0
+  of_profile =
+      λ other relation. sym (image.stands.opens.floors_given relation) ∙ alike image.reading.profile other image.reading.log [] (form).log relation
+      ∙ image.stands.opens.floors_given 0
 
   -- ---- the runs
 
@@ -293,21 +308,36 @@ module _ (old : DiskState) (mark : ℕ) (disk : DiskState) (r : Recovered) (arch
       let area : archive_of disk ≡ old.areas.archive.bytes = ap (λ (areas : Areas). areas.archive.bytes) settled in
       let lists : map (λ (s : StoredRun). s.records) image.layout.runs ≡ image.reading.runs = laid.runs.runs_are in
       let ruled : AreRunsOf [] (log_of image.layout.slots) (map (λ (s : StoredRun). s.records) image.layout.runs) =
-      (let a = sym laid.heap.log_is in let b = sym lists in subst (λ (p : List readings.Slot × List (List ArchiveRecord)). AreRunsOf [] p.0 p.1) (λ i. (a i, b i)) (form).runs) in
+      (let a = sym laid.heap.log_is in let b = sym lists in subst (λ (p : List readings.Slot × List (List ArchiveRecord)). AreRunsOf [] p.0 p.1) (λ i. (
+        a i,
+        b i,
+      )) (form).runs) in
       let archived_is : r.archived ≡ archived_upto image.reading = is.archived in
       record {
         lists = image.reading.runs;
         held = subst (λ (bytes : List ℕ). HoldRuns bytes archive.runs image.reading.runs) (sym area)
             (subst (λ (l : List (List ArchiveRecord)). HoldRuns old.areas.archive.bytes archive.runs l) lists
-            (runs-hold old.areas.archive.bytes image.layout.slots image.layout.runs archive.runs ruled laid.runs.entries_are laid.runs.each_run image.held.runs entries));
+            (runs-hold old.areas.archive.bytes image.layout.slots image.layout.runs archive.runs ruled laid.runs.entries_are laid.runs.each_run image.held.runs
+            entries));
         ends = subst (λ (runs : List RunEntry). RunsEndBy (row_end 0 (runs_named runs)) archive.runs) fresh.runs_are
             (runs-end 0 archive.runs (subst (λ (runs : List Run). AreInRow 0 runs) (sym entries.runs_are) laid.heap.in_row));
-        mark = marks-are image.layout.slots 0 archive.runs entries.runs_are ∙ ap (λ (l : List readings.Slot). archive_mark l) laid.heap.log_is ∙ sym is.archived;
+        mark = marks-are image.layout.slots 0 archive.runs entries.runs_are ∙ ap (λ (l : List readings.Slot). archive_mark l) laid.heap.log_is
+            ∙ sym is.archived;
         marks = (let marks = image.stands.homes.marks in let reclaimed = is.reclaimed in omega arith);
         by_last = (let range = archived-range image.reading h floors image.stands in omega arith);
         archived = subst (λ (a : ℕ). AreArchived h floors a image.reading.runs) (sym archived_is) image.stands.homes.in_archive;
-        right = record { each = λ from bytes there. absurd (Contains-nil (from, bytes) (subst (λ (parts : List (ℕ × List ℕ)). Contains parts (from, bytes)) fresh.kept there)) };
-        near = record { each = λ from bytes there. absurd (Contains-nil (from, bytes) (subst (λ (parts : List (ℕ × List ℕ)). Contains parts (from, bytes)) fresh.kept there)) };
+        right = record {
+          each = λ from bytes there. absurd (Contains-nil (
+            from,
+            bytes,
+          ) (subst (λ (parts : List (ℕ × List ℕ)). Contains parts (from, bytes)) fresh.kept there));
+        };
+        near = record {
+          each = λ from bytes there. absurd (Contains-nil (
+            from,
+            bytes,
+          ) (subst (λ (parts : List (ℕ × List ℕ)). Contains parts (from, bytes)) fresh.kept there));
+        };
       }
 
   pub opened-stands : (tells : Bool) → StandsStill tells (opened_on mark r archive disk) (opened h floors)
@@ -317,8 +347,15 @@ module _ (old : DiskState) (mark : ℕ) (disk : DiskState) (r : Recovered) (arch
     order = order;
     in_step = in_step;
     gate = λ works. refl;
-    raises = record { is = refl; scope = tt; of_profile = subst (λ (n : ℕ). AreOfProfile n floors) (image.laid.heap.profile_is ∙ sym (ap (λ (x : Header). x.profile) same.0)) of_profile };
-    marks = (let order = image.stands.homes.marks in omega (arith, marked, is.archived, order), (let upto = archived-range image.reading h floors image.stands in omega (arith, is.archived, upto)));
+    raises = record {
+      is = refl;
+      scope = tt;
+      of_profile = subst (λ (n : ℕ). AreOfProfile n floors) (image.laid.heap.profile_is ∙ sym (ap (λ (x : Header). x.profile) same.0)) of_profile;
+    };
+    marks = (
+      let order = image.stands.homes.marks in omega (arith, marked, is.archived, order),
+      (let upto = archived-range image.reading h floors image.stands in omega (arith, is.archived, upto)),
+    );
     job = tt;
     disk = λ tells_so. on_disk;
     place = tt;
@@ -339,9 +376,11 @@ pub open-header : (tells : Bool) (old : DiskState) (mark : ℕ) (v : StoreValue)
     → IsTrue tells → IsImageOf header (image_of old.areas) h floors → IsOfHeader v header
 open-header tells old mark v header h floors opens told image =
     let read = opens.read told in
-    let opening = stands_opening header (image_of old.areas) image.layout image.reading h floors image.laid image.held image.stands image.profile_built image.built in
+    let opening =
+    stands_opening header (image_of old.areas) image.layout image.reading h floors image.laid image.held image.stands image.profile_built image.built in
     let same : opens.recovered.header ≡ header =
-    (opens_once opens.recovered.header header (image_of old.areas) read.layout (unread_layout image.layout) read.reading (unread image.reading) read.opening.opens opening.opens).0 in
+    (opens_once opens.recovered.header header (image_of old.areas) read.layout (unread_layout image.layout) read.reading (unread image.reading)
+    read.opening.opens opening.opens).0 in
     record {
       profile = ap (λ (w : StoreValue). w.log.profile) opens.new_is ∙ ap (λ (x : Header). x.profile) same;
       slots = ap (λ (w : StoreValue). w.log.slots) opens.new_is ∙ ap total same;
@@ -351,5 +390,7 @@ open-header tells old mark v header h floors opens told image =
 pub image-header : ImageHasHeader
 image-header tells header image h floors told is = record {
   reads = record { stands = is.held.log.header_is; built = is.profile_built };
-  recovered = λ disk mark again same opens. open-header tells disk mark again header h floors opens told (subst (λ (i : Image). IsImageOf header i h floors) (sym same) is);
+  recovered =
+      λ disk mark again same opens. open-header tells disk mark again header h floors opens told
+      (subst (λ (i : Image). IsImageOf header i h floors) (sym same) is);
 }

@@ -28,10 +28,15 @@ use Rattle.law_opening.proofs.Opened.{open-header, open-stands}
 -- ---- a refusal
 
 pub open-refuses : (tells : Bool) (old new : DiskState) (why : OpenFault) (header : Header) (h : History Value) (floors : ℕ → ℕ)
-    → OpenRefuses tells old why new → IsTrue tells → IsImageOf header (image_of old.areas) h floors → IsReadFault why × (image_of new.areas ≡ image_of old.areas) × LeavesNoMore old.areas new.areas
+    → OpenRefuses tells old why new → IsTrue tells → IsImageOf header (image_of old.areas) h floors → IsReadFault why
+    × (image_of new.areas ≡ image_of old.areas) × LeavesNoMore old.areas new.areas
 open-refuses tells old new why header h floors refuses told image =
-    let opening = stands_opening header (image_of old.areas) image.layout image.reading h floors image.laid image.held image.stands image.profile_built image.built in
-    (opening_only header (image_of old.areas) (unread_layout image.layout) (unread image.reading) why opening (refuses.fault told), refuses.image told, refuses.left told)
+    let opening =
+    stands_opening header (image_of old.areas) image.layout image.reading h floors image.laid image.held image.stands image.profile_built image.built in (
+      opening_only header (image_of old.areas) (unread_layout image.layout) (unread image.reading) why opening (refuses.fault told),
+      refuses.image told,
+      refuses.left told,
+    )
 
 -- ---- closing
 
@@ -69,16 +74,20 @@ pub reopen-slots : (tells : Bool) (v : StoreValue) (m : Machine Value) (disk : D
 reopen-slots tells v m disk mark again stands told opens =
     let on = stands.disk told in
     let l = on.leaves (image_of disk.areas) opens.left in
-    let has : IsOfHeader again l.found = front-is (IsImageOf l.found (image_of disk.areas)) m (λ h floors image. open-header tells disk mark again l.found h floors opens.opens told image) l.front in
+    let has : IsOfHeader again l.found =
+    front-is (IsImageOf l.found (image_of disk.areas)) m (λ h floors image. open-header tells disk mark again l.found h floors opens.opens told image)
+    l.front in
     by-header l.found has.slots on.header on.slots l.is_found
   where
-    by-header : (found : Header) → again.log.slots ≡ total found → (header : Header) → v.log.slots ≡ total header → IsHeaderLeft header (may_have_grown (growth_of v.job)) found
+    by-header : (found : Header) → again.log.slots ≡ total found → (header : Header) → v.log.slots ≡ total header
+        → IsHeaderLeft header (may_have_grown (growth_of v.job)) found
         → (again.log.slots ≡ v.log.slots) ⊎ (IsTrue (may_have_grown (growth_of v.job)) × (again.log.slots ≡ v.log.slots + 256))
     by-header found has header own (inl same) = inl (has ∙ ap total same ∙ sym own)
     by-header found has header own (inr grew) = inr (grew.0, let more = ap total grew.1 in omega (arith, has, own, more))
 
 pub reopen-refuses : (tells : Bool) (v : StoreValue) (m : Machine Value) (disk new : DiskState) (why : OpenFault)
-    → Stands tells v m → IsTrue tells → LeavesImage v.disk.areas (image_of disk.areas) → OpenRefuses tells disk why new → IsReadFault why × (image_of new.areas ≡ image_of disk.areas)
+    → Stands tells v m → IsTrue tells → LeavesImage v.disk.areas (image_of disk.areas) → OpenRefuses tells disk why new → IsReadFault why
+    × (image_of new.areas ≡ image_of disk.areas)
 reopen-refuses tells v m disk new why stands told left refuses =
     let l = (stands.disk told).leaves (image_of disk.areas) left in
     front-is (IsImageOf l.found (image_of disk.areas)) m
@@ -89,8 +98,10 @@ reopen-refuses tells v m disk new why stands told left refuses =
 
 leaves-fronts : (tells : Bool) (v : StoreValue) (m : Machine Value) (middle new : Areas) → Stands tells v m → IsTrue tells
     → LeavesNoMore v.disk.areas middle → LeavesNoMore middle new → LeavesNoMore v.disk.areas new × LeavesFronts v new m
-leaves-fronts tells v m middle new stands told first next =
-    (record { each = λ image left. first.each image (next.each image left) }, λ image left. leaves-by v m (stands.disk told) image (first.each image (next.each image left)))
+leaves-fronts tells v m middle new stands told first next = (
+  record { each = λ image left. first.each image (next.each image left) },
+  λ image left. leaves-by v m (stands.disk told) image (first.each image (next.each image left)),
+)
 
 pub opening-stops : (tells : Bool) (v : StoreValue) (m : Machine Value) (disk new : DiskState) (why : OpenFault)
     → Stands tells v m → IsTrue tells → LeavesNoMore v.disk.areas disk.areas → OpenRefuses tells disk why new
@@ -102,9 +113,11 @@ pub second-stops : (tells : Bool) (v : StoreValue) (m : Machine Value) (disk : D
     → LeavesNoMore v.disk.areas again.disk.areas × LeavesFronts v again.disk.areas m
 second-stops tells v m disk mark again stands told first opens = leaves-fronts tells v m disk.areas again.disk.areas stands told first (opens.left told)
 
-pub opening-moments : (tells : Bool) (v : StoreValue) (m : Machine Value) (disk new : DiskState) → Stands tells v m → IsTrue tells → LeavesNoMore v.disk.areas disk.areas → (settles : Settles tells disk new)
+pub opening-moments : (tells : Bool) (v : StoreValue) (m : Machine Value) (disk new : DiskState) → Stands tells v m → IsTrue tells
+    → LeavesNoMore v.disk.areas disk.areas → (settles : Settles tells disk new)
     → AllByRecursion (λ moment. LeavesNoMore v.disk.areas moment.areas × LeavesFronts v moment.areas m) settles.moments
 opening-moments tells v m disk new stands told first settles = at_each settles.moments (settles.left told) where
-  at_each : (moments : List DiskState) → AllByRecursion (λ moment. LeavesNoMore disk.areas moment.areas) moments → AllByRecursion (λ moment. LeavesNoMore v.disk.areas moment.areas × LeavesFronts v moment.areas m) moments
+  at_each : (moments : List DiskState) → AllByRecursion (λ moment. LeavesNoMore disk.areas moment.areas) moments
+      → AllByRecursion (λ moment. LeavesNoMore v.disk.areas moment.areas × LeavesFronts v moment.areas m) moments
   at_each [] left = tt
   at_each (moment ∷ moments) left = (leaves-fronts tells v m disk.areas moment.areas stands told first left.0, at_each moments left.1)

@@ -29,12 +29,15 @@ use Rattle.law_refinement.proofs.Archiving.{run-same}
 
 -- ---- they stand in the archive's bytes
 
-one-run : (area : List ℕ) (s : StoredRun) (entry : RunEntry) (mark upto : ℕ) (floors : ℕ → ℕ) → entry.slot ≡ s.entry → entry.mark ≡ mark → ((relation : ℕ) → floor_at entry.floors relation ≡ floors relation) → s.entry.upto ≡ upto → IsRun mark floors upto s.records → IsStoredRun s → HoldsRun area s
+one-run : (area : List ℕ) (s : StoredRun) (entry : RunEntry) (mark upto : ℕ) (floors : ℕ → ℕ) → entry.slot ≡ s.entry → entry.mark ≡ mark
+    → ((relation : ℕ) → floor_at entry.floors relation ≡ floors relation) → s.entry.upto ≡ upto → IsRun mark floors upto s.records → IsStoredRun s
+    → HoldsRun area s
     → written.HoldsRun area entry s.records
 one-run area s entry mark upto floors slot marked floored upto_is rules stored held =
     let same = run-same s.records in
     record {
-      held = subst (λ (r : Run). HoldsPart r.start (written.run_bytes s.records) area) (sym slot) (subst (λ (l : List ℕ). HoldsPart s.entry.start l area) (sym same) held);
+      held = subst (λ (r : Run). HoldsPart r.start (written.run_bytes s.records) area) (sym slot)
+          (subst (λ (l : List ℕ). HoldsPart s.entry.start l area) (sym same) held);
       length_is = ap (λ (l : List ℕ). length l) same ∙ stored.length_is ∙ ap (λ (r : Run). r.len) (sym slot);
       records_are = stored.records_are ∙ ap (λ (r : Run). r.records) (sym slot);
       each = weaker IsArchiveRecord kept.IsArchiveRecord s.records (λ r is. record { key = is.key; value = is.value }) stored.each;
@@ -53,12 +56,17 @@ one-run area s entry mark upto floors slot marked floored upto_is rules stored h
 
 -- the runs of slots that stand behind this mark and these floors
 abbrev AreFrom : ℕ → FloorsValue → List Slot → List RunEntry → Type 0
-AreFrom mark floors ss entries = (runs_named entries ≡ runs_of ss) × (map (λ (e : RunEntry). e.mark) entries ≡ marks_before mark (log_of ss)) × (map (λ (e : RunEntry). e.floors) entries ≡ floors_before floors (log_of ss))
+AreFrom mark floors ss entries =
+    (runs_named entries ≡ runs_of ss) × (map (λ (e : RunEntry). e.mark) entries ≡ marks_before mark (log_of ss))
+    × (map (λ (e : RunEntry). e.floors) entries ≡ floors_before floors (log_of ss))
 
 -- the runs of these slots, behind others
 abbrev AreHeld : List ℕ → List Slot → Type 0
-AreHeld area ss = (before : List readings.Slot) (stored : List StoredRun) (entries : List RunEntry) (mark : ℕ) (floors : FloorsValue) → archive_mark before ≡ mark → kept_of before ≡ floors → AreRunsOf before (log_of ss) (map (λ (s : StoredRun). s.records) stored)
-    → map (λ (s : StoredRun). s.entry) stored ≡ runs_of ss → AllByRecursion IsStoredRun stored → AllByRecursion (HoldsRun area) stored → AreFrom mark floors ss entries → HoldRuns area entries (map (λ (s : StoredRun). s.records) stored)
+AreHeld area ss =
+    (before : List readings.Slot) (stored : List StoredRun) (entries : List RunEntry) (mark : ℕ) (floors : FloorsValue) → archive_mark before ≡ mark
+    → kept_of before ≡ floors → AreRunsOf before (log_of ss) (map (λ (s : StoredRun). s.records) stored)
+    → map (λ (s : StoredRun). s.entry) stored ≡ runs_of ss → AllByRecursion IsStoredRun stored → AllByRecursion (HoldsRun area) stored
+    → AreFrom mark floors ss entries → HoldRuns area entries (map (λ (s : StoredRun). s.records) stored)
 
 none-held : (area : List ℕ) → AreHeld area []
 none-held area before [] [] mark floors is floor runs same each held are = tt
@@ -68,10 +76,12 @@ none-held area before (x ∷ xs) entries mark floors is floor runs same each hel
 one-held : (area : List ℕ) (ss : List Slot) → AreHeld area ss → (number : ℕ) (body : Body) → AreHeld area (record { number = number; body = body } ∷ ss)
 one-held area ss rest number (Commit members) before stored entries mark floors is floor runs same each held are =
     let slot = slot_of (Commit members) in
-    rest (before ++ slot ∷ []) stored entries mark floors (archive_mark-append 0 before (slot ∷ []) ∙ is) (kept-append no_floors before (slot ∷ []) ∙ floor) runs same each held are
+    rest (before ++ slot ∷ []) stored entries mark floors (archive_mark-append 0 before (slot ∷ []) ∙ is) (kept-append no_floors before (slot ∷ [])
+    ∙ floor) runs same each held are
 one-held area ss rest number (Reclaimed anchors) before stored entries mark floors is floor runs same each held are =
     let slot = slot_of (Reclaimed anchors) in
-    rest (before ++ slot ∷ []) stored entries mark floors (archive_mark-append 0 before (slot ∷ []) ∙ is) (kept-append no_floors before (slot ∷ []) ∙ floor) runs same each held are
+    rest (before ++ slot ∷ []) stored entries mark floors (archive_mark-append 0 before (slot ∷ []) ∙ is) (kept-append no_floors before (slot ∷ [])
+    ∙ floor) runs same each held are
 one-held area ss rest number (Floor scope new) before stored entries mark floors is floor runs same each held are =
     let slot = slot_of (Floor scope new) in
     rest (before ++ slot ∷ []) stored entries mark (raised_in scope new floors) (archive_mark-append 0 before (slot ∷ []) ∙ is)
@@ -91,17 +101,22 @@ one-held area ss rest number (Archived run) before (x ∷ xs) (e ∷ es) mark fl
     let floored = are.2 in
     let own : e.floors ≡ floors = cc in
     let floors_behind : map (λ (y : RunEntry). y.floors) es ≡ floors_before floors (log_of ss) = cc in (
-      one-run area x e mark run.upto (floor_of before) (entry ∙ sym first) mark_is (λ relation. ap (λ (f : FloorsValue). floor_at f relation) (own ∙ sym floor) ∙ kept-of before relation) (ap (λ (r : Run). r.upto) first) (subst (λ (n : ℕ). IsRun n (floor_of before) run.upto x.records) is runs.0) each.0 held.0,
-      rest (before ++ slot ∷ []) xs es run.upto floors (archive_mark-append 0 before (slot ∷ [])) (kept-append no_floors before (slot ∷ []) ∙ floor) runs.1 others each.1 held.1 (entries_behind, marks_behind, floors_behind),
+      one-run area x e mark run.upto (floor_of before) (entry ∙ sym first) mark_is (λ relation. ap (λ (f : FloorsValue). floor_at f relation) (own ∙ sym floor)
+          ∙ kept-of before relation) (ap (λ (r : Run). r.upto) first) (subst (λ (n : ℕ). IsRun n (floor_of before) run.upto x.records) is runs.0) each.0 held.0,
+      rest (before ++ slot ∷ []) xs es run.upto floors (archive_mark-append 0 before (slot ∷ [])) (kept-append no_floors before (slot ∷ [])
+          ∙ floor) runs.1 others each.1 held.1 (entries_behind, marks_behind, floors_behind),
     )
 
 hold : (area : List ℕ) (ss : List Slot) → AreHeld area ss
 hold area [] = none-held area
 hold area (s ∷ ss) = one-held area ss (hold area ss) s.number s.body
 
-pub runs-hold : (area : List ℕ) (ss : List Slot) (stored : List StoredRun) (entries : List RunEntry) → AreRunsOf [] (log_of ss) (map (λ (s : StoredRun). s.records) stored) → map (λ (s : StoredRun). s.entry) stored ≡ runs_of ss
-    → AllByRecursion IsStoredRun stored → AllByRecursion (HoldsRun area) stored → AreEntriesOf ss entries → HoldRuns area entries (map (λ (s : StoredRun). s.records) stored)
-runs-hold area ss stored entries runs same each held are = hold area ss [] stored entries 0 no_floors refl refl runs same each held (are.runs_are, are.marks_are, are.floors_are)
+pub runs-hold : (area : List ℕ) (ss : List Slot) (stored : List StoredRun) (entries : List RunEntry)
+    → AreRunsOf [] (log_of ss) (map (λ (s : StoredRun). s.records) stored) → map (λ (s : StoredRun). s.entry) stored ≡ runs_of ss
+    → AllByRecursion IsStoredRun stored → AllByRecursion (HoldsRun area) stored → AreEntriesOf ss entries
+    → HoldRuns area entries (map (λ (s : StoredRun). s.records) stored)
+runs-hold area ss stored entries runs same each held are =
+    hold area ss [] stored entries 0 no_floors refl refl runs same each held (are.runs_are, are.marks_are, are.floors_are)
 
 -- ---- where they end, and their mark
 
@@ -111,13 +126,14 @@ row-past place (run ∷ runs) row = let rest = row-past (run.start + run.len) ru
 
 pub runs-end : (place : ℕ) (entries : List RunEntry) → AreInRow place (runs_named entries) → RunsEndBy (row_end place (runs_named entries)) entries
 runs-end place [] row = λ n run at. absurd cc
-runs-end place (e ∷ es) row = λ n. elim n as (λ (n : ℕ). (other : RunEntry) → slice_get (e ∷ es) n ≡ Some other → run_end other ≤ row_end (e.slot.start + e.slot.len) (runs_named es)) [
-  | zero ↦ λ other at.
-      let first : e ≡ other = cc in
-      let past = row-past (e.slot.start + e.slot.len) (runs_named es) row.1 in
-      subst (λ (x : RunEntry). run_end x ≤ row_end (e.slot.start + e.slot.len) (runs_named es)) first (omega arith)
-  | suc k ↦ λ other at. runs-end (e.slot.start + e.slot.len) es row.1 k other at
-]
+runs-end place (e ∷ es) row =
+    λ n. elim n as (λ (n : ℕ). (other : RunEntry) → slice_get (e ∷ es) n ≡ Some other → run_end other ≤ row_end (e.slot.start + e.slot.len) (runs_named es)) [
+      | zero ↦ λ other at.
+          let first : e ≡ other = cc in
+          let past = row-past (e.slot.start + e.slot.len) (runs_named es) row.1 in
+          subst (λ (x : RunEntry). run_end x ≤ row_end (e.slot.start + e.slot.len) (runs_named es)) first (omega arith)
+      | suc k ↦ λ other at. runs-end (e.slot.start + e.slot.len) es row.1 k other at
+    ]
 
 abbrev HaveMark : List Slot → Type 0
 HaveMark ss = (mark : ℕ) (entries : List RunEntry) → runs_named entries ≡ runs_of ss → mark_after mark entries ≡ archive_mark_after mark (log_of ss)
@@ -126,7 +142,8 @@ no-mark : HaveMark []
 no-mark mark [] are = refl
 no-mark mark (e ∷ es) are = absurd cc
 
-one-mark : (ss : List Slot) → HaveMark ss → (body : Body) (mark : ℕ) (entries : List RunEntry) → runs_named entries ≡ runs_in body ++ runs_of ss → mark_after mark entries ≡ archive_mark_after mark (slot_of body ∷ log_of ss)
+one-mark : (ss : List Slot) → HaveMark ss → (body : Body) (mark : ℕ) (entries : List RunEntry) → runs_named entries ≡ runs_in body ++ runs_of ss
+    → mark_after mark entries ≡ archive_mark_after mark (slot_of body ∷ log_of ss)
 one-mark ss rest (Commit members) mark entries are = rest mark entries are
 one-mark ss rest (Reclaimed anchors) mark entries are = rest mark entries are
 one-mark ss rest (Floor scope floor) mark entries are = rest mark entries are

@@ -26,7 +26,8 @@ abbrev with_members : List ℕ → List StoredMember → List ℕ
 with_members times [] = times
 with_members times (s ∷ ms) = with_members (with_times times (numbers_in s.extents) s.entry.time) ms
 
-live-same : (times : List ℕ) (live : List LiveChain) (ms : List StoredMember) → map live_named live ≡ map live_of ms → with_live times live ≡ with_members times ms
+live-same : (times : List ℕ) (live : List LiveChain) (ms : List StoredMember) → map live_named live ≡ map live_of ms → with_live times live
+    ≡ with_members times ms
 live-same times [] [] is = refl
 live-same times [] (s ∷ ms) is = absurd cc
 live-same times (c ∷ cs) [] is = absurd cc
@@ -58,15 +59,19 @@ of-numbers P (e ∷ es) all = (all.0, of-numbers P es all.1)
 -- ---- their times
 
 -- an extent of no member keeps its time
-members-stay : (times : List ℕ) (ms : List StoredMember) (n : ℕ) → AllByRecursion IsExtent (extents_of ms) → 1 ≤ n → AllByRecursion (λ (e : Extent). n ≢ e.number) (extents_of ms) → time_of (with_members times ms) n ≡ time_of times n
+members-stay : (times : List ℕ) (ms : List StoredMember) (n : ℕ) → AllByRecursion IsExtent (extents_of ms) → 1 ≤ n
+    → AllByRecursion (λ (e : Extent). n ≢ e.number) (extents_of ms) → time_of (with_members times ms) n ≡ time_of times n
 members-stay times [] n each low apart = refl
 members-stay times (s ∷ ms) n each low apart =
     let own = ranges s.extents (all_of_front IsExtent s.extents (extents_of ms) each) in
     let lows = weaker (λ (k : ℕ). (1 ≤ k) × (k ≤ 65536)) (λ (k : ℕ). 1 ≤ k) (numbers_in s.extents) (λ k is. is.0) own in
-    members-stay (with_times times (numbers_in s.extents) s.entry.time) ms n (all_of_back IsExtent s.extents (extents_of ms) each) low (all_of_back (λ (e : Extent). n ≢ e.number) s.extents (extents_of ms) apart)
-    ∙ times-stay times (numbers_in s.extents) s.entry.time n lows low (none-of n s.extents (all_of_front (λ (e : Extent). n ≢ e.number) s.extents (extents_of ms) apart))
+    members-stay (with_times times (numbers_in s.extents) s.entry.time) ms n (all_of_back IsExtent s.extents (extents_of ms) each) low
+    (all_of_back (λ (e : Extent). n ≢ e.number) s.extents (extents_of ms) apart)
+    ∙ times-stay times (numbers_in s.extents) s.entry.time n lows low
+    (none-of n s.extents (all_of_front (λ (e : Extent). n ≢ e.number) s.extents (extents_of ms) apart))
 
-members-now : (times : List ℕ) (ms : List StoredMember) → length times ≡ 65536 → AllByRecursion IsExtent (extents_of ms) → AreDistinct (extents_of ms) → HasTimes (with_members times ms) ms
+members-now : (times : List ℕ) (ms : List StoredMember) → length times ≡ 65536 → AllByRecursion IsExtent (extents_of ms) → AreDistinct (extents_of ms)
+    → HasTimes (with_members times ms) ms
 members-now times [] whole each distinct = tt
 members-now times (s ∷ ms) whole each distinct =
     let time = s.entry.time in
@@ -74,14 +79,18 @@ members-now times (s ∷ ms) whole each distinct =
     let parts = distinct_parts s.extents (extents_of ms) distinct in
     let own = all_of_front IsExtent s.extents (extents_of ms) each in
     let others = all_of_back IsExtent s.extents (extents_of ms) each in
-    let now = of-numbers (λ (n : ℕ). time_of after n ≡ time) s.extents (times-now times (numbers_in s.extents) time whole (ranges s.extents own) (distinct-numbers s.extents parts.0)) in (
-      three IsExtent (λ (e : Extent). AllByRecursion (λ (f : Extent). e.number ≢ f.number) (extents_of ms)) (λ (e : Extent). time_of after e.number ≡ time) (λ (e : Extent). time_of (with_members after ms) e.number ≡ time) s.extents
+    let now =
+    of-numbers (λ (n : ℕ). time_of after n
+    ≡ time) s.extents (times-now times (numbers_in s.extents) time whole (ranges s.extents own) (distinct-numbers s.extents parts.0)) in (
+      three IsExtent (λ (e : Extent). AllByRecursion (λ (f : Extent). e.number ≢ f.number) (extents_of ms)) (λ (e : Extent). time_of after e.number
+          ≡ time) (λ (e : Extent). time_of (with_members after ms) e.number ≡ time) s.extents
           (λ e is apart at. (let low = is.low in members-stay after ms e.number others (omega (arith, low)) apart ∙ at)) own parts.2 now,
       members-now after ms (times-long times (numbers_in s.extents) time ∙ whole) others parts.1,
     )
 
 -- the extents of each member are known by the time of its commit
-members-times : (live : List LiveChain) (ms : List StoredMember) → map live_named live ≡ map live_of ms → AllByRecursion IsExtent (extents_of ms) → AreDistinct (extents_of ms) → HasTimes (times_of live) ms
+members-times : (live : List LiveChain) (ms : List StoredMember) → map live_named live ≡ map live_of ms → AllByRecursion IsExtent (extents_of ms)
+    → AreDistinct (extents_of ms) → HasTimes (times_of live) ms
 members-times live ms same each distinct =
     subst-times (sym (live-same (replicate 65536 0) live ms same)) (members-now (replicate 65536 0) ms (length-replicate {A = ℕ} 65536 0) each distinct)
   where
@@ -89,9 +98,11 @@ members-times live ms same each distinct =
     subst-times {a} {b} same has = subst (λ (times : List ℕ). HasTimes times ms) same has
 
 -- so it is of what is read of an image
-pub opened-times : (header : Header) (layout : Layout) (reading opened : Reading) (r : Recovered) → IsLayoutOf header layout reading → IsReadAs (unread_layout layout) opened r → HasTimes (times_of r.live.items) layout.members
+pub opened-times : (header : Header) (layout : Layout) (reading opened : Reading) (r : Recovered) → IsLayoutOf header layout reading
+    → IsReadAs (unread_layout layout) opened r → HasTimes (times_of r.live.items) layout.members
 opened-times header layout reading opened r laid is =
-    members-times r.live.items layout.members is.live_are (all_of_back IsExtent layout.anchors (extents_of layout.members) (live_extents_are header layout reading laid))
+    members-times r.live.items layout.members is.live_are
+    (all_of_back IsExtent layout.anchors (extents_of layout.members) (live_extents_are header layout reading laid))
     (distinct_parts layout.anchors (extents_of layout.members) laid.heap.apart).1
 
 -- there is a time for each extent

@@ -1,5 +1,6 @@
 -- A store that opening answers.
-use Rattle.std.proofs.Common.{◌≡◌, ◌≢◌, ℕ, suc, ◌+◌, ◌≤◌, ◌<◌, ◌^◌, Bool, true, false, IsTrue, List, [], ◌∷◌, ◌++◌, length, map, replicate, cond, Option, None, Some, Ok, refl, sym, ap, subst, ◌∙◌, arith}
+use Rattle.std.proofs.Common.{◌≡◌, ◌≢◌, ℕ, suc, ◌+◌, ◌≤◌, ◌<◌, ◌^◌, Bool, true, false, IsTrue, List, [], ◌∷◌, ◌++◌, length, map, replicate, cond, Option, None}
+use Rattle.std.proofs.Common.{Some, Ok, refl, sym, ap, subst, ◌∙◌, arith}
 use Rattle.std.specs.Prelude.{nat_lt, option_map, option_to_list}
 use Rattle.std.specs.List.{AllByRecursion, cons_option}
 use Rattle.std.specs.List.Sorted.{IsStrictlySortedBy}
@@ -85,7 +86,9 @@ AreSorted h = AllByRecursion (λ (c : Commit Value). IsStrictlySortedBy key_cmp 
 
 ordered-commit : (time : ℕ) (ws : List (KeyWrite Value)) (m : List KeyWrites) → IsOrdered m → IsOrdered (with_commit m time ws)
 ordered-commit time [] m o = o
-ordered-commit time (w ∷ ws) m o = ordered-commit time ws (with_write m w.key (record { time = time; write = w.write })) (ordered-with_write w.key (record { time = time; write = w.write }) m o)
+ordered-commit time (w ∷ ws) m o =
+    ordered-commit time ws (with_write m w.key (record { time = time; write = w.write }))
+    (ordered-with_write w.key (record { time = time; write = w.write }) m o)
 
 chains_ordered : (m : List KeyWrites) (h : History Value) → IsOrdered m → IsOrdered (chains_from m h)
 chains_ordered m [] o = o
@@ -94,12 +97,14 @@ chains_ordered m (c ∷ cs) o = chains_ordered (with_commit m c.time c.writes) c
 writes-cons : (c : Commit Value) (cs : History Value) (key : Key) → histories.writes_of (c ∷ cs) key ≡ written c.time c.writes key ++ histories.writes_of cs key
 writes-cons c cs key =
     let timed : Option Value → TimedWrite Value = λ write. record { time = c.time; write = write } in
-    elim (write_in c.writes key) as (λ (o : Option (Option Value)). cons_option (option_map timed o) (histories.writes_of cs key) ≡ option_to_list (option_map timed o) ++ histories.writes_of cs key) [
+    elim (write_in c.writes key) as (λ (o : Option (Option Value)). cons_option (option_map timed o) (histories.writes_of cs key)
+    ≡ option_to_list (option_map timed o) ++ histories.writes_of cs key) [
       | None ↦ refl
       | Some w ↦ refl
     ]
 
-chains_writes : (m : List KeyWrites) (h : History Value) (key : Key) → IsOrdered m → AreSorted h → writes_of (chains_from m h) key ≡ writes_of m key ++ histories.writes_of h key
+chains_writes : (m : List KeyWrites) (h : History Value) (key : Key) → IsOrdered m → AreSorted h → writes_of (chains_from m h) key ≡ writes_of m key
+    ++ histories.writes_of h key
 chains_writes m [] key o sorted = sym (append-nil (writes_of m key))
 chains_writes m (c ∷ cs) key o sorted =
     chains_writes (with_commit m c.time c.writes) cs key (ordered-commit c.time c.writes m o) sorted.1
@@ -107,14 +112,17 @@ chains_writes m (c ∷ cs) key o sorted =
     ∙ append_assoc (writes_of m key) (written c.time c.writes key) (histories.writes_of cs key)
     ∙ ap (λ (l : List (TimedWrite Value)). writes_of m key ++ l) (sym (writes-cons c cs key))
 
-keys_read : (before : Key → Option Value) (rs : List readings.HeapRecord) → map (λ (w : KeyWrite Value). w.key) (map (write_of before) rs) ≡ map (λ (r : readings.HeapRecord). r.key) rs
+keys_read : (before : Key → Option Value) (rs : List readings.HeapRecord) → map (λ (w : KeyWrite Value). w.key) (map (write_of before) rs)
+    ≡ map (λ (r : readings.HeapRecord). r.key) rs
 keys_read before [] = refl
 keys_read before (r ∷ rs) = ap (λ (l : List Key). r.key ∷ l) (keys_read before rs)
 
 commits_sorted : (before : Key → Option Value) (ms : List readings.Member) → AllByRecursion IsMember ms → AreSorted (commits_from before ms)
 commits_sorted before [] each = tt
-commits_sorted before (m ∷ ms) each =
-    (subst (IsStrictlySortedBy key_cmp) (sym (keys_read before m.records)) (each.0).rising, commits_sorted (values_after before (commit_read before m)) ms each.1)
+commits_sorted before (m ∷ ms) each = (
+  subst (IsStrictlySortedBy key_cmp) (sym (keys_read before m.records)) (each.0).rising,
+  commits_sorted (values_after before (commit_read before m)) ms each.1,
+)
 
 -- a history has as many commits later than a time, or fewer
 fewer_after : (mark : ℕ) (h : History Value) → length (commits_after mark h) ≤ length h
@@ -156,17 +164,20 @@ few_runs (s ∷ slots) = let one = one_run s.body in let rest = few_runs slots i
 
 -- ---- the heap
 
-each_entry : (members : List StoredMember) → AllByRecursion wire.IsMember (map (λ (s : StoredMember). s.entry) members) → AllByRecursion (λ (s : StoredMember). wire.IsMember s.entry) members
+each_entry : (members : List StoredMember) → AllByRecursion wire.IsMember (map (λ (s : StoredMember). s.entry) members)
+    → AllByRecursion (λ (s : StoredMember). wire.IsMember s.entry) members
 each_entry [] all = tt
 each_entry (s ∷ members) all = (all.0, each_entry members all.1)
 
 abbrev HasFew : StoredMember → Type 0
 HasFew s = length (numbers_in s.extents) < 2 ^ 63
 
-few_extents : (members : List StoredMember) → AllByRecursion IsStoredMember members → AllByRecursion (λ (s : StoredMember). wire.IsMember s.entry) members → AllByRecursion HasFew members
+few_extents : (members : List StoredMember) → AllByRecursion IsStoredMember members → AllByRecursion (λ (s : StoredMember). wire.IsMember s.entry) members
+    → AllByRecursion HasFew members
 few_extents [] stored ranges = tt
 few_extents (s ∷ members) stored ranges = (
-  let long = ((stored.0).chain).extents_are in let most = (ranges.0).extents_high in let few = (ranges.0).records in omega (arith, length-map s.extents (λ (e : Extent). e.number)),
+  let long = ((stored.0).chain).extents_are in let most = (ranges.0).extents_high in let few =
+      (ranges.0).records in omega (arith, length-map s.extents (λ (e : Extent). e.number)),
   few_extents members stored.1 ranges.1,
 )
 
@@ -174,7 +185,8 @@ abbrev chains_live : Global → (members : List StoredMember) → AllByRecursion
 chains_live alloc [] few = []
 chains_live alloc (s ∷ members) few = record { time = s.entry.time; extents = vec_of alloc (numbers_in s.extents) few.0 } ∷ chains_live alloc members few.1
 
-live_again : (alloc : Global) (members : List StoredMember) (few : AllByRecursion HasFew members) → map live_named (chains_live alloc members few) ≡ map live_of members
+live_again : (alloc : Global) (members : List StoredMember) (few : AllByRecursion HasFew members) → map live_named (chains_live alloc members few)
+    ≡ map live_of members
 unfolding vec_of
 live_again alloc [] few = refl
 live_again alloc (s ∷ members) few = ap (λ (l : List (ℕ × List ℕ)). (s.entry.time, numbers_in s.extents) ∷ l) (live_again alloc members few.1)
@@ -183,7 +195,8 @@ live_many : (alloc : Global) (members : List StoredMember) (few : AllByRecursion
 live_many alloc [] few = refl
 live_many alloc (s ∷ members) few = ap suc (live_many alloc members few.1)
 
-kept_each : (usages : List Usage) (es : List Extent) → AllByRecursion (λ (e : Extent). IsKept usages e.number) es → AllByRecursion (IsKept usages) (numbers_in es)
+kept_each : (usages : List Usage) (es : List Extent) → AllByRecursion (λ (e : Extent). IsKept usages e.number) es
+    → AllByRecursion (IsKept usages) (numbers_in es)
 kept_each usages [] kept = tt
 kept_each usages (e ∷ es) kept = (kept.0, kept_each usages es kept.1)
 
@@ -253,7 +266,8 @@ module _ (alloc : Global) (header : Header) (image : Image) (h : History Value) 
   members_few =
       let many = live_many alloc is.layout.members few in
       let made : length (heap_commits is.reading) ≡ length is.reading.members = commits_many (values_at_mark is.reading) is.reading.members in
-      let all : length (heap_commits is.reading) ≡ length (commits_after (reclaim_mark is.reading.log) h) = ap (λ (l : History Value). length l) is.stands.opens.write_sets in
+      let all : length (heap_commits is.reading) ≡ length (commits_after (reclaim_mark is.reading.log) h) =
+      ap (λ (l : History Value). length l) is.stands.opens.write_sets in
       let fewer = fewer_after (reclaim_mark is.reading.log) h in
       let heads : length (heads_of is.reading.log) ≡ length h = ap (λ (l : List Head). length l) is.stands.opens.commits ∙ length-map h head_of in
       let low = few_heads 0 (heads_of is.reading.log) rising (omega arith) in
@@ -279,8 +293,10 @@ module _ (alloc : Global) (header : Header) (image : Image) (h : History Value) 
   extents_kept =
       let numbered = numbered_of (live is.layout) (live_extents_are header is.layout is.reading is.laid) in
       record {
-        kept = kept_each (claimed (replicate 65536 Free) (numbers_in (live is.layout))) (live is.layout) (kept_all (replicate 65536 Free) (live is.layout) numbered);
-        free = λ number low high none. still_free (replicate 65536 Free) (live is.layout) number numbered (none_of number (live is.layout) none) (free_all number low high);
+        kept = kept_each (claimed (replicate 65536 Free) (numbers_in (live is.layout))) (live is.layout)
+            (kept_all (replicate 65536 Free) (live is.layout) numbered);
+        free = λ number low high none. still_free (replicate 65536 Free) (live is.layout) number numbered (none_of number (live is.layout) none)
+            (free_all number low high);
       }
 
   read_as : IsReadAs (unread_layout is.layout) (unread is.reading) recovered
@@ -295,7 +311,8 @@ module _ (alloc : Global) (header : Header) (image : Image) (h : History Value) 
     extents = extents_kept;
     live_are = live_again alloc is.layout.members few;
     writes = λ key.
-        chains_writes (map anchor_writes anchors) (heap_commits is.reading) key anchors_ordered (commits_sorted (values_at_mark is.reading) is.reading.members is.stands.opens.reads.chains)
+        chains_writes (map anchor_writes anchors) (heap_commits is.reading) key anchors_ordered
+        (commits_sorted (values_at_mark is.reading) is.reading.members is.stands.opens.reads.chains)
         ∙ ap (λ (l : List (TimedWrite Value)). l ++ histories.writes_of (heap_commits is.reading) key) (anchors_writes key);
     last_is = refl;
   }

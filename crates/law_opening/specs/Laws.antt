@@ -47,31 +47,38 @@ abbrev pub OpenAnswers : Type 0
 OpenAnswers = (alloc : Global) (tells : Bool) (old : DiskState) (mark : ℕ) (header : Header) (h : History Value) (floors : ℕ → ℕ)
     → AreSound old.areas → old.made + 3 ≤ top → IsImageOf header (image_of old.areas) h floors → (v : StoreValue) × Opens tells old mark v
 
--- Where opening such an image is refused, the device or memory gave out, and the disk still holds the image. A stop then leaves nothing that it might not have left before.
+-- Where opening such an image is refused, the device or memory gave out, and the disk still holds the image. A stop then leaves nothing that it might not have
+-- left before.
 abbrev pub OpenRefusesFor : Type 0
 OpenRefusesFor = (tells : Bool) (old new : DiskState) (why : OpenFault) (header : Header) (h : History Value) (floors : ℕ → ℕ)
-    → OpenRefuses tells old why new → IsTrue tells → IsImageOf header (image_of old.areas) h floors → IsReadFault why × (image_of new.areas ≡ image_of old.areas) × LeavesNoMore old.areas new.areas
+    → OpenRefuses tells old why new → IsTrue tells → IsImageOf header (image_of old.areas) h floors → IsReadFault why
+    × (image_of new.areas ≡ image_of old.areas) × LeavesNoMore old.areas new.areas
 
 -- ---- formatting
 
 -- a formatted disk holds an image of the empty history, and whatever a stop may leave of it is one
 abbrev pub FormatStands : Type 0
 FormatStands = (slots : ℕ) (old new : Areas) → IsFormatted slots old new
-    → IsImageOf (new_header 3 slots) (image_of new) [] (λ relation. 0) × ((image : Image) → LeavesImage new image → IsImageOf (new_header 3 slots) image [] (λ relation. 0))
+    → IsImageOf (new_header 3 slots) (image_of new) [] (λ relation. 0)
+    × ((image : Image) → LeavesImage new image → IsImageOf (new_header 3 slots) image [] (λ relation. 0))
 
 -- no piece behind those that are open is open, where the header's profile has pieces
 abbrev pub HasNoPieceBehind : Header → List ℕ → Type 0
 HasNoPieceBehind header bytes = header.profile ≢ 1 → (i : ℕ) → header.pieces ≤ i → i < 255 → piece_gate (take 512 bytes) i ≢ 0xC7
 
--- Where a stop within a format left all slots closed, a header of no more slots that is read there stands for the empty history too; where its profile has pieces, if it left no gate behind the open ones open.
+-- Where a stop within a format left all slots closed, a header of no more slots that is read there stands for the empty history too; where its profile has
+-- pieces, if it left no gate behind the open ones open.
 abbrev pub FormatStops : Type 0
-FormatStops = (slots : ℕ) (new : Areas) (image : Image) (header : Header) → LeavesShut slots new.status → LeavesImage new image → ReadsHeader image.status header → total header ≤ slots
+FormatStops =
+    (slots : ℕ) (new : Areas) (image : Image) (header : Header) → LeavesShut slots new.status → LeavesImage new image → ReadsHeader image.status header
+    → total header ≤ slots
     → HasNoPieceBehind header image.status → IsImageOf header image [] (λ relation. 0)
 
 -- a store that is opened on a formatted disk, or on what a stop left of it, stands for the empty history
 abbrev pub FormatOpens : Type 0
 FormatOpens = (tells : Bool) (slots : ℕ) (old new : Areas) (disk : DiskState) (mark : ℕ) (v : StoreValue)
-    → IsFormatted slots old new → LeavesImage new (image_of disk.areas) → AreSound disk.areas → Opens tells disk mark v → IsTrue tells → Stands tells v (opened [] (λ relation. 0))
+    → IsFormatted slots old new → LeavesImage new (image_of disk.areas) → AreSound disk.areas → Opens tells disk mark v → IsTrue tells
+    → Stands tells v (opened [] (λ relation. 0))
 
 -- ---- headers
 
@@ -127,9 +134,11 @@ ReopenHasSlots = (tells : Bool) (v : StoreValue) (m : Machine Value) (disk : Dis
 -- Where that is refused, the device or memory gave out, and the disk still holds what the stop left.
 abbrev pub ReopenRefuses : Type 0
 ReopenRefuses = (tells : Bool) (v : StoreValue) (m : Machine Value) (disk new : DiskState) (why : OpenFault)
-    → Stands tells v m → IsTrue tells → LeavesImage v.disk.areas (image_of disk.areas) → OpenRefuses tells disk why new → IsReadFault why × (image_of new.areas ≡ image_of disk.areas)
+    → Stands tells v m → IsTrue tells → LeavesImage v.disk.areas (image_of disk.areas) → OpenRefuses tells disk why new → IsReadFault why
+    × (image_of new.areas ≡ image_of disk.areas)
 
--- A stop while the store is opened again: where opening was refused, at whichever of its calls, it leaves nothing that it might not have left before, so a front of the commit order as that did.
+-- A stop while the store is opened again: where opening was refused, at whichever of its calls, it leaves nothing that it might not have left before, so a
+-- front of the commit order as that did.
 abbrev pub OpeningStops : Type 0
 OpeningStops = (tells : Bool) (v : StoreValue) (m : Machine Value) (disk new : DiskState) (why : OpenFault)
     → Stands tells v m → IsTrue tells → LeavesNoMore v.disk.areas disk.areas → OpenRefuses tells disk why new
@@ -141,9 +150,12 @@ SecondStops = (tells : Bool) (v : StoreValue) (m : Machine Value) (disk : DiskSt
     → Stands tells v m → IsTrue tells → LeavesNoMore v.disk.areas disk.areas → Opens tells disk mark again
     → LeavesNoMore v.disk.areas again.disk.areas × LeavesFronts v again.disk.areas m
 
--- At every moment while it is opened again, and whether that is refused or not, a stop leaves nothing that the first might not have left, so a front of the commit order too.
+-- At every moment while it is opened again, and whether that is refused or not, a stop leaves nothing that the first might not have left, so a front of the
+-- commit order too.
 abbrev pub OpeningMoments : Type 0
-OpeningMoments = (tells : Bool) (v : StoreValue) (m : Machine Value) (disk new : DiskState) → Stands tells v m → IsTrue tells → LeavesNoMore v.disk.areas disk.areas → (settles : Settles tells disk new)
+OpeningMoments =
+    (tells : Bool) (v : StoreValue) (m : Machine Value) (disk new : DiskState) → Stands tells v m → IsTrue tells → LeavesNoMore v.disk.areas disk.areas
+    → (settles : Settles tells disk new)
     → AllByRecursion (λ moment. LeavesNoMore v.disk.areas moment.areas × LeavesFronts v moment.areas m) settles.moments
 
 -- the disk that a closed store hands back holds what a stop may have left, so it may be opened again
@@ -155,20 +167,27 @@ ClosedIsLeft = (v : StoreValue) (disk : DiskState) → disk ≡ v.disk → AreSo
 -- what a view answers from memory alone, as its own clause says
 abbrev pub AnswersRecent : ViewValue → Key → ℕ → Result (Option Value) QueryFault → Type 0
 AnswersRecent view key time answer =
-    MatchResult answer (λ found. (view.reclaimed ≤ time) × AnswersAt view key.relation time found (value_at (writes_of view.state key) time)) (RefusesRecent view key.relation time)
+    MatchResult answer (λ found. (view.reclaimed ≤ time)
+    × AnswersAt view key.relation time found (value_at (writes_of view.state key) time)) (RefusesRecent view key.relation time)
 
 -- Every view that is taken of the store now is answered by this history, also when it is asked later, as long as the store goes on.
 pub record AnswersBy (tells : Bool) (v : StoreValue) (h : History Value) (floors : ℕ → ℕ) : Type 0 where
   pub at : (view : ViewValue) (asked new : StoreValue) (later : Machine Value) (key : Key) (time : ℕ) (answer : Result (Option Value) QueryFault)
-      → IsViewOf v view → Stands tells asked later → GoesOn tells v asked → AnswersAtView tells asked view key time answer new → SaysAt (IsSure tells view.reclaimed time) (at_answer h floors key time) answer
+      → IsViewOf v view → Stands tells asked later → GoesOn tells v asked → AnswersAtView tells asked view key time answer new
+      → SaysAt (IsSure tells view.reclaimed time) (at_answer h floors key time) answer
   pub scan_at : (view : ViewValue) (asked new : StoreValue) (later : Machine Value) (relation time : ℕ) (answer : Result (Vec (ℕ × Value) Global) QueryFault)
-      → IsViewOf v view → Stands tells asked later → GoesOn tells v asked → AnswersScanAt tells asked view relation time answer new → SaysScanAt (IsSure tells view.reclaimed time) h floors relation time answer
+      → IsViewOf v view → Stands tells asked later → GoesOn tells v asked → AnswersScanAt tells asked view relation time answer new
+      → SaysScanAt (IsSure tells view.reclaimed time) h floors relation time answer
   pub recent : (view : ViewValue) (key : Key) (time : ℕ) (answer : Result (Option Value) QueryFault) → IsViewOf v view → AnswersRecent view key time answer
       → SaysRecent view time (at_answer h floors key time) answer
-  pub between : (view : ViewValue) (asked new : StoreValue) (later : Machine Value) (key : Key) (a b : ℕ) (answer : Result (Vec (Version Value) Global) QueryFault)
-      → IsViewOf v view → Stands tells asked later → GoesOn tells v asked → AnswersRows tells asked view key a b answer new → SaysBetween (IsSure tells view.reclaimed a) h floors key a b answer
-  pub scan_between : (view : ViewValue) (asked new : StoreValue) (later : Machine Value) (relation a b : ℕ) (answer : Result (Vec (ℕ × Version Value) Global) QueryFault)
-      → IsViewOf v view → Stands tells asked later → GoesOn tells v asked → AnswersScanRows tells asked view relation a b answer new → SaysScanBetween (IsSure tells view.reclaimed a) h floors relation a b answer
+  pub between : (view : ViewValue) (asked new : StoreValue) (later : Machine Value) (key : Key) (a b : ℕ)
+      (answer : Result (Vec (Version Value) Global) QueryFault)
+      → IsViewOf v view → Stands tells asked later → GoesOn tells v asked → AnswersRows tells asked view key a b answer new
+      → SaysBetween (IsSure tells view.reclaimed a) h floors key a b answer
+  pub scan_between : (view : ViewValue) (asked new : StoreValue) (later : Machine Value) (relation a b : ℕ)
+      (answer : Result (Vec (ℕ × Version Value) Global) QueryFault)
+      → IsViewOf v view → Stands tells asked later → GoesOn tells v asked → AnswersScanRows tells asked view relation a b answer new
+      → SaysScanBetween (IsSure tells view.reclaimed a) h floors relation a b answer
 
 -- a store that stands for a machine answers by what that has published
 abbrev pub StandsAnswers : Type 0
@@ -185,13 +204,18 @@ IsKeptThen m relation time = MatchOption m.raising (Unit {0}) (λ r. IsTrue (cov
 
 -- and up to the last time that was published they are answered as before, if no floor in the making is later
 abbrev pub AnswersStay : Type 0
-AnswersStay = (tells : Bool) (v : StoreValue) (m : Machine Value) (disk : DiskState) (mark : ℕ) (again asked new : StoreValue) (later : Machine Value) (view : ViewValue) (key : Key) (time : ℕ) (answer : Result (Option Value) QueryFault)
-    → Stands tells v m → IsTrue tells → OpensAgain tells v disk mark again → IsViewOf again view → Stands tells asked later → GoesOn tells again asked → AnswersAtView tells asked view key time answer new
+AnswersStay =
+    (tells : Bool) (v : StoreValue) (m : Machine Value) (disk : DiskState) (mark : ℕ) (again asked new : StoreValue) (later : Machine Value) (view : ViewValue)
+    (key : Key) (time : ℕ) (answer : Result (Option Value) QueryFault)
+    → Stands tells v m → IsTrue tells → OpensAgain tells v disk mark again → IsViewOf again view → Stands tells asked later → GoesOn tells again asked
+    → AnswersAtView tells asked view key time answer new
     → time ≤ last m.published → IsKeptThen m key.relation time → SaysAt (IsSure tells view.reclaimed time) (at_answer m.published m.floors key time) answer
 
 -- ---- labels
 
 -- the times of a label that were told before the stop are told after it, with at most later ones behind them
 abbrev pub LabelsStay : Type 0
-LabelsStay = (tells : Bool) (v : StoreValue) (m : Machine Value) (disk : DiskState) (mark : ℕ) (again : StoreValue) (label : ℕ) → Stands tells v m → IsTrue tells → OpensAgain tells v disk mark again
+LabelsStay =
+    (tells : Bool) (v : StoreValue) (m : Machine Value) (disk : DiskState) (mark : ℕ) (again : StoreValue) (label : ℕ) → Stands tells v m → IsTrue tells
+    → OpensAgain tells v disk mark again
     → (more : List ℕ) × (times_of label (order_of again.transactions) ≡ times_of label (order_of v.transactions) ++ more)

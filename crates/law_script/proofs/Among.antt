@@ -147,9 +147,11 @@ shows-own v h (held.Transaction t) p no_view shows = (own_transaction v h t p sh
 shows-own v h (held.Ticket k) p no_view shows = (own_ticket v h k p shows, refl)
 shows-own v h (held.View w) p no_view shows = absurd no_view
 
-pub renumbered : (v : TransactionsValue) (h : History Value) (xs : List Held) (ps : List Place) (ys : List Held) → ((j : ℕ) (y : Held) → slice_get ys j ≡ Some y → HasNoView (Some y)) → Among ys xs → ArePlaces v h xs ps → ArePlaces v h ys (map place_of ys)
+pub renumbered : (v : TransactionsValue) (h : History Value) (xs : List Held) (ps : List Place) (ys : List Held)
+    → ((j : ℕ) (y : Held) → slice_get ys j ≡ Some y → HasNoView (Some y)) → Among ys xs → ArePlaces v h xs ps → ArePlaces v h ys (map place_of ys)
 renumbered v h xs ps ys no_views among are = record {
   many = places-length ys;
-  each = λ i x at. subst (λ (p : Place). ShowsAs v h x p) (sym (place-of-at ys i x at)) (shows-own v h x (place_at ps (among.at i)) (no_views i x at) (are.each (among.at i) x (among.same i x at)));
+  each = λ i x at. subst (λ (p : Place). ShowsAs v h x p) (sym (place-of-at ys i x at))
+      (shows-own v h x (place_at ps (among.at i)) (no_views i x at) (are.each (among.at i) x (among.same i x at)));
   apart = λ i j a b at_i at_j clash. among.once i j a b at_i at_j (are.apart (among.at i) (among.at j) a b (among.same i a at_i) (among.same j b at_j) clash);
 }

@@ -48,15 +48,35 @@ record Aborted (tells : Bool) (os : List OpenName) (at : Moment) (v : StoreValue
   pub is : IsAtMoment tells v held end
   pub done : end.done ≡ at.done
 
-abort-all : (tells : Bool) (os : List OpenName) (ks : List TicketName) (v v' : StoreValue) (xs : List Held) (at : Moment) → IsAtMoment tells v xs at → Among (held_in os ks) xs → AbortsAll v os v' → Aborted tells os at v'
-abort-all tells [] ks v v' xs at is among aborts = record { places = []; each = refl; end = at; held = xs; chain = refl; is = subst (λ (s : StoreValue). IsAtMoment tells s xs at) (sym aborts) is; done = refl }
+abort-all : (tells : Bool) (os : List OpenName) (ks : List TicketName) (v v' : StoreValue) (xs : List Held) (at : Moment) → IsAtMoment tells v xs at
+    → Among (held_in os ks) xs → AbortsAll v os v' → Aborted tells os at v'
+abort-all tells [] ks v v' xs at is among aborts =
+    record {
+      places = [];
+      each = refl;
+      end = at;
+      held = xs;
+      chain = refl;
+      is = subst (λ (s : StoreValue). IsAtMoment tells s xs at) (sym aborts) is;
+      done = refl;
+    }
 abort-all tells (o ∷ os) ks v v' xs at is among aborts =
     let i : ℕ = among.at 0 in
     let here : slice_get xs i ≡ Some (held.Transaction o.txn) = among.same 0 (transaction_of o) refl in
     let ys : List Held = slice_set xs i held.Nothing ++ held.Nothing ∷ [] in
-    let did = links tells v aborts.0 xs ys (call.Abort i) answer.Abort at is (abort-goes tells v aborts.0 xs i o.txn here aborts.1 aborts.2) (same-few v aborts.0 aborts.2.rest.disk) in
+    let did =
+    links tells v aborts.0 xs ys (call.Abort i) answer.Abort at is (abort-goes tells v aborts.0 xs i o.txn here aborts.1 aborts.2)
+    (same-few v aborts.0 aborts.2.rest.disk) in
     let rest = abort-all tells os ks aborts.0 v' ys did.0 did.2 (spent-first (transaction_of o) (held_in os ks) xs held.Nothing held.Nothing among) aborts.3 in
-    record { places = i ∷ rest.places; each = ap suc rest.each; end = rest.end; held = rest.held; chain = (did.0, did.1, rest.chain); is = rest.is; done = rest.done ∙ did.1.acknowledges }
+    record {
+      places = i ∷ rest.places;
+      each = ap suc rest.each;
+      end = rest.end;
+      held = rest.held;
+      chain = (did.0, did.1, rest.chain);
+      is = rest.is;
+      done = rest.done ∙ did.1.acknowledges;
+    }
 
 -- it is closed, and the store that gave the disk back stood for the last moment
 pub record ClosedAt (tells : Bool) (m : ScriptMoment) (given : DiskState) : Type 0 where
@@ -87,7 +107,8 @@ close-keeps tells m is given closes =
 -- ---- the front that an image stands for has what was acknowledged
 
 module _ {X : Type 0} (Q : History Value → (ℕ → ℕ) → Type 0) (m : Machine Value) (done : List ℕ) (published : AllByRecursion (HasCommitAt m.published) done)
-    (say : (h : History Value) (floors : ℕ → ℕ) → Q h floors → AllByRecursion (HasCommitAt h) done → ((P : History Value → (ℕ → ℕ) → Type 0) → P h floors → OnFront P m) → X) where
+    (say : (h : History Value) (floors : ℕ → ℕ) → Q h floors → AllByRecursion (HasCommitAt h) done
+    → ((P : History Value → (ℕ → ℕ) → Type 0) → P h floors → OnFront P m) → X) where
   at-raised : (o : Option Raising) → ((P : History Value → (ℕ → ℕ) → Type 0) → OnRaised P m o → OnFront P m) → OnRaised Q m o → X
   at-raised None into on = absurd on
   at-raised (Some r) into on = say m.published (raised r.scope r.floor m.floors) on published (λ P holds. into P holds)
@@ -110,20 +131,24 @@ pub record OpensTo (tells : Bool) (before : ScriptMoment) (state : State) : Type
   pub keeps : KeepsByOpening tells before after
   pub is : IsScriptMoment tells after
 
-opened-moment : (tells : Bool) (v : StoreValue) (h : History Value) (floors : ℕ → ℕ) (done : List ℕ) → Stands tells v (opened h floors) → AllByRecursion (HasCommitAt h) done → IsScriptMoment tells (record { state = fresh v; machine = opened h floors; done = done })
+opened-moment : (tells : Bool) (v : StoreValue) (h : History Value) (floors : ℕ → ℕ) (done : List ℕ) → Stands tells v (opened h floors)
+    → AllByRecursion (HasCommitAt h) done → IsScriptMoment tells (record { state = fresh v; machine = opened h floors; done = done })
 opened-moment tells v h floors done stands has = record { store = refl; places = refl; world = started-world tells v (opened h floors) stands; published = has }
 
-pub first-script : (tells : Bool) (v : StoreValue) (h : History Value) (floors : ℕ → ℕ) → Stands tells v (opened h floors) → IsScriptMoment tells (record { state = fresh v; machine = opened h floors; done = [] })
+pub first-script : (tells : Bool) (v : StoreValue) (h : History Value) (floors : ℕ → ℕ) → Stands tells v (opened h floors)
+    → IsScriptMoment tells (record { state = fresh v; machine = opened h floors; done = [] })
 first-script tells v h floors stands = opened-moment tells v h floors [] stands tt
 
-pub reopen-keeps : (tells : Bool) → IsTrue tells → (m : ScriptMoment) → IsScriptMoment tells m → (r : Reply) (new : State) → Reopens tells m.state r new → OpensTo tells m new
+pub reopen-keeps : (tells : Bool) → IsTrue tells → (m : ScriptMoment) → IsScriptMoment tells m → (r : Reply) (new : State) → Reopens tells m.state r new
+    → OpensTo tells m new
 reopen-keeps tells told m is r new reopens =
     let c = close-keeps tells m is reopens.given reopens.closes in
     let given = reopens.given in
     let machine = c.closed.end.world.machine in
     let left : LeavesImage c.store.disk.areas (image_of given.areas) = closed-left c.store given c.same (reopens.sound told) in
     let on = (c.is.world.stands.disk told).leaves (image_of given.areas) left in
-    let published : AllByRecursion (HasCommitAt machine.published) m.done = subst (λ (times : List ℕ). AllByRecursion (HasCommitAt machine.published) times) c.closed.done c.is.published in
+    let published : AllByRecursion (HasCommitAt machine.published) m.done =
+    subst (λ (times : List ℕ). AllByRecursion (HasCommitAt machine.published) times) c.closed.done c.is.published in
     at-front (IsImageOf on.found (image_of given.areas)) machine m.done published (λ h floors image has into.
     let stands = open-stands tells given 1 reopens.opened on.found h floors reopens.opens told (reopens.sound told) image in
     let after : ScriptMoment = record { state = fresh reopens.opened; machine = opened h floors; done = m.done } in
@@ -135,7 +160,12 @@ reopen-keeps tells told m is r new reopens =
         given = given;
         closed = c.closed;
         stops = reopens.opens.left told;
-        header = (on.found, subst (λ (s : StoreValue). IsHeaderLeftBy s on.found) (sym c.is.store) (left-by c.store machine (c.is.world.stands.disk told) on.found on.is_found), open-header tells given 1 reopens.opened on.found h floors reopens.opens told image);
+        header = (
+          on.found,
+          subst (λ (s : StoreValue). IsHeaderLeftBy s on.found) (sym c.is.store)
+              (left-by c.store machine (c.is.world.stands.disk told) on.found on.is_found),
+          open-header tells given 1 reopens.opened on.found h floors reopens.opens told image,
+        );
         front = into (λ h' floors'. (opened h floors ≡ opened h' floors') × AllByRecursion (HasCommitAt h') m.done) (refl, has);
         done = refl;
         leaves = moment-leaves tells reopens.opened [] (moment_of after) at;
@@ -144,7 +174,8 @@ reopen-keeps tells told m is r new reopens =
     })
     on.front
 
-pub unopened-keeps : (tells : Bool) → IsTrue tells → (m : ScriptMoment) → IsScriptMoment tells m → (why : OpenFault) (disk : DiskState) → DoesNotReopen tells m.state why disk → KeepsUnopened tells m why disk
+pub unopened-keeps : (tells : Bool) → IsTrue tells → (m : ScriptMoment) → IsScriptMoment tells m → (why : OpenFault) (disk : DiskState)
+    → DoesNotReopen tells m.state why disk → KeepsUnopened tells m why disk
 unopened-keeps tells told m is why disk refused =
     let c = close-keeps tells m is refused.given refused.closes in
     let left : LeavesImage c.store.disk.areas (image_of refused.given.areas) = closed-left c.store refused.given c.same (refused.sound told) in

@@ -20,7 +20,8 @@ use Rattle.run.specs.Promise.{Promises, Leaves}
 use Rattle.law_script.specs.ScriptMoments.{ScriptMoment, moment_of, with_reply}
 use Rattle.law_script.specs.Says.{Exchange, Says}
 
--- A line is answered by calls: their answers are those of a run of the machine, which the reply says, and whatever a stop may leave before, within or after any of them survives, with every commit of which `done` was written.
+-- A line is answered by calls: their answers are those of a run of the machine, which the reply says, and whatever a stop may leave before, within or after any
+-- of them survives, with every commit of which `done` was written.
 pub record KeepsByCalls (tells : Bool) (l : Line) (r : Reply) (before after : ScriptMoment) : Type 0 where
   pub made : Exchange
   pub says : Says before l made r
@@ -41,7 +42,8 @@ pub record Closed (tells : Bool) (before : ScriptMoment) (given : DiskState) : T
   pub disk : end.store.disk ≡ given
   pub done : end.done ≡ before.done
 
--- It is closed and opened again, with the slots that there were or those of a piece in the making too, on a history that has every commit of which `done` was written. While it is opened a stop leaves nothing that it might not have left before.
+-- It is closed and opened again, with the slots that there were or those of a piece in the making too, on a history that has every commit of which `done` was
+-- written. While it is opened a stop leaves nothing that it might not have left before.
 pub record KeepsByOpening (tells : Bool) (before after : ScriptMoment) : Type 0 where
   pub given : DiskState
   pub closed : Closed tells before given

@@ -95,7 +95,8 @@ SaysBegin m made r = (said : Result (Unit {0}) BeginFault) × (made ≡ one_call
 -- there is no memory for the fields, or they are put
 abbrev pub SaysPut : ℕ → Key → List Text → Exchange → Reply → Type 0
 SaysPut i key fields made r = ((made ≡ no_call) × (r ≡ reply.Refused (fault.Txn txn.NoMemory)))
-    ⊎ ((parts : Bor (List (Bor Text))) × (said : Result (Unit {0}) TxnFault) × (map (λ (part : Bor Text). part.now) parts.now ≡ fields) × (made ≡ one_call (call.Put i key parts) (answer.Put said)) × (r ≡ session.done said))
+    ⊎ ((parts : Bor (List (Bor Text))) × (said : Result (Unit {0}) TxnFault) × (map (λ (part : Bor Text). part.now) parts.now ≡ fields)
+    × (made ≡ one_call (call.Put i key parts) (answer.Put said)) × (r ≡ session.done said))
 
 -- the key is deleted in the transaction of this place, and what that answered is replied
 abbrev pub SaysDelete : ℕ → Key → Exchange → Reply → Type 0
@@ -107,7 +108,8 @@ SaysGet i key made r = (said : Result (Option (List Text)) AllocError) × (made 
 
 -- the transaction of this place is submitted, and what becomes of it is replied
 abbrev pub SaysSubmit : ℕ → ℕ → ℕ → Exchange → Reply → Type 0
-SaysSubmit i label now made r = (said : Result SubmitOutcome SubmitFault) × (made ≡ one_call (call.Submit i label now) (answer.Submit said)) × (r ≡ of_submit said)
+SaysSubmit i label now made r =
+    (said : Result SubmitOutcome SubmitFault) × (made ≡ one_call (call.Submit i label now) (answer.Submit said)) × (r ≡ of_submit said)
 
 -- the transaction of this place is aborted
 abbrev pub SaysAbort : ℕ → Exchange → Reply → Type 0
@@ -141,17 +143,21 @@ LacksView made r = (why : AllocError) × (made ≡ one_call call.View (answer.Vi
 
 -- a view of now is asked for the value of the key at the time, or there is no memory for it
 abbrev pub SaysAt : ScriptMoment → Key → ℕ → Exchange → Reply → Type 0
-SaysAt m key time made r = LacksView made r ⊎ ((said : Result (Option (List Text)) QueryFault) × ByView m made (call.At (length (held_of m.state)) key time) (answer.At said) r (session.found said))
+SaysAt m key time made r =
+    LacksView made r ⊎ ((said : Result (Option (List Text)) QueryFault)
+    × ByView m made (call.At (length (held_of m.state)) key time) (answer.At said) r (session.found said))
 
 -- a view of now is asked for the values of the relation at the time, or there is no memory for it
 abbrev pub SaysScan : ScriptMoment → ℕ → ℕ → Exchange → Reply → Type 0
 SaysScan m relation time made r =
-    LacksView made r ⊎ ((said : Result (Vec (ℕ × List Text) Global) QueryFault) × ByView m made (call.ScanAt (length (held_of m.state)) relation time) (answer.ScanAt said) r (session.records_found said))
+    LacksView made r ⊎ ((said : Result (Vec (ℕ × List Text) Global) QueryFault)
+    × ByView m made (call.ScanAt (length (held_of m.state)) relation time) (answer.ScanAt said) r (session.records_found said))
 
 -- a view of now is asked for the rows of the key from a to b, or there is no memory for it
 abbrev pub SaysBetween : ScriptMoment → Key → ℕ → ℕ → Exchange → Reply → Type 0
 SaysBetween m key a b made r =
-    LacksView made r ⊎ ((said : Result (Vec (Version (List Text)) Global) QueryFault) × ByView m made (call.Between (length (held_of m.state)) key a b) (answer.Between said) r (session.rows_found said))
+    LacksView made r ⊎ ((said : Result (Vec (Version (List Text)) Global) QueryFault)
+    × ByView m made (call.Between (length (held_of m.state)) key a b) (answer.Between said) r (session.rows_found said))
 
 -- the store is asked for the times of the label
 abbrev pub SaysTimes : ℕ → Exchange → Reply → Type 0
@@ -167,7 +173,8 @@ SaysReclaim made r = (said : Result (Unit {0}) StartFault) × (made ≡ one_call
 
 -- a floor is started, or refused
 abbrev pub SaysFloor : Option ℕ → ℕ → Exchange → Reply → Type 0
-SaysFloor scope floor made r = (said : Result (Unit {0}) StartFault) × (made ≡ one_call (call.Floor scope floor) (answer.Floor said)) × (r ≡ session.started said)
+SaysFloor scope floor made r =
+    (said : Result (Unit {0}) StartFault) × (made ≡ one_call (call.Floor scope floor) (answer.Floor said)) × (r ≡ session.started said)
 
 -- a growth is started, or refused
 abbrev pub SaysGrow : Exchange → Reply → Type 0
@@ -187,7 +194,8 @@ pub record SaysFinish (made : Exchange) (r : Reply) : Type 0 where
   pub ends : IsLast job_did.Idle ended
   pub reply : r ≡ session.worked ended
 
--- At this moment a line makes these calls, and what is replied is what their answers say. A name stands for its place; one that stands for nothing, or is taken, is refused. A `reopen` is no call.
+-- At this moment a line makes these calls, and what is replied is what their answers say. A name stands for its place; one that stands for nothing, or is
+-- taken, is refused. A `reopen` is no call.
 abbrev pub Says : ScriptMoment → Line → Exchange → Reply → Type 0
 Says m (line.Begin name) made r = IfTest (is_taken name m.state) (RefusesName made r) (SaysBegin m made r)
 Says m (line.Put name key fields) made r = MatchOption (txn_place name m.state) (RefusesName made r) (λ i. SaysPut i key fields made r)

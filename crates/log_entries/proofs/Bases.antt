@@ -1,5 +1,5 @@
 -- The lists of a base, read one behind the other.
-use Rattle.std.proofs.Common.{◌≡◌, ◌↔◌, ℕ, ◌^◌, ◌<◌, ◌≤◌, slice_index, List, [], ◌∷◌, ◌++◌, ◌-◌, get_or, length, take, drop, refl, sym, ◌∙◌, ap, subst, arith, append_assoc}
+use Rattle.std.proofs.Common.{◌≡◌, ◌↔◌, ℕ, ◌^◌, ◌<◌, ◌≤◌, slice_index, List, [], ◌∷◌, ◌++◌, ◌-◌, get_or, length, take, drop, sym, ◌∙◌, ap, subst, arith}
 use Rattle.std.specs.List.{flat_map, AllByRecursion}
 use Rattle.std.proofs.lemmas.List.{append-nil, take_all}
 use Rattle.wire.proofs.Zeros.{AreBytes}
@@ -12,7 +12,7 @@ use Rattle.log_entries.specs.Spelling.{archive_bytes, floor_bytes, roll_bytes, m
 use Rattle.log_entries.specs.Ranges.{IsArchive, IsFloor, IsRoll, AreRising, AreParts, IsWhole, IsBase}
 use Rattle.log_entries.specs.Reading.{upto_at, anchors_at}
 use Rattle.log_entries.specs.Items.{HasNone}
-use Rattle.log_entries.specs.Bases.{Ends, IsRead}
+use Rattle.log_entries.specs.Bases.{IsRead}
 use Rattle.log_entries.proofs.FixedRead.{mark_back, upto_again}
 use Rattle.log_entries.proofs.Entries.{base_ends, base_head, one_base_of}
 

@@ -1,5 +1,6 @@
 -- How long commits are.
-use Rattle.std.proofs.Common.{◌≡◌, ℕ, ◌+◌, ◌*◌, ◌≤◌, List, [], ◌∷◌, ◌++◌, length, map, sum, Option, Some, None, slice_get, drop, refl, sym, ◌∙◌, ap, subst, arith, length-append}
+use Rattle.std.proofs.Common.{◌≡◌, ℕ, ◌+◌, ◌*◌, ◌≤◌, List, [], ◌∷◌, length, map, sum, Some, None, slice_get, drop, refl, sym, ◌∙◌, ap, subst, arith}
+use Rattle.std.proofs.Common.{length-append}
 use Rattle.std.specs.List.{flat_map, fold}
 use Rattle.deltas.specs.declared.«record».Record.{Record}
 use Rattle.deltas.specs.Records.{spelling}

@@ -1,5 +1,5 @@
 -- Bytes are those of one entry alone.
-use Rattle.std.proofs.Common.{◌≡◌, ◌≢◌, ℕ, ◌<◌, ◌≤◌, List, [], ◌∷◌, ◌++◌, length, drop, slice_index, refl, sym, ◌∙◌, ap, subst, arith, append_assoc, map}
+use Rattle.std.proofs.Common.{◌≡◌, ℕ, ◌<◌, ◌≤◌, List, [], ◌∷◌, ◌++◌, length, drop, slice_index, sym, ◌∙◌, ap, subst, arith, append_assoc}
 use Rattle.std.specs.List.{flat_map, AllByRecursion}
 use Rattle.std.proofs.lemmas.List.{append-nil}
 use Rattle.log_entries.specs.declared.entry.Member.{Member}
@@ -8,11 +8,11 @@ use Rattle.log_entries.specs.declared.entry.Entry.{Entry}
 use Rattle.log_entries.specs.declared.entry.Entry.TheVariants.{Group, Archived, Floor}
 use Rattle.log_entries.specs.declared.entry.Entry.TheVariants as entries
 use Rattle.log_entries.specs.Spelling.{member_bytes, archive_bytes, floor_bytes, roll_bytes, mark_bytes, base_bytes, entry_bytes}
-use Rattle.log_entries.specs.Ranges.{IsMember, AreMembers, IsArchive, IsFloor, IsRoll, AreParts, IsBase, IsEntry}
-use Rattle.log_entries.specs.Reading.{head_at, upto_at, anchors_at}
+use Rattle.log_entries.specs.Ranges.{IsMember, AreMembers, IsArchive, IsFloor, IsRoll, AreParts, IsEntry}
+use Rattle.log_entries.specs.Reading.{upto_at, anchors_at}
 use Rattle.log_entries.specs.Items.{HasNone}
 use Rattle.log_entries.specs.Bases.{Ends}
-use Rattle.log_entries.proofs.FixedRead.{Again, archive_again, floor_again, upto_again, anchors_again}
+use Rattle.log_entries.proofs.FixedRead.{archive_again, floor_again, upto_again, anchors_again}
 use Rattle.log_entries.proofs.Lists.{full_list}
 use Rattle.log_entries.proofs.Codes.{member_again, member_code, archive_code, floor_code, roll_code}
 use Rattle.log_entries.proofs.Fronts.{no_member, no_roll_behind, no_archive_behind, no_floor_behind}

@@ -1,10 +1,9 @@
 -- What has a fixed length is read as it was spelled, and spelled as it was read.
-use Rattle.std.proofs.Common.{◌≡◌, ℕ, ◌+◌, ◌^◌, ◌<◌, ◌≤◌, List, [], ◌∷◌, ◌++◌, length, drop, slice_index, refl, sym, ◌∙◌, ap, subst, arith, append_assoc}
-use Rattle.byteorder.specs.Endian.{little_bytes, little_number}
+use Rattle.std.proofs.Common.{◌≡◌, ℕ, ◌^◌, ◌<◌, ◌≤◌, List, [], ◌∷◌, ◌++◌, length, drop, slice_index, refl, sym, ◌∙◌, ap, subst, arith, append_assoc}
+use Rattle.byteorder.specs.Endian.{little_bytes}
 use Rattle.wire.specs.Numbers.{u16_bytes, u32_bytes, u64_bytes}
 use Rattle.wire.proofs.Zeros.{AreBytes}
 use Rattle.deltas.proofs.NumbersBack.{then_2, then_4, then_8}
-use Rattle.log_entries.specs.declared.group.Head.{Head}
 use Rattle.log_entries.specs.declared.entry.Archive.{Archive}
 use Rattle.log_entries.specs.declared.entry.RelationFloor.{RelationFloor}
 use Rattle.log_entries.specs.declared.entry.Roll.{Roll}

@@ -1,5 +1,5 @@
 -- What holds of the bytes of chains.
-use Rattle.std.specs.Prelude.{◌≡◌, ℕ, List, ◌++◌, length, map}
+use Rattle.std.specs.Prelude.{◌≡◌, ℕ, length, map}
 use Rattle.deltas.specs.Records.{spelling}
 use Rattle.log_entries.specs.declared.entry.Member.{Member}
 use Rattle.log_entries.specs.declared.entry.Entry.{Entry}

@@ -1,9 +1,8 @@
 -- How long spellings are.
-use Rattle.std.specs.Prelude.{◌≡◌, ◌<◌, ◌+◌, ℕ, List, ◌++◌, length}
+use Rattle.std.specs.Prelude.{◌≡◌, ◌<◌, ℕ, length}
 use Rattle.std.proofs.Common.{refl, arith, length-append}
 use Rattle.std.specs.List.{flat_map}
 use Rattle.wire.specs.Numbers.{u16_bytes, u32_bytes, u64_bytes}
-use Rattle.deltas.specs.declared.«record».Record.{Record}
 use Rattle.deltas.specs.Records.{spelling}
 use Rattle.log_entries.specs.declared.entry.Member.{Member}
 use Rattle.log_entries.specs.declared.entry.Archive.{Archive}

@@ -1,6 +1,5 @@
 -- Chains whose images begin alike.
 use Rattle.std.proofs.Common.{◌≡◌, ◌≢◌, ℕ, suc, ◌+◌, ◌*◌, ◌^◌, ◌<◌, ◌≤◌, List, [], ◌∷◌, ◌++◌, length, map, take, drop, refl, sym, ◌∙◌, ap, arith}
-use Rattle.std.specs.List.{flat_map}
 use Rattle.std.proofs.lemmas.List.{length-take, drop-drop}
 use Rattle.std.proofs.Math.Seq.{take-add}
 use Rattle.log_extents.specs.Extents.{LinkedExtent, linked_bytes}
@@ -57,10 +56,14 @@ agree (m ∷ ms) (n ∷ ns) end gate link gate' link' a content image rest small
     let f : LinkedExtent = extent_in end gate' link' m ms a in
     let heads : linked_bytes e ≡ linked_bytes f = cc in
     let tails : map linked_bytes (chain_to 0 0 0 ns (drop 8168 content)) ≡ map linked_bytes (chain_to end 0 0 ms (drop 8168 a)) ++ image ∷ rest = cc in
-    let one : e ≡ f = same_extent e f (small_in 0 gate link n ns content (omega arith) link_small small) (small_in end gate' link' m ms a end_small link_small' small_ms) heads in
+    let one : e ≡ f =
+    same_extent e f (small_in 0 gate link n ns content (omega arith) link_small small) (small_in end gate' link' m ms a end_small link_small' small_ms)
+    heads in
     let number : n ≡ m = ap (λ x. x.number) one in
     let body : take 8168 content ≡ take 8168 a = ap (λ x. x.body) one in
-    let others = agree ms ns end 0 0 0 0 (drop 8168 a) (drop 8168 content) image rest small_ms.1 small.1 end_small (omega arith) (omega arith) (ap (λ x. x.next) one) tails in
+    let others =
+    agree ms ns end 0 0 0 0 (drop 8168 a) (drop 8168 content) image rest small_ms.1 small.1 end_small (omega arith) (omega arith) (ap (λ x. x.next) one)
+    tails in
     let k : ℕ = 8168 * length ms in
     let count : 8168 * suc (length ms) ≡ 8168 + k = omega arith in
     record {
@@ -89,7 +92,8 @@ pub record IsSameChain (numbers others : List ℕ) (gate gate' link link' : ℕ)
 
 same_chain : (ms ns : List ℕ) (gate link gate' link' : ℕ) (a b : List ℕ) → AreSmall ms → AreSmall ns → link < 2 ^ 32 → link' < 2 ^ 32
     → map linked_bytes (chain_to 0 gate link ms a) ≡ map linked_bytes (chain_to 0 gate' link' ns b) → IsSameChain ms ns gate gate' link link' a b
-same_chain [] [] gate link gate' link' a b small_ms small_ns link_small link_small' same = record { numbers_are = refl; head = λ some. absurd (some refl); pieces_are = refl }
+same_chain [] [] gate link gate' link' a b small_ms small_ns link_small link_small' same =
+    record { numbers_are = refl; head = λ some. absurd (some refl); pieces_are = refl }
 same_chain [] (n ∷ ns) gate link gate' link' a b small_ms small_ns link_small link_small' same = absurd (cc)
 same_chain (m ∷ ms) [] gate link gate' link' a b small_ms small_ns link_small link_small' same = absurd (cc)
 same_chain (m ∷ ms) (n ∷ ns) gate link gate' link' a b small_ms small_ns link_small link_small' same =
@@ -97,7 +101,9 @@ same_chain (m ∷ ms) (n ∷ ns) gate link gate' link' a b small_ms small_ns lin
     let f : LinkedExtent = extent_in 0 gate' link' n ns b in
     let heads : linked_bytes e ≡ linked_bytes f = cc in
     let tails : map linked_bytes (chain_to 0 0 0 ms (drop 8168 a)) ≡ map linked_bytes (chain_to 0 0 0 ns (drop 8168 b)) = cc in
-    let one : e ≡ f = same_extent e f (small_in 0 gate link m ms a (omega arith) link_small small_ms) (small_in 0 gate' link' n ns b (omega arith) link_small' small_ns) heads in
+    let one : e ≡ f =
+    same_extent e f (small_in 0 gate link m ms a (omega arith) link_small small_ms) (small_in 0 gate' link' n ns b (omega arith) link_small' small_ns) heads
+    in
     let number : m ≡ n = ap (λ x. x.number) one in
     let body : take 8168 a ≡ take 8168 b = ap (λ x. x.body) one in
     let others = same_chain ms ns 0 0 0 0 (drop 8168 a) (drop 8168 b) small_ms.1 small_ns.1 (omega arith) (omega arith) tails in
@@ -111,10 +117,14 @@ some_numbers : (numbers : List ℕ) (len : ℕ) → 0 < len → length numbers �
 some_numbers [] len some count is = omega (arith, some, count)
 some_numbers (n ∷ ns) len some count is = cc
 
-pub one_chain : (most gate other_gate link other_link : ℕ) (numbers others a b : List ℕ) (images : List (List ℕ)) → most < 2 ^ 32 → link ≤ most → other_link ≤ most
-    → IsChainOf most numbers gate link a images → IsChainOf most others other_gate other_link b images → IsSameContent numbers others gate other_gate link other_link a b
+pub one_chain : (most gate other_gate link other_link : ℕ) (numbers others a b : List ℕ) (images : List (List ℕ)) → most < 2 ^ 32 → link ≤ most
+    → other_link ≤ most
+    → IsChainOf most numbers gate link a images → IsChainOf most others other_gate other_link b images
+    → IsSameContent numbers others gate other_gate link other_link a b
 one_chain most gate other_gate link other_link numbers others a b images few link_few other_few is_a is_b =
-    let same = same_chain numbers others gate link other_gate other_link a b (small_numbers most numbers few is_a.in_range) (small_numbers most others few is_b.in_range) (omega arith) (omega arith) (sym is_a.images_are ∙ is_b.images_are) in
+    let same =
+    same_chain numbers others gate link other_gate other_link a b (small_numbers most numbers few is_a.in_range)
+    (small_numbers most others few is_b.in_range) (omega arith) (omega arith) (sym is_a.images_are ∙ is_b.images_are) in
     let some = some_numbers numbers (length a) is_a.some is_a.count in
     let whole_a = joined_by (length numbers) a (let count = is_a.count in let holds = count_holds (length a) in omega (arith, count, holds)) in
     let whole_b = joined_by (length others) b (let count = is_b.count in let holds = count_holds (length b) in omega (arith, count, holds)) in

@@ -1,5 +1,5 @@
 -- The bytes of extents.
-use Rattle.std.proofs.Common.{◌≡◌, ℕ, ◌-◌, ◌^◌, ◌<◌, ◌≤◌, min, List, [], ◌∷◌, ◌++◌, length, take, drop, replicate, refl, sym, ◌∙◌, ap, arith, length-append}
+use Rattle.std.proofs.Common.{◌≡◌, ℕ, ◌-◌, ◌^◌, ◌<◌, ◌≤◌, min, List, [], ◌∷◌, ◌++◌, length, take, drop, replicate, sym, ◌∙◌, ap, arith, length-append}
 use borrow.Rule.Slice.PartMut.{put_mid, post_of}
 use Rattle.std.proofs.lemmas.List.{append-nil, nil_from_length, drop_at, length-take, length-drop, length-replicate}
 use Rattle.std.proofs.Math.Seq.{take-append_seam}
@@ -67,14 +67,17 @@ behind_head image part len =
     drop_at (take 24 image) (part ++ post_of 24 8168 image) 24 front ∙ ap (λ (l : List ℕ). part ++ l) behind ∙ append-nil part
 
 -- the head in front of the bytes and the zeros
-pub head_in_front : (number next link used : ℕ) (old part image body : List ℕ) → length old ≡ 8192 → used ≡ length body → part ≡ body ++ replicate (8168 - length body) 0
+pub head_in_front : (number next link used : ℕ) (old part image body : List ℕ) → length old ≡ 8192 → used ≡ length body → part ≡ body
+    ++ replicate (8168 - length body) 0
     → image ≡ 0 ∷ 0 ∷ 0 ∷ 0 ∷ (u32_bytes number ++ u32_bytes next ++ u32_bytes used ++ u32_bytes link ++ u32_bytes 0 ++ drop 24 (put_mid 24 8168 old part))
     → image ≡ linked_bytes (record { gate = 0; number = number; next = next; link = link; body = body })
 unfolding linked_bytes u32_bytes
 head_in_front number next link used old part image body len used_is part_is image_is =
     image_is
-    ∙ ap (λ (l : List ℕ). 0 ∷ 0 ∷ 0 ∷ 0 ∷ (u32_bytes number ++ u32_bytes next ++ u32_bytes used ++ u32_bytes link ++ u32_bytes 0 ++ l)) (behind_head old part len ∙ part_is)
-    ∙ ap (λ n. 0 ∷ 0 ∷ 0 ∷ 0 ∷ (u32_bytes number ++ u32_bytes next ++ u32_bytes n ++ u32_bytes link ++ u32_bytes 0 ++ (body ++ replicate (8168 - length body) 0))) used_is
+    ∙ ap (λ (l : List ℕ). 0 ∷ 0 ∷ 0 ∷ 0
+    ∷ (u32_bytes number ++ u32_bytes next ++ u32_bytes used ++ u32_bytes link ++ u32_bytes 0 ++ l)) (behind_head old part len ∙ part_is)
+    ∙ ap (λ n. 0 ∷ 0 ∷ 0 ∷ 0
+    ∷ (u32_bytes number ++ u32_bytes next ++ u32_bytes n ++ u32_bytes link ++ u32_bytes 0 ++ (body ++ replicate (8168 - length body) 0))) used_is
 
 -- what the bytes of an extent of the heap say
 pub linked_read : (most : ℕ) (e : LinkedExtent) (image : List ℕ) → most < 2 ^ 32 → IsLinked most e → image ≡ linked_bytes e → linked_at image ≡ e

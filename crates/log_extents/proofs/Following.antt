@@ -1,12 +1,15 @@
 -- A chain that is read: what may come next, and what comes next in a chain.
-use Rattle.std.proofs.Common.{◌≡◌, ◌≢◌, ℕ, zero, suc, ◌+◌, ◌-◌, ◌*◌, ◌^◌, ◌<◌, ◌≤◌, List, [], ◌∷◌, ◌++◌, length, map, take, drop, refl, sym, ◌∙◌, ap, subst, arith, append_assoc, length-append}
+use Rattle.std.proofs.Common.{◌≡◌, ◌≢◌, ℕ, zero, suc, ◌+◌, ◌-◌, ◌*◌, ◌^◌, ◌<◌, ◌≤◌, List, [], ◌∷◌, ◌++◌, length, map, take, drop, refl, sym, ◌∙◌, ap, subst}
+use Rattle.std.proofs.Common.{arith, append_assoc, length-append}
 use Rattle.std.specs.List.{AllByRecursion}
-use Rattle.std.proofs.lemmas.List.{append-nil, map-append, nil_from_length, length-take, length-drop, take_all, take-append-le, drop-append-le, take-append-drop}
+use Rattle.std.proofs.lemmas.List.{append-nil, map-append, nil_from_length, length-take, length-drop, take_all, take-append-le, drop-append-le}
+use Rattle.std.proofs.lemmas.List.{take-append-drop}
 use Rattle.log_extents.specs.declared.chain_reader.ChainKind.{ChainKind}
 use Rattle.log_extents.specs.declared.chain_reader.ChainKind.TheVariants.{Log, Anchors}
-use Rattle.log_extents.specs.Extents.{LinkedExtent, linked_bytes, IsLinked}
-use Rattle.log_extents.specs.Chains.{count_of, first_or, chain_to, IsNumberOf, IsNew, AreDistinct}
-use Rattle.log_extents.specs.Taking.{gate_of, IsLinkOf, IsChainFrom, ChainState, state_of, head_of, images_of, IsLinkAfter, IsTaking, IsPlaced, GoesOn, Fits, link_after, behind, EachChain, BeginsWith, CanBeWhole, IsMore, IsIt, IsWhole, told_by, Takes}
+use Rattle.log_extents.specs.Extents.{LinkedExtent, linked_bytes}
+use Rattle.log_extents.specs.Chains.{first_or, chain_to, IsNumberOf, IsNew, AreDistinct}
+use Rattle.log_extents.specs.Taking.{gate_of, IsLinkOf, IsChainFrom, ChainState, state_of, head_of, images_of, IsLinkAfter, IsTaking, IsPlaced, Fits}
+use Rattle.log_extents.specs.Taking.{link_after, behind, EachChain, BeginsWith, CanBeWhole, IsIt, told_by, Takes}
 use Rattle.log_extents.proofs.Bytes.{small_linked, same_extent}
 use Rattle.log_extents.proofs.Numbers.{cons_some, small_numbers, first_most, no_first, all_push, distinct_push, first_push, all_behind, new_behind}
 use Rattle.log_extents.proofs.Agreeing.{at_front, at_front-none, agree}
@@ -14,14 +17,17 @@ use Rattle.log_extents.proofs.Agreeing.{at_front, at_front-none, agree}
 -- ---- one extent more
 
 chain_more : (ms : List ℕ) (end gate link n : ℕ) (a b : List ℕ) → length a ≡ 8168 * length ms → length b ≤ 8168
-    → chain_to end gate link (ms ++ n ∷ []) (a ++ b) ≡ chain_to n gate link ms a ++ record { gate = at_front ms gate; number = n; next = end; link = at_front ms link; body = b } ∷ []
+    → chain_to end gate link (ms ++ n ∷ []) (a ++ b) ≡ chain_to n gate link ms a
+    ++ record { gate = at_front ms gate; number = n; next = end; link = at_front ms link; body = b } ∷ []
 chain_more [] end gate link n a b full fits =
     let none : a ≡ [] = nil_from_length a (omega (arith, full)) in
-    ap (λ (l : List ℕ). record { gate = gate; number = n; next = end; link = link; body = l } ∷ []) (ap (λ (l : List ℕ). take 8168 (l ++ b)) none ∙ take_all 8168 b fits)
+    ap (λ (l : List ℕ). record { gate = gate; number = n; next = end; link = link; body = l } ∷ []) (ap (λ (l : List ℕ). take 8168 (l ++ b)) none
+    ∙ take_all 8168 b fits)
 chain_more (m ∷ ms) end gate link n a b full fits =
     let long : 8168 ≤ length a = omega (arith, full) in
     let rest = chain_more ms end 0 0 n (drop 8168 a) b (omega (arith, length-drop 8168 a, full)) fits in
-    let tail : chain_to end 0 0 (ms ++ n ∷ []) (drop 8168 (a ++ b)) ≡ chain_to n 0 0 ms (drop 8168 a) ++ record { gate = 0; number = n; next = end; link = 0; body = b } ∷ [] =
+    let tail : chain_to end 0 0 (ms ++ n ∷ []) (drop 8168 (a ++ b)) ≡ chain_to n 0 0 ms (drop 8168 a)
+    ++ record { gate = 0; number = n; next = end; link = 0; body = b } ∷ [] =
     ap (λ (l : List ℕ). chain_to end 0 0 (ms ++ n ∷ []) l) (drop-append-le 8168 a b long)
     ∙ rest
     ∙ ap (λ x. chain_to n 0 0 ms (drop 8168 a) ++ record { gate = x; number = n; next = end; link = at_front ms 0; body = b } ∷ []) (at_front-none ms)
@@ -39,8 +45,15 @@ images_more kind most [] next link content e full fits own placed =
 images_more kind most (n ∷ ns) next link content e full fits own placed =
     let front : List (List ℕ) = map linked_bytes (chain_to next (gate_of kind) link (n ∷ ns) content) in
     ap (λ (l : List LinkedExtent). map linked_bytes l) (chain_more (n ∷ ns) e.next (gate_of kind) link e.number content e.body full fits)
-    ∙ map-append linked_bytes (chain_to e.number (gate_of kind) link (n ∷ ns) content) (record { gate = 0; number = e.number; next = e.next; link = 0; body = e.body } ∷ [])
-    ∙ ap (λ x. map linked_bytes (chain_to x (gate_of kind) link (n ∷ ns) content) ++ linked_bytes (record { gate = 0; number = e.number; next = e.next; link = 0; body = e.body }) ∷ []) own
+    ∙ map-append linked_bytes (chain_to e.number (gate_of kind) link (n ∷ ns) content) (record {
+      gate = 0;
+      number = e.number;
+      next = e.next;
+      link = 0;
+      body = e.body;
+    } ∷ [])
+    ∙ ap (λ x. map linked_bytes (chain_to x (gate_of kind) link (n ∷ ns) content)
+    ++ linked_bytes (record { gate = 0; number = e.number; next = e.next; link = 0; body = e.body }) ∷ []) own
     ∙ ap (λ g. front ++ linked_bytes (record { gate = g; number = e.number; next = e.next; link = 0; body = e.body }) ∷ []) (sym placed.0)
     ∙ ap (λ l. front ++ linked_bytes (record { gate = e.gate; number = e.number; next = e.next; link = l; body = e.body }) ∷ []) (sym placed.1)
 
@@ -48,7 +61,8 @@ link_most : (kind : ChainKind) (most link : ℕ) → IsLinkOf kind most link →
 link_most Log most link is = is.1
 link_most Anchors most link is = omega (arith, is)
 
-link_made : (kind : ChainKind) (most : ℕ) (numbers : List ℕ) (link : ℕ) (e : LinkedExtent) → IsLinkAfter kind most numbers link → IsPlaced kind most numbers e → IsLinkOf kind most (link_after numbers link e.link)
+link_made : (kind : ChainKind) (most : ℕ) (numbers : List ℕ) (link : ℕ) (e : LinkedExtent) → IsLinkAfter kind most numbers link → IsPlaced kind most numbers e
+    → IsLinkOf kind most (link_after numbers link e.link)
 link_made kind most [] link e before placed = placed.1
 link_made kind most (n ∷ ns) link e before placed = before
 
@@ -106,7 +120,8 @@ module _ (s : ChainState) (is : IsTaking s) (e : LinkedExtent) (fits : Fits s e)
     next = λ all some. let on = fits.goes_on some in ((omega (arith, some), fits.linked.next), all_push (λ n. n ≢ e.next) s.numbers e.number on.2 on.1);
   }
 
-  pub whole_chain : e.next ≡ 0 → IsChainFrom s.kind s.most (head_of s) (behind s e).numbers (behind s e).link (behind s e).content (images_of s ++ linked_bytes e ∷ [])
+  pub whole_chain : e.next ≡ 0
+      → IsChainFrom s.kind s.most (head_of s) (behind s e).numbers (behind s e).link (behind s e).content (images_of s ++ linked_bytes e ∷ [])
   whole_chain last =
       let some = fits.linked.some in
       let short = fits.linked.fits in
@@ -119,7 +134,8 @@ module _ (s : ChainState) (is : IsTaking s) (e : LinkedExtent) (fits : Fits s e)
           count = omega (arith, len, some, short, length-append s.numbers (e.number ∷ []));
           in_range = numbers_in;
           distinct = numbers_apart;
-          images_are = sym more_images ∙ ap (λ x. map linked_bytes (chain_to x (gate_of s.kind) (behind s e).link (behind s e).numbers (behind s e).content)) last;
+          images_are =
+              sym more_images ∙ ap (λ x. map linked_bytes (chain_to x (gate_of s.kind) (behind s e).link (behind s e).numbers (behind s e).content)) last;
         };
       }
 
@@ -135,7 +151,15 @@ can_be_whole s is e fits some =
     let f : LinkedExtent = last_extent e.next in
     let high = fits.linked.next in
     let follows : Fits t f = record {
-      linked = record { gate = omega arith; number_low = omega (arith, some); number_high = high; next = omega arith; link = omega arith; some = omega arith; fits = omega arith };
+      linked = record {
+        gate = omega arith;
+        number_low = omega (arith, some);
+        number_high = high;
+        next = omega arith;
+        link = omega arith;
+        some = omega arith;
+        fits = omega arith;
+      };
       own = refl;
       placed = inner_placed s.kind s.most e.number s.numbers f refl refl;
       goes_on = λ more. absurd (more refl);
@@ -147,8 +171,10 @@ can_be_whole s is e fits some =
       content = (behind t f).content;
       rest = linked_bytes f ∷ [];
       is_chain =
-          subst (λ (l : List (List ℕ)). IsChainFrom s.kind s.most (head_of s) (behind t f).numbers (behind t f).link (behind t f).content (l ++ linked_bytes f ∷ [])) (more_images s is e fits)
-          (subst (λ n. IsChainFrom s.kind s.most n (behind t f).numbers (behind t f).link (behind t f).content (images_of t ++ linked_bytes f ∷ [])) (head_same s is e fits) whole);
+          subst (λ (l : List (List ℕ)). IsChainFrom s.kind s.most (head_of s) (behind t f).numbers (behind t f).link (behind t f).content (l ++ linked_bytes f
+          ∷ [])) (more_images s is e fits)
+          (subst (λ n. IsChainFrom s.kind s.most n (behind t f).numbers (behind t f).link (behind t f).content (images_of t ++ linked_bytes f
+          ∷ [])) (head_same s is e fits) whole);
     }
 
 -- ---- what comes next in a chain
@@ -199,7 +225,9 @@ next_of_chain s numbers link content image rest is from =
     (small_numbers s.most s.numbers is.most is.in_range) (small_numbers s.most numbers is.most from.chain.in_range)
     is.next_fits (omega (arith, few, link_few)) is.link_fits from.first (sym from.chain.images_are) in
     let others : List ℕ = found.others in
-    let each = all_behind (IsNumberOf s.most) s.numbers (s.next ∷ others) (subst (λ (l : List ℕ). AllByRecursion (IsNumberOf s.most) l) found.numbers_are from.chain.in_range) in
+    let each =
+    all_behind (IsNumberOf s.most) s.numbers (s.next
+    ∷ others) (subst (λ (l : List ℕ). AllByRecursion (IsNumberOf s.most) l) found.numbers_are from.chain.in_range) in
     let apart = subst (λ (l : List ℕ). AreDistinct l) found.numbers_are from.chain.distinct in
     let low = each.0.0 in
     let full = is.full (λ none. omega (arith, low, none)) in
@@ -209,12 +237,14 @@ next_of_chain s numbers link content image rest is from =
     let bytes : List ℕ = drop 8168 left in
     let some = from.chain.some in
     let count = from.chain.count in
-    let many : length numbers ≡ length s.numbers + (1 + length others) = omega (arith, ap (λ (l : List ℕ). length l) found.numbers_are, length-append s.numbers (s.next ∷ others)) in
+    let many : length numbers ≡ length s.numbers + (1 + length others) =
+    omega (arith, ap (λ (l : List ℕ). length l) found.numbers_are, length-append s.numbers (s.next ∷ others)) in
     let least : k + 8168 * length others < length content = omega (arith, some, count, many) in
     let most : length content ≤ k + 8168 + 8168 * length others = omega (arith, some, count, many) in
     let left_len : length left ≡ length content - k = length-drop k content in
     let body_len = length-take 8168 left in
-    let e : LinkedExtent = record { gate = at_front s.numbers (gate_of s.kind); number = s.next; next = first_or 0 others; link = at_front s.numbers link; body = body } in
+    let e : LinkedExtent =
+    record { gate = at_front s.numbers (gate_of s.kind); number = s.next; next = first_or 0 others; link = at_front s.numbers link; body = body } in
     let rest_is = found.rest_is in
     record {
       others = others;
@@ -257,7 +287,8 @@ next_of s numbers link content image rest is from =
     next_of_chain s numbers link content image rest is
     (subst (λ (l : List (List ℕ)). IsChainFrom s.kind s.most (head_of s) numbers link content l) (append_assoc (images_of s) (image ∷ []) rest) from)
 
-pub is_bad : (s : ChainState) (image : List ℕ) → IsTaking s → ((e : LinkedExtent) → Fits s e → image ≢ linked_bytes e) → EachChain s (images_of s ++ image ∷ []) (λ numbers link content rest. ⊥)
+pub is_bad : (s : ChainState) (image : List ℕ) → IsTaking s → ((e : LinkedExtent) → Fits s e → image ≢ linked_bytes e)
+    → EachChain s (images_of s ++ image ∷ []) (λ numbers link content rest. ⊥)
 is_bad s image is none numbers link content rest from = let next = next_of s numbers link content image rest is from in none next.extent next.fits next.image_is
 
 some_first : (others : List ℕ) (m : ℕ) → first_or 0 others ≡ m → m ≢ 0 → others ≡ m ∷ drop 1 others
@@ -267,7 +298,8 @@ some_first (o ∷ os) m is some = ap (λ x. x ∷ os) is
 module _ (s : ChainState) (is : IsTaking s) (e : LinkedExtent) (fits : Fits s e) (image : List ℕ) (image_is : image ≡ linked_bytes e) where
   same_next : (numbers : List ℕ) (link : ℕ) (content : List ℕ) (rest : List (List ℕ)) (next : NextOf s numbers link content image rest) → next.extent ≡ e
   same_next numbers link content rest next =
-      same_extent next.extent e (small_linked s.most next.extent is.most next.fits.linked) (small_linked s.most e is.most fits.linked) (sym next.image_is ∙ image_is)
+      same_extent next.extent e (small_linked s.most next.extent is.most next.fits.linked) (small_linked s.most e is.most fits.linked) (sym next.image_is
+      ∙ image_is)
 
   images : images_of (behind s e) ≡ images_of s ++ image ∷ []
   images = more_images s is e fits ∙ ap (λ (l : List ℕ). images_of s ++ l ∷ []) (sym image_is)
@@ -280,7 +312,9 @@ module _ (s : ChainState) (is : IsTaking s) (e : LinkedExtent) (fits : Fits s e)
       record {
         numbers_are = next.numbers_are ∙ ap (λ (l : List ℕ). s.numbers ++ s.next ∷ l) none ∙ ap (λ x. s.numbers ++ x ∷ []) (sym fits.own);
         link_is = next.link_is ∙ ap (λ x. link_after s.numbers s.link x.link) one;
-        content_is = next.content_is ∙ ap (λ (l : List ℕ). (s.content ++ next.extent.body) ++ l) (next.last none) ∙ append-nil (s.content ++ next.extent.body) ∙ ap (λ x. s.content ++ x.body) one;
+        content_is =
+            next.content_is ∙ ap (λ (l : List ℕ). (s.content ++ next.extent.body) ++ l) (next.last none) ∙ append-nil (s.content ++ next.extent.body)
+            ∙ ap (λ x. s.content ++ x.body) one;
         none = next.rest_is ∙ ap (λ (l : List ℕ). map linked_bytes (chain_to 0 0 0 l next.bytes)) none;
       }
 
@@ -305,7 +339,9 @@ module _ (s : ChainState) (is : IsTaking s) (e : LinkedExtent) (fits : Fits s e)
     same = record { kind = refl; most = refl; head = head_same s is e fits };
     next = last;
     images = images;
-    is_chain = subst (λ (l : List ℕ). IsChainFrom s.kind s.most (head_of s) (behind s e).numbers (behind s e).link (behind s e).content (images_of s ++ l ∷ [])) (sym image_is) (whole_chain s is e fits last);
+    is_chain =
+        subst (λ (l : List ℕ). IsChainFrom s.kind s.most (head_of s) (behind s e).numbers (behind s e).link (behind s e).content (images_of s ++ l
+        ∷ [])) (sym image_is) (whole_chain s is e fits last);
     each = whole_each last;
   }
   answer (suc n) more =
@@ -326,5 +362,6 @@ module _ (s : ChainState) (is : IsTaking s) (e : LinkedExtent) (fits : Fits s e)
 
 -- the same of a state that was put together from its parts
 pub taking_made : (s : ChainState) (is : IsTaking s) (e : LinkedExtent) (fits : Fits s e) (numbers : List ℕ) (link : ℕ) (content : List ℕ)
-    → numbers ≡ s.numbers ++ e.number ∷ [] → link ≡ link_after s.numbers s.link e.link → content ≡ s.content ++ e.body → IsTaking (state_of s.kind s.most numbers e.next link content)
+    → numbers ≡ s.numbers ++ e.number ∷ [] → link ≡ link_after s.numbers s.link e.link → content ≡ s.content ++ e.body
+    → IsTaking (state_of s.kind s.most numbers e.next link content)
 taking_made s is e fits numbers link content numbers_are link_is content_is = rw (numbers_are, link_is, content_is) (more_taking s is e fits)

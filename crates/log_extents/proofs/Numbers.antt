@@ -1,7 +1,8 @@
 -- The numbers of a chain's extents.
-use Rattle.std.proofs.Common.{◌≡◌, ◌≢◌, ℕ, ◌^◌, ◌<◌, ◌≤◌, List, [], ◌∷◌, ◌++◌, refl, sym, arith}
+use Rattle.std.proofs.Common.{◌≡◌, ◌≢◌, ℕ, ◌^◌, ◌<◌, ◌≤◌, max, List, [], ◌∷◌, ◌++◌, refl, sym, arith}
 use Rattle.std.specs.List.{AllByRecursion}
-use Rattle.log_extents.specs.Chains.{first_or, IsNumberOf, IsNew, AreDistinct}
+use Rattle.std.proofs.Math.Nat.{le-max_left, le-max_right}
+use Rattle.log_extents.specs.Chains.{first_or, IsNumberOf, IsNew, AreOthersUpto, greatest_after, AreDistinct}
 
 abbrev pub AreSmall : List ℕ → Type 0
 AreSmall numbers = AllByRecursion (λ n. n < 2 ^ 32) numbers
@@ -53,3 +54,23 @@ new_behind (z ∷ zs) x y ys apart =
     let rest = new_behind zs x y ys apart.1 in
     let other = all_behind (λ n. n ≢ z) zs (x ∷ y ∷ ys) apart.0 in
     (rest.0, (λ same. other.1.0 (sym same), rest.1))
+
+-- ---- numbers up to the greatest
+
+-- one above the greatest is new
+pub new_above : (greatest x : ℕ) (xs : List ℕ) → AllByRecursion (λ n. n ≤ greatest) xs → greatest < x → IsNew x xs
+new_above greatest x [] upto above = tt
+new_above greatest x (y ∷ ys) upto above = (λ same. let most = upto.0 in omega (arith, most, above, same), new_above greatest x ys upto.1 above)
+
+upto_push : (before greatest x : ℕ) (xs : List ℕ) → AllByRecursion (λ n. n ≤ before) xs → before ≤ greatest → x ≤ greatest
+    → AllByRecursion (λ n. n ≤ greatest) (xs ++ x ∷ [])
+upto_push before greatest x [] upto more own = (own, tt)
+upto_push before greatest x (y ∷ ys) upto more own = (let most = upto.0 in omega (arith, most, more), upto_push before greatest x ys upto.1 more own)
+
+others_after : (numbers : List ℕ) (greatest x : ℕ) → AreOthersUpto greatest numbers → AreOthersUpto (greatest_after numbers greatest x) (numbers ++ x ∷ [])
+others_after [] greatest x upto = tt
+others_after (n ∷ ns) greatest x upto = upto_push greatest (max greatest x) x ns upto (le-max_left greatest x) (le-max_right greatest x)
+
+pub others_made : (numbers new : List ℕ) (greatest x result : ℕ) → AreOthersUpto greatest numbers → new ≡ numbers ++ x ∷ [] → result
+    ≡ greatest_after numbers greatest x → AreOthersUpto result new
+others_made numbers new greatest x result upto new_is result_is = rw (new_is, result_is) (others_after numbers greatest x upto)

@@ -1,8 +1,7 @@
 -- The pieces of a content.
-use Rattle.std.proofs.Common.{◌≡◌, ℕ, zero, suc, ◌+◌, ◌*◌, ◌/◌, ◌≤◌, List, [], ◌∷◌, ◌++◌, length, map, take, drop, refl, sym, ◌∙◌, ap, arith}
+use Rattle.std.proofs.Common.{◌≡◌, ℕ, zero, suc, ◌*◌, ◌≤◌, List, [], ◌∷◌, ◌++◌, length, map, take, drop, refl, sym, ◌∙◌, ap, arith}
 use Rattle.std.specs.List.{flat_map}
 use Rattle.std.proofs.lemmas.List.{nil_from_length, length-drop, take-append-drop}
-use Rattle.log_extents.specs.Extents.{LinkedExtent}
 use Rattle.log_extents.specs.Chains.{count_of, pieces_by, pieces, chain_to}
 
 abbrev pub flat : List (List ℕ) → List ℕ
@@ -31,5 +30,6 @@ bodies_by : (end gate link : ℕ) (numbers content : List ℕ) → map (λ e. e.
 bodies_by end gate link [] content = refl
 bodies_by end gate link (n ∷ ns) content = ap (λ (l : List (List ℕ)). take 8168 content ∷ l) (bodies_by end 0 0 ns (drop 8168 content))
 
-pub chain_holds : (gate link : ℕ) (numbers content : List ℕ) → length numbers ≡ count_of (length content) → map (λ e. e.body) (chain_to 0 gate link numbers content) ≡ pieces content
+pub chain_holds : (gate link : ℕ) (numbers content : List ℕ) → length numbers ≡ count_of (length content)
+    → map (λ e. e.body) (chain_to 0 gate link numbers content) ≡ pieces content
 chain_holds gate link numbers content count = bodies_by 0 gate link numbers content ∙ ap (λ n. pieces_by n content) count

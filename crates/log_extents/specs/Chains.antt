@@ -1,5 +1,5 @@
 -- The chain of extents that a content is written as.
-use Rattle.std.specs.Prelude.{◌≡◌, ◌≢◌, ℕ, zero, suc, ◌+◌, ◌/◌, ◌<◌, ◌≤◌, List, [], ◌∷◌, length, take, drop, map}
+use Rattle.std.specs.Prelude.{◌≡◌, ◌≢◌, ℕ, zero, suc, ◌+◌, ◌/◌, ◌<◌, ◌≤◌, max, List, [], ◌∷◌, length, take, drop, map}
 use Rattle.std.specs.List.{AllByRecursion}
 use Rattle.log_extents.specs.Extents.{LinkedExtent, linked_bytes}
 
@@ -25,7 +25,8 @@ first_or end (n ∷ ns) = n
 -- and the last names `end`.
 abbrev pub chain_to : ℕ → ℕ → ℕ → List ℕ → List ℕ → List LinkedExtent
 chain_to end gate link [] content = []
-chain_to end gate link (n ∷ ns) content = record { gate = gate; number = n; next = first_or end ns; link = link; body = take 8168 content } ∷ chain_to end 0 0 ns (drop 8168 content)
+chain_to end gate link (n ∷ ns) content =
+    record { gate = gate; number = n; next = first_or end ns; link = link; body = take 8168 content } ∷ chain_to end 0 0 ns (drop 8168 content)
 
 -- the whole chain of a content: its last extent names none
 abbrev pub chain_of : ℕ → ℕ → List ℕ → List ℕ → List LinkedExtent
@@ -38,6 +39,16 @@ IsNumberOf most number = (0 < number) × (number ≤ most)
 -- this number is not among these
 abbrev pub IsNew : ℕ → List ℕ → Type 0
 IsNew number numbers = AllByRecursion (λ n. n ≢ number) numbers
+
+-- the numbers behind the first are at most this
+abbrev pub AreOthersUpto : ℕ → List ℕ → Type 0
+AreOthersUpto most [] = Unit {0}
+AreOthersUpto most (n ∷ ns) = AllByRecursion (λ m. m ≤ most) ns
+
+-- a number that they are upto, behind one number more
+abbrev pub greatest_after : List ℕ → ℕ → ℕ → ℕ
+greatest_after [] greatest own = 0
+greatest_after (n ∷ ns) greatest own = max greatest own
 
 -- no number is twice among these
 abbrev pub AreDistinct : List ℕ → Type 0

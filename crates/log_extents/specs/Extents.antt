@@ -15,7 +15,8 @@ pub record LinkedExtent : Type 0 where
 -- the 8,192 bytes of an extent
 unfoldable pub linked_bytes : LinkedExtent → List ℕ
 linked_bytes e =
-    e.gate ∷ 0 ∷ 0 ∷ 0 ∷ (u32_bytes e.number ++ u32_bytes e.next ++ u32_bytes (length e.body) ++ u32_bytes e.link ++ u32_bytes 0 ++ e.body ++ replicate (8168 - length e.body) 0)
+    e.gate ∷ 0 ∷ 0 ∷ 0 ∷ (u32_bytes e.number ++ u32_bytes e.next ++ u32_bytes (length e.body) ++ u32_bytes e.link ++ u32_bytes 0 ++ e.body
+    ++ replicate (8168 - length e.body) 0)
 
 -- each number is in its range, in a heap of so many extents
 pub record IsLinked (most : ℕ) (e : LinkedExtent) : Type 0 where

@@ -1,5 +1,5 @@
 -- What holds of extents and of chains.
-use Rattle.std.specs.Prelude.{◌≡◌, ◌≤◌, ◌<◌, ◌^◌, ℕ, ◌+◌, List, ◌++◌, length, map}
+use Rattle.std.specs.Prelude.{◌≡◌, ◌≤◌, ◌<◌, ◌^◌, ℕ, ◌+◌, List, length, map}
 use Rattle.std.specs.List.{flat_map}
 use Rattle.log_extents.specs.Extents.{LinkedExtent, linked_bytes, IsLinked}
 use Rattle.log_extents.specs.Chains.{count_of, pieces, chain_of, IsChainOf}
@@ -26,7 +26,9 @@ CountJoined = (a b : ℕ) → count_of (a + b) ≤ count_of a + count_of b
 
 -- the extents of a chain hold the pieces of its content
 abbrev pub ChainHoldsPieces : Type 0
-ChainHoldsPieces = (gate link : ℕ) (numbers content : List ℕ) → length numbers ≡ count_of (length content) → map (λ e. e.body) (chain_of gate link numbers content) ≡ pieces content
+ChainHoldsPieces =
+    (gate link : ℕ) (numbers content : List ℕ) → length numbers ≡ count_of (length content) → map (λ e. e.body) (chain_of gate link numbers content)
+    ≡ pieces content
 
 -- images that begin with the same number are one chain at most
 pub record IsSameContent (numbers others : List ℕ) (gate other_gate link other_link : ℕ) (a b : List ℕ) : Type 0 where
@@ -38,4 +40,5 @@ pub record IsSameContent (numbers others : List ℕ) (gate other_gate link other
 -- images are at most one chain of one content
 abbrev pub OneChain : Type 0
 OneChain = (most gate other_gate link other_link : ℕ) (numbers others a b : List ℕ) (images : List (List ℕ)) → most < 2 ^ 32 → link ≤ most → other_link ≤ most
-    → IsChainOf most numbers gate link a images → IsChainOf most others other_gate other_link b images → IsSameContent numbers others gate other_gate link other_link a b
+    → IsChainOf most numbers gate link a images → IsChainOf most others other_gate other_link b images
+    → IsSameContent numbers others gate other_gate link other_link a b

@@ -91,13 +91,24 @@ link_after (n ∷ ns) link own = link
 
 -- the state behind it
 abbrev pub behind : ChainState → LinkedExtent → ChainState
-behind s e = record { kind = s.kind; most = s.most; numbers = s.numbers ++ e.number ∷ []; next = e.next; link = link_after s.numbers s.link e.link; content = s.content ++ e.body }
+behind s e =
+    record {
+      kind = s.kind;
+      most = s.most;
+      numbers = s.numbers ++ e.number ∷ [];
+      next = e.next;
+      link = link_after s.numbers s.link e.link;
+      content = s.content
+          ++ e.body;
+    }
 
 -- ---- what `take` answers
 
 -- every chain that these images begin: its numbers, its link, its content, and the images behind these
 abbrev pub EachChain : ChainState → List (List ℕ) → (List ℕ → ℕ → List ℕ → List (List ℕ) → Type 0) → Type 0
-EachChain s images Holds = (numbers : List ℕ) (link : ℕ) (content : List ℕ) (rest : List (List ℕ)) → IsChainFrom s.kind s.most (head_of s) numbers link content (images ++ rest) → Holds numbers link content rest
+EachChain s images Holds =
+    (numbers : List ℕ) (link : ℕ) (content : List ℕ) (rest : List (List ℕ)) → IsChainFrom s.kind s.most (head_of s) numbers link content (images ++ rest)
+    → Holds numbers link content rest
 
 -- numbers, link and content begin with those of the state
 pub record BeginsWith (s : ChainState) (numbers : List ℕ) (link : ℕ) (content : List ℕ) : Type 0 where

@@ -3,7 +3,7 @@
 ghost use Rattle.std.specs.Prelude.{◌≡◌, ◌≢◌, ◌≤◌, ◌↔◌, ℕ, List, [], ◌∷◌, ◌++◌, length, IsTrue, IfOk, OnOk, OnErr, IfSome, IfNone};
 ghost use Rattle.std.specs.List.{AllByRecursion};
 ghost use Rattle.log_extents.specs.Extents.{LinkedExtent, linked_bytes, extent_of};
-ghost use Rattle.log_extents.specs.Chains.{IsNew};
+ghost use Rattle.log_extents.specs.Chains.{IsNew, AreOthersUpto, greatest_after};
 ghost use Rattle.log_extents.specs.Taking.{ChainState, IsTaking, IsPlaced, GoesOn, Fits, behind, Takes, gate_of, IsLinkOf, link_after, told_by};
 
 use crate::extent::{BODY_LEN, LinkedRef, is_open};
@@ -39,19 +39,23 @@ pub struct ChainReader {
     kind: ChainKind,
     most: u32,
     numbers: Vec<u32>,
+    // The greatest of the numbers behind the first. A chain's extents are mostly by rising numbers,
+    // so that the next one is mostly seen to be new by this alone.
+    greatest: u32,
     next: u32,
     link: u32,
     content: Vec<u8>,
 }
 
 impl Model for ChainReader {
+    ghost use Rattle.log_extents.specs.Chains.{AreOthersUpto};
     ghost use Rattle.log_extents.specs.Taking.{ChainState, IsTaking, state_of};
 
     ghost Value = { ChainState };
 
     ghost view = { λ r. state_of r.kind r.most r.numbers.items r.next r.link r.content.items };
 
-    ghost invariant = { λ r. IsTaking (state_of r.kind r.most r.numbers.items r.next r.link r.content.items) };
+    ghost invariant = { λ r. IsTaking (state_of r.kind r.most r.numbers.items r.next r.link r.content.items) × AreOthersUpto r.greatest r.numbers.items };
 }
 
 fn is_link(kind: ChainKind, most: u32, link: u32) -> bool
@@ -94,13 +98,35 @@ fn is_new(number: u32, numbers: &[u32]) -> bool
     true
 }
 
-fn goes_on(numbers: &[u32], extent: LinkedRef<'_>) -> bool
+// The same where none of the others is above the greatest.
+fn is_new_upto(number: u32, others: &[u32], greatest: u32) -> bool
+    requires { AllByRecursion (λ n. n ≤ greatest) others.now }
+    ensures { IsTrue result ↔ IsNew number others.now }
+{
+    if greatest < number {
+        return true;
+    }
+    is_new(number, others)
+}
+
+fn is_new_behind(number: u32, numbers: &[u32], greatest: u32) -> bool
+    requires { AreOthersUpto greatest numbers.now }
+    ensures { IsTrue result ↔ IsNew number numbers.now }
+{
+    match numbers {
+        [] => true,
+        [first, others @ ..] => *first != number && is_new_upto(number, others, greatest),
+    }
+}
+
+fn goes_on(numbers: &[u32], greatest: u32, extent: LinkedRef<'_>) -> bool
+    requires { AreOthersUpto greatest numbers.now }
     ensures { IsTrue result ↔ GoesOn numbers.now (extent_of extent.entry) }
 {
     extent.next == 0
         || (extent.body.len() == BODY_LEN
             && extent.number != extent.next
-            && is_new(extent.next, numbers))
+            && is_new_behind(extent.next, numbers, greatest))
 }
 
 // The link of the chain behind an extent, of which that may be the first.
@@ -110,6 +136,16 @@ fn link_after(numbers: &[u32], link: u32, own: u32) -> u32
     match numbers {
         [] => own,
         [_, ..] => link,
+    }
+}
+
+// The greatest number behind the first, with one more at the end.
+fn greatest_after(numbers: &[u32], greatest: u32, number: u32) -> u32
+    ensures { result ≡ greatest_after numbers.now greatest number }
+{
+    match numbers {
+        [] => 0,
+        [_, ..] => greatest.max(number),
     }
 }
 
@@ -150,6 +186,7 @@ impl ChainReader {
             kind,
             most,
             numbers: Vec::new(alloc),
+            greatest: 0,
             next: number,
             link: 0,
             content: Vec::new(alloc),
@@ -166,7 +203,7 @@ impl ChainReader {
         let numbers = self.numbers.as_slice();
         let fits = extent.number == self.next
             && is_placed(self.kind, self.most, numbers, extent)
-            && goes_on(numbers, extent);
+            && goes_on(numbers, self.greatest, extent);
         if fits { Some(extent) } else { None }
     }
 
@@ -177,12 +214,14 @@ impl ChainReader {
         ensures err { OnErr result (self.new ≡ self.old) }
     {
         let link = link_after(self.numbers.as_slice(), self.link, extent.link);
+        let greatest = greatest_after(self.numbers.as_slice(), self.greatest, extent.number);
         append(
             &mut self.numbers,
             &mut self.content,
             extent.number,
             extent.body,
         )?;
+        self.greatest = greatest;
         self.link = link;
         self.next = extent.next;
         Ok(())

@@ -1,5 +1,6 @@
 -- What the bytes of a header say.
-use Rattle.std.proofs.Common.{◌≡◌, ℕ, ◌+◌, ◌*◌, ◌^◌, ◌/◌, ◌%◌, ◌<◌, ◌≤◌, Bool, true, false, List, [], ◌∷◌, ◌++◌, length, take, drop, replicate, refl, sym, ◌∙◌, ap, subst, arith}
+use Rattle.std.proofs.Common.{◌≡◌, ℕ, ◌+◌, ◌*◌, ◌^◌, ◌/◌, ◌%◌, ◌<◌, Bool, true, false, List, [], ◌∷◌, ◌++◌, length, take, drop, replicate, refl, sym, ◌∙◌, ap}
+use Rattle.std.proofs.Common.{arith}
 use Rattle.std.specs.Prelude.{slice_index}
 use borrow.Rule.Slice.PartMut.{put_mid, mid_of, post_of}
 use Rattle.std.proofs.lemmas.List.{append-nil, nil_from_length, drop_at, drop-replicate, length-take, length-drop, length-replicate, take_all}
@@ -8,7 +9,7 @@ use Rattle.byteorder.specs.Numbers.{little_from-bytes}
 use Rattle.wire.specs.Numbers.{u32_bytes}
 use Rattle.status.specs.Header.{header_front}
 use Rattle.log_roots.specs.declared.roots.Roots.{Roots}
-use Rattle.log_roots.specs.Roots.{root_of, other_place, is_open, turn_gate, IsRoots, roots_bytes, HasRoots, roots_at}
+use Rattle.log_roots.specs.Roots.{other_place, is_open, turn_gate, IsRoots, roots_bytes, HasRoots, roots_at}
 use Rattle.log_roots.specs.Laws.{with_other, with_turn, put_at}
 
 number_4 : (n : ℕ) (rest : List ℕ) → n < 2 ^ 32 → little_number 4 (little_bytes 4 n ++ rest) ≡ n
@@ -28,7 +29,8 @@ roots_again gate r turned is =
 
 pub one_reading : (bytes : List ℕ) (a b : Roots) → HasRoots bytes a → HasRoots bytes b → a ≡ b
 one_reading bytes a b has_a has_b =
-    sym (roots_again has_a.gate a has_a.turned has_a.in_range) ∙ ap roots_at (sym has_a.bytes_are ∙ has_b.bytes_are) ∙ roots_again has_b.gate b has_b.turned has_b.in_range
+    sym (roots_again has_a.gate a has_a.turned has_a.in_range) ∙ ap roots_at (sym has_a.bytes_are ∙ has_b.bytes_are)
+    ∙ roots_again has_b.gate b has_b.turned has_b.in_range
 
 -- what bytes at their places say, where they are a header
 pub roots_read : (bytes : List ℕ) (r : Roots) → HasRoots bytes r → roots_at bytes ≡ r
@@ -143,7 +145,8 @@ other_is_free bytes (a ∷ b ∷ c ∷ []) r has len fit = absurd (omega (arith,
 other_is_free bytes (a ∷ b ∷ c ∷ d ∷ []) r has len fit = other_free r.turned bytes a b c d r.extents r.root_0 r.root_1 (fit 0) (fit 1) (fit 2) (fit 3) has
 other_is_free bytes (a ∷ b ∷ c ∷ d ∷ e ∷ rest) r has len fit = absurd (omega (arith, len))
 
-pub turn_is_free : (bytes : List ℕ) (gate : ℕ) (r : Roots) → HasRoots bytes r → gate < 256 → IsRoots (with_turn r gate) → HasRoots (put_at 16 (gate ∷ []) bytes) (with_turn r gate)
+pub turn_is_free : (bytes : List ℕ) (gate : ℕ) (r : Roots) → HasRoots bytes r → gate < 256 → IsRoots (with_turn r gate)
+    → HasRoots (put_at 16 (gate ∷ []) bytes) (with_turn r gate)
 unfolding roots_bytes u32_bytes
 turn_is_free bytes gate r has fits is = record {
   gate = gate;

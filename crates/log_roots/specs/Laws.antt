@@ -10,7 +10,8 @@ OneReading = (bytes : List ℕ) (a b : Roots) → HasRoots bytes a → HasRoots 
 
 -- the same roots with another number in the place of the one that does not count
 abbrev pub with_other : Roots → ℕ → Roots
-with_other r root = record { extents = r.extents; turned = r.turned; root_0 = if r.turned then root else r.root_0; root_1 = if r.turned then r.root_1 else root }
+with_other r root =
+    record { extents = r.extents; turned = r.turned; root_0 = if r.turned then root else r.root_0; root_1 = if r.turned then r.root_1 else root }
 
 -- the same roots with the turn gate open or closed
 abbrev pub with_turn : Roots → ℕ → Roots
@@ -27,4 +28,6 @@ OtherIsFree = (bytes four : List ℕ) (r : Roots) → HasRoots bytes r → lengt
 
 -- any byte in the place of the turn gate leaves the rest as it is
 abbrev pub TurnIsFree : Type 0
-TurnIsFree = (bytes : List ℕ) (gate : ℕ) (r : Roots) → HasRoots bytes r → gate < 256 → IsRoots (with_turn r gate) → HasRoots (put_at 16 (gate ∷ []) bytes) (with_turn r gate)
+TurnIsFree =
+    (bytes : List ℕ) (gate : ℕ) (r : Roots) → HasRoots bytes r → gate < 256 → IsRoots (with_turn r gate)
+    → HasRoots (put_at 16 (gate ∷ []) bytes) (with_turn r gate)

@@ -27,7 +27,8 @@ more-have h more [] all = tt
 more-have h more (t ∷ ts) all = let first = all.0 in ((first.0, Contains-append_left h more first.0 first.1, first.2), more-have h more ts all.1)
 
 -- Done names the ticket's own time
-done-time : (t time : ℕ) (published failed : Bool) → Path answers.Redeemed (cond published (answers.Done t) (cond failed answers.InDoubt answers.Waiting)) (answers.Done time) → t ≡ time
+done-time : (t time : ℕ) (published failed : Bool)
+    → Path answers.Redeemed (cond published (answers.Done t) (cond failed answers.InDoubt answers.Waiting)) (answers.Done time) → t ≡ time
 done-time t time true failed is = cc
 done-time t time false true is = absurd cc
 done-time t time false false is = absurd cc
@@ -41,7 +42,8 @@ place-done w i time (Waits t) next does =
     subst (λ (x : ℕ). answers.redeemed_by w.machine x ≡ answers.Done time) same does.0
 
 -- Done is answered of what is published
-call-done : (tells : Bool) (w : World) (c : Call) (time : ℕ) (next : World) → Does tells w c (answer.Redeem (told.Done time)) next → answers.redeemed_by w.machine time ≡ answers.Done time
+call-done : (tells : Bool) (w : World) (c : Call) (time : ℕ) (next : World) → Does tells w c (answer.Redeem (told.Done time)) next
+    → answers.redeemed_by w.machine time ≡ answers.Done time
 call-done tells w (call.Redeem i) time next does = place-done w i time (place_at w.places i) next does
 call-done tells w call.Begin time next does = absurd does
 call-done tells w (call.Put i key fields) time next does = absurd does
@@ -72,7 +74,8 @@ follows-have w next times follows all =
     let more = run-shows IsValue w.machine next.machine follows.0 follows.1 in
     subst (λ (h : History Value). AreIn h times) (sym more.1) (more-have w.machine.published more.0 times all)
 
-with-redeemed : (tells : Bool) (w : World) (c : Call) (o : RedeemOutcome) (next : World) (times : List ℕ) → Does tells w c (answer.Redeem o) next → Follows w.machine next.machine → AreIn w.machine.published times → AreIn next.machine.published (with_done o times)
+with-redeemed : (tells : Bool) (w : World) (c : Call) (o : RedeemOutcome) (next : World) (times : List ℕ) → Does tells w c (answer.Redeem o) next
+    → Follows w.machine next.machine → AreIn w.machine.published times → AreIn next.machine.published (with_done o times)
 with-redeemed tells w c (told.Done time) next times does follows all =
     let found = (done-published w.machine time).0 (call-done tells w c time next does) in
     follows-have w next (time ∷ times) follows (found, all)
@@ -81,7 +84,8 @@ with-redeemed tells w c told.InDoubt next times does follows all = follows-have 
 with-redeemed tells w c told.Stranger next times does follows all = follows-have w next times follows all
 
 -- so is what a call acknowledges
-pub call-acknowledges : (tells : Bool) (w : World) (c : Call) (a : Answer) (next : World) (times : List ℕ) → Does tells w c a next → Follows w.machine next.machine → AreIn w.machine.published times → AreIn next.machine.published (with_answer a times)
+pub call-acknowledges : (tells : Bool) (w : World) (c : Call) (a : Answer) (next : World) (times : List ℕ) → Does tells w c a next
+    → Follows w.machine next.machine → AreIn w.machine.published times → AreIn next.machine.published (with_answer a times)
 call-acknowledges tells w c (answer.Redeem o) next times does follows all = with-redeemed tells w c o next times does follows all
 call-acknowledges tells w c answer.Unknown next times does follows all = follows-have w next times follows all
 call-acknowledges tells w c (answer.Begin x) next times does follows all = follows-have w next times follows all

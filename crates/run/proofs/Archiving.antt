@@ -1,5 +1,6 @@
 -- The beginning of an archive, and the steps of a job.
-use Rattle.std.proofs.Common.{◌≡◌, ℕ, ◌+◌, ◌<◌, ◌≤◌, ◌==◌, nat_lt, nat_le, Bool, true, false, cond, List, [], ◌∷◌, ◌++◌, Some, None, Option, is_some, min, ◌⊎◌, ⊎_elim, Result, Ok, Err, MatchBool, MatchOption, slice_get, refl, sym, ◌∙◌, ap, subst, inl, inr, arith}
+use Rattle.std.proofs.Common.{◌≡◌, ℕ, ◌+◌, ◌<◌, ◌≤◌, ◌==◌, nat_lt, nat_le, Bool, true, false, cond, List, [], ◌∷◌, ◌++◌, Some, None, Option, is_some, min, ◌⊎◌}
+use Rattle.std.proofs.Common.{⊎_elim, Result, Ok, Err, MatchBool, MatchOption, slice_get, refl, sym, ◌∙◌, ap, subst, inl, inr, arith}
 use Rattle.std.specs.Prelude.{IsTrue, IfErr, Contains}
 use Rattle.std.proofs.lemmas.List.Sorted.{IsPermutation-sym, Contains-permutation}
 use Rattle.std.proofs.lemmas.Bool.{cases_lt}
@@ -63,7 +64,8 @@ start-few old new upto r starts = by-refusal (refusal_now old upto) starts
     by-refusal (Some why) is = at-rest refl is.1
 
 -- what an archive's start says of the machine
-start-says : (tells : Bool) (v v' : StoreValue) (w : World) (upto : ℕ) (r : Result (Unit {0}) StartFault) → Stands tells v w.machine → StartsArchive v upto r v' → Archives w upto r (same w)
+start-says : (tells : Bool) (v v' : StoreValue) (w : World) (upto : ℕ) (r : Result (Unit {0}) StartFault) → Stands tells v w.machine → StartsArchive v upto r v'
+    → Archives w upto r (same w)
 start-says tells v v' w upto r stands starts =
     by-tests v.transactions.failed refl (is_some v.job) (nat_le upto v.archived) (nat_lt (stores.last v) upto) refl (spare v.transactions == 0) starts
   where
@@ -73,8 +75,10 @@ start-says tells v v' w upto r stands starts =
     says : (x : Result (Unit {0}) StartFault) → r ≡ x → Archives w upto x (same w) → Archives w upto r (same w)
     says x is so = subst (λ (y : Result (Unit {0}) StartFault). Archives w upto y (same w)) (sym is) so
 
-    begins : v.transactions.failed ≡ false → nat_lt (stores.last v) upto ≡ false → (x : Result (Unit {0}) StartFault) → BeginsRun v upto x v' → Archives w upto x (same w)
-    begins on early (Ok done) is = (sym stands.memory.failed ∙ on, (let low : upto ≤ stores.last v = grind (arith, nat_tests) in omega (arith, low, at-last)), refl)
+    begins : v.transactions.failed ≡ false → nat_lt (stores.last v) upto ≡ false → (x : Result (Unit {0}) StartFault) → BeginsRun v upto x v'
+        → Archives w upto x (same w)
+    begins on early (Ok done) is =
+        (sym stands.memory.failed ∙ on, (let low : upto ≤ stores.last v = grind (arith, nat_tests) in omega (arith, low, at-last)), refl)
     begins on early (Err start.ArchiveFull) is = refl
     begins on early (Err start.NoMemory) is = refl
     begins on early (Err start.NotGrowable) is = absurd is.0
@@ -88,12 +92,16 @@ start-says tells v v' w upto r stands starts =
     begins on early (Err start.HeapFull) is = absurd is.0
 
     by-tests : (a : Bool) → v.transactions.failed ≡ a → (b c d : Bool) → nat_lt (stores.last v) upto ≡ d → (e : Bool)
-        → MatchOption (cond a (Some start.Failed) (cond b (Some start.JobBusy) (cond c (Some start.NothingToDo) (cond d (Some (start.NotYet (stores.last v))) (cond e (Some start.StatusFull) None))))) (BeginsRun v upto r v') (λ why. (r ≡ Err why) × (v' ≡ v))
+        → MatchOption (cond a (Some start.Failed)
+        (cond b (Some start.JobBusy)
+        (cond c (Some start.NothingToDo) (cond d (Some (start.NotYet (stores.last v))) (cond e (Some start.StatusFull) None))))) (BeginsRun v upto r v')
+        (λ why. (r ≡ Err why) × (v' ≡ v))
         → Archives w upto r (same w)
     by-tests true on b c d late e is = says (Err start.Failed) is.0 (sym stands.memory.failed ∙ on, refl)
     by-tests false on true c d late e is = says (Err start.JobBusy) is.0 refl
     by-tests false on false true d late e is = says (Err start.NothingToDo) is.0 refl
-    by-tests false on false false true late e is = says (Err (start.NotYet (stores.last v))) is.0 (at-last, (let low : stores.last v < upto = grind (arith, nat_tests) in omega (arith, low)), refl)
+    by-tests false on false false true late e is =
+        says (Err (start.NotYet (stores.last v))) is.0 (at-last, (let low : stores.last v < upto = grind (arith, nat_tests) in omega (arith, low)), refl)
     by-tests false on false false false late true is = says (Err start.StatusFull) is.0 refl
     by-tests false on false false false late false is = begins on late r is
 
@@ -107,8 +115,10 @@ start-leads tells v v' xs upto r starts w is = (
     stands = archive-start-stands tells v v' upto r w.machine is.stands starts;
     places = push_nothing v'.transactions w.machine.published xs w.places
         (move v.transactions v'.transactions w.machine.published w.machine.published xs w.places is.places
-        (λ i x p at shows. stays v.transactions v'.transactions w.machine.published w.machine.published x p (pump-keeps v.transactions v'.transactions x (start-leaves v v' upto r starts)) (goes_on-same w.machine.published) shows));
-    views = reads-plain tells v' xs w.places held.Nothing Free is.places.many tt (reads-move tells v v' xs w.places (archive-start-goes tells v v' upto r w.machine is.stands starts) is.views);
+        (λ i x p at shows. stays v.transactions v'.transactions w.machine.published w.machine.published x p
+        (pump-keeps v.transactions v'.transactions x (start-leaves v v' upto r starts)) (goes_on-same w.machine.published) shows));
+    views = reads-plain tells v' xs w.places held.Nothing Free is.places.many tt
+        (reads-move tells v v' xs w.places (archive-start-goes tells v v' upto r w.machine is.stands starts) is.views);
   },
 )
 
@@ -137,7 +147,8 @@ lesser-none None snapshot is = is
 lesser-none (Some a) snapshot is = is
 
 -- the least snapshot is that of an open transaction
-least-among : (places : List (Option ℕ)) (least : Option ℕ) (snapshot : ℕ) → least_with least places ≡ Some snapshot → (least ≡ Some snapshot) ⊎ Contains (snapshots_of places) snapshot
+least-among : (places : List (Option ℕ)) (least : Option ℕ) (snapshot : ℕ) → least_with least places ≡ Some snapshot → (least ≡ Some snapshot)
+    ⊎ Contains (snapshots_of places) snapshot
 least-among [] least snapshot is = inl is
 least-among (None ∷ ps) least snapshot is = by (least-among ps (lesser least None) snapshot is)
   where
@@ -176,7 +187,8 @@ reclaim-few old new r starts = by-refusal (reclaim_refusal old) starts
     by-refusal (Some why) is = at-rest refl is.1
 
 -- what a reclaim's start says of the machine
-reclaim-says : (tells : Bool) (v v' : StoreValue) (w : World) (r : Result (Unit {0}) StartFault) → Stands tells v w.machine → StartsReclaim v r v' → Reclaims w r (same w)
+reclaim-says : (tells : Bool) (v v' : StoreValue) (w : World) (r : Result (Unit {0}) StartFault) → Stands tells v w.machine → StartsReclaim v r v'
+    → Reclaims w r (same w)
 reclaim-says tells v v' w r stands starts = by-tests v.transactions.failed refl (is_some v.job) (v.archived == v.transactions.reclaimed) starts
   where
     says : (x : Result (Unit {0}) StartFault) → r ≡ x → Reclaims w x (same w) → Reclaims w r (same w)
@@ -198,19 +210,24 @@ reclaim-says tells v v' w r stands starts = by-tests v.transactions.failed refl 
 
     in-use : (snapshot : ℕ) → below (oldest v.transactions) v.archived ≡ Some snapshot → Contains w.machine.snapshots snapshot
     in-use snapshot is =
-        Contains-permutation (snapshots_of v.transactions.opened) w.machine.snapshots snapshot (IsPermutation-sym w.machine.snapshots (snapshots_of v.transactions.opened) stands.memory.snapshots)
+        Contains-permutation (snapshots_of v.transactions.opened) w.machine.snapshots snapshot
+        (IsPermutation-sym w.machine.snapshots (snapshots_of v.transactions.opened) stands.memory.snapshots)
         (least-open v.transactions.opened snapshot (below-is (oldest v.transactions) v.archived snapshot is))
 
-    by-room : v.transactions.failed ≡ false → (e : Bool) → MatchOption (cond e (Some start.StatusFull) None) (BeginsReclaim v r v') (λ why. (r ≡ Err why) × (v' ≡ v)) → Reclaims w r (same w)
+    by-room : v.transactions.failed ≡ false → (e : Bool)
+        → MatchOption (cond e (Some start.StatusFull) None) (BeginsReclaim v r v') (λ why. (r ≡ Err why) × (v' ≡ v)) → Reclaims w r (same w)
     by-room on true is = says (Err start.StatusFull) is.0 refl
     by-room on false is = begins on r is
 
-    by-use : v.transactions.failed ≡ false → (o : Option ℕ) → below (oldest v.transactions) v.archived ≡ o → MatchOption (refusal_for_use v o) (BeginsReclaim v r v') (λ why. (r ≡ Err why) × (v' ≡ v)) → Reclaims w r (same w)
+    by-use : v.transactions.failed ≡ false → (o : Option ℕ) → below (oldest v.transactions) v.archived ≡ o
+        → MatchOption (refusal_for_use v o) (BeginsReclaim v r v') (λ why. (r ≡ Err why) × (v' ≡ v)) → Reclaims w r (same w)
     by-use on (Some snapshot) low is = says (Err (start.InUse snapshot)) is.0 (in-use snapshot low, refl)
     by-use on None low is = by-room on (spare v.transactions == 0) is
 
     by-tests : (a : Bool) → v.transactions.failed ≡ a → (b c : Bool)
-        → MatchOption (cond a (Some start.Failed) (cond b (Some start.JobBusy) (cond c (Some start.NothingToDo) (refusal_for_use v (below (oldest v.transactions) v.archived))))) (BeginsReclaim v r v') (λ why. (r ≡ Err why) × (v' ≡ v))
+        → MatchOption (cond a (Some start.Failed)
+        (cond b (Some start.JobBusy) (cond c (Some start.NothingToDo) (refusal_for_use v (below (oldest v.transactions) v.archived)))))
+        (BeginsReclaim v r v') (λ why. (r ≡ Err why) × (v' ≡ v))
         → Reclaims w r (same w)
     by-tests true on b c is = says (Err start.Failed) is.0 (sym stands.memory.failed ∙ on, refl)
     by-tests false on true c is = says (Err start.JobBusy) is.0 refl
@@ -227,8 +244,10 @@ reclaim-leads tells v v' xs r starts w is = (
     stands = reclaim-start-stands tells v v' r w.machine is.stands starts;
     places = push_nothing v'.transactions w.machine.published xs w.places
         (move v.transactions v'.transactions w.machine.published w.machine.published xs w.places is.places
-        (λ i x p at shows. stays v.transactions v'.transactions w.machine.published w.machine.published x p (pump-keeps v.transactions v'.transactions x (reclaim-leaves v v' r starts)) (goes_on-same w.machine.published) shows));
-    views = reads-plain tells v' xs w.places held.Nothing Free is.places.many tt (reads-move tells v v' xs w.places (reclaim-start-goes tells v v' r w.machine is.stands starts) is.views);
+        (λ i x p at shows. stays v.transactions v'.transactions w.machine.published w.machine.published x p
+        (pump-keeps v.transactions v'.transactions x (reclaim-leaves v v' r starts)) (goes_on-same w.machine.published) shows));
+    views = reads-plain tells v' xs w.places held.Nothing Free is.places.many tt
+        (reads-move tells v v' xs w.places (reclaim-start-goes tells v v' r w.machine is.stands starts) is.views);
   },
 )
 
@@ -242,7 +261,8 @@ pumped-refused (Err why) = any-fault why
 
 -- ---- device calls
 
-stores-few : (tells : Bool) (work : JobWork) (j : Job) (old new : StoreValue) (r : Result JobDid PumpFault) → Stores tells work j old r new → new.disk.made ≤ old.disk.made + 1
+stores-few : (tells : Bool) (work : JobWork) (j : Job) (old new : StoreValue) (r : Result JobDid PumpFault) → Stores tells work j old r new
+    → new.disk.made ≤ old.disk.made + 1
 stores-few tells (Archive run writer) j old new r is = by-left writer.left is
   where
     by-left : (left : List ℕ) → WritesOrSyncs tells left run writer j old r new → new.disk.made ≤ old.disk.made + 1
@@ -256,13 +276,15 @@ stores-few tells (Reclaim anchors source written) j old new r is = by-extent (sl
     by-extent None syncs = omega (arith, syncs.call.counts.made, counted-few old.disk.made)
     by-extent (Some number) writes = omega (arith, writes.call.counts.made, counted-few old.disk.made)
 
-begun-few : (tells : Bool) (work : JobWork) (j : Job) (old new : StoreValue) (r : Result JobDid PumpFault) → TurnsJob tells j (first_turn old j) (slot_taken (made_ready work old)) r new → new.disk.made ≤ old.disk.made + 1
+begun-few : (tells : Bool) (work : JobWork) (j : Job) (old new : StoreValue) (r : Result JobDid PumpFault)
+    → TurnsJob tells j (first_turn old j) (slot_taken (made_ready work old)) r new → new.disk.made ≤ old.disk.made + 1
 begun-few tells (Archive run writer) j old new r first = omega (arith, first.call.counts.made, counted-few old.disk.made)
 begun-few tells (Floor scope floor floors) j old new r first = omega (arith, first.call.counts.made, counted-few old.disk.made)
 begun-few tells (Grow growth) j old new r first = omega (arith, first.call.counts.made, counted-few old.disk.made)
 begun-few tells (Reclaim anchors source written) j old new r first = omega (arith, first.call.counts.made, counted-few old.disk.made)
 
-job-few : (tells : Bool) (s : JobStage) (j : Job) (old new : StoreValue) (r : Result JobDid PumpFault) → TakesJobStep tells s j old r new → new.disk.made ≤ old.disk.made + 1
+job-few : (tells : Bool) (s : JobStage) (j : Job) (old new : StoreValue) (r : Result JobDid PumpFault) → TakesJobStep tells s j old r new
+    → new.disk.made ≤ old.disk.made + 1
 job-few tells stages.Writing j old new r is = stores-few tells j.work j old new r is
 job-few tells stages.Stored j old new r is = by-turn (is_some old.turn) is
   where
@@ -278,11 +300,14 @@ pumped-few tells old new r pumps = by-failure old.transactions.failed pumps
     at-rest : new ≡ old → new.disk.made ≤ old.disk.made + 1
     at-rest is = let same = ap (λ (v : StoreValue). v.disk.made) is in omega (arith, same)
 
-    by-job : (o : Option Job) → MatchOption o ((r ≡ Ok did.Idle) × (new ≡ old)) (λ j. TakesJobStep tells j.stage j old r new) → new.disk.made ≤ old.disk.made + 1
+    by-job : (o : Option Job) → MatchOption o ((r ≡ Ok did.Idle) × (new ≡ old)) (λ j. TakesJobStep tells j.stage j old r new)
+        → new.disk.made ≤ old.disk.made + 1
     by-job None is = at-rest is.1
     by-job (Some j) is = job-few tells j.stage j old new r is
 
-    by-failure : (b : Bool) → MatchBool b ((r ≡ Err pump.Failed) × (new ≡ old)) (MatchOption old.job ((r ≡ Ok did.Idle) × (new ≡ old)) (λ j. TakesJobStep tells j.stage j old r new)) → new.disk.made ≤ old.disk.made + 1
+    by-failure : (b : Bool)
+        → MatchBool b ((r ≡ Err pump.Failed)
+        × (new ≡ old)) (MatchOption old.job ((r ≡ Ok did.Idle) × (new ≡ old)) (λ j. TakesJobStep tells j.stage j old r new)) → new.disk.made ≤ old.disk.made + 1
     by-failure true is = at-rest is.1
     by-failure false is = by-job old.job is
 
@@ -295,22 +320,34 @@ pumped-leads tells v v' xs r sound pumps w is =
   where
     places : (h' : History Value) → GoesOn w.machine.published h' → ArePlaces v'.transactions h' (xs ++ held.Nothing ∷ []) (w.places ++ Free ∷ [])
     places h' goes = push_nothing v'.transactions h' xs w.places
-        (move v.transactions v'.transactions w.machine.published h' xs w.places is.places (λ i x p at shows. stays v.transactions v'.transactions w.machine.published h' x p (pump-keeps v.transactions v'.transactions x (pumped-leaves tells v v' r pumps)) goes shows))
+        (move v.transactions v'.transactions w.machine.published h' xs w.places is.places
+        (λ i x p at shows. stays v.transactions v'.transactions w.machine.published h' x p
+        (pump-keeps v.transactions v'.transactions x (pumped-leaves tells v v' r pumps)) goes shows))
 
     read : AreRead tells v' (xs ++ held.Nothing ∷ []) (w.places ++ Free ∷ [])
-    read = reads-plain tells v' xs w.places held.Nothing Free is.places.many tt (reads-move tells v v' xs w.places (job-pump-goes tells v v' r w.machine is.stands pumps) is.views)
+    read = reads-plain tells v' xs w.places held.Nothing Free is.places.many tt
+        (reads-move tells v v' xs w.places (job-pump-goes tells v v' r w.machine is.stands pumps) is.views)
 
-    by-failure : (b : Bool) → w.machine.failed ≡ b → IfErr r IsStepFault → MatchBool b ((r ≡ Err pump.Failed) × Stands tells v' w.machine) ((after : Machine Value) × steps.Run IsValue w.machine (job_ends_in w.machine r) after × Stands tells v' after)
+    by-failure : (b : Bool) → w.machine.failed ≡ b → IfErr r IsStepFault
+        → MatchBool b ((r ≡ Err pump.Failed) × Stands tells v' w.machine) ((after : Machine Value) × steps.Run IsValue w.machine (job_ends_in w.machine r) after
+        × Stands tells v' after)
         → (next : World) × Does tells w call.JobPump (answer.JobPump r) next × Follows w.machine next.machine × IsWorld tells v' (xs ++ held.Nothing ∷ []) next
     by-failure true failed refused done = (
       same w,
-      subst (λ (b : Bool). MatchBool b ((r ≡ Err pump.Failed) × (same w ≡ same w)) ((after : Machine Value) × IfErr r IsStepFault × steps.Run IsValue w.machine (job_ends_in w.machine r) after × (same w ≡ same (moved w after)))) (sym failed) (done.0, refl),
+      subst (λ (b : Bool). MatchBool b ((r ≡ Err pump.Failed) × (same w ≡ same w)) ((after : Machine Value) × IfErr r IsStepFault
+          × steps.Run IsValue w.machine (job_ends_in w.machine r) after × (same w ≡ same (moved w after)))) (sym failed) (done.0, refl),
       no-step w.machine,
       record { stands = done.1; places = places w.machine.published (goes_on-same w.machine.published); views = read },
     )
     by-failure false works refused done = (
       same (moved w done.0),
-      subst (λ (b : Bool). MatchBool b ((r ≡ Err pump.Failed) × (same (moved w done.0) ≡ same w)) ((after : Machine Value) × IfErr r IsStepFault × steps.Run IsValue w.machine (job_ends_in w.machine r) after × (same (moved w done.0) ≡ same (moved w after)))) (sym works) (done.0, refused, done.1, refl),
+      subst (λ (b : Bool). MatchBool b ((r ≡ Err pump.Failed) × (same (moved w done.0) ≡ same w)) ((after : Machine Value) × IfErr r IsStepFault
+          × steps.Run IsValue w.machine (job_ends_in w.machine r) after × (same (moved w done.0) ≡ same (moved w after)))) (sym works) (
+            done.0,
+            refused,
+            done.1,
+            refl,
+          ),
       (job_ends_in w.machine r, done.1),
       record { stands = done.2; places = places done.0.published (run-goes_on w.machine done.0 (job_ends_in w.machine r) done.2.machine done.1); views = read },
     )

@@ -17,7 +17,11 @@ use Rattle.run.specs.Laws.{CommitHasItsTime, WriteStands}
 pub commit-later : {V : Type 0} (t : ℕ) (h : History V) (c : Commit V) → HasRisingTimes t h → Contains h c → t < c.time
 commit-later t [] c up has = absurd (Contains-nil c has)
 commit-later t (x ∷ xs) c up has =
-    ⊎_elim (λ (is : x ≡ c). omega (arith, ap (λ y. y.time) is, up.0)) (λ (more : Contains xs c). omega (arith, commit-later x.time xs c up.2 more, up.0)) (Contains-cons_cases x xs c has)
+    ⊎_elim (λ (is : x ≡ c). omega (arith, ap (λ y. y.time) is, up.0)) (λ (more : Contains xs c). omega (
+      arith,
+      commit-later x.time xs c up.2 more,
+      up.0,
+    )) (Contains-cons_cases x xs c has)
 
 pub last-later : {V : Type 0} (t : ℕ) (h : History V) → HasRisingTimes t h → t ≤ last_after t h
 last-later t [] up = omega arith
@@ -26,15 +30,23 @@ last-later t (x ∷ xs) up = omega (arith, up.0, last-later x.time xs up.2)
 pub commit-by_last : {V : Type 0} (t : ℕ) (h : History V) (c : Commit V) → HasRisingTimes t h → Contains h c → c.time ≤ last_after t h
 commit-by_last t [] c up has = absurd (Contains-nil c has)
 commit-by_last t (x ∷ xs) c up has =
-    ⊎_elim (λ (is : x ≡ c). omega (arith, ap (λ y. y.time) is, last-later x.time xs up.2)) (λ (more : Contains xs c). commit-by_last x.time xs c up.2 more) (Contains-cons_cases x xs c has)
+    ⊎_elim (λ (is : x ≡ c). omega (
+      arith,
+      ap (λ y. y.time) is,
+      last-later x.time xs up.2,
+    )) (λ (more : Contains xs c). commit-by_last x.time xs c up.2 more) (Contains-cons_cases x xs c has)
 
 -- one commit alone has its time
 pub commit-one : {V : Type 0} (t : ℕ) (h : History V) (c d : Commit V) → HasRisingTimes t h → Contains h c → Contains h d → c.time ≡ d.time → c ≡ d
 commit-one t [] c d up has_c has_d same = absurd (Contains-nil c has_c)
 commit-one {V} t (x ∷ xs) c d up has_c has_d same =
     ⊎_elim
-    (λ (c_is : x ≡ c). ⊎_elim (λ (d_is : x ≡ d). sym c_is ∙ d_is) (λ (d_in : Contains xs d). absurd (omega (arith, ap (λ (y : Commit V). y.time) c_is, commit-later x.time xs d up.2 d_in, same))) (Contains-cons_cases x xs d has_d))
-    (λ (c_in : Contains xs c). ⊎_elim (λ (d_is : x ≡ d). absurd (omega (arith, ap (λ (y : Commit V). y.time) d_is, commit-later x.time xs c up.2 c_in, same))) (λ (d_in : Contains xs d). commit-one x.time xs c d up.2 c_in d_in same) (Contains-cons_cases x xs d has_d))
+    (λ (c_is : x ≡ c). ⊎_elim (λ (d_is : x ≡ d). sym c_is
+    ∙ d_is) (λ (d_in : Contains xs d). absurd (omega (arith, ap (λ (y : Commit V). y.time) c_is, commit-later x.time xs d up.2 d_in, same)))
+    (Contains-cons_cases x xs d has_d))
+    (λ (c_in : Contains xs c). ⊎_elim (λ (d_is : x
+    ≡ d). absurd (omega (arith, ap (λ (y : Commit V). y.time) d_is, commit-later x.time xs c up.2 c_in, same)))
+    (λ (d_in : Contains xs d). commit-one x.time xs c d up.2 c_in d_in same) (Contains-cons_cases x xs d has_d))
     (Contains-cons_cases x xs c has_c)
 
 pub commit-has-its-time : CommitHasItsTime
@@ -43,11 +55,14 @@ commit-has-its-time h c d history has_c has_d same = commit-one 0 h c d (rising-
 -- ---- what it wrote
 
 -- a value stands where no commit up to the time writes the key
-value-stays : {V : Type 0} (o : Option V) (h : History V) (key : Key) (time : ℕ) → ((d : Commit V) → Contains h d → d.time ≤ time → write_in d.writes key ≡ None) → value_after o (writes_of h key) time ≡ o
+value-stays : {V : Type 0} (o : Option V) (h : History V) (key : Key) (time : ℕ)
+    → ((d : Commit V) → Contains h d → d.time ≤ time → write_in d.writes key ≡ None) → value_after o (writes_of h key) time ≡ o
 value-stays o [] key time none = refl
 value-stays {V} o (x ∷ xs) key time none =
     let rest : value_after o (writes_of xs key) time ≡ o = value-stays o xs key time (λ d has early. none d (Contains-tail x xs d has) early) in
-    let Goal : Option (Option V) → Type 0 = λ w. write_in x.writes key ≡ w → value_after o (cons_option (option_map (λ (y : Option V). record { time = x.time; write = y }) w) (writes_of xs key)) time ≡ o in
+    let Goal : Option (Option V) → Type 0 =
+    λ w. write_in x.writes key ≡ w
+    → value_after o (cons_option (option_map (λ (y : Option V). record { time = x.time; write = y }) w) (writes_of xs key)) time ≡ o in
     elim (write_in x.writes key) as Goal [
       | None ↦ λ is. rest
       | Some w ↦ λ is. elim (nat_le x.time time) as (λ b. nat_le x.time time ≡ b → value_after (cond b w o) (writes_of xs key) time ≡ o) [
@@ -59,7 +74,8 @@ value-stays {V} o (x ∷ xs) key time none =
       ] refl
     ] refl
 
-value-written : {V : Type 0} (o : Option V) (t : ℕ) (h : History V) (c : Commit V) (key : Key) (write : Option V) (time : ℕ) → HasRisingTimes t h → Contains h c → write_in c.writes key ≡ Some write → c.time ≤ time
+value-written : {V : Type 0} (o : Option V) (t : ℕ) (h : History V) (c : Commit V) (key : Key) (write : Option V) (time : ℕ) → HasRisingTimes t h → Contains h c
+    → write_in c.writes key ≡ Some write → c.time ≤ time
     → ((d : Commit V) → Contains h d → c.time < d.time → d.time ≤ time → write_in d.writes key ≡ None) → value_after o (writes_of h key) time ≡ write
 value-written o t [] c key write time up has is low none = absurd (Contains-nil c has)
 value-written {V} o t (x ∷ xs) c key write time up has is low none =
@@ -68,10 +84,14 @@ value-written {V} o t (x ∷ xs) c key write time up has is low none =
     let here : write_in x.writes key ≡ Some write = ap (λ (y : Commit V). write_in y.writes key) same ∙ is in
     let at : x.time ≡ c.time = ap (λ (y : Commit V). y.time) same in
     let le : nat_le x.time time ≡ true = is_le (omega (arith, at, low)) in
-    rw here (rw le (value-stays write xs key time (λ d more early. none d (Contains-tail x xs d more) (omega (arith, at, commit-later x.time xs d up.2 more)) early))))
+    rw here (rw le (value-stays write xs key time
+    (λ d more early. none d (Contains-tail x xs d more) (omega (arith, at, commit-later x.time xs d up.2 more)) early))))
     (λ (more : Contains xs c).
-    let rest : (p : Option V) → value_after p (writes_of xs key) time ≡ write = λ p. value-written p x.time xs c key write time up.2 more is low (λ d there later early. none d (Contains-tail x xs d there) later early) in
-    elim (write_in x.writes key) as (λ w. value_after o (cons_option (option_map (λ (y : Option V). record { time = x.time; write = y }) w) (writes_of xs key)) time ≡ write) [ None ↦ rest o | Some w ↦ rest (cond (nat_le x.time time) w o) ])
+    let rest : (p : Option V) → value_after p (writes_of xs key) time ≡ write =
+    λ p. value-written p x.time xs c key write time up.2 more is low (λ d there later early. none d (Contains-tail x xs d there) later early) in
+    elim (write_in x.writes key) as
+    (λ w. value_after o (cons_option (option_map (λ (y : Option V). record { time = x.time; write = y }) w) (writes_of xs key)) time
+    ≡ write) [ None ↦ rest o | Some w ↦ rest (cond (nat_le x.time time) w o) ])
     (Contains-cons_cases x xs c has)
 
 pub write-stands : WriteStands

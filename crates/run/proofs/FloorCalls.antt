@@ -23,14 +23,16 @@ use Rattle.run.proofs.Runs.{no-step}
 use Rattle.run.proofs.Places.{reads-move, reads-plain, push_nothing, move, goes_on-same, stays}
 use Rattle.run.proofs.Pumping.{pump-keeps}
 
-pub floor-few : (old new : StoreValue) (scope : Option ℕ) (floor : ℕ) (r : Result (Unit {0}) StartFault) → StartsFloor old scope floor r new → new.disk.made ≤ old.disk.made + 1
+pub floor-few : (old new : StoreValue) (scope : Option ℕ) (floor : ℕ) (r : Result (Unit {0}) StartFault) → StartsFloor old scope floor r new
+    → new.disk.made ≤ old.disk.made + 1
 floor-few old new scope floor r starts = by-refusal (floor_refusal old scope floor) starts
   where
     begun : (said : Result (Unit {0}) StartFault) → BeginsFloor old scope floor said new → new.disk.made ≤ old.disk.made + 1
     begun (Ok done) is = let made = ap (λ (v : StoreValue). v.disk.made) is.1 in omega (arith, made)
     begun (Err why) is = let made = ap (λ (v : StoreValue). v.disk.made) is.2 in omega (arith, made)
 
-    by-refusal : (o : Option StartFault) → MatchOption o (BeginsFloor old scope floor r new) (λ why. (r ≡ Err why) × (new ≡ old)) → new.disk.made ≤ old.disk.made + 1
+    by-refusal : (o : Option StartFault) → MatchOption o (BeginsFloor old scope floor r new) (λ why. (r ≡ Err why) × (new ≡ old))
+        → new.disk.made ≤ old.disk.made + 1
     by-refusal None is = begun r is
     by-refusal (Some why) is = let made = ap (λ (v : StoreValue). v.disk.made) is.1 in omega (arith, made)
 
@@ -77,14 +79,16 @@ floor-leads tells v v' xs scope floor r starts w is =
     let places : ArePlaces v'.transactions w.machine.published (xs ++ held.Nothing ∷ []) (w.places ++ Free ∷ []) =
     push_nothing v'.transactions w.machine.published xs w.places
     (move v.transactions v'.transactions w.machine.published w.machine.published xs w.places is.places
-    (λ i x p at shows. stays v.transactions v'.transactions w.machine.published w.machine.published x p (pump-keeps v.transactions v'.transactions x (floor-leaves v v' scope floor r starts)) (goes_on-same w.machine.published) shows)) in (
+    (λ i x p at shows. stays v.transactions v'.transactions w.machine.published w.machine.published x p
+    (pump-keeps v.transactions v'.transactions x (floor-leaves v v' scope floor r starts)) (goes_on-same w.machine.published) shows)) in (
       same (moved w leads.after),
       leads.says,
       leads.follows,
       record {
         stands = leads.stands;
         places = subst (λ h. ArePlaces v'.transactions h (xs ++ held.Nothing ∷ []) (w.places ++ Free ∷ [])) (sym leads.published) places;
-        views = reads-plain tells v' xs w.places held.Nothing Free is.places.many tt (reads-move tells v v' xs w.places (floor-start-goes tells v v' scope floor r w.machine is.stands starts) is.views);
+        views = reads-plain tells v' xs w.places held.Nothing Free is.places.many tt
+            (reads-move tells v v' xs w.places (floor-start-goes tells v v' scope floor r w.machine is.stands starts) is.views);
       },
     )
 

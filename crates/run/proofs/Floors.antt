@@ -1,5 +1,6 @@
 -- What calls leave of the floors: a time that is kept stays so, unless a later floor is begun.
-use Rattle.std.proofs.Common.{◌≡◌, ◌≤◌, ◌++◌, ℕ, Bool, true, false, cond, List, [], ◌∷◌, length, Option, None, Some, Result, Ok, Err, MatchBool, MatchOption, refl, ap, sym, subst, ◌∙◌}
+use Rattle.std.proofs.Common.{◌≡◌, ◌≤◌, ◌++◌, ℕ, Bool, true, false, cond, List, [], ◌∷◌, length, Option, None, Some, Result, Ok, Err, MatchBool, MatchOption}
+use Rattle.std.proofs.Common.{refl, ap, sym, subst, ◌∙◌}
 use Rattle.std.specs.Prelude.{nat_lt, ◌==◌, ◌&&◌, IsTrue, IfErr}
 use Rattle.std.specs.List.{AllByRecursion}
 use Rattle.std.specs.declared.alloc.AllocError.{AllocError}
@@ -37,7 +38,8 @@ use Rattle.run.specs.Places.{Place, Free, Running, Waits, Views, place_at}
 use Rattle.run.specs.Worlds.{World, same, moved, spent}
 use Rattle.run.specs.Runs.{Does, Begins, Puts, Deletes, Submits, Submitted, Aborts, Redeems, Shows, Raises, IsStepFault, submission}
 use Rattle.run.specs.Laws.{IsKeptTime}
-use Rattle.run.proofs.Passing.{get-same, scan-same, asks-same, asks_scan-same, asks_between-same, asks_scan_between-same, asks_recent-same, give_up-spent, closes-spent, archive-same, reclaim-same, grow-same}
+use Rattle.run.proofs.Passing.{get-same, scan-same, asks-same, asks_scan-same, asks_between-same, asks_scan_between-same, asks_recent-same, give_up-spent}
+use Rattle.run.proofs.Passing.{closes-spent, archive-same, reclaim-same, grow-same}
 
 -- the floors, and the one in the making, are the same
 abbrev pub SameFloors : Machine Value → Machine Value → Type 0
@@ -82,12 +84,20 @@ step-floors old (GateDue change) new keeps step = by-state old _ new (refl, refl
 step-floors old (GateWritten change) new keeps step = by-state old _ new (refl, refl) step.2
 step-floors old Broke new keeps step = by-state old _ new (refl, refl) step.1
 
-run-floors : (old : Machine Value) (events : List (Event Value)) (new : Machine Value) → AllByRecursion KeepsFloors events → steps.Run IsValue old events new → SameFloors old new
+run-floors : (old : Machine Value) (events : List (Event Value)) (new : Machine Value) → AllByRecursion KeepsFloors events → steps.Run IsValue old events new
+    → SameFloors old new
 run-floors old [] new keeps run = all-same old new run
 run-floors old (event ∷ events) new keeps run = same-then old run.0 new (step-floors old event run.0 keeps.0 run.1) (run-floors run.0 events new keeps.1 run.2)
 
 begins-keep : (m : Machine Value) (rest : List (Event Value)) → AllByRecursion KeepsFloors rest → AllByRecursion KeepsFloors (begins_in m ++ rest)
-begins-keep m rest keeps = elim ((m.group == 0) && nat_lt 0 (length m.queue)) as (λ b. AllByRecursion KeepsFloors (cond b (GroupBegan ∷ []) [] ++ rest)) [ true ↦ (tt, keeps) | false ↦ keeps ]
+begins-keep m rest keeps =
+    elim ((m.group == 0) && nat_lt 0 (length m.queue)) as (λ b. AllByRecursion KeepsFloors (cond b (GroupBegan ∷ []) [] ++ rest)) [
+      | true ↦ (
+        tt,
+        keeps,
+      )
+      | false ↦ keeps
+    ]
 
 breaks-keep : (gate : Gate) → AllByRecursion KeepsFloors (breaks_in gate)
 breaks-keep Shut = (tt, tt)
@@ -120,7 +130,8 @@ abbrev BeginsNone : Event Value → Type 0
 BeginsNone (FloorStarted r) = ⊥
 BeginsNone event = Unit {0}
 
-raised-kept : (m : Machine Value) (r : Raising) (relation time : ℕ) → m.raising ≡ Some r → IsKeptTime m relation time → IsKeptTime (steps.floor_published m r) relation time
+raised-kept : (m : Machine Value) (r : Raising) (relation time : ℕ) → m.raising ≡ Some r → IsKeptTime m relation time
+    → IsKeptTime (steps.floor_published m r) relation time
 raised-kept m r relation time is kept = (by-scope (covers r.scope relation) refl, tt)
   where
     late : IsTrue (covers r.scope relation) → r.floor ≤ time
@@ -130,25 +141,30 @@ raised-kept m r relation time is kept = (by-scope (covers r.scope relation) refl
     by-scope true covered = rw covered (late covered)
     by-scope false other = rw other kept.0
 
-event-kept : (old : Machine Value) (event : Event Value) (new : Machine Value) (relation time : ℕ) → BeginsNone event → Step IsValue old event new → IsKeptTime old relation time → IsKeptTime new relation time
+event-kept : (old : Machine Value) (event : Event Value) (new : Machine Value) (relation time : ℕ) → BeginsNone event → Step IsValue old event new
+    → IsKeptTime old relation time → IsKeptTime new relation time
 event-kept old (steps.Began snapshot) new relation time none step kept = held old new relation time (step-floors old (steps.Began snapshot) new tt step) kept
-event-kept old (steps.BeginRefused why) new relation time none step kept = held old new relation time (step-floors old (steps.BeginRefused why) new tt step) kept
+event-kept old (steps.BeginRefused why) new relation time none step kept =
+    held old new relation time (step-floors old (steps.BeginRefused why) new tt step) kept
 event-kept old (Aborted snapshot) new relation time none step kept = held old new relation time (step-floors old (Aborted snapshot) new tt step) kept
 event-kept old (Decided s d) new relation time none step kept = held old new relation time (step-floors old (Decided s d) new tt step) kept
 event-kept old (steps.Refused s why) new relation time none step kept = held old new relation time (step-floors old (steps.Refused s why) new tt step) kept
 event-kept old GroupBegan new relation time none step kept = held old new relation time (step-floors old GroupBegan new tt step) kept
 event-kept old (Published size) new relation time none step kept = held old new relation time (step-floors old (Published size) new tt step) kept
 event-kept old (FloorStarted r) new relation time none step kept = absurd none
-event-kept old (steps.FloorRefused r why) new relation time none step kept = held old new relation time (step-floors old (steps.FloorRefused r why) new tt step) kept
+event-kept old (steps.FloorRefused r why) new relation time none step kept =
+    held old new relation time (step-floors old (steps.FloorRefused r why) new tt step) kept
 event-kept old (FloorPublished r) new relation time none step kept =
     subst (λ (m : Machine Value). IsKeptTime m relation time) (sym step.3) (raised-kept old r relation time step.1 kept)
 event-kept old (GateDue change) new relation time none step kept = held old new relation time (step-floors old (GateDue change) new tt step) kept
 event-kept old (GateWritten change) new relation time none step kept = held old new relation time (step-floors old (GateWritten change) new tt step) kept
 event-kept old Broke new relation time none step kept = held old new relation time (step-floors old Broke new tt step) kept
 
-run-kept : (old : Machine Value) (events : List (Event Value)) (new : Machine Value) (relation time : ℕ) → AllByRecursion BeginsNone events → steps.Run IsValue old events new → IsKeptTime old relation time → IsKeptTime new relation time
+run-kept : (old : Machine Value) (events : List (Event Value)) (new : Machine Value) (relation time : ℕ) → AllByRecursion BeginsNone events
+    → steps.Run IsValue old events new → IsKeptTime old relation time → IsKeptTime new relation time
 run-kept old [] new relation time none run kept = subst (λ (m : Machine Value). IsKeptTime m relation time) (sym run) kept
-run-kept old (event ∷ events) new relation time none run kept = run-kept run.0 events new relation time none.1 run.2 (event-kept old event run.0 relation time none.0 run.1 kept)
+run-kept old (event ∷ events) new relation time none run kept =
+    run-kept run.0 events new relation time none.1 run.2 (event-kept old event run.0 relation time none.0 run.1 kept)
 
 -- a step of a job begins no floor
 floor-steps : (what : JobDid) (r : Raising) → AllByRecursion BeginsNone (floor_ends_in what r)
@@ -180,7 +196,8 @@ job-steps m (Err pump.Busy) = tt
 job-steps m (Err pump.NoMemory) = tt
 job-steps m (Err pump.Failed) = job-breaks m.gate
 
-submitted-keeps : (m : Machine Value) (s : Submission Value) (said : Result SubmitOutcome SubmitFault) (event : Event Value) (place : Place) → Submitted m s said event place → KeepsFloors event
+submitted-keeps : (m : Machine Value) (s : Submission Value) (said : Result SubmitOutcome SubmitFault) (event : Event Value) (place : Place)
+    → Submitted m s said event place → KeepsFloors event
 submitted-keeps m s (Ok (outcome.ReadOnly time)) event place is = subst KeepsFloors (sym is.1) tt
 submitted-keeps m s (Ok outcome.Queued) event place is = subst KeepsFloors (sym is.0) tt
 submitted-keeps m s (Err (refused.Conflict key)) event place is = subst KeepsFloors (sym is.0) tt
@@ -204,35 +221,43 @@ begin-floors w (Ok u) next does = by-state w.machine (steps.begun w.machine) nex
 begin-floors w (Err begin.NoMemory) next does = same-floors w next does.1
 begin-floors w (Err begin.Failed) next does = same-floors w next does.1
 
-put-floors : (w : World) (i : ℕ) (key : Key) (value : Value) (p : Place) (said : Result (Unit {0}) TxnFault) (next : World) → Puts w i key value p said next → SameFloors w.machine next.machine
+put-floors : (w : World) (i : ℕ) (key : Key) (value : Value) (p : Place) (said : Result (Unit {0}) TxnFault) (next : World) → Puts w i key value p said next
+    → SameFloors w.machine next.machine
 put-floors w i key value (Running snapshot writes) said next does = all-same w.machine next.machine (ap (λ (x : World). x.machine) does.2)
 put-floors w i key value Free said next does = absurd does
 put-floors w i key value (Waits t) said next does = absurd does
 put-floors w i key value (Views h floors reclaimed) said next does = absurd does
 
-delete-floors : (w : World) (i : ℕ) (key : Key) (p : Place) (said : Result (Unit {0}) TxnFault) (next : World) → Deletes w i key p said next → SameFloors w.machine next.machine
+delete-floors : (w : World) (i : ℕ) (key : Key) (p : Place) (said : Result (Unit {0}) TxnFault) (next : World) → Deletes w i key p said next
+    → SameFloors w.machine next.machine
 delete-floors w i key (Running snapshot writes) said next does = all-same w.machine next.machine (ap (λ (x : World). x.machine) does.2)
 delete-floors w i key Free said next does = absurd does
 delete-floors w i key (Waits t) said next does = absurd does
 delete-floors w i key (Views h floors reclaimed) said next does = absurd does
 
-submit-floors : (w : World) (i label now : ℕ) (p : Place) (said : Result SubmitOutcome SubmitFault) (next : World) → Submits w i label now p said next → SameFloors w.machine next.machine
+submit-floors : (w : World) (i label now : ℕ) (p : Place) (said : Result SubmitOutcome SubmitFault) (next : World) → Submits w i label now p said next
+    → SameFloors w.machine next.machine
 submit-floors w i label now (Running snapshot writes) said next does =
-    by-state w.machine does.1 next.machine (step-floors w.machine does.0 does.1 (submitted-keeps w.machine (submission snapshot writes label now) said does.0 does.2 does.3) does.4) (ap (λ (x : World). x.machine) does.5)
+    by-state w.machine does.1 next.machine
+    (step-floors w.machine does.0 does.1 (submitted-keeps w.machine (submission snapshot writes label now) said does.0 does.2 does.3) does.4)
+    (ap (λ (x : World). x.machine) does.5)
 submit-floors w i label now Free said next does = absurd does
 submit-floors w i label now (Waits t) said next does = absurd does
 submit-floors w i label now (Views h floors reclaimed) said next does = absurd does
 
 abort-floors : (w : World) (i : ℕ) (p : Place) (next : World) → Aborts w i p next → SameFloors w.machine next.machine
-abort-floors w i (Running snapshot writes) next does = by-state w.machine does.0 next.machine (step-floors w.machine (Aborted snapshot) does.0 tt does.1) (ap (λ (x : World). x.machine) does.2)
+abort-floors w i (Running snapshot writes) next does =
+    by-state w.machine does.0 next.machine (step-floors w.machine (Aborted snapshot) does.0 tt does.1) (ap (λ (x : World). x.machine) does.2)
 abort-floors w i Free next does = absurd does
 abort-floors w i (Waits t) next does = absurd does
 abort-floors w i (Views h floors reclaimed) next does = absurd does
 
 moves-floors : (w next : World) (failed : Bool) (Says : Type 0) (Is : Type 0) (events : List (Event Value)) → AllByRecursion KeepsFloors events
-    → MatchBool failed (Says × (next ≡ same w)) ((after : Machine Value) × Is × steps.Run IsValue w.machine events after × (next ≡ same (moved w after))) → SameFloors w.machine next.machine
+    → MatchBool failed (Says × (next ≡ same w)) ((after : Machine Value) × Is × steps.Run IsValue w.machine events after × (next ≡ same (moved w after)))
+    → SameFloors w.machine next.machine
 moves-floors w next true Says Is events keeps does = same-floors w next does.1
-moves-floors w next false Says Is events keeps does = by-state w.machine does.0 next.machine (run-floors w.machine events does.0 keeps does.2) (ap (λ (x : World). x.machine) does.3)
+moves-floors w next false Says Is events keeps does =
+    by-state w.machine does.0 next.machine (run-floors w.machine events does.0 keeps does.2) (ap (λ (x : World). x.machine) does.3)
 
 redeem-floors : (w : World) (i : ℕ) (p : Place) (said : RedeemOutcome) (next : World) → Redeems w i p said next → SameFloors w.machine next.machine
 redeem-floors w i (Waits time) (told.Done t) next does = spent-floors w i next does.1
@@ -249,7 +274,8 @@ view-floors w (Err why) next does = same-floors w next does
 
 -- the floor that a call begins, if it does and covers the relation, is no later
 abbrev pub AllowsTime : (relation time : ℕ) → Call → Answer → Type 0
-AllowsTime relation time c a = (scope : Option ℕ) (floor : ℕ) → c ≡ call.Floor scope floor → a ≡ answer.Floor (Ok tt) → IsTrue (covers scope relation) → floor ≤ time
+AllowsTime relation time c a =
+    (scope : Option ℕ) (floor : ℕ) → c ≡ call.Floor scope floor → a ≡ answer.Floor (Ok tt) → IsTrue (covers scope relation) → floor ≤ time
 
 abbrev pub KeepsTimes : World → Call → Answer → World → Type 0
 KeepsTimes w c a next = (relation time : ℕ) → AllowsTime relation time c a → IsKeptTime w.machine relation time → IsKeptTime next.machine relation time
@@ -257,8 +283,13 @@ KeepsTimes w c a next = (relation time : ℕ) → AllowsTime relation time c a �
 unraised : (w : World) (c : Call) (a : Answer) (next : World) → SameFloors w.machine next.machine → KeepsTimes w c a next
 unraised w c a next is = λ relation time allows kept. held w.machine next.machine relation time is kept
 
-floor-times : (w : World) (scope : Option ℕ) (floor : ℕ) (said : Result (Unit {0}) StartFault) (next : World) → Raises w scope floor said next → KeepsTimes w (call.Floor scope floor) (answer.Floor said) next
-floor-times w scope floor (Ok u) next does = λ relation time allows kept. subst (λ (x : World). IsKeptTime x.machine relation time) (sym does.1) (kept.0, λ covered. allows scope floor refl refl covered)
+floor-times : (w : World) (scope : Option ℕ) (floor : ℕ) (said : Result (Unit {0}) StartFault) (next : World) → Raises w scope floor said next
+    → KeepsTimes w (call.Floor scope floor) (answer.Floor said) next
+floor-times w scope floor (Ok u) next does =
+    λ relation time allows kept. subst (λ (x : World). IsKeptTime x.machine relation time) (sym does.1) (
+      kept.0,
+      λ covered. allows scope floor refl refl covered,
+    )
 floor-times w scope floor (Err start.NothingToDo) next does = unraised w _ _ next (same-floors w next does.1)
 floor-times w scope floor (Err (start.NotYet time)) next does = unraised w _ _ next (same-floors w next does.1)
 floor-times w scope floor (Err (start.InUse snapshot)) next does = unraised w _ _ next (same-floors w next does.1)
@@ -272,34 +303,54 @@ floor-times w scope floor (Err start.NoMemory) next does = unraised w _ _ next (
 floor-times w scope floor (Err start.NotGrowable) next does = absurd does
 
 job-times : (w : World) (said : Result JobDid PumpFault) (next : World) (failed : Bool)
-    → MatchBool failed ((said ≡ Err pump.Failed) × (next ≡ same w)) ((after : Machine Value) × IfErr said IsStepFault × steps.Run IsValue w.machine (job_ends_in w.machine said) after × (next ≡ same (moved w after))) → KeepsTimes w call.JobPump (answer.JobPump said) next
+    → MatchBool failed ((said ≡ Err pump.Failed) × (next ≡ same w)) ((after : Machine Value) × IfErr said IsStepFault
+    × steps.Run IsValue w.machine (job_ends_in w.machine said) after × (next ≡ same (moved w after))) → KeepsTimes w call.JobPump (answer.JobPump said) next
 job-times w said next true does = unraised w _ _ next (same-floors w next does.1)
 job-times w said next false does = λ relation time allows kept.
-    subst (λ (x : World). IsKeptTime x.machine relation time) (sym does.3) (run-kept w.machine (job_ends_in w.machine said) does.0 relation time (job-steps w.machine said) does.2 kept)
+    subst (λ (x : World). IsKeptTime x.machine relation time) (sym does.3)
+    (run-kept w.machine (job_ends_in w.machine said) does.0 relation time (job-steps w.machine said) does.2 kept)
 
 pub call-times : (tells : Bool) (w : World) (c : Call) (a : Answer) (next : World) → Does tells w c a next → KeepsTimes w c a next
 call-times tells w c answer.Unknown next does = unraised w c answer.Unknown next (same-floors w next does.1)
 call-times tells w call.Begin (answer.Begin said) next does = unraised w call.Begin (answer.Begin said) next (begin-floors w said next does)
-call-times tells w (call.Put i key fields) (answer.Put said) next does = unraised w (call.Put i key fields) (answer.Put said) next (put-floors w i key _ (place_at w.places i) said next does)
-call-times tells w (call.Delete i key) (answer.Delete said) next does = unraised w (call.Delete i key) (answer.Delete said) next (delete-floors w i key (place_at w.places i) said next does)
-call-times tells w (call.Get i key) (answer.Get said) next does = unraised w (call.Get i key) (answer.Get said) next (same-floors w next (get-same w key (place_at w.places i) said next does))
-call-times tells w (call.Scan i relation) (answer.Scan said) next does = unraised w (call.Scan i relation) (answer.Scan said) next (same-floors w next (scan-same w relation (place_at w.places i) said next does))
-call-times tells w (call.Submit i label now) (answer.Submit said) next does = unraised w (call.Submit i label now) (answer.Submit said) next (submit-floors w i label now (place_at w.places i) said next does)
+call-times tells w (call.Put i key fields) (answer.Put said) next does =
+    unraised w (call.Put i key fields) (answer.Put said) next (put-floors w i key _ (place_at w.places i) said next does)
+call-times tells w (call.Delete i key) (answer.Delete said) next does =
+    unraised w (call.Delete i key) (answer.Delete said) next (delete-floors w i key (place_at w.places i) said next does)
+call-times tells w (call.Get i key) (answer.Get said) next does =
+    unraised w (call.Get i key) (answer.Get said) next (same-floors w next (get-same w key (place_at w.places i) said next does))
+call-times tells w (call.Scan i relation) (answer.Scan said) next does =
+    unraised w (call.Scan i relation) (answer.Scan said) next (same-floors w next (scan-same w relation (place_at w.places i) said next does))
+call-times tells w (call.Submit i label now) (answer.Submit said) next does =
+    unraised w (call.Submit i label now) (answer.Submit said) next (submit-floors w i label now (place_at w.places i) said next does)
 call-times tells w (call.Abort i) answer.Abort next does = unraised w (call.Abort i) answer.Abort next (abort-floors w i (place_at w.places i) next does)
-call-times tells w call.Pump (answer.Pump said) next does = unraised w call.Pump (answer.Pump said) next (moves-floors w next w.machine.failed _ _ (begins_in w.machine ++ ends_in w.machine.gate said) (begins-keep w.machine (ends_in w.machine.gate said) (ends-keep w.machine.gate said)) does)
-call-times tells w (call.Redeem i) (answer.Redeem said) next does = unraised w (call.Redeem i) (answer.Redeem said) next (redeem-floors w i (place_at w.places i) said next does)
-call-times tells w (call.GiveUp i) answer.GiveUp next does = unraised w (call.GiveUp i) answer.GiveUp next (spent-floors w i next (give_up-spent w i (place_at w.places i) next does))
+call-times tells w call.Pump (answer.Pump said) next does =
+    unraised w call.Pump (answer.Pump said) next (moves-floors w next w.machine.failed _ _ (begins_in w.machine
+    ++ ends_in w.machine.gate said) (begins-keep w.machine (ends_in w.machine.gate said) (ends-keep w.machine.gate said)) does)
+call-times tells w (call.Redeem i) (answer.Redeem said) next does =
+    unraised w (call.Redeem i) (answer.Redeem said) next (redeem-floors w i (place_at w.places i) said next does)
+call-times tells w (call.GiveUp i) answer.GiveUp next does =
+    unraised w (call.GiveUp i) answer.GiveUp next (spent-floors w i next (give_up-spent w i (place_at w.places i) next does))
 call-times tells w call.View (answer.View said) next does = unraised w call.View (answer.View said) next (view-floors w said next does)
-call-times tells w (call.At i key time) (answer.At said) next does = unraised w (call.At i key time) (answer.At said) next (same-floors w next (asks-same tells w key time (place_at w.places i) said next does))
-call-times tells w (call.ScanAt i relation time) (answer.ScanAt said) next does = unraised w (call.ScanAt i relation time) (answer.ScanAt said) next (same-floors w next (asks_scan-same tells w relation time (place_at w.places i) said next does))
-call-times tells w (call.Between i key a b) (answer.Between said) next does = unraised w (call.Between i key a b) (answer.Between said) next (same-floors w next (asks_between-same tells w key a b (place_at w.places i) said next does))
-call-times tells w (call.ScanBetween i relation a b) (answer.ScanBetween said) next does = unraised w (call.ScanBetween i relation a b) (answer.ScanBetween said) next (same-floors w next (asks_scan_between-same tells w relation a b (place_at w.places i) said next does))
+call-times tells w (call.At i key time) (answer.At said) next does =
+    unraised w (call.At i key time) (answer.At said) next (same-floors w next (asks-same tells w key time (place_at w.places i) said next does))
+call-times tells w (call.ScanAt i relation time) (answer.ScanAt said) next does =
+    unraised w (call.ScanAt i relation time) (answer.ScanAt said) next
+    (same-floors w next (asks_scan-same tells w relation time (place_at w.places i) said next does))
+call-times tells w (call.Between i key a b) (answer.Between said) next does =
+    unraised w (call.Between i key a b) (answer.Between said) next (same-floors w next (asks_between-same tells w key a b (place_at w.places i) said next does))
+call-times tells w (call.ScanBetween i relation a b) (answer.ScanBetween said) next does =
+    unraised w (call.ScanBetween i relation a b) (answer.ScanBetween said) next
+    (same-floors w next (asks_scan_between-same tells w relation a b (place_at w.places i) said next does))
 call-times tells w (call.Recent i key time) (answer.Recent said) next does =
     unraised w (call.Recent i key time) (answer.Recent said) next (same-floors w next (asks_recent-same w key time (place_at w.places i) said next does))
-call-times tells w (call.End i) answer.End next does = unraised w (call.End i) answer.End next (spent-floors w i next (closes-spent w i (place_at w.places i) next does))
+call-times tells w (call.End i) answer.End next does =
+    unraised w (call.End i) answer.End next (spent-floors w i next (closes-spent w i (place_at w.places i) next does))
 call-times tells w (call.TimesOf label) (answer.TimesOf said) next does = unraised w (call.TimesOf label) (answer.TimesOf said) next (same-floors w next does.1)
-call-times tells w (call.Archive upto) (answer.Archive said) next does = unraised w (call.Archive upto) (answer.Archive said) next (same-floors w next (archive-same w upto said next does))
-call-times tells w call.Reclaim (answer.Reclaim said) next does = unraised w call.Reclaim (answer.Reclaim said) next (same-floors w next (reclaim-same w said next does))
+call-times tells w (call.Archive upto) (answer.Archive said) next does =
+    unraised w (call.Archive upto) (answer.Archive said) next (same-floors w next (archive-same w upto said next does))
+call-times tells w call.Reclaim (answer.Reclaim said) next does =
+    unraised w call.Reclaim (answer.Reclaim said) next (same-floors w next (reclaim-same w said next does))
 call-times tells w (call.Floor scope floor) (answer.Floor said) next does = floor-times w scope floor said next does
 call-times tells w call.Grow (answer.Grow said) next does = unraised w call.Grow (answer.Grow said) next (same-floors w next (grow-same w said next does))
 call-times tells w call.JobPump (answer.JobPump said) next does = job-times w said next w.machine.failed does

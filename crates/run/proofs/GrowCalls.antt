@@ -1,5 +1,6 @@
 -- The beginning of a growth.
-use Rattle.std.proofs.Common.{◌≡◌, inr, ◌+◌, ◌≤◌, Bool, true, false, cond, is_some, List, [], ◌∷◌, ◌++◌, Some, None, Option, Result, Ok, Err, MatchOption, refl, sym, ◌∙◌, ap, subst, arith}
+use Rattle.std.proofs.Common.{◌≡◌, inr, ◌+◌, ◌≤◌, Bool, true, false, cond, is_some, List, [], ◌∷◌, ◌++◌, Some, None, Option, Result, Ok, Err, MatchOption, refl}
+use Rattle.std.proofs.Common.{sym, ◌∙◌, ap, subst, arith}
 use Rattle.status.specs.Growth.{next_piece}
 use Rattle.status.specs.GrowthState.{GrowthState}
 use Rattle.store.specs.Values.{StoreValue}
@@ -31,12 +32,14 @@ grow-few old new r starts = by-refusal (refusal_to_grow old) starts
     by-piece None is = at-rest refl is.1
     by-piece (Some growth) is = at-rest refl is.1
 
-    by-refusal : (o : Option StartFault) → MatchOption o (BeginsPiece old (next_piece old.log) r new) (λ why. (r ≡ Err why) × (new ≡ old)) → new.disk.made ≤ old.disk.made + 1
+    by-refusal : (o : Option StartFault) → MatchOption o (BeginsPiece old (next_piece old.log) r new) (λ why. (r ≡ Err why) × (new ≡ old))
+        → new.disk.made ≤ old.disk.made + 1
     by-refusal None is = by-piece (next_piece old.log) is
     by-refusal (Some why) is = at-rest refl is.1
 
 -- what it says of the machine
-grow-says : (tells : Bool) (v v' : StoreValue) (w : World) (r : Result (Unit {0}) StartFault) → Stands tells v w.machine → StartsGrowth v r v' → Grows w r (same w)
+grow-says : (tells : Bool) (v v' : StoreValue) (w : World) (r : Result (Unit {0}) StartFault) → Stands tells v w.machine → StartsGrowth v r v'
+    → Grows w r (same w)
 grow-says tells v v' w r stands starts = by-tests v.transactions.failed refl (is_some v.job) starts
   where
     says : (x : Result (Unit {0}) StartFault) → r ≡ x → Grows w x (same w) → Grows w r (same w)
@@ -46,7 +49,9 @@ grow-says tells v v' w r stands starts = by-tests v.transactions.failed refl (is
     by-piece on None is = says (Err start.NotGrowable) is.0 refl
     by-piece on (Some growth) is = says (Ok tt) is.0 (sym stands.memory.failed ∙ on, refl)
 
-    by-tests : (a : Bool) → v.transactions.failed ≡ a → (b : Bool) → MatchOption (cond a (Some start.Failed) (cond b (Some start.JobBusy) None)) (BeginsPiece v (next_piece v.log) r v') (λ why. (r ≡ Err why) × (v' ≡ v)) → Grows w r (same w)
+    by-tests : (a : Bool) → v.transactions.failed ≡ a → (b : Bool)
+        → MatchOption (cond a (Some start.Failed) (cond b (Some start.JobBusy) None)) (BeginsPiece v (next_piece v.log) r v') (λ why. (r ≡ Err why) × (v' ≡ v))
+        → Grows w r (same w)
     by-tests true on b is = says (Err start.Failed) is.0 (sym stands.memory.failed ∙ on, refl)
     by-tests false on true is = says (Err start.JobBusy) is.0 refl
     by-tests false on false is = by-piece on (next_piece v.log) is
@@ -61,8 +66,10 @@ grow-leads tells v v' xs r starts w is = (
     stands = grow-start-stands tells v v' r w.machine is.stands starts;
     places = push_nothing v'.transactions w.machine.published xs w.places
         (move v.transactions v'.transactions w.machine.published w.machine.published xs w.places is.places
-        (λ i x p at shows. stays v.transactions v'.transactions w.machine.published w.machine.published x p (pump-keeps v.transactions v'.transactions x (grow-leaves v v' r starts)) (goes_on-same w.machine.published) shows));
-    views = reads-plain tells v' xs w.places held.Nothing Free is.places.many tt (reads-move tells v v' xs w.places (grow-start-goes tells v v' r w.machine is.stands starts) is.views);
+        (λ i x p at shows. stays v.transactions v'.transactions w.machine.published w.machine.published x p
+        (pump-keeps v.transactions v'.transactions x (grow-leaves v v' r starts)) (goes_on-same w.machine.published) shows));
+    views = reads-plain tells v' xs w.places held.Nothing Free is.places.many tt
+        (reads-move tells v v' xs w.places (grow-start-goes tells v v' r w.machine is.stands starts) is.views);
   },
 )
 

@@ -28,12 +28,14 @@ pub links : (tells : Bool) (v v' : StoreValue) (xs ys : List Held) (c : Call) (a
 links tells v v' xs ys c a at is goes few =
     let did = goes.leads at.world is.world in
     let after : Moment = record { store = v'; held = ys; world = did.0; done = with_answer a at.done } in
-    let is-after : IsAtMoment tells v' ys after = record { store = refl; places = refl; world = did.3; published = call-acknowledges tells at.world c a did.0 at.done did.1 did.2 is.published } in
+    let is-after : IsAtMoment tells v' ys after =
+    record { store = refl; places = refl; world = did.3; published = call-acknowledges tells at.world c a did.0 at.done did.1 did.2 is.published } in
     let old = moment-leaves tells v xs at is in
     let new = moment-leaves tells v' ys after is-after in (
       after,
       record {
-        makes = subst (λ (s : StoreValue). Makes tells s at.held c a v' ys) (sym is.store) (subst (λ (held : List Held). Makes tells v held c a v' ys) (sym is.places) goes.makes);
+        makes = subst (λ (s : StoreValue). Makes tells s at.held c a v' ys) (sym is.store)
+            (subst (λ (held : List Held). Makes tells v held c a v' ys) (sym is.places) goes.makes);
         stands = did.3;
         does = did.1;
         follows = did.2;
@@ -45,7 +47,8 @@ links tells v v' xs ys c a at is goes few =
       is-after,
     )
 
-pub chain-push : (tells : Bool) (cs : List Call) (said : List Answer) (start mid : Moment) (c : Call) (a : Answer) (end : Moment) → Chain tells cs said start mid → Link tells c a mid end → Chain tells (cs ++ c ∷ []) (said ++ a ∷ []) start end
+pub chain-push : (tells : Bool) (cs : List Call) (said : List Answer) (start mid : Moment) (c : Call) (a : Answer) (end : Moment)
+    → Chain tells cs said start mid → Link tells c a mid end → Chain tells (cs ++ c ∷ []) (said ++ a ∷ []) start end
 chain-push tells [] [] start mid c a end chain link = (end, subst (λ (x : Moment). Link tells c a x end) chain link, refl)
 chain-push tells (x ∷ xs) (y ∷ ys) start mid c a end chain link = (chain.0, chain.1, chain-push tells xs ys chain.0 mid c a end chain.2 link)
 chain-push tells [] (y ∷ ys) start mid c a end chain link = absurd chain

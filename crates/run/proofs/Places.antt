@@ -1,5 +1,6 @@
 -- What is held stays the store's own and goes on standing for what it did.
-use Rattle.std.proofs.Common.{◌≡◌, ◌≢◌, inl, inr, ℕ, zero, suc, ◌<◌, ◌≤◌, ◌==◌, nat_lt, Bool, true, false, cond, List, [], ◌∷◌, ◌++◌, length, Option, Some, None, refl, sym, ◌∙◌, ap, subst, arith}
+use Rattle.std.proofs.Common.{◌≡◌, ◌≢◌, inl, inr, ℕ, zero, suc, ◌<◌, ◌≤◌, ◌==◌, nat_lt, Bool, true, false, cond, List, [], ◌∷◌, ◌++◌, length, Option, Some}
+use Rattle.std.proofs.Common.{None, refl, sym, ◌∙◌, ap, subst, arith}
 use Rattle.std.specs.Prelude.{slice_get, slice_set}
 use Rattle.std.proofs.lemmas.Bool.{cases_lt, cases_eq}
 use Rattle.std.proofs.lemmas.Bool.Decides.{nat_tests}
@@ -23,8 +24,10 @@ use Rattle.law_refinement.proofs.Views.{view-goes-on}
 use Rattle.store.specs.Values.{StoreValue}
 use Rattle.run.specs.declared.held.Held.{Held}
 use Rattle.run.specs.declared.held.Held.TheVariants as held
-use Rattle.run.specs.Places.{Place, Free, Running, Waits, Views, place_at, IsNoTransaction, IsNoTicket, IsNoView, HasNoTransaction, HasNoTicket, HasNoView, IsOwnTransaction, IsOwnTicket, ShowsAs, Clash, ArePlaces, IsRead, AreRead}
-use Rattle.run.proofs.Lists.{get-set, get-push, get-within, get-past, held-length-set, held-length-push, length-set, length-push, place-set_same, place-set_other, place-push_old, place-push_new, place-past}
+use Rattle.run.specs.Places.{Place, Free, Running, Waits, Views, place_at, IsNoTransaction, IsNoTicket, IsNoView, HasNoTransaction, HasNoTicket, HasNoView}
+use Rattle.run.specs.Places.{IsOwnTransaction, IsOwnTicket, ShowsAs, Clash, ArePlaces, IsRead, AreRead}
+use Rattle.run.proofs.Lists.{get-set, get-push, get-within, get-past, held-length-set, held-length-push, length-set, length-push, place-set_same}
+use Rattle.run.proofs.Lists.{place-set_other, place-push_old, place-push_new, place-past}
 
 -- ---- clashes
 
@@ -60,14 +63,16 @@ view-no_clash w (held.View u) c = c
 
 -- ---- places
 
-pub push : (v : TransactionsValue) (h : History Value) (xs : List Held) (ps : List Place) (x : Held) (p : Place) → ArePlaces v h xs ps → ShowsAs v h x p → ((j : ℕ) (b : Held) → slice_get xs j ≡ Some b → Clash x b → ⊥) → ArePlaces v h (xs ++ x ∷ []) (ps ++ p ∷ [])
+pub push : (v : TransactionsValue) (h : History Value) (xs : List Held) (ps : List Place) (x : Held) (p : Place) → ArePlaces v h xs ps → ShowsAs v h x p
+    → ((j : ℕ) (b : Held) → slice_get xs j ≡ Some b → Clash x b → ⊥) → ArePlaces v h (xs ++ x ∷ []) (ps ++ p ∷ [])
 push v h xs ps x p are shows fresh = record {
   many = held-length-push xs x ∙ ap suc are.many ∙ sym (length-push ps p);
   each = λ i y at. elim (get-push xs i x y at) [
     | inl new ↦
         let here : place_at (ps ++ p ∷ []) i ≡ p = ap (λ (k : ℕ). place_at (ps ++ p ∷ []) k) (new.0 ∙ are.many) ∙ place-push_new ps p in
         subst (λ (q : Place). ShowsAs v h y q) (sym here) (subst (λ (z : Held). ShowsAs v h z p) (sym new.1) shows)
-    | inr old ↦ subst (λ (q : Place). ShowsAs v h y q) (sym (place-push_old ps i p (let low = get-within xs i y old in let many = are.many in omega arith))) (are.each i y old)
+    | inr old ↦ subst (λ (q : Place). ShowsAs v h y q) (sym (place-push_old ps i p (let low = get-within xs i y old in let many = are.many in omega arith)))
+        (are.each i y old)
   ];
   apart = λ i j a b at_i at_j clash. elim (get-push xs i x a at_i) [
     | inl new ↦ elim (get-push xs j x b at_j) [
@@ -81,10 +86,12 @@ push v h xs ps x p are shows fresh = record {
   ];
 }
 
-pub push_nothing : (v : TransactionsValue) (h : History Value) (xs : List Held) (ps : List Place) → ArePlaces v h xs ps → ArePlaces v h (xs ++ held.Nothing ∷ []) (ps ++ Free ∷ [])
+pub push_nothing : (v : TransactionsValue) (h : History Value) (xs : List Held) (ps : List Place) → ArePlaces v h xs ps
+    → ArePlaces v h (xs ++ held.Nothing ∷ []) (ps ++ Free ∷ [])
 push_nothing v h xs ps are = push v h xs ps held.Nothing Free are tt (λ j b at clash. no_clash b clash)
 
-pub set : (v : TransactionsValue) (h : History Value) (xs : List Held) (ps : List Place) (k : ℕ) (old x : Held) (p : Place) → ArePlaces v h xs ps → slice_get xs k ≡ Some old → ShowsAs v h x p → ((b : Held) → Clash x b → Clash old b) → ArePlaces v h (slice_set xs k x) (slice_set ps k p)
+pub set : (v : TransactionsValue) (h : History Value) (xs : List Held) (ps : List Place) (k : ℕ) (old x : Held) (p : Place) → ArePlaces v h xs ps
+    → slice_get xs k ≡ Some old → ShowsAs v h x p → ((b : Held) → Clash x b → Clash old b) → ArePlaces v h (slice_set xs k x) (slice_set ps k p)
 set v h xs ps k old x p are here shows same = record {
   many = held-length-set xs k x ∙ are.many ∙ sym (length-set ps k p);
   each = λ i y at. elim (get-set xs k i x y at) [
@@ -106,14 +113,17 @@ set v h xs ps k old x p are here shows same = record {
   ];
 }
 
-pub free : (v : TransactionsValue) (h : History Value) (xs : List Held) (ps : List Place) (k : ℕ) (old : Held) → ArePlaces v h xs ps → slice_get xs k ≡ Some old → ArePlaces v h (slice_set xs k held.Nothing) (slice_set ps k Free)
+pub free : (v : TransactionsValue) (h : History Value) (xs : List Held) (ps : List Place) (k : ℕ) (old : Held) → ArePlaces v h xs ps → slice_get xs k ≡ Some old
+    → ArePlaces v h (slice_set xs k held.Nothing) (slice_set ps k Free)
 free v h xs ps k old are here = set v h xs ps k old held.Nothing Free are here tt (λ b clash. absurd (no_clash b clash))
 
-pub move : (v v' : TransactionsValue) (h h' : History Value) (xs : List Held) (ps : List Place) → ArePlaces v h xs ps → ((i : ℕ) (x : Held) (p : Place) → slice_get xs i ≡ Some x → ShowsAs v h x p → ShowsAs v' h' x p) → ArePlaces v' h' xs ps
+pub move : (v v' : TransactionsValue) (h h' : History Value) (xs : List Held) (ps : List Place) → ArePlaces v h xs ps
+    → ((i : ℕ) (x : Held) (p : Place) → slice_get xs i ≡ Some x → ShowsAs v h x p → ShowsAs v' h' x p) → ArePlaces v' h' xs ps
 move v v' h h' xs ps are stays = record { many = are.many; each = λ i x at. stays i x (place_at ps i) at (are.each i x at); apart = are.apart }
 
 -- what a place gave up clashes with no other
-pub freed_apart : (v : TransactionsValue) (h : History Value) (xs : List Held) (ps : List Place) (k : ℕ) (old : Held) → ArePlaces v h xs ps → slice_get xs k ≡ Some old → (j : ℕ) (b : Held) → slice_get (slice_set xs k held.Nothing) j ≡ Some b → Clash old b → ⊥
+pub freed_apart : (v : TransactionsValue) (h : History Value) (xs : List Held) (ps : List Place) (k : ℕ) (old : Held) → ArePlaces v h xs ps → slice_get xs k
+    ≡ Some old → (j : ℕ) (b : Held) → slice_get (slice_set xs k held.Nothing) j ≡ Some b → Clash old b → ⊥
 freed_apart v h xs ps k old are here j b at clash = elim (get-set xs k j held.Nothing b at) [
   | inl new ↦ no_clash old (clash-swap old held.Nothing (subst (λ (y : Held). Clash old y) new.1 clash))
   | inr other ↦ other.0 (sym (are.apart k j old b here other.1 clash))
@@ -141,7 +151,8 @@ module _ (tells : Bool) where
   pub reads-move : (v v' : StoreValue) (xs : List Held) (ps : List Place) → homes.GoesOn tells v v' → AreRead tells v xs ps → AreRead tells v' xs ps
   reads-move v v' xs ps goes are = record { each = λ i x at. read-on v v' x (place_at ps i) goes (are.each i x at) }
 
-  pub reads-push : (v : StoreValue) (xs : List Held) (ps : List Place) (x : Held) (p : Place) → length xs ≡ length ps → AreRead tells v xs ps → IsRead tells v x p → AreRead tells v (xs ++ x ∷ []) (ps ++ p ∷ [])
+  pub reads-push : (v : StoreValue) (xs : List Held) (ps : List Place) (x : Held) (p : Place) → length xs ≡ length ps → AreRead tells v xs ps
+      → IsRead tells v x p → AreRead tells v (xs ++ x ∷ []) (ps ++ p ∷ [])
   reads-push v xs ps x p many are is = record {
     each = λ i y at. elim (get-push xs i x y at) [
       | inl new ↦
@@ -151,11 +162,13 @@ module _ (tells : Bool) where
     ];
   }
 
-  pub reads-plain : (v : StoreValue) (xs : List Held) (ps : List Place) (x : Held) (p : Place) → length xs ≡ length ps → HasNoView (Some x) → AreRead tells v xs ps → AreRead tells v (xs ++ x ∷ []) (ps ++ p ∷ [])
+  pub reads-plain : (v : StoreValue) (xs : List Held) (ps : List Place) (x : Held) (p : Place) → length xs ≡ length ps → HasNoView (Some x)
+      → AreRead tells v xs ps → AreRead tells v (xs ++ x ∷ []) (ps ++ p ∷ [])
   reads-plain v xs ps x p many none are = reads-push v xs ps x p many are (read-plain v x none p)
 
   -- a place that holds no view any more
-  pub reads-set : (v : StoreValue) (xs : List Held) (ps : List Place) (k : ℕ) (x : Held) (p : Place) → HasNoView (Some x) → AreRead tells v xs ps → AreRead tells v (slice_set xs k x) (slice_set ps k p)
+  pub reads-set : (v : StoreValue) (xs : List Held) (ps : List Place) (k : ℕ) (x : Held) (p : Place) → HasNoView (Some x) → AreRead tells v xs ps
+      → AreRead tells v (slice_set xs k x) (slice_set ps k p)
   reads-set v xs ps k x p none are = record {
     each = λ i y at. elim (get-set xs k i x y at) [
       | inl new ↦ subst (λ (z : Held). IsRead tells v z (place_at (slice_set ps k p) i)) (sym new.1) (read-plain v x none (place_at (slice_set ps k p) i))
@@ -192,21 +205,25 @@ shown-no_view v h (held.Transaction t) (Views history floors reclaimed) shows no
 shown-no_view v h (held.Ticket t) (Views history floors reclaimed) shows none = shows
 shown-no_view v h (held.View w) (Views history floors reclaimed) shows none = none
 
-pub no_transaction : (v : TransactionsValue) (h : History Value) (xs : List Held) (ps : List Place) (i : ℕ) → ArePlaces v h xs ps → HasNoTransaction (slice_get xs i) → IsNoTransaction (place_at ps i)
+pub no_transaction : (v : TransactionsValue) (h : History Value) (xs : List Held) (ps : List Place) (i : ℕ) → ArePlaces v h xs ps
+    → HasNoTransaction (slice_get xs i) → IsNoTransaction (place_at ps i)
 no_transaction v h xs ps i are none = by-option (slice_get xs i) refl none
   where
     by-option : (o : Option Held) → slice_get xs i ≡ o → HasNoTransaction o → IsNoTransaction (place_at ps i)
-    by-option None at none = let past = get-past xs i at in let many = are.many in subst (λ (p : Place). IsNoTransaction p) (sym (place-past ps i (omega arith))) tt
+    by-option None at none = let past = get-past xs i at in let many =
+        are.many in subst (λ (p : Place). IsNoTransaction p) (sym (place-past ps i (omega arith))) tt
     by-option (Some x) at none = shown-no_transaction v h x (place_at ps i) (are.each i x at) none
 
-pub no_ticket : (v : TransactionsValue) (h : History Value) (xs : List Held) (ps : List Place) (i : ℕ) → ArePlaces v h xs ps → HasNoTicket (slice_get xs i) → IsNoTicket (place_at ps i)
+pub no_ticket : (v : TransactionsValue) (h : History Value) (xs : List Held) (ps : List Place) (i : ℕ) → ArePlaces v h xs ps → HasNoTicket (slice_get xs i)
+    → IsNoTicket (place_at ps i)
 no_ticket v h xs ps i are none = by-option (slice_get xs i) refl none
   where
     by-option : (o : Option Held) → slice_get xs i ≡ o → HasNoTicket o → IsNoTicket (place_at ps i)
     by-option None at none = let past = get-past xs i at in let many = are.many in subst (λ (p : Place). IsNoTicket p) (sym (place-past ps i (omega arith))) tt
     by-option (Some x) at none = shown-no_ticket v h x (place_at ps i) (are.each i x at) none
 
-pub no_view : (v : TransactionsValue) (h : History Value) (xs : List Held) (ps : List Place) (i : ℕ) → ArePlaces v h xs ps → HasNoView (slice_get xs i) → IsNoView (place_at ps i)
+pub no_view : (v : TransactionsValue) (h : History Value) (xs : List Held) (ps : List Place) (i : ℕ) → ArePlaces v h xs ps → HasNoView (slice_get xs i)
+    → IsNoView (place_at ps i)
 no_view v h xs ps i are none = by-option (slice_get xs i) refl none
   where
     by-option : (o : Option Held) → slice_get xs i ≡ o → HasNoView o → IsNoView (place_at ps i)
@@ -226,19 +243,22 @@ own_ticket v h t (Waits time) shows = shows.0
 own_ticket v h t (Views history floors reclaimed) shows = absurd shows
 
 -- what holds of the place of a transaction holds of the place that is known to hold it
-pub at_transaction : (P : Place → Type 0) (v : TransactionsValue) (h : History Value) (t : TxnValue) (p : Place) → ShowsAs v h (held.Transaction t) p → P (Running t.snapshot t.writes) → P p
+pub at_transaction : (P : Place → Type 0) (v : TransactionsValue) (h : History Value) (t : TxnValue) (p : Place) → ShowsAs v h (held.Transaction t) p
+    → P (Running t.snapshot t.writes) → P p
 at_transaction P v h t Free shows there = absurd shows
 at_transaction P v h t (Running s ws) shows there = let at = shows.1 in let wrote = shows.2 in subst P (λ i. Running (at i) (wrote i)) there
 at_transaction P v h t (Waits time) shows there = absurd shows
 at_transaction P v h t (Views history floors reclaimed) shows there = absurd shows
 
-pub at_ticket : (P : Place → Type 0) (v : TransactionsValue) (h : History Value) (t : TicketValue) (p : Place) → ShowsAs v h (held.Ticket t) p → P (Waits t.time) → P p
+pub at_ticket : (P : Place → Type 0) (v : TransactionsValue) (h : History Value) (t : TicketValue) (p : Place) → ShowsAs v h (held.Ticket t) p
+    → P (Waits t.time) → P p
 at_ticket P v h t Free shows there = absurd shows
 at_ticket P v h t (Running s ws) shows there = absurd shows
 at_ticket P v h t (Waits time) shows there = subst P (ap (λ (n : ℕ). Waits n) shows.1) there
 at_ticket P v h t (Views history floors reclaimed) shows there = absurd shows
 
-pub at_view : (P : Place → Type 0) (v : TransactionsValue) (h : History Value) (w : ViewValue) (p : Place) → ShowsAs v h (held.View w) p → ((history : History Value) (floors : ℕ → ℕ) → w.mark ≡ v.mark → ViewStands w history floors → P (Views history floors w.reclaimed)) → P p
+pub at_view : (P : Place → Type 0) (v : TransactionsValue) (h : History Value) (w : ViewValue) (p : Place) → ShowsAs v h (held.View w) p
+    → ((history : History Value) (floors : ℕ → ℕ) → w.mark ≡ v.mark → ViewStands w history floors → P (Views history floors w.reclaimed)) → P p
 at_view P v h w Free shows there = absurd shows
 at_view P v h w (Running s ws) shows there = absurd shows
 at_view P v h w (Waits time) shows there = absurd shows
@@ -261,12 +281,14 @@ goes_on-more h more rising = record {
 }
 
 -- a run of the machine only publishes more
-pub run-goes_on : (old new : Machine Value) (events : List (Event Value)) → IsMachine IsValue new → Run IsValue old events new → GoesOn old.published new.published
+pub run-goes_on : (old new : Machine Value) (events : List (Event Value)) → IsMachine IsValue new → Run IsValue old events new
+    → GoesOn old.published new.published
 run-goes_on old new events machine run =
     let shows = run-shows IsValue old new events run in
     let front = may_follow-front IsValue [] new.published new.queue machine.history in
     let behind = may_follow-behind IsValue [] old.published shows.0 (subst (λ (h : History Value). MayAllFollow IsValue [] h) shows.1 front) in
-    subst (λ (h : History Value). GoesOn old.published h) (sym shows.1) (goes_on-more old.published shows.0 (rising-from_following IsValue old.published shows.0 behind))
+    subst (λ (h : History Value). GoesOn old.published h) (sym shows.1)
+    (goes_on-more old.published shows.0 (rising-from_following IsValue old.published shows.0 behind))
 
 -- what of the store's a held value needs
 abbrev pub Keeps : TransactionsValue → TransactionsValue → Held → Type 0
@@ -356,7 +378,8 @@ later-cases false first old new goes waits = goes waits
 
 pub awaited-push : (heads : List CommitHead) (head : CommitHead) (time : ℕ) → is_awaited time heads ≡ true → is_awaited time (heads ++ head ∷ []) ≡ true
 awaited-push [] head time waits = absurd cc
-awaited-push (x ∷ xs) head time waits = later-cases (x.time == time) x.awaited (is_awaited time xs) (is_awaited time (xs ++ head ∷ [])) (λ rest. awaited-push xs head time rest) waits
+awaited-push (x ∷ xs) head time waits =
+    later-cases (x.time == time) x.awaited (is_awaited time xs) (is_awaited time (xs ++ head ∷ [])) (λ rest. awaited-push xs head time rest) waits
 
 pub awaited-redeemed : (heads : List CommitHead) (time other : ℕ) → time ≢ other → is_awaited time heads ≡ true → is_awaited time (redeemed other heads) ≡ true
 awaited-redeemed [] time other apart waits = waits
@@ -369,7 +392,8 @@ awaited-redeemed (x ∷ xs) time other apart waits =
           rw (there, here) rest
       | inr differs ↦
           let there : (x.time == other) ≡ false = grind (arith, nat_tests) in
-          rw there (later-cases (x.time == time) x.awaited (is_awaited time xs) (is_awaited time (redeemed other xs)) (λ rest. awaited-redeemed xs time other apart rest) waits)
+          rw there (later-cases (x.time == time) x.awaited (is_awaited time xs) (is_awaited time (redeemed other xs))
+          (λ rest. awaited-redeemed xs time other apart rest) waits)
     ]
 
 last-least : (t : ℕ) (heads : List CommitHead) → IsRisingAfter t heads → t ≤ last_time_after t heads
@@ -387,7 +411,8 @@ awaited-early t time (x ∷ xs) rising waits =
     ]
 
 -- a new ticket of a later time waits
-pub awaited-new : (t : ℕ) (heads : List CommitHead) (time label : ℕ) → IsRisingAfter t heads → last_time_after t heads < time → is_awaited time (heads ++ record { time = time; label = label; awaited = true } ∷ []) ≡ true
+pub awaited-new : (t : ℕ) (heads : List CommitHead) (time label : ℕ) → IsRisingAfter t heads → last_time_after t heads < time
+    → is_awaited time (heads ++ record { time = time; label = label; awaited = true } ∷ []) ≡ true
 awaited-new t [] time label rising later = let test : (time == time) ≡ true = grind (arith, nat_tests) in rw test refl
 awaited-new t (x ∷ xs) time label rising later =
     let test : (x.time == time) ≡ false = let low = last-least x.time xs rising.2 in let less : x.time < time = omega arith in grind (arith, nat_tests) in

@@ -1,5 +1,6 @@
 -- A step of a group.
-use Rattle.std.proofs.Common.{◌≡◌, ℕ, ◌+◌, ◌≤◌, Bool, true, false, List, [], ◌∷◌, ◌++◌, Some, None, Option, Result, Ok, Err, MatchBool, MatchOption, refl, sym, ap, subst, inl, inr, arith}
+use Rattle.std.proofs.Common.{◌≡◌, ℕ, ◌+◌, ◌≤◌, Bool, true, false, List, [], ◌∷◌, ◌++◌, Some, None, Option, Result, Ok, Err, MatchBool, MatchOption, refl, sym}
+use Rattle.std.proofs.Common.{ap, subst, inl, inr, arith}
 use Rattle.std.specs.Prelude.{IsTrue, IfErr, is_some}
 use Rattle.disk.specs.Areas.{AreSound}
 use Rattle.disk.specs.Calls.{counted}
@@ -54,11 +55,13 @@ pump-refused (Err why) = any-fault why
 pub counted-few : (n : ℕ) → counted n ≤ n + 1
 counted-few n = omega arith
 
-wrote-few : (tells : Bool) (o : Option StoredExtent) (old new : StoreValue) (r : Result Did PumpFault) → MatchOption o ⊥ (λ stored. WritesExtent tells stored old r new) → new.disk.made ≤ old.disk.made + 1
+wrote-few : (tells : Bool) (o : Option StoredExtent) (old new : StoreValue) (r : Result Did PumpFault)
+    → MatchOption o ⊥ (λ stored. WritesExtent tells stored old r new) → new.disk.made ≤ old.disk.made + 1
 wrote-few tells None old new r takes = absurd takes
 wrote-few tells (Some stored) old new r takes = omega (arith, takes.call.counts.made, counted-few old.disk.made)
 
-advance-few : (tells : Bool) (o : Option TurnState) (old new : StoreValue) (r : Result Did PumpFault) → MatchOption o ⊥ (λ turn. TurnsSlot tells turn old r new) → new.disk.made ≤ old.disk.made + 1
+advance-few : (tells : Bool) (o : Option TurnState) (old new : StoreValue) (r : Result Did PumpFault) → MatchOption o ⊥ (λ turn. TurnsSlot tells turn old r new)
+    → new.disk.made ≤ old.disk.made + 1
 advance-few tells None old new r takes = absurd takes
 advance-few tells (Some turn) old new r takes = omega (arith, takes.call.counts.made, counted-few old.disk.made)
 
@@ -77,7 +80,8 @@ step-few tells next.AdvanceSlot old new r takes = advance-few tells old.turn old
 pub pump-few : (tells : Bool) (old new : StoreValue) (r : Result Did PumpFault) → Pumps tells old r new → new.disk.made ≤ old.disk.made + 1
 pump-few tells old new r pumps = by-failure old.transactions.failed pumps
   where
-    by-failure : (b : Bool) → MatchBool b ((r ≡ Err pump.Failed) × (new ≡ old)) (TakesStep tells (groups.next_step old.transactions) (started old) r new) → new.disk.made ≤ old.disk.made + 1
+    by-failure : (b : Bool) → MatchBool b ((r ≡ Err pump.Failed) × (new ≡ old)) (TakesStep tells (groups.next_step old.transactions) (started old) r new)
+        → new.disk.made ≤ old.disk.made + 1
     by-failure true is = let same = ap (λ (v : StoreValue). v.disk.made) is.1 in omega (arith, same)
     by-failure false takes = step-few tells (groups.next_step old.transactions) (started old) new r takes
 
@@ -94,24 +98,36 @@ pump-leads tells v v' xs r sound pumps w is =
   where
     places : (h' : History Value) → GoesOn w.machine.published h' → ArePlaces v'.transactions h' (xs ++ held.Nothing ∷ []) (w.places ++ Free ∷ [])
     places h' goes = push_nothing v'.transactions h' xs w.places
-        (move v.transactions v'.transactions w.machine.published h' xs w.places is.places (λ i x p at shows. stays v.transactions v'.transactions w.machine.published h' x p (pump-keeps v.transactions v'.transactions x (pump-leaves tells v v' r pumps)) goes shows))
+        (move v.transactions v'.transactions w.machine.published h' xs w.places is.places
+        (λ i x p at shows. stays v.transactions v'.transactions w.machine.published h' x p
+        (pump-keeps v.transactions v'.transactions x (pump-leaves tells v v' r pumps)) goes shows))
 
     read : AreRead tells v' (xs ++ held.Nothing ∷ []) (w.places ++ Free ∷ [])
-    read = reads-plain tells v' xs w.places held.Nothing Free is.places.many tt (reads-move tells v v' xs w.places (lasting.pump-goes tells v v' r w.machine is.stands pumps) is.views)
+    read = reads-plain tells v' xs w.places held.Nothing Free is.places.many tt
+        (reads-move tells v v' xs w.places (lasting.pump-goes tells v v' r w.machine is.stands pumps) is.views)
 
-    by-failure : (b : Bool) → w.machine.failed ≡ b → IfErr r IsStepFault → MatchBool b ((r ≡ Err pump.Failed) × Stands tells v' w.machine) ((after : Machine Value) × steps.Run IsValue w.machine (begins_in w.machine ++ ends_in w.machine.gate r) after × Stands tells v' after)
+    by-failure : (b : Bool) → w.machine.failed ≡ b → IfErr r IsStepFault
+        → MatchBool b ((r ≡ Err pump.Failed) × Stands tells v' w.machine) ((after : Machine Value)
+        × steps.Run IsValue w.machine (begins_in w.machine ++ ends_in w.machine.gate r) after × Stands tells v' after)
         → (next : World) × Does tells w call.Pump (answer.Pump r) next × Follows w.machine next.machine × IsWorld tells v' (xs ++ held.Nothing ∷ []) next
     by-failure true failed refused did = (
       same w,
-      subst (λ (b : Bool). MatchBool b ((r ≡ Err pump.Failed) × (same w ≡ same w)) ((after : Machine Value) × IfErr r IsStepFault × steps.Run IsValue w.machine (begins_in w.machine ++ ends_in w.machine.gate r) after × (same w ≡ same (moved w after)))) (sym failed) (did.0, refl),
+      subst (λ (b : Bool). MatchBool b ((r ≡ Err pump.Failed) × (same w ≡ same w)) ((after : Machine Value) × IfErr r IsStepFault
+          × steps.Run IsValue w.machine (begins_in w.machine ++ ends_in w.machine.gate r) after × (same w ≡ same (moved w after)))) (sym failed) (did.0, refl),
       no-step w.machine,
       record { stands = did.1; places = places w.machine.published (goes_on-same w.machine.published); views = read },
     )
     by-failure false works refused did = (
       same (moved w did.0),
-      subst (λ (b : Bool). MatchBool b ((r ≡ Err pump.Failed) × (same (moved w did.0) ≡ same w)) ((after : Machine Value) × IfErr r IsStepFault × steps.Run IsValue w.machine (begins_in w.machine ++ ends_in w.machine.gate r) after × (same (moved w did.0) ≡ same (moved w after)))) (sym works) (did.0, refused, did.1, refl),
+      subst (λ (b : Bool). MatchBool b ((r ≡ Err pump.Failed) × (same (moved w did.0) ≡ same w)) ((after : Machine Value) × IfErr r IsStepFault
+          × steps.Run IsValue w.machine (begins_in w.machine ++ ends_in w.machine.gate r) after
+          × (same (moved w did.0) ≡ same (moved w after)))) (sym works) (did.0, refused, did.1, refl),
       (begins_in w.machine ++ ends_in w.machine.gate r, did.1),
-      record { stands = did.2; places = places did.0.published (run-goes_on w.machine did.0 (begins_in w.machine ++ ends_in w.machine.gate r) did.2.machine did.1); views = read },
+      record {
+        stands = did.2;
+        places = places did.0.published (run-goes_on w.machine did.0 (begins_in w.machine ++ ends_in w.machine.gate r) did.2.machine did.1);
+        views = read;
+      },
     )
 
 pub pump-goes : (tells : Bool) (v v' : StoreValue) (xs : List Held) (r : Result Did PumpFault) → (IsTrue tells → AreSound v'.disk.areas) → Pumps tells v r v'

@@ -57,10 +57,16 @@ get-leads : (tells : Bool) (v : StoreValue) (xs : List Held) (i : ℕ) (key : Ke
 get-leads tells v xs i key t r here says w is =
     let h = w.machine.published in
     let shows = is.places.each i (held.Transaction t) here in
-    let own = own_transaction v.transactions h t (place_at w.places i) shows in
-    (same w, at_transaction (λ (p : Place). Gets w key p r (same w)) v.transactions h t (place_at w.places i) shows (by-result r says (sees v.transactions h t key own), refl), no-step w.machine, same-world tells v xs w is)
+    let own = own_transaction v.transactions h t (place_at w.places i) shows in (
+      same w,
+      at_transaction (λ (p : Place). Gets w key p r (same w)) v.transactions h t (place_at w.places i) shows
+          (by-result r says (sees v.transactions h t key own), refl),
+      no-step w.machine,
+      same-world tells v xs w is,
+    )
   where
-    by-result : (o : Result (Option Value) AllocError) → IfOk o (λ value. value ≡ seen_by t key) → {x : Option Value} → seen_by t key ≡ x → IfOk o (λ value. value ≡ x)
+    by-result : (o : Result (Option Value) AllocError) → IfOk o (λ value. value ≡ seen_by t key) → {x : Option Value} → seen_by t key ≡ x
+        → IfOk o (λ value. value ≡ x)
     by-result (Ok value) says is = says ∙ is
     by-result (Err why) says is = tt
 
@@ -71,8 +77,13 @@ scan-leads tells v xs i relation t r here says w is =
     let h = w.machine.published in
     let shows = is.places.each i (held.Transaction t) here in
     let own = own_transaction v.transactions h t (place_at w.places i) shows in
-    let reads : Path (Key → Option Value) (seen_by t) (seen h t.snapshot t.writes) = λ k key. sees v.transactions h t key own k in
-    (same w, at_transaction (λ (p : Place). Scans w relation p r (same w)) v.transactions h t (place_at w.places i) shows (subst (λ (f : Key → Option Value). IfOk r (λ found. IsScan f relation found.items)) reads says, refl), no-step w.machine, same-world tells v xs w is)
+    let reads : Path (Key → Option Value) (seen_by t) (seen h t.snapshot t.writes) = λ k key. sees v.transactions h t key own k in (
+      same w,
+      at_transaction (λ (p : Place). Scans w relation p r (same w)) v.transactions h t (place_at w.places i) shows
+          (subst (λ (f : Key → Option Value). IfOk r (λ found. IsScan f relation found.items)) reads says, refl),
+      no-step w.machine,
+      same-world tells v xs w is,
+    )
 
 pub get-goes : (tells : Bool) (v : StoreValue) (xs : List Held) (i : ℕ) (key : Key) (t : TxnValue) (r : Result (Option Value) AllocError)
     → slice_get xs i ≡ Some (held.Transaction t) → IfOk r (λ value. value ≡ seen_by t key)
@@ -88,11 +99,21 @@ scan-goes tells v xs i relation t r here says =
 -- ---- put and delete
 
 -- a transaction whose writes alone are others
-pub rewritten-places : (v : TransactionsValue) (h : History Value) (xs : List Held) (ps : List Place) (i : ℕ) (t : TxnValue) (ws : List (KeyWrite Value)) → slice_get xs i ≡ Some (held.Transaction t) → ArePlaces v h xs ps
+pub rewritten-places : (v : TransactionsValue) (h : History Value) (xs : List Held) (ps : List Place) (i : ℕ) (t : TxnValue) (ws : List (KeyWrite Value))
+    → slice_get xs i ≡ Some (held.Transaction t) → ArePlaces v h xs ps
     → ArePlaces v h (slice_set xs i (held.Transaction (record t { writes = ws }))) (slice_set ps i (Running t.snapshot ws))
 rewritten-places v h xs ps i t ws here are =
     let own = own_transaction v h t (place_at ps i) (are.each i (held.Transaction t) here) in
-    set v h xs ps i (held.Transaction t) (held.Transaction (record t { writes = ws })) (Running t.snapshot ws) are here (record { mark = own.mark; number = own.number; published = own.published; reads = own.reads }, refl, refl) alike
+    set v h xs ps i (held.Transaction t) (held.Transaction (record t { writes = ws })) (Running t.snapshot ws) are here (
+      record {
+        mark = own.mark;
+        number = own.number;
+        published = own.published;
+        reads = own.reads;
+      },
+      refl,
+      refl,
+    ) alike
   where
     alike : (b : Held) → Clash (held.Transaction (record t { writes = ws })) b → Clash (held.Transaction t) b
     alike held.Nothing clash = clash
@@ -108,17 +129,22 @@ rewrite-leads tells v xs i t t' ws c a here is does w world = (
   same (put w i (Running t.snapshot ws)),
   does w world,
   no-step w.machine,
-  subst (λ (x : TxnValue). IsWorld tells v (slice_set xs i (held.Transaction x) ++ held.Nothing ∷ []) (same (put w i (Running t.snapshot ws)))) (sym is) (record {
-    stands = world.stands;
-    places = push_nothing v.transactions w.machine.published (slice_set xs i (held.Transaction (record t { writes = ws }))) (slice_set w.places i (Running t.snapshot ws))
-        (rewritten-places v.transactions w.machine.published xs w.places i t ws here world.places);
-    views = reads-plain tells v (slice_set xs i (held.Transaction (record t { writes = ws }))) (slice_set w.places i (Running t.snapshot ws)) held.Nothing Free
-        (rewritten-places v.transactions w.machine.published xs w.places i t ws here world.places).many tt (reads-set tells v xs w.places i (held.Transaction (record t { writes = ws })) (Running t.snapshot ws) tt world.views);
-  }),
+  subst (λ (x : TxnValue). IsWorld tells v (slice_set xs i (held.Transaction x) ++ held.Nothing
+      ∷ []) (same (put w i (Running t.snapshot ws)))) (sym is) (record {
+        stands = world.stands;
+        places = push_nothing v.transactions w.machine.published (slice_set xs i (held.Transaction (record t { writes = ws })))
+            (slice_set w.places i (Running t.snapshot ws))
+            (rewritten-places v.transactions w.machine.published xs w.places i t ws here world.places);
+        views = reads-plain tells v (slice_set xs i (held.Transaction (record t { writes = ws }))) (slice_set w.places i (Running t.snapshot ws)) held.Nothing Free
+            (rewritten-places v.transactions w.machine.published xs w.places i t ws here world.places).many tt
+            (reads-set tells v xs w.places i (held.Transaction (record t { writes = ws })) (Running t.snapshot ws) tt world.views);
+      }),
 )
 
-put-leads : (tells : Bool) (v : StoreValue) (xs : List Held) (i : ℕ) (key : Key) (fields : Bor (List (Bor (List ℕ)))) (t t' : TxnValue) (r : Result (Unit {0}) TxnFault) → slice_get xs i ≡ Some (held.Transaction t)
-    → OnOk r (t' ≡ with_put t key (map (λ (field : Bor (List ℕ)). field.now) fields.now)) → r ≢ Err fault.Missing → (r ≡ Err fault.TooManyKeys) ↔ IsFullFor t.writes key
+put-leads : (tells : Bool) (v : StoreValue) (xs : List Held) (i : ℕ) (key : Key) (fields : Bor (List (Bor (List ℕ)))) (t t' : TxnValue)
+    (r : Result (Unit {0}) TxnFault) → slice_get xs i ≡ Some (held.Transaction t)
+    → OnOk r (t' ≡ with_put t key (map (λ (field : Bor (List ℕ)). field.now) fields.now)) → r ≢ Err fault.Missing → (r ≡ Err fault.TooManyKeys)
+    ↔ IsFullFor t.writes key
     → (r ≡ Err fault.BadValue) ↔ ((¬ IsFullFor t.writes key) × (¬ HasSizes (map (λ (field : Bor (List ℕ)). field.now) fields.now))) → OnErr r (t' ≡ t)
     → Leads tells v xs (call.Put i key fields) (answer.Put r) v (slice_set xs i (held.Transaction t') ++ held.Nothing ∷ [])
 put-leads tells v xs i key fields t t' r here ok missing too_many bad err = by-result r ok missing too_many bad err
@@ -126,43 +152,59 @@ put-leads tells v xs i key fields t t' r here ok missing too_many bad err = by-r
     value : Value
     value = map (λ (field : Bor (List ℕ)). field.now) fields.now
 
-    at-place : (o : Result (Unit {0}) TxnFault) (ws : List (KeyWrite Value)) → PutSays t.writes key value o ws → (w : World) → IsWorld tells v xs w → Puts w i key value (place_at w.places i) o (same (put w i (Running t.snapshot ws)))
+    at-place : (o : Result (Unit {0}) TxnFault) (ws : List (KeyWrite Value)) → PutSays t.writes key value o ws → (w : World) → IsWorld tells v xs w
+        → Puts w i key value (place_at w.places i) o (same (put w i (Running t.snapshot ws)))
     at-place o ws says w is =
-        at_transaction (λ (p : Place). Puts w i key value p o (same (put w i (Running t.snapshot ws)))) v.transactions w.machine.published t (place_at w.places i) (is.places.each i (held.Transaction t) here) (ws, says, refl)
+        at_transaction (λ (p : Place). Puts w i key value p o (same (put w i (Running t.snapshot ws)))) v.transactions w.machine.published t
+        (place_at w.places i) (is.places.each i (held.Transaction t) here) (ws, says, refl)
 
-    by-result : (o : Result (Unit {0}) TxnFault) → OnOk o (t' ≡ with_put t key value) → o ≢ Err fault.Missing → (o ≡ Err fault.TooManyKeys) ↔ IsFullFor t.writes key → (o ≡ Err fault.BadValue) ↔ ((¬ IsFullFor t.writes key) × (¬ HasSizes value)) → OnErr o (t' ≡ t)
+    by-result : (o : Result (Unit {0}) TxnFault) → OnOk o (t' ≡ with_put t key value) → o ≢ Err fault.Missing → (o ≡ Err fault.TooManyKeys)
+        ↔ IsFullFor t.writes key → (o ≡ Err fault.BadValue) ↔ ((¬ IsFullFor t.writes key) × (¬ HasSizes value)) → OnErr o (t' ≡ t)
         → Leads tells v xs (call.Put i key fields) (answer.Put o) v (slice_set xs i (held.Transaction t') ++ held.Nothing ∷ [])
     by-result (Ok u) ok missing too_many bad err =
         let ws : List (KeyWrite Value) = with_write t.writes (record { key = key; write = Some value }) in
-        rewrite-leads tells v xs i t t' ws (call.Put i key fields) (answer.Put (Ok u)) here ok (at-place (Ok u) ws (record { ok = refl; missing = missing; too_many = too_many; bad = bad; err = tt }))
+        rewrite-leads tells v xs i t t' ws (call.Put i key fields) (answer.Put (Ok u)) here ok
+        (at-place (Ok u) ws (record { ok = refl; missing = missing; too_many = too_many; bad = bad; err = tt }))
     by-result (Err why) ok missing too_many bad err =
-        rewrite-leads tells v xs i t t' t.writes (call.Put i key fields) (answer.Put (Err why)) here err (at-place (Err why) t.writes (record { ok = tt; missing = missing; too_many = too_many; bad = bad; err = refl }))
+        rewrite-leads tells v xs i t t' t.writes (call.Put i key fields) (answer.Put (Err why)) here err
+        (at-place (Err why) t.writes (record { ok = tt; missing = missing; too_many = too_many; bad = bad; err = refl }))
 
 delete-leads : (tells : Bool) (v : StoreValue) (xs : List Held) (i : ℕ) (key : Key) (t t' : TxnValue) (r : Result (Unit {0}) TxnFault)
     → slice_get xs i ≡ Some (held.Transaction t)
-    → OnOk r (t' ≡ with_delete t key) → (r ≡ Err fault.Missing) ↔ (seen_by t key ≡ None) → (r ≡ Err fault.TooManyKeys) ↔ (IsSome (seen_by t key) × IsFullFor t.writes key) → r ≢ Err fault.BadValue → OnErr r (t' ≡ t)
+    → OnOk r (t' ≡ with_delete t key) → (r ≡ Err fault.Missing) ↔ (seen_by t key ≡ None) → (r ≡ Err fault.TooManyKeys)
+    ↔ (IsSome (seen_by t key) × IsFullFor t.writes key) → r ≢ Err fault.BadValue → OnErr r (t' ≡ t)
     → Leads tells v xs (call.Delete i key) (answer.Delete r) v (slice_set xs i (held.Transaction t') ++ held.Nothing ∷ [])
 delete-leads tells v xs i key t t' r here ok missing too_many bad err = by-result r ok missing too_many bad err
   where
-    at-place : (o : Result (Unit {0}) TxnFault) (ws : List (KeyWrite Value)) → DeleteSays (at_snapshot t.state t.snapshot key) (seen_by t key) t.writes key o ws → (w : World) → IsWorld tells v xs w
+    at-place : (o : Result (Unit {0}) TxnFault) (ws : List (KeyWrite Value)) → DeleteSays (at_snapshot t.state t.snapshot key) (seen_by t key) t.writes key o ws
+        → (w : World) → IsWorld tells v xs w
         → Deletes w i key (place_at w.places i) o (same (put w i (Running t.snapshot ws)))
     at-place o ws says w is =
         let h = w.machine.published in
         let shows = is.places.each i (held.Transaction t) here in
         let own = own_transaction v.transactions h t (place_at w.places i) shows in
-        let by_history : DeleteSays (state h t.snapshot key) (seen h t.snapshot t.writes key) t.writes key o ws = subst (λ (x : Option Value). DeleteSays x (unwrap_or (write_in t.writes key) x) t.writes key o ws) (own.reads key) says in
-        at_transaction (λ (p : Place). Deletes w i key p o (same (put w i (Running t.snapshot ws)))) v.transactions h t (place_at w.places i) shows (ws, by_history, refl)
+        let by_history : DeleteSays (state h t.snapshot key) (seen h t.snapshot t.writes key) t.writes key o ws =
+        subst (λ (x : Option Value). DeleteSays x (unwrap_or (write_in t.writes key) x) t.writes key o ws) (own.reads key) says in
+        at_transaction (λ (p : Place). Deletes w i key p o (same (put w i (Running t.snapshot ws)))) v.transactions h t (place_at w.places i) shows (
+          ws,
+          by_history,
+          refl,
+        )
 
-    by-result : (o : Result (Unit {0}) TxnFault) → OnOk o (t' ≡ with_delete t key) → (o ≡ Err fault.Missing) ↔ (seen_by t key ≡ None) → (o ≡ Err fault.TooManyKeys) ↔ (IsSome (seen_by t key) × IsFullFor t.writes key) → o ≢ Err fault.BadValue → OnErr o (t' ≡ t)
+    by-result : (o : Result (Unit {0}) TxnFault) → OnOk o (t' ≡ with_delete t key) → (o ≡ Err fault.Missing) ↔ (seen_by t key ≡ None)
+        → (o ≡ Err fault.TooManyKeys) ↔ (IsSome (seen_by t key) × IsFullFor t.writes key) → o ≢ Err fault.BadValue → OnErr o (t' ≡ t)
         → Leads tells v xs (call.Delete i key) (answer.Delete o) v (slice_set xs i (held.Transaction t') ++ held.Nothing ∷ [])
     by-result (Ok u) ok missing too_many bad err =
-        rewrite-leads tells v xs i t t' (writes_after_delete t key) (call.Delete i key) (answer.Delete (Ok u)) here ok (at-place (Ok u) (writes_after_delete t key) (record { ok = refl; missing = missing; too_many = too_many; bad = bad; err = tt }))
+        rewrite-leads tells v xs i t t' (writes_after_delete t key) (call.Delete i key) (answer.Delete (Ok u)) here ok
+        (at-place (Ok u) (writes_after_delete t key) (record { ok = refl; missing = missing; too_many = too_many; bad = bad; err = tt }))
     by-result (Err why) ok missing too_many bad err =
-        rewrite-leads tells v xs i t t' t.writes (call.Delete i key) (answer.Delete (Err why)) here err (at-place (Err why) t.writes (record { ok = tt; missing = missing; too_many = too_many; bad = bad; err = refl }))
+        rewrite-leads tells v xs i t t' t.writes (call.Delete i key) (answer.Delete (Err why)) here err
+        (at-place (Err why) t.writes (record { ok = tt; missing = missing; too_many = too_many; bad = bad; err = refl }))
 
 -- ---- as the transaction's own clauses say
 
-pub put-goes : (tells : Bool) (v : StoreValue) (xs : List Held) (i : ℕ) (key : Key) (fields : Bor (List (Bor (List ℕ)))) (t t' : TxnValue) (r : Result (Unit {0}) TxnFault) → slice_get xs i ≡ Some (held.Transaction t)
+pub put-goes : (tells : Bool) (v : StoreValue) (xs : List Held) (i : ℕ) (key : Key) (fields : Bor (List (Bor (List ℕ)))) (t t' : TxnValue)
+    (r : Result (Unit {0}) TxnFault) → slice_get xs i ≡ Some (held.Transaction t)
     → OnOk r (t' ≡ with_put t key (map (λ (field : Bor (List ℕ)). field.now) fields.now)) → r ≢ Err fault.Missing
     → (r ≡ Err fault.TooManyKeys) ↔ IsFullFor t.writes key
     → (r ≡ Err fault.BadValue) ↔ ((¬ IsFullFor t.writes key) × (¬ HasSizes (map (λ (field : Bor (List ℕ)). field.now) fields.now))) → OnErr r (t' ≡ t)

@@ -35,7 +35,8 @@ use Rattle.run.specs.Worlds.{World, IsWorld, leaves, put, moved}
 use Rattle.run.specs.Runs.{Does, Goes, Leads, Submits, Follows}
 use Rattle.run.specs.Runs as told
 use Rattle.law_refinement.proofs.Whole.{rest-goes}
-use Rattle.run.proofs.Places.{reads-move, reads-plain, reads-set, push, push_nothing, move, own_transaction, own_ticket, at_transaction, goes_on-same, run-goes_on, Keeps, stays, awaited-push, awaited-early, awaited-new}
+use Rattle.run.proofs.Places.{reads-move, reads-plain, reads-set, push, push_nothing, move, own_transaction, own_ticket, at_transaction, goes_on-same}
+use Rattle.run.proofs.Places.{run-goes_on, Keeps, stays, awaited-push, awaited-early, awaited-new}
 use Rattle.run.proofs.Steps.{own-is, over-places}
 
 -- the last is later than those before it
@@ -50,7 +51,8 @@ queued-keeps v label time t numbers (held.Ticket u) = (refl, λ waits. awaited-p
 queued-keeps v label time t numbers (held.View u) = refl
 
 -- a ticket of a later time is no other's
-later-apart : (v : TransactionsValue) (h : History Value) (ticket : TicketValue) (b : Held) (p : Place) → IsRisingAfter 0 v.heads → last_time v.heads < ticket.time → ShowsAs v h b p → Clash (held.Ticket ticket) b → ⊥
+later-apart : (v : TransactionsValue) (h : History Value) (ticket : TicketValue) (b : Held) (p : Place) → IsRisingAfter 0 v.heads
+    → last_time v.heads < ticket.time → ShowsAs v h b p → Clash (held.Ticket ticket) b → ⊥
 later-apart v h ticket held.Nothing p rising later shows clash = clash
 later-apart v h ticket (held.Transaction u) p rising later shows clash = clash
 later-apart v h ticket (held.Ticket u) p rising later shows clash =
@@ -73,35 +75,53 @@ submit-leads tells v v' xs i t label now r here are range submits w is =
     let places = over-places v.transactions m.published did.0.published xs w.places i t here goes is.places in
     by-result r left did.0 did.1 did.2 shows places
   where
-    by-own : (b : Bool) → b ≡ true → MatchBool b ((after : Machine Value) × Step IsValue w.machine (event_of w.machine (submission_of t label now) r) after × Stands tells v' after) (Stands tells v' w.machine)
+    by-own : (b : Bool) → b ≡ true
+        → MatchBool b ((after : Machine Value) × Step IsValue w.machine (event_of w.machine (submission_of t label now) r) after
+        × Stands tells v' after) (Stands tells v' w.machine)
         → (after : Machine Value) × Step IsValue w.machine (event_of w.machine (submission_of t label now) r) after × Stands tells v' after
     by-own true mine did = did
     by-own false mine did = absurd cc
 
-    by-over : (b : Bool) → b ≡ true → MatchBool b (SubmitsOwn (over v.transactions t.number) t label now r v'.transactions) ((r ≡ Err refused.Stranger) × (v'.transactions ≡ v.transactions)) → SubmitsOwn (over v.transactions t.number) t label now r v'.transactions
+    by-over : (b : Bool) → b ≡ true
+        → MatchBool b (SubmitsOwn (over v.transactions t.number) t label now r v'.transactions) ((r ≡ Err refused.Stranger)
+        × (v'.transactions ≡ v.transactions)) → SubmitsOwn (over v.transactions t.number) t label now r v'.transactions
     by-over true mine did = did
     by-over false mine did = absurd cc
 
     -- it is over, and leaves nothing
-    nothing : (said : Result SubmitOutcome SubmitFault) (event : Event Value) (after : Machine Value) → Step IsValue w.machine event after → Stands tells v' after → ShowsAs v.transactions w.machine.published (held.Transaction t) (place_at w.places i)
-        → ArePlaces (over v.transactions t.number) after.published (slice_set xs i held.Nothing) (slice_set w.places i Free) → v'.transactions ≡ over v.transactions t.number → told.Submitted w.machine (submission_of t label now) said event Free
-        → (next : World) × Submits w i label now (place_at w.places i) said next × Follows w.machine next.machine × IsWorld tells v' (slice_set xs i held.Nothing ++ held.Nothing ∷ []) next
+    nothing : (said : Result SubmitOutcome SubmitFault) (event : Event Value) (after : Machine Value) → Step IsValue w.machine event after
+        → Stands tells v' after → ShowsAs v.transactions w.machine.published (held.Transaction t) (place_at w.places i)
+        → ArePlaces (over v.transactions t.number) after.published (slice_set xs i held.Nothing) (slice_set w.places i Free) → v'.transactions
+        ≡ over v.transactions t.number → told.Submitted w.machine (submission_of t label now) said event Free
+        → (next : World) × Submits w i label now (place_at w.places i) said next × Follows w.machine next.machine
+        × IsWorld tells v' (slice_set xs i held.Nothing ++ held.Nothing ∷ []) next
     nothing said event after step stands shows places same says = (
       leaves (put (moved w after) i Free) Free,
-      at_transaction (λ (p : Place). Submits w i label now p said (leaves (put (moved w after) i Free) Free)) v.transactions w.machine.published t (place_at w.places i) shows (event, after, Free, says, step, refl),
+      at_transaction (λ (p : Place). Submits w i label now p said (leaves (put (moved w after) i Free) Free)) v.transactions w.machine.published t
+          (place_at w.places i) shows (event, after, Free, says, step, refl),
       (event ∷ [], (after, step, refl)),
       record {
         stands = stands;
-        places = push_nothing v'.transactions after.published (slice_set xs i held.Nothing) (slice_set w.places i Free) (subst (λ (u : TransactionsValue). ArePlaces u after.published (slice_set xs i held.Nothing) (slice_set w.places i Free)) (sym same) places);
-        views = reads-plain tells v' (slice_set xs i held.Nothing) (slice_set w.places i Free) held.Nothing Free places.many tt (reads-set tells v' xs w.places i held.Nothing Free tt (reads-move tells v v' xs w.places (rest-goes tells v v' submits.rest (ap (λ (t : TransactionsValue). t.mark) same)) is.views));
+        places = push_nothing v'.transactions after.published (slice_set xs i held.Nothing) (slice_set w.places i Free)
+            (subst (λ (u : TransactionsValue). ArePlaces u after.published (slice_set xs i held.Nothing) (slice_set w.places i Free)) (sym same) places);
+        views = reads-plain tells v' (slice_set xs i held.Nothing) (slice_set w.places i Free) held.Nothing Free places.many tt
+            (reads-set tells v' xs w.places i held.Nothing Free tt
+            (reads-move tells v v' xs w.places (rest-goes tells v v' submits.rest (ap (λ (t : TransactionsValue). t.mark) same)) is.views));
       },
     )
 
-    by-result : (o : Result Submitted SubmitFault) → LeftBySubmit (over v.transactions t.number) t label o v'.transactions → (after : Machine Value) → Step IsValue w.machine (event_of w.machine (submission_of t label now) o) after → Stands tells v' after
-        → ShowsAs v.transactions w.machine.published (held.Transaction t) (place_at w.places i) → ArePlaces (over v.transactions t.number) after.published (slice_set xs i held.Nothing) (slice_set w.places i Free)
-        → (next : World) × Does tells w (call.Submit i label now) (submit_answer o).0 next × Follows w.machine next.machine × IsWorld tells v' (slice_set xs i held.Nothing ++ (submit_answer o).1 ∷ []) next
+    by-result : (o : Result Submitted SubmitFault) → LeftBySubmit (over v.transactions t.number) t label o v'.transactions → (after : Machine Value)
+        → Step IsValue w.machine (event_of w.machine (submission_of t label now) o) after → Stands tells v' after
+        → ShowsAs v.transactions w.machine.published (held.Transaction t) (place_at w.places i)
+        → ArePlaces (over v.transactions t.number) after.published (slice_set xs i held.Nothing) (slice_set w.places i Free)
+        → (next : World) × Does tells w (call.Submit i label now) (submit_answer o).0 next × Follows w.machine next.machine
+        × IsWorld tells v' (slice_set xs i held.Nothing ++ (submit_answer o).1 ∷ []) next
     by-result (Ok (submitted.ReadOnly snapshot)) left after step stands shows places =
-        nothing (Ok (outcome.ReadOnly snapshot)) (Decided (submission_of t label now) submissions.Reads) after step stands shows places left.1 (left.0, refl, refl)
+        nothing (Ok (outcome.ReadOnly snapshot)) (Decided (submission_of t label now) submissions.Reads) after step stands shows places left.1 (
+          left.0,
+          refl,
+          refl,
+        )
     by-result (Ok (submitted.Queued ticket)) left after step stands shows places =
         let m = w.machine in
         let s = submission_of t label now in
@@ -109,29 +129,48 @@ submit-leads tells v v' xs i t label now r here are range submits w is =
         let joins = left.1 in
         let new = with_queued old label ticket.time t.writes joins.numbers in
         let head : CommitHead = record { time = ticket.time; label = label; awaited = true } in
-        let rising_new : IsRisingAfter 0 (old.heads ++ head ∷ []) = subst (λ (u : TransactionsValue). IsRisingAfter 0 u.heads) joins.new_is stands.memory.rising in
+        let rising_new : IsRisingAfter 0 (old.heads ++ head ∷ []) =
+        subst (λ (u : TransactionsValue). IsRisingAfter 0 u.heads) joins.new_is stands.memory.rising in
         let later = rising-later 0 old.heads head rising_new in
         let time = ticket-time old v'.transactions m after t label now ticket joins stands.memory step in
-        let kept = move old new after.published after.published (slice_set xs i held.Nothing) (slice_set w.places i Free) places (λ j x p at shown. stays old new after.published after.published x p (queued-keeps old label ticket.time t joins.numbers x) (goes_on-same after.published) shown) in
+        let kept =
+        move old new after.published after.published (slice_set xs i held.Nothing) (slice_set w.places i Free) places
+        (λ j x p at shown. stays old new after.published after.published x p (queued-keeps old label ticket.time t joins.numbers x)
+        (goes_on-same after.published) shown) in
         let own : IsOwnTicket new ticket = record { mark = left.0; awaited = awaited-new 0 old.heads ticket.time label is.stands.memory.rising later } in
-        let pushed = push new after.published (slice_set xs i held.Nothing) (slice_set w.places i Free) (held.Ticket ticket) (Waits (commit_made m s).time) kept (own, time)
-        (λ j b at clash. later-apart old after.published ticket b (place_at (slice_set w.places i Free) j) is.stands.memory.rising later (places.each j b at) clash) in (
+        let pushed =
+        push new after.published (slice_set xs i held.Nothing) (slice_set w.places i Free) (held.Ticket ticket) (Waits (commit_made m s).time) kept (
+          own,
+          time,
+        )
+        (λ j b at clash. later-apart old after.published ticket b (place_at (slice_set w.places i Free) j) is.stands.memory.rising later (places.each j b at)
+        clash) in (
           leaves (put (moved w after) i Free) (Waits (commit_made m s).time),
-          at_transaction (λ (p : Place). Submits w i label now p (Ok outcome.Queued) (leaves (put (moved w after) i Free) (Waits (commit_made m s).time))) v.transactions w.machine.published t (place_at w.places i) shows
+          at_transaction (λ (p : Place). Submits w i label now p (Ok outcome.Queued) (leaves (put (moved w after) i Free) (Waits (commit_made m s).time)))
+              v.transactions w.machine.published t (place_at w.places i) shows
               (Decided s (submissions.Queues (commit_made m s)), after, Waits (commit_made m s).time, (refl, refl), step, refl),
           (Decided s (submissions.Queues (commit_made m s)) ∷ [], (after, step, refl)),
           record {
             stands = stands;
-            places = subst (λ (u : TransactionsValue). ArePlaces u after.published (slice_set xs i held.Nothing ++ held.Ticket ticket ∷ []) (slice_set w.places i Free ++ Waits (commit_made m s).time ∷ [])) (sym joins.new_is) pushed;
-            views = reads-plain tells v' (slice_set xs i held.Nothing) (slice_set w.places i Free) (held.Ticket ticket) (Waits (commit_made m s).time) places.many tt (reads-set tells v' xs w.places i held.Nothing Free tt (reads-move tells v v' xs w.places (rest-goes tells v v' submits.rest (ap (λ (t : TransactionsValue). t.mark) joins.new_is)) is.views));
+            places = subst (λ (u : TransactionsValue). ArePlaces u after.published (slice_set xs i held.Nothing ++ held.Ticket ticket
+                ∷ []) (slice_set w.places i Free ++ Waits (commit_made m s).time ∷ [])) (sym joins.new_is) pushed;
+            views = reads-plain tells v' (slice_set xs i held.Nothing) (slice_set w.places i Free) (held.Ticket ticket) (Waits (commit_made m s).time)
+                places.many tt (reads-set tells v' xs w.places i held.Nothing Free tt
+                (reads-move tells v v' xs w.places (rest-goes tells v v' submits.rest (ap (λ (t : TransactionsValue). t.mark) joins.new_is)) is.views));
           },
         )
-    by-result (Err (refused.Conflict key)) left after step stands shows places = nothing (Err (refused.Conflict key)) (Decided (submission_of t label now) (submissions.Conflicts key)) after step stands shows places left (refl, refl)
-    by-result (Err refused.HeapFull) left after step stands shows places = nothing (Err refused.HeapFull) (steps.Refused (submission_of t label now) steps.NoRoom) after step stands shows places left (refl, refl)
-    by-result (Err refused.StatusFull) left after step stands shows places = nothing (Err refused.StatusFull) (steps.Refused (submission_of t label now) steps.NoRoom) after step stands shows places left (refl, refl)
-    by-result (Err refused.ClockEnd) left after step stands shows places = nothing (Err refused.ClockEnd) (Decided (submission_of t label now) submissions.Ends) after step stands shows places left (refl, refl)
-    by-result (Err refused.NoMemory) left after step stands shows places = nothing (Err refused.NoMemory) (steps.Refused (submission_of t label now) steps.NoMemory) after step stands shows places left (refl, refl)
-    by-result (Err refused.Failed) left after step stands shows places = nothing (Err refused.Failed) (steps.Refused (submission_of t label now) steps.Failed) after step stands shows places left (refl, refl)
+    by-result (Err (refused.Conflict key)) left after step stands shows places =
+        nothing (Err (refused.Conflict key)) (Decided (submission_of t label now) (submissions.Conflicts key)) after step stands shows places left (refl, refl)
+    by-result (Err refused.HeapFull) left after step stands shows places =
+        nothing (Err refused.HeapFull) (steps.Refused (submission_of t label now) steps.NoRoom) after step stands shows places left (refl, refl)
+    by-result (Err refused.StatusFull) left after step stands shows places =
+        nothing (Err refused.StatusFull) (steps.Refused (submission_of t label now) steps.NoRoom) after step stands shows places left (refl, refl)
+    by-result (Err refused.ClockEnd) left after step stands shows places =
+        nothing (Err refused.ClockEnd) (Decided (submission_of t label now) submissions.Ends) after step stands shows places left (refl, refl)
+    by-result (Err refused.NoMemory) left after step stands shows places =
+        nothing (Err refused.NoMemory) (steps.Refused (submission_of t label now) steps.NoMemory) after step stands shows places left (refl, refl)
+    by-result (Err refused.Failed) left after step stands shows places =
+        nothing (Err refused.Failed) (steps.Refused (submission_of t label now) steps.Failed) after step stands shows places left (refl, refl)
     by-result (Err refused.Stranger) left after step stands shows places = absurd left
 
 pub submit-goes : (tells : Bool) (v v' : StoreValue) (xs : List Held) (i : ℕ) (t : TxnValue) (label now : ℕ) (r : Result Submitted SubmitFault)

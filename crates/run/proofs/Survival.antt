@@ -22,7 +22,8 @@ use Rattle.run.specs.Promise.{IsKeptAs, IsKeptWith, Leaves}
 use Rattle.run.proofs.Acknowledging.{more-have}
 
 -- an image that stands for a history is kept as it
-pub kept-as : (tells : Bool) (header : Header) (image : Image) (h : History Value) (floors : ℕ → ℕ) → IsTrue tells → IsImageOf header image h floors → IsKeptAs tells image h floors
+pub kept-as : (tells : Bool) (header : Header) (image : Image) (h : History Value) (floors : ℕ → ℕ) → IsTrue tells → IsImageOf header image h floors
+    → IsKeptAs tells image h floors
 kept-as tells header image h floors told is = record {
   header = header;
   stands = is;
@@ -36,7 +37,8 @@ kept-as tells header image h floors told is = record {
 
 -- ---- fronts
 
-module _ (tells : Bool) (header : Header) (image : Image) (m : Machine Value) (done : List ℕ) (told : IsTrue tells) (published : AllByRecursion (HasCommitAt m.published) done) where
+module _ (tells : Bool) (header : Header) (image : Image) (m : Machine Value) (done : List ℕ) (told : IsTrue tells)
+    (published : AllByRecursion (HasCommitAt m.published) done) where
   on-raised : (o : Option Raising) → OnRaised (IsImageOf header image) m o → OnRaised (IsKeptWith tells image done) m o
   on-raised None on = on
   on-raised (Some r) on = record { kept = kept-as tells header image _ _ told on; acknowledged = published }
@@ -44,7 +46,8 @@ module _ (tells : Bool) (header : Header) (image : Image) (m : Machine Value) (d
   on-opened : (gate : Gate) → OnOpened (IsImageOf header image) m gate → OnOpened (IsKeptWith tells image done) m gate
   on-opened Shut on = on
   on-opened (Due change) on = on
-  on-opened (MayBeOpen OfGroup) on = record { kept = kept-as tells header image _ _ told on; acknowledged = more-have m.published (take m.group m.queue) done published }
+  on-opened (MayBeOpen OfGroup) on =
+      record { kept = kept-as tells header image _ _ told on; acknowledged = more-have m.published (take m.group m.queue) done published }
   on-opened (MayBeOpen OfFloor) on = on-raised m.raising on
 
   on-front : OnFront (IsImageOf header image) m → OnFront (IsKeptWith tells image done) m

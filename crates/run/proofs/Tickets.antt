@@ -26,9 +26,11 @@ use Rattle.run.specs.Runs.{Does, Goes, Leads, Redeems, GivesUp, Follows}
 use Rattle.run.proofs.Runs.{no-step}
 use Rattle.run.proofs.Lists.{set-get}
 use Rattle.law_refinement.proofs.Whole.{rest-goes}
-use Rattle.run.proofs.Places.{reads-move, reads-plain, reads-set, push_nothing, free, move, freed_apart, own_ticket, at_ticket, goes_on-same, Keeps, stays, awaited-redeemed}
+use Rattle.run.proofs.Places.{reads-move, reads-plain, reads-set, push_nothing, free, move, freed_apart, own_ticket, at_ticket, goes_on-same, Keeps, stays}
+use Rattle.run.proofs.Places.{awaited-redeemed}
 
-redeemed-keeps : (v : TransactionsValue) (k : TicketValue) (x : Held) → (Clash (held.Ticket k) x → ⊥) → Keeps v (record v { heads = orders.redeemed k.time v.heads }) x
+redeemed-keeps : (v : TransactionsValue) (k : TicketValue) (x : Held) → (Clash (held.Ticket k) x → ⊥)
+    → Keeps v (record v { heads = orders.redeemed k.time v.heads }) x
 redeemed-keeps v k held.Nothing apart = tt
 redeemed-keeps v k (held.Transaction t) apart = (refl, refl)
 redeemed-keeps v k (held.Ticket t) apart = (refl, λ waits. awaited-redeemed v.heads t.time k.time (λ same. apart (sym same)) waits)
@@ -43,34 +45,48 @@ redeem-leads tells v v' xs i k r here redeems w is =
     let did = redeem-stands tells v v' k r w.machine is.stands redeems in
     let left = redeeming v.transactions v'.transactions k r redeems.transactions in
     let freed = free v.transactions h xs w.places i (held.Ticket k) is.places here in
-    let moved = move v.transactions (record v.transactions { heads = orders.redeemed k.time v.transactions.heads }) h h (slice_set xs i held.Nothing) (slice_set w.places i Free) freed
-    (λ j x p at shown. stays v.transactions (record v.transactions { heads = orders.redeemed k.time v.transactions.heads }) h h x p (redeemed-keeps v.transactions k x (λ clash. freed_apart v.transactions h xs w.places i (held.Ticket k) is.places here j x at clash)) (goes_on-same h) shown) in
+    let moved =
+    move v.transactions (record v.transactions { heads = orders.redeemed k.time v.transactions.heads }) h h (slice_set xs i held.Nothing)
+    (slice_set w.places i Free) freed
+    (λ j x p at shown. stays v.transactions (record v.transactions { heads = orders.redeemed k.time v.transactions.heads }) h h x p
+    (redeemed-keeps v.transactions k x (λ clash. freed_apart v.transactions h xs w.places i (held.Ticket k) is.places here j x at clash)) (goes_on-same h)
+    shown) in
     by-result r left did.0 shows did.1 freed moved
   where
-    by-result : (o : Redeemed) → LeftByRedeem v.transactions k o v'.transactions → RedeemsAs (answers.redeemed_by w.machine k.time) o → ShowsAs v.transactions w.machine.published (held.Ticket k) (place_at w.places i) → Stands tells v' w.machine
+    by-result : (o : Redeemed) → LeftByRedeem v.transactions k o v'.transactions → RedeemsAs (answers.redeemed_by w.machine k.time) o
+        → ShowsAs v.transactions w.machine.published (held.Ticket k) (place_at w.places i) → Stands tells v' w.machine
         → ArePlaces v.transactions w.machine.published (slice_set xs i held.Nothing) (slice_set w.places i Free)
-        → ArePlaces (record v.transactions { heads = orders.redeemed k.time v.transactions.heads }) w.machine.published (slice_set xs i held.Nothing) (slice_set w.places i Free)
-        → (next : World) × Does tells w (call.Redeem i) (redeem_answer o).0 next × Follows w.machine next.machine × IsWorld tells v' (slice_set xs i (redeem_answer o).1 ++ held.Nothing ∷ []) next
+        → ArePlaces (record v.transactions { heads = orders.redeemed k.time v.transactions.heads }) w.machine.published (slice_set xs i held.Nothing)
+        (slice_set w.places i Free)
+        → (next : World) × Does tells w (call.Redeem i) (redeem_answer o).0 next × Follows w.machine next.machine
+        × IsWorld tells v' (slice_set xs i (redeem_answer o).1 ++ held.Nothing ∷ []) next
     by-result (redeemed.Done time) left says shows stands freed moved = (
       spent w i,
       at_ticket (λ (p : Place). Redeems w i p (told.Done time) (spent w i)) v.transactions w.machine.published k (place_at w.places i) shows (says, refl),
       no-step w.machine,
       record {
         stands = stands;
-        places = push_nothing v'.transactions w.machine.published (slice_set xs i held.Nothing) (slice_set w.places i Free) (subst (λ (t : TransactionsValue). ArePlaces t w.machine.published (slice_set xs i held.Nothing) (slice_set w.places i Free)) (sym left.3) moved);
-        views = reads-plain tells v' (slice_set xs i held.Nothing) (slice_set w.places i Free) held.Nothing Free moved.many tt (reads-set tells v' xs w.places i held.Nothing Free tt (reads-move tells v v' xs w.places (rest-goes tells v v' redeems.rest (ap (λ (t : TransactionsValue). t.mark) left.3)) is.views));
+        places = push_nothing v'.transactions w.machine.published (slice_set xs i held.Nothing) (slice_set w.places i Free)
+            (subst (λ (t : TransactionsValue). ArePlaces t w.machine.published (slice_set xs i held.Nothing) (slice_set w.places i Free)) (sym left.3) moved);
+        views = reads-plain tells v' (slice_set xs i held.Nothing) (slice_set w.places i Free) held.Nothing Free moved.many tt
+            (reads-set tells v' xs w.places i held.Nothing Free tt
+            (reads-move tells v v' xs w.places (rest-goes tells v v' redeems.rest (ap (λ (t : TransactionsValue). t.mark) left.3)) is.views));
       },
     )
     by-result (redeemed.Waiting back) left says shows stands freed moved =
-        let still : slice_set xs i (held.Ticket back) ≡ xs = ap (λ (t : TicketValue). slice_set xs i (held.Ticket t)) left.0 ∙ set-get xs i (held.Ticket k) here in (
+        let still : slice_set xs i (held.Ticket back) ≡ xs =
+        ap (λ (t : TicketValue). slice_set xs i (held.Ticket t)) left.0 ∙ set-get xs i (held.Ticket k) here in (
           same w,
           at_ticket (λ (p : Place). Redeems w i p told.Waiting (same w)) v.transactions w.machine.published k (place_at w.places i) shows (says, refl),
           no-step w.machine,
           record {
             stands = stands;
             places = subst (λ (l : List Held). ArePlaces v'.transactions w.machine.published (l ++ held.Nothing ∷ []) (w.places ++ Free ∷ [])) (sym still)
-                (push_nothing v'.transactions w.machine.published xs w.places (subst (λ (t : TransactionsValue). ArePlaces t w.machine.published xs w.places) (sym left.1) is.places));
-            views = subst (λ (l : List Held). AreRead tells v' (l ++ held.Nothing ∷ []) (w.places ++ Free ∷ [])) (sym still) (reads-plain tells v' xs w.places held.Nothing Free is.places.many tt (reads-move tells v v' xs w.places (rest-goes tells v v' redeems.rest (ap (λ (t : TransactionsValue). t.mark) left.1)) is.views));
+                (push_nothing v'.transactions w.machine.published xs w.places
+                (subst (λ (t : TransactionsValue). ArePlaces t w.machine.published xs w.places) (sym left.1) is.places));
+            views = subst (λ (l : List Held). AreRead tells v' (l ++ held.Nothing ∷ []) (w.places ++ Free
+                ∷ [])) (sym still) (reads-plain tells v' xs w.places held.Nothing Free is.places.many tt
+                (reads-move tells v v' xs w.places (rest-goes tells v v' redeems.rest (ap (λ (t : TransactionsValue). t.mark) left.1)) is.views));
           },
         )
     by-result redeemed.InDoubt left says shows stands freed moved = (
@@ -79,8 +95,11 @@ redeem-leads tells v v' xs i k r here redeems w is =
       no-step w.machine,
       record {
         stands = stands;
-        places = push_nothing v'.transactions w.machine.published (slice_set xs i held.Nothing) (slice_set w.places i Free) (subst (λ (t : TransactionsValue). ArePlaces t w.machine.published (slice_set xs i held.Nothing) (slice_set w.places i Free)) (sym left) freed);
-        views = reads-plain tells v' (slice_set xs i held.Nothing) (slice_set w.places i Free) held.Nothing Free freed.many tt (reads-set tells v' xs w.places i held.Nothing Free tt (reads-move tells v v' xs w.places (rest-goes tells v v' redeems.rest (ap (λ (t : TransactionsValue). t.mark) left)) is.views));
+        places = push_nothing v'.transactions w.machine.published (slice_set xs i held.Nothing) (slice_set w.places i Free)
+            (subst (λ (t : TransactionsValue). ArePlaces t w.machine.published (slice_set xs i held.Nothing) (slice_set w.places i Free)) (sym left) freed);
+        views = reads-plain tells v' (slice_set xs i held.Nothing) (slice_set w.places i Free) held.Nothing Free freed.many tt
+            (reads-set tells v' xs w.places i held.Nothing Free tt
+            (reads-move tells v v' xs w.places (rest-goes tells v v' redeems.rest (ap (λ (t : TransactionsValue). t.mark) left)) is.views));
       },
     )
     by-result redeemed.Stranger left says shows stands freed moved =
@@ -93,7 +112,14 @@ give_up-leads tells v xs i k here w is = (
   spent w i,
   at_ticket (λ (p : Place). GivesUp w i p (spent w i)) v.transactions w.machine.published k (place_at w.places i) (is.places.each i (held.Ticket k) here) refl,
   no-step w.machine,
-  record { stands = is.stands; places = push_nothing v.transactions w.machine.published (slice_set xs i held.Nothing) (slice_set w.places i Free) (free v.transactions w.machine.published xs w.places i (held.Ticket k) is.places here); views = reads-plain tells v (slice_set xs i held.Nothing) (slice_set w.places i Free) held.Nothing Free (free v.transactions w.machine.published xs w.places i (held.Ticket k) is.places here).many tt (reads-set tells v xs w.places i held.Nothing Free tt is.views) },
+  record {
+    stands = is.stands;
+    places = push_nothing v.transactions w.machine.published (slice_set xs i held.Nothing) (slice_set w.places i Free)
+        (free v.transactions w.machine.published xs w.places i (held.Ticket k) is.places here);
+    views = reads-plain tells v (slice_set xs i held.Nothing) (slice_set w.places i Free) held.Nothing Free
+        (free v.transactions w.machine.published xs w.places i (held.Ticket k) is.places here).many tt
+        (reads-set tells v xs w.places i held.Nothing Free tt is.views);
+  },
 )
 
 pub redeem-goes : (tells : Bool) (v v' : StoreValue) (xs : List Held) (i : ℕ) (k : TicketValue) (r : Redeemed) → slice_get xs i ≡ Some (held.Ticket k)

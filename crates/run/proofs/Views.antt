@@ -1,5 +1,6 @@
 -- The calls of views, and those that ask of what is published.
-use Rattle.std.proofs.Common.{◌≡◌, inl, inr, ℕ, ◌+◌, ◌≤◌, Bool, true, false, List, [], ◌∷◌, ◌++◌, Some, None, Option, Result, Ok, Err, Vec, MatchBool, refl, sym, ◌∙◌, ap, subst, arith}
+use Rattle.std.proofs.Common.{◌≡◌, inl, inr, ℕ, ◌+◌, ◌≤◌, Bool, true, false, List, [], ◌∷◌, ◌++◌, Some, None, Option, Result, Ok, Err, Vec, MatchBool, refl}
+use Rattle.std.proofs.Common.{sym, ◌∙◌, ap, subst, arith}
 use Rattle.std.specs.Prelude.{slice_get, slice_set, IfOk, MatchResult}
 use Rattle.std.specs.Borrow.{Bor}
 use Rattle.std.specs.Option.{option_copied}
@@ -66,34 +67,42 @@ view-leads tells v xs (Ok view) of w is =
       no-step w.machine,
       record {
         stands = is.stands;
-        places = push v.transactions h xs w.places (held.View view) (Views h w.machine.floors view.reclaimed) is.places shows (λ j b at clash. view-no_clash view b clash);
+        places = push v.transactions h xs w.places (held.View view) (Views h w.machine.floors view.reclaimed) is.places shows
+            (λ j b at clash. view-no_clash view b clash);
         views = reads-push tells v xs w.places (held.View view) (Views h w.machine.floors view.reclaimed) is.places.many is.views stands.1;
       },
     )
 view-leads tells v xs (Err why) of w is = (same w, refl, no-step w.machine, same-world tells v xs w is)
 
 -- the world of a store that was asked
-asked-world : (tells : Bool) (v v' : StoreValue) (xs : List Held) (w : World) → IsWorld tells v xs w → v'.transactions ≡ v.transactions → Stands tells v' w.machine × GoesOn tells v v' → IsWorld tells v' (xs ++ held.Nothing ∷ []) (same w)
+asked-world : (tells : Bool) (v v' : StoreValue) (xs : List Held) (w : World) → IsWorld tells v xs w → v'.transactions ≡ v.transactions
+    → Stands tells v' w.machine × GoesOn tells v v' → IsWorld tells v' (xs ++ held.Nothing ∷ []) (same w)
 asked-world tells v v' xs w is unchanged goes = record {
   stands = goes.0;
-  places = subst (λ (t : TransactionsValue). ArePlaces t w.machine.published (xs ++ held.Nothing ∷ []) (w.places ++ Free ∷ [])) (sym unchanged) (push_nothing v.transactions w.machine.published xs w.places is.places);
+  places = subst (λ (t : TransactionsValue). ArePlaces t w.machine.published (xs ++ held.Nothing ∷ []) (w.places ++ Free
+      ∷ [])) (sym unchanged) (push_nothing v.transactions w.machine.published xs w.places is.places);
   views = reads-plain tells v' xs w.places held.Nothing Free is.places.many tt (reads-move tells v v' xs w.places goes.1 is.views);
 }
 
 -- what the view at a place reads is there
-view-read : (tells : Bool) (v : StoreValue) (view : ViewValue) (P : Place → Type 0) (h : History Value) (p : Place) → ShowsAs v.transactions h (held.View view) p → IsRead tells v (held.View view) p
-    → ((history : History Value) (floors : ℕ → ℕ) → ViewStands view history floors → ViewReads tells v view history floors → P (Views history floors view.reclaimed)) → P p
+view-read : (tells : Bool) (v : StoreValue) (view : ViewValue) (P : Place → Type 0) (h : History Value) (p : Place)
+    → ShowsAs v.transactions h (held.View view) p → IsRead tells v (held.View view) p
+    → ((history : History Value) (floors : ℕ → ℕ) → ViewStands view history floors → ViewReads tells v view history floors
+    → P (Views history floors view.reclaimed)) → P p
 view-read tells v view P h Free shows read there = absurd shows
 view-read tells v view P h (Running s ws) shows read there = absurd shows
 view-read tells v view P h (Waits time) shows read there = absurd shows
-view-read tells v view P h (Views history floors reclaimed) shows read there = subst (λ (r : ℕ). P (Views history floors r)) shows.1 (there history floors shows.2 read)
+view-read tells v view P h (Views history floors reclaimed) shows read there =
+    subst (λ (r : ℕ). P (Views history floors r)) shows.1 (there history floors shows.2 read)
 
 -- the transactions of a store that was asked
-asked-same : {T : Type 0} (tells : Bool) (v v' : StoreValue) (view : ViewValue) (from : ℕ) (Refuses : QueryFault → Type 0) (Recent : T → Type 0) (OfHistory : History Value → T → Type 0) (Exact : Result T QueryFault → Type 0) (answer : Result T QueryFault)
+asked-same : {T : Type 0} (tells : Bool) (v v' : StoreValue) (view : ViewValue) (from : ℕ) (Refuses : QueryFault → Type 0) (Recent : T
+    → Type 0) (OfHistory : History Value → T → Type 0) (Exact : Result T QueryFault → Type 0) (answer : Result T QueryFault)
     → OrStranger v view (Finds tells v view from Refuses Recent OfHistory Exact) answer v' → v'.transactions ≡ v.transactions
 asked-same tells v v' view from Refuses Recent OfHistory Exact answer says = by-own (is_own v view) says
   where
-    by-own : (b : Bool) → MatchBool b (Finds tells v view from Refuses Recent OfHistory Exact answer v') ((answer ≡ Err query.Stranger) × (v' ≡ v)) → v'.transactions ≡ v.transactions
+    by-own : (b : Bool) → MatchBool b (Finds tells v view from Refuses Recent OfHistory Exact answer v') ((answer ≡ Err query.Stranger) × (v' ≡ v))
+        → v'.transactions ≡ v.transactions
     by-own true finds = ap (λ (x : StoreValue). x.transactions) finds.asks.new_is
     by-own false strange = ap (λ (x : StoreValue). x.transactions) strange.1
 
@@ -109,11 +118,13 @@ after-made (Err query.NeedsDisk) disk = refl
 after-made (Err query.Stranger) disk = refl
 
 -- a query writes and syncs nothing
-pub asked-few : {T : Type 0} (tells : Bool) (v v' : StoreValue) (view : ViewValue) (from : ℕ) (Refuses : QueryFault → Type 0) (Recent : T → Type 0) (OfHistory : History Value → T → Type 0) (Exact : Result T QueryFault → Type 0) (answer : Result T QueryFault)
+pub asked-few : {T : Type 0} (tells : Bool) (v v' : StoreValue) (view : ViewValue) (from : ℕ) (Refuses : QueryFault → Type 0) (Recent : T
+    → Type 0) (OfHistory : History Value → T → Type 0) (Exact : Result T QueryFault → Type 0) (answer : Result T QueryFault)
     → OrStranger v view (Finds tells v view from Refuses Recent OfHistory Exact) answer v' → v'.disk.made ≤ v.disk.made + 1
 asked-few tells v v' view from Refuses Recent OfHistory Exact answer says = by-own (is_own v view) says
   where
-    by-own : (b : Bool) → MatchBool b (Finds tells v view from Refuses Recent OfHistory Exact answer v') ((answer ≡ Err query.Stranger) × (v' ≡ v)) → v'.disk.made ≤ v.disk.made + 1
+    by-own : (b : Bool) → MatchBool b (Finds tells v view from Refuses Recent OfHistory Exact answer v') ((answer ≡ Err query.Stranger) × (v' ≡ v))
+        → v'.disk.made ≤ v.disk.made + 1
     by-own true finds = let is = ap (λ (x : StoreValue). x.disk.made) finds.asks.new_is ∙ after-made answer v.disk in omega arith
     by-own false strange = let is = ap (λ (x : StoreValue). x.disk.made) strange.1 in omega arith
 
@@ -122,37 +133,44 @@ at-leads : (tells : Bool) (v v' : StoreValue) (xs : List Held) (i : ℕ) (key : 
     → Leads tells v xs (call.At i key time) (answer.At r) v' (xs ++ held.Nothing ∷ [])
 at-leads tells v v' xs i key time view r here says w is = (
   same w,
-  view-read tells v view (λ (p : Place). Asks tells w key time p r (same w)) w.machine.published (place_at w.places i) (is.places.each i (held.View view) here) (is.views.each i (held.View view) here) (λ history floors stands reads.
+  view-read tells v view (λ (p : Place). Asks tells w key time p r (same w)) w.machine.published (place_at w.places i) (is.places.each i (held.View view) here)
+      (is.views.each i (held.View view) here) (λ history floors stands reads.
       (at-answered tells v v' w.machine view history floors key time r is.stands stands reads says, refl)),
   no-step w.machine,
   asked-world tells v v' xs w is (asked-same tells v v' view time _ _ _ _ r says) (query-stands tells v v' w.machine view time _ _ _ _ r is.stands says),
 )
 
-scan_at-leads : (tells : Bool) (v v' : StoreValue) (xs : List Held) (i : ℕ) (relation time : ℕ) (view : ViewValue) (r : Result (Vec (ℕ × Value) Global) QueryFault) → slice_get xs i ≡ Some (held.View view) → stores.AnswersScanAt tells v view relation time r v'
+scan_at-leads : (tells : Bool) (v v' : StoreValue) (xs : List Held) (i : ℕ) (relation time : ℕ) (view : ViewValue)
+    (r : Result (Vec (ℕ × Value) Global) QueryFault) → slice_get xs i ≡ Some (held.View view) → stores.AnswersScanAt tells v view relation time r v'
     → Leads tells v xs (call.ScanAt i relation time) (answer.ScanAt r) v' (xs ++ held.Nothing ∷ [])
 scan_at-leads tells v v' xs i relation time view r here says w is = (
   same w,
-  view-read tells v view (λ (p : Place). AsksScan tells w relation time p r (same w)) w.machine.published (place_at w.places i) (is.places.each i (held.View view) here) (is.views.each i (held.View view) here) (λ history floors stands reads.
+  view-read tells v view (λ (p : Place). AsksScan tells w relation time p r (same w)) w.machine.published (place_at w.places i)
+      (is.places.each i (held.View view) here) (is.views.each i (held.View view) here) (λ history floors stands reads.
       (scan_at-answered tells v v' w.machine view history floors relation time r is.stands stands reads says, refl)),
   no-step w.machine,
   asked-world tells v v' xs w is (asked-same tells v v' view time _ _ _ _ r says) (query-stands tells v v' w.machine view time _ _ _ _ r is.stands says),
 )
 
-between-leads : (tells : Bool) (v v' : StoreValue) (xs : List Held) (i : ℕ) (key : Key) (a b : ℕ) (view : ViewValue) (r : Result (Vec (Version Value) Global) QueryFault) → slice_get xs i ≡ Some (held.View view) → stores.AnswersRows tells v view key a b r v'
+between-leads : (tells : Bool) (v v' : StoreValue) (xs : List Held) (i : ℕ) (key : Key) (a b : ℕ) (view : ViewValue)
+    (r : Result (Vec (Version Value) Global) QueryFault) → slice_get xs i ≡ Some (held.View view) → stores.AnswersRows tells v view key a b r v'
     → Leads tells v xs (call.Between i key a b) (answer.Between r) v' (xs ++ held.Nothing ∷ [])
 between-leads tells v v' xs i key a b view r here says w is = (
   same w,
-  view-read tells v view (λ (p : Place). AsksBetween tells w key a b p r (same w)) w.machine.published (place_at w.places i) (is.places.each i (held.View view) here) (is.views.each i (held.View view) here) (λ history floors stands reads.
+  view-read tells v view (λ (p : Place). AsksBetween tells w key a b p r (same w)) w.machine.published (place_at w.places i)
+      (is.places.each i (held.View view) here) (is.views.each i (held.View view) here) (λ history floors stands reads.
       (between-answered tells v v' w.machine view history floors key a b r is.stands stands reads says, refl)),
   no-step w.machine,
   asked-world tells v v' xs w is (asked-same tells v v' view a _ _ _ _ r says) (query-stands tells v v' w.machine view a _ _ _ _ r is.stands says),
 )
 
-scan_between-leads : (tells : Bool) (v v' : StoreValue) (xs : List Held) (i : ℕ) (relation a b : ℕ) (view : ViewValue) (r : Result (Vec (ℕ × Version Value) Global) QueryFault) → slice_get xs i ≡ Some (held.View view) → stores.AnswersScanRows tells v view relation a b r v'
+scan_between-leads : (tells : Bool) (v v' : StoreValue) (xs : List Held) (i : ℕ) (relation a b : ℕ) (view : ViewValue)
+    (r : Result (Vec (ℕ × Version Value) Global) QueryFault) → slice_get xs i ≡ Some (held.View view) → stores.AnswersScanRows tells v view relation a b r v'
     → Leads tells v xs (call.ScanBetween i relation a b) (answer.ScanBetween r) v' (xs ++ held.Nothing ∷ [])
 scan_between-leads tells v v' xs i relation a b view r here says w is = (
   same w,
-  view-read tells v view (λ (p : Place). AsksScanBetween tells w relation a b p r (same w)) w.machine.published (place_at w.places i) (is.places.each i (held.View view) here) (is.views.each i (held.View view) here) (λ history floors stands reads.
+  view-read tells v view (λ (p : Place). AsksScanBetween tells w relation a b p r (same w)) w.machine.published (place_at w.places i)
+      (is.places.each i (held.View view) here) (is.views.each i (held.View view) here) (λ history floors stands reads.
       (scan_between-answered tells v v' w.machine view history floors relation a b r is.stands stands reads says, refl)),
   no-step w.machine,
   asked-world tells v v' xs w is (asked-same tells v v' view a _ _ _ _ r says) (query-stands tells v v' w.machine view a _ _ _ _ r is.stands says),
@@ -160,7 +178,9 @@ scan_between-leads tells v v' xs i relation a b view r here says w is = (
 
 -- what a view lends is what it answers
 pub recent-copied : (view : ViewValue) (key : Key) (time : ℕ) (r : Result (Option (Bor Value)) QueryFault)
-    → MatchResult r (λ o. (view.reclaimed ≤ time) × AnswersAt view key.relation time (option_copied o) (value_at (writes_of view.state key) time)) (RefusesRecent view key.relation time) → AnswersRecent view key time (copied r)
+    → MatchResult r (λ o. (view.reclaimed ≤ time)
+    × AnswersAt view key.relation time (option_copied o) (value_at (writes_of view.state key) time)) (RefusesRecent view key.relation time)
+    → AnswersRecent view key time (copied r)
 recent-copied view key time (Ok o) says = says
 recent-copied view key time (Err why) says = says
 
@@ -173,7 +193,8 @@ recent-says view h floors key time found r stands says shared = by-found found s
     Said : Result (Option Value) QueryFault → Type 0
     Said o = SaysRecent view.reclaimed time (answers.at_answer h floors key time) o
 
-    by-found : (o : Result (Option Value) QueryFault) → AnswersRecent view key time o → IsShared o r → views.SaysRecent view time (answers.at_answer h floors key time) o → SaysRecent view.reclaimed time (answers.at_answer h floors key time) r
+    by-found : (o : Result (Option Value) QueryFault) → AnswersRecent view key time o → IsShared o r
+        → views.SaysRecent view time (answers.at_answer h floors key time) o → SaysRecent view.reclaimed time (answers.at_answer h floors key time) r
     by-found (Ok None) says shared told = subst Said (sym shared) (says.0, told)
     by-found (Ok (Some value)) says (inl one) told = subst Said (sym one) (says.0, told)
     by-found (Ok (Some value)) says (inr lacks) told = subst Said (sym lacks) (says.0, (value, told))
@@ -191,7 +212,8 @@ recent-leads : (tells : Bool) (v : StoreValue) (xs : List Held) (i : ℕ) (key :
     → Leads tells v xs (call.Recent i key time) (answer.Recent r) v (xs ++ held.Nothing ∷ [])
 recent-leads tells v xs i key time view found r here says shared w is = (
   same w,
-  view-read tells v view (λ (p : Place). AsksRecent w key time p r (same w)) w.machine.published (place_at w.places i) (is.places.each i (held.View view) here) (is.views.each i (held.View view) here)
+  view-read tells v view (λ (p : Place). AsksRecent w key time p r (same w)) w.machine.published (place_at w.places i) (is.places.each i (held.View view) here)
+      (is.views.each i (held.View view) here)
       (λ history floors stands reads. (recent-says view history floors key time found r stands says shared, refl)),
   no-step w.machine,
   same-world tells v xs w is,
@@ -202,12 +224,14 @@ end-leads : (tells : Bool) (v v' : StoreValue) (xs : List Held) (i : ℕ) (view 
 end-leads tells v v' xs i view here unchanged w is =
     let freed = free v.transactions w.machine.published xs w.places i (held.View view) is.places here in (
       spent w i,
-      at_view (λ (p : Place). Closes w i p (spent w i)) v.transactions w.machine.published view (place_at w.places i) (is.places.each i (held.View view) here) (λ history floors mark stands. refl),
+      at_view (λ (p : Place). Closes w i p (spent w i)) v.transactions w.machine.published view (place_at w.places i) (is.places.each i (held.View view) here)
+          (λ history floors mark stands. refl),
       no-step w.machine,
       subst (λ (x : StoreValue). IsWorld tells x (slice_set xs i held.Nothing ++ held.Nothing ∷ []) (spent w i)) (sym unchanged) (record {
         stands = is.stands;
         places = push_nothing v.transactions w.machine.published (slice_set xs i held.Nothing) (slice_set w.places i Free) freed;
-        views = reads-plain tells v (slice_set xs i held.Nothing) (slice_set w.places i Free) held.Nothing Free freed.many tt (reads-set tells v xs w.places i held.Nothing Free tt is.views);
+        views = reads-plain tells v (slice_set xs i held.Nothing) (slice_set w.places i Free) held.Nothing Free freed.many tt
+            (reads-set tells v xs w.places i held.Nothing Free tt is.views);
       }),
     )
 
@@ -229,30 +253,38 @@ pub at-goes : (tells : Bool) (v v' : StoreValue) (xs : List Held) (i : ℕ) (key
 at-goes tells v v' xs i key time view r here says =
     record { makes = inr (r, (view, here, says, (refl, refl))); leads = at-leads tells v v' xs i key time view r here says }
 
-pub scan_at-goes : (tells : Bool) (v v' : StoreValue) (xs : List Held) (i : ℕ) (relation time : ℕ) (view : ViewValue) (r : Result (Vec (ℕ × Value) Global) QueryFault) → slice_get xs i ≡ Some (held.View view) → stores.AnswersScanAt tells v view relation time r v'
+pub scan_at-goes : (tells : Bool) (v v' : StoreValue) (xs : List Held) (i : ℕ) (relation time : ℕ) (view : ViewValue)
+    (r : Result (Vec (ℕ × Value) Global) QueryFault) → slice_get xs i ≡ Some (held.View view) → stores.AnswersScanAt tells v view relation time r v'
     → Goes tells v xs (call.ScanAt i relation time) (answer.ScanAt r) v' (xs ++ held.Nothing ∷ [])
 scan_at-goes tells v v' xs i relation time view r here says =
     record { makes = inr (r, (view, here, says, (refl, refl))); leads = scan_at-leads tells v v' xs i relation time view r here says }
 
-pub between-goes : (tells : Bool) (v v' : StoreValue) (xs : List Held) (i : ℕ) (key : Key) (a b : ℕ) (view : ViewValue) (r : Result (Vec (Version Value) Global) QueryFault) → slice_get xs i ≡ Some (held.View view) → stores.AnswersRows tells v view key a b r v'
+pub between-goes : (tells : Bool) (v v' : StoreValue) (xs : List Held) (i : ℕ) (key : Key) (a b : ℕ) (view : ViewValue)
+    (r : Result (Vec (Version Value) Global) QueryFault) → slice_get xs i ≡ Some (held.View view) → stores.AnswersRows tells v view key a b r v'
     → Goes tells v xs (call.Between i key a b) (answer.Between r) v' (xs ++ held.Nothing ∷ [])
 between-goes tells v v' xs i key a b view r here says =
     record { makes = inr (r, (view, here, says, (refl, refl))); leads = between-leads tells v v' xs i key a b view r here says }
 
-pub scan_between-goes : (tells : Bool) (v v' : StoreValue) (xs : List Held) (i : ℕ) (relation a b : ℕ) (view : ViewValue) (r : Result (Vec (ℕ × Version Value) Global) QueryFault) → slice_get xs i ≡ Some (held.View view) → stores.AnswersScanRows tells v view relation a b r v'
+pub scan_between-goes : (tells : Bool) (v v' : StoreValue) (xs : List Held) (i : ℕ) (relation a b : ℕ) (view : ViewValue)
+    (r : Result (Vec (ℕ × Version Value) Global) QueryFault) → slice_get xs i ≡ Some (held.View view) → stores.AnswersScanRows tells v view relation a b r v'
     → Goes tells v xs (call.ScanBetween i relation a b) (answer.ScanBetween r) v' (xs ++ held.Nothing ∷ [])
 scan_between-goes tells v v' xs i relation a b view r here says =
     record { makes = inr (r, (view, here, says, (refl, refl))); leads = scan_between-leads tells v v' xs i relation a b view r here says }
 
-pub recent-goes : (tells : Bool) (v : StoreValue) (xs : List Held) (i : ℕ) (key : Key) (time : ℕ) (view : ViewValue) (found r : Result (Option Value) QueryFault) → slice_get xs i ≡ Some (held.View view) → AnswersRecent view key time found → IsShared found r
+pub recent-goes : (tells : Bool) (v : StoreValue) (xs : List Held) (i : ℕ) (key : Key) (time : ℕ) (view : ViewValue)
+    (found r : Result (Option Value) QueryFault) → slice_get xs i ≡ Some (held.View view) → AnswersRecent view key time found → IsShared found r
     → Goes tells v xs (call.Recent i key time) (answer.Recent r) v (xs ++ held.Nothing ∷ [])
 recent-goes tells v xs i key time view found r here says shared =
-    record { makes = inr (r, (view, here, ((found, says, shared), refl), (refl, refl))); leads = recent-leads tells v xs i key time view found r here says shared }
+    record {
+      makes = inr (r, (view, here, ((found, says, shared), refl), (refl, refl)));
+      leads = recent-leads tells v xs i key time view found r here says shared;
+    }
 
 pub end-goes : (tells : Bool) (v v' : StoreValue) (xs : List Held) (i : ℕ) (view : ViewValue) → slice_get xs i ≡ Some (held.View view) → v' ≡ v
     → Goes tells v xs (call.End i) answer.End v' (slice_set xs i held.Nothing ++ held.Nothing ∷ [])
 end-goes tells v v' xs i view here unchanged =
     record { makes = inr (view, here, unchanged, (refl, refl)); leads = end-leads tells v v' xs i view here unchanged }
 
-pub times-goes : (tells : Bool) (v : StoreValue) (xs : List Held) (label : ℕ) (r : Result (Vec ℕ Global) AllocError) → IfOk r (λ times. stores.IsTimesOf v label times.items) → Goes tells v xs (call.TimesOf label) (answer.TimesOf r) v (xs ++ held.Nothing ∷ [])
+pub times-goes : (tells : Bool) (v : StoreValue) (xs : List Held) (label : ℕ) (r : Result (Vec ℕ Global) AllocError)
+    → IfOk r (λ times. stores.IsTimesOf v label times.items) → Goes tells v xs (call.TimesOf label) (answer.TimesOf r) v (xs ++ held.Nothing ∷ [])
 times-goes tells v xs label r of = record { makes = inr (r, of, refl, (refl, refl)); leads = times-leads tells v xs label r of }

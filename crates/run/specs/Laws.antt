@@ -1,6 +1,7 @@
 -- Laws of lists of calls.
 use Rattle.std.specs.Borrow.{Bor}
-use Rattle.std.specs.Prelude.{ℕ, ◌≡◌, ◌≤◌, ◌<◌, ◌⊎◌, ◌++◌, Bool, IsTrue, suc, List, [], ◌∷◌, length, map, Contains, IsSome, Option, Some, None, MatchOption, Result, Ok, if◌then◌else◌}
+use Rattle.std.specs.Prelude.{ℕ, ◌≡◌, ◌≤◌, ◌<◌, ◌⊎◌, ◌++◌, Bool, IsTrue, suc, List, [], ◌∷◌, length, map, Contains, IsSome, Option, Some, None, MatchOption}
+use Rattle.std.specs.Prelude.{Result, Ok, if◌then◌else◌}
 use Rattle.disk.specs.Areas.{Image}
 use Rattle.history.specs.declared.key.Key.{Key}
 use Rattle.history.specs.declared.key.KeyWrite.{KeyWrite}
@@ -42,7 +43,9 @@ MomentSurvives = (tells : Bool) (v : StoreValue) (held : List Held) (at : Moment
 
 -- an image that stands for a history is kept as it
 abbrev pub ImageIsKept : Type 0
-ImageIsKept = (tells : Bool) (header : Header) (image : Image) (h : History Value) (floors : ℕ → ℕ) → IsTrue tells → IsImageOf header image h floors → IsKeptAs tells image h floors
+ImageIsKept =
+    (tells : Bool) (header : Header) (image : Image) (h : History Value) (floors : ℕ → ℕ) → IsTrue tells → IsImageOf header image h floors
+    → IsKeptAs tells image h floors
 
 -- ---- commits
 
@@ -52,7 +55,9 @@ CommitHasItsTime = (h : History Value) (c d : Commit Value) → IsHistory IsValu
 
 -- what a commit wrote is the value at its time, and at each later one up to which no commit writes the key
 abbrev pub WriteStands : Type 0
-WriteStands = (h : History Value) (c : Commit Value) (key : Key) (write : Option Value) (time : ℕ) → IsHistory IsValue h → Contains h c → write_in c.writes key ≡ Some write → c.time ≤ time
+WriteStands =
+    (h : History Value) (c : Commit Value) (key : Key) (write : Option Value) (time : ℕ) → IsHistory IsValue h → Contains h c → write_in c.writes key
+    ≡ Some write → c.time ≤ time
     → ((d : Commit Value) → Contains h d → c.time < d.time → d.time ≤ time → write_in d.writes key ≡ None) → state h time key ≡ write
 
 -- ---- the moments of a list
@@ -71,7 +76,9 @@ CallsLink = (tells : Bool) (t : Trace tells) (i : ℕ) (c : Call) (a : Answer) �
 
 -- whatever a stop may leave after some of the calls or within the next one survives at the moment before that call or at the one after it
 abbrev pub StopsSurvive : Type 0
-StopsSurvive = (tells : Bool) (t : Trace tells) (n : ℕ) (image : Image) → IsTrue tells → StopLeaves t n image → Survives tells (moment_at t n) image ⊎ Survives tells (moment_at t (suc n)) image
+StopsSurvive =
+    (tells : Bool) (t : Trace tells) (n : ℕ) (image : Image) → IsTrue tells → StopLeaves t n image → Survives tells (moment_at t n) image
+    ⊎ Survives tells (moment_at t (suc n)) image
 
 -- the machine runs from each moment to each later one
 abbrev pub MachineRuns : Type 0
@@ -82,11 +89,14 @@ MachineRuns = (tells : Bool) (t : Trace tells) (p q : ℕ) → p ≤ q → IsMac
 -- a list that goes on where another ended is one list with it
 abbrev pub ListsGoOn : Type 0
 ListsGoOn = (tells : Bool) (old mid new : StoreValue) (before between after : List Held) (calls more : List Call) (answers said : List Answer)
-    → KeepsPromise tells old before calls answers mid between → KeepsPromise tells mid between more said new after → KeepsPromise tells old before (calls ++ more) (answers ++ said) new after
+    → KeepsPromise tells old before calls answers mid between → KeepsPromise tells mid between more said new after
+    → KeepsPromise tells old before (calls ++ more) (answers ++ said) new after
 
 -- and a single call is a list of one
 abbrev pub StepIsList : Type 0
-StepIsList = (tells : Bool) (old new : StoreValue) (before after : List Held) (c : Call) (a : Answer) → LinksOne tells old before c a new after → KeepsPromise tells old before (c ∷ []) (a ∷ []) new after
+StepIsList =
+    (tells : Bool) (old new : StoreValue) (before after : List Held) (c : Call) (a : Answer) → LinksOne tells old before c a new after
+    → KeepsPromise tells old before (c ∷ []) (a ∷ []) new after
 
 -- ---- floors
 
@@ -97,7 +107,8 @@ IsKeptTime m relation time = (m.floors relation ≤ time) × MatchOption m.raisi
 -- A time that is kept of a relation stays so, unless a call between begins a later floor that covers it.
 abbrev pub TimesStayKept : Type 0
 TimesStayKept = (tells : Bool) (t : Trace tells) (p q relation time : ℕ) → p ≤ q → IsKeptTime (machine_at t p) relation time
-    → ((i : ℕ) (scope : Option ℕ) (floor : ℕ) → p ≤ i → i < q → IsCall t i (call.Floor scope floor) (answer.Floor (Ok tt)) → IsTrue (covers scope relation) → floor ≤ time) → IsKeptTime (machine_at t q) relation time
+    → ((i : ℕ) (scope : Option ℕ) (floor : ℕ) → p ≤ i → i < q → IsCall t i (call.Floor scope floor) (answer.Floor (Ok tt)) → IsTrue (covers scope relation)
+    → floor ≤ time) → IsKeptTime (machine_at t q) relation time
 
 -- and no floor falls
 abbrev pub FloorsRise : Type 0
@@ -107,7 +118,9 @@ FloorsRise = (tells : Bool) (t : Trace tells) (p q relation : ℕ) → p ≤ q �
 
 -- a ticket that a place holds was there since the call that gave it
 abbrev pub TicketsStay : Type 0
-TicketsStay = (tells : Bool) (t : Trace tells) (p q place time : ℕ) → p ≤ q → place < length (moment_at t p).world.places → place_at (moment_at t q).world.places place ≡ Waits time → place_at (moment_at t p).world.places place ≡ Waits time
+TicketsStay =
+    (tells : Bool) (t : Trace tells) (p q place time : ℕ) → p ≤ q → place < length (moment_at t p).world.places → place_at (moment_at t q).world.places place
+    ≡ Waits time → place_at (moment_at t p).world.places place ≡ Waits time
 
 -- A Done names its submit: the call whose ticket it is submitted a write set, which was queued as a commit of this time, and that commit is published.
 abbrev pub DoneNamesItsSubmit : Type 0
@@ -116,37 +129,50 @@ DoneNamesItsSubmit = (tells : Bool) (t : Trace tells) (i k time : ℕ) → IsCal
 
 -- What a transaction put last under a key is what it submits.
 abbrev pub PutIsSubmitted : Type 0
-PutIsSubmitted = (tells : Bool) (t : Trace tells) (i p transaction label now : ℕ) (c : Commit Value) (key : Key) (fields : Bor (List (Bor (List ℕ)))) (a : Answer)
+PutIsSubmitted =
+    (tells : Bool) (t : Trace tells) (i p transaction label now : ℕ) (c : Commit Value) (key : Key) (fields : Bor (List (Bor (List ℕ)))) (a : Answer)
     → IsSubmit t i c → IsCall t i (call.Submit transaction label now) a → p < i → IsCall t p (call.Put transaction key fields) (answer.Put (Ok tt))
     → ((q : ℕ) (other : Call) (b : Answer) → p < q → q < i → IsCall t q other b → LeavesKey transaction key other)
     → write_in c.writes key ≡ Some (Some (map (λ (field : Bor (List ℕ)). field.now) fields.now))
 
 -- A key that has a value at the snapshot, and that a transaction deleted last, is submitted as gone.
 abbrev pub DeleteIsSubmitted : Type 0
-DeleteIsSubmitted = (tells : Bool) (t : Trace tells) (i p transaction label now snapshot : ℕ) (writes : List (KeyWrite Value)) (c : Commit Value) (key : Key) (a : Answer)
+DeleteIsSubmitted =
+    (tells : Bool) (t : Trace tells) (i p transaction label now snapshot : ℕ) (writes : List (KeyWrite Value)) (c : Commit Value) (key : Key) (a : Answer)
     → IsSubmit t i c → IsCall t i (call.Submit transaction label now) a → p < i → IsCall t p (call.Delete transaction key) (answer.Delete (Ok tt))
     → ((q : ℕ) (other : Call) (b : Answer) → p < q → q < i → IsCall t q other b → LeavesKey transaction key other)
-    → place_at (moment_at t p).world.places transaction ≡ Running snapshot writes → IsSome (state (machine_at t p).published snapshot key) → write_in c.writes key ≡ Some None
+    → place_at (moment_at t p).world.places transaction ≡ Running snapshot writes → IsSome (state (machine_at t p).published snapshot key)
+    → write_in c.writes key ≡ Some None
 
 -- one more write is found under its key, and no other is changed
 abbrev pub WrittenIsFound : Type 0
-WrittenIsFound = (writes : List (KeyWrite Value)) (w : KeyWrite Value) (key : Key) → write_in (with_write writes w) key ≡ (if same_key w.key key then Some w.write else write_in writes key)
+WrittenIsFound =
+    (writes : List (KeyWrite Value)) (w : KeyWrite Value) (key : Key) → write_in (with_write writes w) key
+    ≡ (if same_key w.key key then Some w.write else write_in writes key)
 
 -- ---- views
 
 -- a view that a place holds was there since the call that gave it
 abbrev pub ViewsStay : Type 0
 ViewsStay = (tells : Bool) (t : Trace tells) (p q place : ℕ) (h : History Value) (floors : ℕ → ℕ) (reclaimed : ℕ)
-    → p ≤ q → place < length (moment_at t p).world.places → place_at (moment_at t q).world.places place ≡ Views h floors reclaimed → place_at (moment_at t p).world.places place ≡ Views h floors reclaimed
+    → p ≤ q → place < length (moment_at t p).world.places → place_at (moment_at t q).world.places place ≡ Views h floors reclaimed
+    → place_at (moment_at t p).world.places place ≡ Views h floors reclaimed
 
--- A view answers by what was published when it was taken: for sure where the disk tells its bytes, and else from a time on up to which memory had forgotten versions.
+-- A view answers by what was published when it was taken: for sure where the disk tells its bytes, and else from a time on up to which memory had forgotten
+-- versions.
 abbrev pub ViewAnswersByItsMoment : Type 0
-ViewAnswersByItsMoment = (tells : Bool) (t : Trace tells) (i k : ℕ) (key : Key) (time : ℕ) (said : Result (Option Value) QueryFault) → IsCall t k (call.At (place_of t i) key time) (answer.At said)
-    → (i < k) × IsCall t i call.View (answer.View (Ok tt)) × ((reclaimed : ℕ) × (reclaimed ≤ last (machine_at t i).published) × SaysAt (IsSure tells reclaimed time) (at_answer (machine_at t i).published (machine_at t i).floors key time) said)
+ViewAnswersByItsMoment =
+    (tells : Bool) (t : Trace tells) (i k : ℕ) (key : Key) (time : ℕ) (said : Result (Option Value) QueryFault)
+    → IsCall t k (call.At (place_of t i) key time) (answer.At said)
+    → (i < k) × IsCall t i call.View (answer.View (Ok tt))
+    × ((reclaimed : ℕ) × (reclaimed ≤ last (machine_at t i).published)
+    × SaysAt (IsSure tells reclaimed time) (at_answer (machine_at t i).published (machine_at t i).floors key time) said)
 
 -- So it does from memory alone: an earlier time than that needs the disk.
 abbrev pub RecentAnswersByItsMoment : Type 0
 RecentAnswersByItsMoment =
     (tells : Bool) (t : Trace tells) (i k : ℕ) (key : Key) (time : ℕ) (said : Result (Option Value) QueryFault)
     → IsCall t k (call.Recent (place_of t i) key time) (answer.Recent said)
-    → (i < k) × IsCall t i call.View (answer.View (Ok tt)) × ((reclaimed : ℕ) × (reclaimed ≤ last (machine_at t i).published) × SaysRecent reclaimed time (at_answer (machine_at t i).published (machine_at t i).floors key time) said)
+    → (i < k) × IsCall t i call.View (answer.View (Ok tt))
+    × ((reclaimed : ℕ) × (reclaimed ≤ last (machine_at t i).published)
+    × SaysRecent reclaimed time (at_answer (machine_at t i).published (machine_at t i).floors key time) said)

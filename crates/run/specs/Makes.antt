@@ -91,7 +91,9 @@ abbrev pub MakesCall : Bool → StoreValue → List Held → Call → Answer →
 MakesCall tells old xs call.Begin a new ys =
     (said : Result TxnValue BeginFault) × stores.Begins old said new × Yields a (begin_answer said).0 xs (begin_answer said).1 ys
 MakesCall tells old xs (call.Put i key fields) a new ys =
-    (said : Result (Unit {0}) TxnFault) × WritesIn old xs i (λ t after. OnOk said (after ≡ with_put t key (map (λ field. field.now) fields.now)) × OnErr said (after ≡ t)) (answer.Put said) a new ys
+    (said : Result (Unit {0}) TxnFault)
+    × WritesIn old xs i (λ t after. OnOk said (after ≡ with_put t key (map (λ field. field.now) fields.now))
+    × OnErr said (after ≡ t)) (answer.Put said) a new ys
 MakesCall tells old xs (call.Delete i key) a new ys =
     (said : Result (Unit {0}) TxnFault)
     × WritesIn old xs i (λ t after. OnOk said (after ≡ with_delete t key) × OnErr said (after ≡ t)) (answer.Delete said) a new ys
@@ -122,9 +124,12 @@ MakesCall tells old xs (call.Between i key from upto) a new ys =
     (said : Result (Vec (Version Value) Global) QueryFault)
     × AsksIn xs i (λ view. stores.AnswersRows tells old view key from upto said new) (answer.Between said) a ys
 MakesCall tells old xs (call.ScanBetween i relation from upto) a new ys =
-    (said : Result (Vec (ℕ × Version Value) Global) QueryFault) × AsksIn xs i (λ view. stores.AnswersScanRows tells old view relation from upto said new) (answer.ScanBetween said) a ys
+    (said : Result (Vec (ℕ × Version Value) Global) QueryFault)
+    × AsksIn xs i (λ view. stores.AnswersScanRows tells old view relation from upto said new) (answer.ScanBetween said) a ys
 MakesCall tells old xs (call.Recent i key time) a new ys =
-    (said : Result (Option Value) QueryFault) × AsksIn xs i (λ view. ((found : Result (Option Value) QueryFault) × AnswersRecent view key time found × IsShared found said) × (new ≡ old)) (answer.Recent said) a ys
+    (said : Result (Option Value) QueryFault)
+    × AsksIn xs i (λ view. ((found : Result (Option Value) QueryFault) × AnswersRecent view key time found × IsShared found said)
+    × (new ≡ old)) (answer.Recent said) a ys
 MakesCall tells old xs (call.End i) a new ys =
     (view : ViewValue) × (slice_get xs i ≡ Some (held.View view)) × (new ≡ old) × LeavesPlaces a answer.End (slice_set xs i held.Nothing) ys
 MakesCall tells old xs (call.TimesOf label) a new ys =

@@ -12,7 +12,8 @@ use Rattle.run.specs.declared.calls.RedeemOutcome.TheVariants as told
 use Rattle.run.specs.declared.held.Held.{Held}
 use Rattle.run.specs.Worlds.{World, IsWorld, started}
 
--- a store between two calls and what its callers hold, with the machine and the places that they stand for, and the times of the commits that were acknowledged till then
+-- a store between two calls and what its callers hold, with the machine and the places that they stand for, and the times of the commits that were acknowledged
+-- till then
 pub record Moment : Type 0 where
   pub store : StoreValue
   pub held : List Held

@@ -1,5 +1,6 @@
 -- What each call answers and does, and lists of calls.
-use Rattle.std.specs.Prelude.{ℕ, ◌≡◌, ◌≢◌, ◌<◌, ◌≤◌, ◌⊎◌, ◌+◌, ◌↔◌, ◌++◌, Bool, true, false, List, [], map, is_some, IsSome, Option, None, Some, Contains, Result, Ok, Err, IfOk, IfErr, OnOk, OnErr, MatchBool, Vec, if◌then◌else◌}
+use Rattle.std.specs.Prelude.{ℕ, ◌≡◌, ◌≢◌, ◌<◌, ◌≤◌, ◌⊎◌, ◌+◌, ◌↔◌, ◌++◌, Bool, true, false, List, [], map, is_some, IsSome, Option, None, Some, Contains}
+use Rattle.std.specs.Prelude.{Result, Ok, Err, IfOk, IfErr, OnOk, OnErr, MatchBool, Vec, if◌then◌else◌}
 use Rattle.std.specs.declared.alloc.Global.{Global}
 use Rattle.std.specs.declared.alloc.AllocError.{AllocError}
 use Rattle.history.specs.declared.key.Key.{Key}
@@ -53,24 +54,28 @@ use Rattle.run.specs.Makes.{Makes}
 
 -- a transaction reads what is published now, or the store has failed, or there is no memory
 abbrev pub Begins : World → Result (Unit {0}) BeginFault → World → Type 0
-Begins w (Ok u) next = Step IsValue w.machine (Began (last w.machine.published)) (begun w.machine) × (next ≡ leaves (moved w (begun w.machine)) (Running (last w.machine.published) []))
+Begins w (Ok u) next =
+    Step IsValue w.machine (Began (last w.machine.published)) (begun w.machine)
+    × (next ≡ leaves (moved w (begun w.machine)) (Running (last w.machine.published) []))
 Begins w (Err begin.NoMemory) next = Step IsValue w.machine (BeginRefused steps.NoMemory) w.machine × (next ≡ same w)
 Begins w (Err begin.Failed) next = Step IsValue w.machine (BeginRefused steps.Failed) w.machine × (next ≡ same w)
 
 -- a put of a value: the writes after it, and which refusals come when
-pub record PutSays (writes : List (KeyWrite Value)) (key : Key) (value : Value) (said : Result (Unit {0}) TxnFault) (after : List (KeyWrite Value)) : Type 0 where
-  pub ok : OnOk said (after ≡ with_write writes (record { key = key; write = Some value }))
-  pub missing : said ≢ Err txn.Missing
-  pub too_many : (said ≡ Err txn.TooManyKeys) ↔ IsFullFor writes key
-  pub bad : (said ≡ Err txn.BadValue) ↔ ((¬ IsFullFor writes key) × (¬ HasSizes value))
-  pub err : OnErr said (after ≡ writes)
+pub record PutSays (writes : List (KeyWrite Value)) (key : Key) (value : Value) (said : Result (Unit {0}) TxnFault) (after : List (KeyWrite Value)) : Type 0
+  where
+    pub ok : OnOk said (after ≡ with_write writes (record { key = key; write = Some value }))
+    pub missing : said ≢ Err txn.Missing
+    pub too_many : (said ≡ Err txn.TooManyKeys) ↔ IsFullFor writes key
+    pub bad : (said ≡ Err txn.BadValue) ↔ ((¬ IsFullFor writes key) × (¬ HasSizes value))
+    pub err : OnErr said (after ≡ writes)
 
 -- the writes after a delete: a key that has no value at the snapshot needs no write
 abbrev pub deleted : Option Value → List (KeyWrite Value) → Key → List (KeyWrite Value)
 deleted at_snapshot writes key = if is_some at_snapshot then with_write writes (record { key = key; write = None }) else without writes key
 
 -- a delete, by the key's value at the snapshot and what the transaction sees of it
-pub record DeleteSays (at_snapshot sees : Option Value) (writes : List (KeyWrite Value)) (key : Key) (said : Result (Unit {0}) TxnFault) (after : List (KeyWrite Value)) : Type 0 where
+pub record DeleteSays (at_snapshot sees : Option Value) (writes : List (KeyWrite Value)) (key : Key) (said : Result (Unit {0}) TxnFault)
+    (after : List (KeyWrite Value)) : Type 0 where
   pub ok : OnOk said (after ≡ deleted at_snapshot writes key)
   pub missing : (said ≡ Err txn.Missing) ↔ (sees ≡ None)
   pub too_many : (said ≡ Err txn.TooManyKeys) ↔ (IsSome sees × IsFullFor writes key)
@@ -79,13 +84,15 @@ pub record DeleteSays (at_snapshot sees : Option Value) (writes : List (KeyWrite
 
 -- a put to the transaction of a place changes its writes alone
 abbrev pub Puts : World → ℕ → Key → Value → Place → Result (Unit {0}) TxnFault → World → Type 0
-Puts w i key value (Running snapshot writes) said next = (after : List (KeyWrite Value)) × PutSays writes key value said after × (next ≡ same (put w i (Running snapshot after)))
+Puts w i key value (Running snapshot writes) said next =
+    (after : List (KeyWrite Value)) × PutSays writes key value said after × (next ≡ same (put w i (Running snapshot after)))
 Puts w i key value place said next = ⊥
 
 -- a delete in the transaction of a place changes its writes alone
 abbrev pub Deletes : World → ℕ → Key → Place → Result (Unit {0}) TxnFault → World → Type 0
 Deletes w i key (Running snapshot writes) said next =
-    (after : List (KeyWrite Value)) × DeleteSays (state w.machine.published snapshot key) (seen w.machine.published snapshot writes key) writes key said after × (next ≡ same (put w i (Running snapshot after)))
+    (after : List (KeyWrite Value)) × DeleteSays (state w.machine.published snapshot key) (seen w.machine.published snapshot writes key) writes key said after
+    × (next ≡ same (put w i (Running snapshot after)))
 Deletes w i key place said next = ⊥
 
 -- what is published at the snapshot, with the transaction's own writes over it
@@ -95,7 +102,8 @@ Gets w key place said next = ⊥
 
 -- so is what a transaction sees of a relation
 abbrev pub Scans : World → ℕ → Place → Result (Vec (ℕ × Value) Global) AllocError → World → Type 0
-Scans w relation (Running snapshot writes) said next = IfOk said (λ found. IsScanSeen w.machine.published snapshot writes relation found.items) × (next ≡ same w)
+Scans w relation (Running snapshot writes) said next =
+    IfOk said (λ found. IsScanSeen w.machine.published snapshot writes relation found.items) × (next ≡ same w)
 Scans w relation place said next = ⊥
 
 -- what a running transaction submits
@@ -117,7 +125,8 @@ Submitted m s (Err refused.Stranger) event place = ⊥
 -- a submit is the machine's, and the transaction is over
 abbrev pub Submits : World → ℕ → ℕ → ℕ → Place → Result SubmitOutcome SubmitFault → World → Type 0
 Submits w i label now (Running snapshot writes) said next =
-    (event : Event Value) × (after : Machine Value) × (place : Place) × Submitted w.machine (submission snapshot writes label now) said event place × Step IsValue w.machine event after × (next ≡ leaves (put (moved w after) i Free) place)
+    (event : Event Value) × (after : Machine Value) × (place : Place) × Submitted w.machine (submission snapshot writes label now) said event place
+    × Step IsValue w.machine event after × (next ≡ leaves (put (moved w after) i Free) place)
 Submits w i label now place said next = ⊥
 
 -- the transaction is over, and its snapshot given up
@@ -134,7 +143,8 @@ IsStepFault why = (why ≡ pump.Failed) ⊎ (why ≡ pump.Busy) ⊎ (why ≡ pum
 -- a step of a group is a run of the machine, and nothing where the store has failed
 abbrev pub Pumps : World → Result Did PumpFault → World → Type 0
 Pumps w said next = MatchBool w.machine.failed ((said ≡ Err pump.Failed) × (next ≡ same w))
-    ((after : Machine Value) × IfErr said IsStepFault × steps.Run IsValue w.machine (begins_in w.machine ++ ends_in w.machine.gate said) after × (next ≡ same (moved w after)))
+    ((after : Machine Value) × IfErr said IsStepFault × steps.Run IsValue w.machine (begins_in w.machine ++ ends_in w.machine.gate said) after
+    × (next ≡ same (moved w after)))
 
 -- a ticket is spent but by Waiting
 abbrev pub Redeems : World → ℕ → Place → RedeemOutcome → World → Type 0
@@ -157,12 +167,14 @@ Shows w (Err why) next = next ≡ same w
 
 -- it answers by the history of its moment: for sure where the disk tells its bytes, and else from the reclaim mark of its moment on
 abbrev pub Asks : Bool → World → Key → ℕ → Place → Result (Option Value) QueryFault → World → Type 0
-Asks tells w key time (Views history floors reclaimed) said next = SaysAt (IsSure tells reclaimed time) (answers.at_answer history floors key time) said × (next ≡ same w)
+Asks tells w key time (Views history floors reclaimed) said next =
+    SaysAt (IsSure tells reclaimed time) (answers.at_answer history floors key time) said × (next ≡ same w)
 Asks tells w key time place said next = ⊥
 
 -- so does a scan, an interval of a key and one of a relation
 abbrev pub AsksScan : Bool → World → ℕ → ℕ → Place → Result (Vec (ℕ × Value) Global) QueryFault → World → Type 0
-AsksScan tells w relation time (Views history floors reclaimed) said next = SaysScanAt (IsSure tells reclaimed time) history floors relation time said × (next ≡ same w)
+AsksScan tells w relation time (Views history floors reclaimed) said next =
+    SaysScanAt (IsSure tells reclaimed time) history floors relation time said × (next ≡ same w)
 AsksScan tells w relation time place said next = ⊥
 
 -- a view answers a query of a key from a to b by the history of its moment
@@ -172,10 +184,12 @@ AsksBetween tells w key a b place said next = ⊥
 
 -- a view answers a scan of a relation from a to b by the history of its moment
 abbrev pub AsksScanBetween : Bool → World → ℕ → ℕ → ℕ → Place → Result (Vec (ℕ × Version Value) Global) QueryFault → World → Type 0
-AsksScanBetween tells w relation a b (Views history floors reclaimed) said next = SaysScanBetween (IsSure tells reclaimed a) history floors relation a b said × (next ≡ same w)
+AsksScanBetween tells w relation a b (Views history floors reclaimed) said next =
+    SaysScanBetween (IsSure tells reclaimed a) history floors relation a b said × (next ≡ same w)
 AsksScanBetween tells w relation a b place said next = ⊥
 
--- a view that is asked of memory alone answers by the history of its moment from its reclaim mark on; an earlier time that is kept needs the disk, and a value that is found may lack memory for one more holder
+-- a view that is asked of memory alone answers by the history of its moment from its reclaim mark on; an earlier time that is kept needs the disk, and a value
+-- that is found may lack memory for one more holder
 abbrev pub SaysRecent : ℕ → ℕ → Result (Option Value) answers.QueryRefusal → Result (Option Value) QueryFault → Type 0
 SaysRecent reclaimed time said (Ok value) = (reclaimed ≤ time) × (said ≡ Ok value)
 SaysRecent reclaimed time said (Err (query.BeforeKept floor)) = said ≡ Err (answers.BeforeKept floor)
@@ -233,12 +247,18 @@ Reclaims w (Err (start.NotYet time)) next = ⊥
 Reclaims w (Err start.ArchiveFull) next = ⊥
 Reclaims w (Err start.NotGrowable) next = ⊥
 
--- A floor begins where the machine may raise it, or is refused as the machine says; which slots there are, what job runs and the store's profile the machine does not know. One of one relation may want for memory.
+-- A floor begins where the machine may raise it, or is refused as the machine says; which slots there are, what job runs and the store's profile the machine
+-- does not know. One of one relation may want for memory.
 abbrev pub Raises : World → Option ℕ → ℕ → Result (Unit {0}) StartFault → World → Type 0
-Raises w scope floor (Ok u) next = steps.Step IsValue w.machine (steps.FloorStarted (raising_to scope floor)) (steps.floor_started w.machine (raising_to scope floor)) × (next ≡ same (moved w (steps.floor_started w.machine (raising_to scope floor))))
-Raises w scope floor (Err start.NothingToDo) next = steps.Step IsValue w.machine (steps.FloorRefused (raising_to scope floor) floors.NothingToDo) w.machine × (next ≡ same w)
-Raises w scope floor (Err (start.NotYet time)) next = steps.Step IsValue w.machine (steps.FloorRefused (raising_to scope floor) (floors.NotYet time)) w.machine × (next ≡ same w)
-Raises w scope floor (Err (start.InUse snapshot)) next = steps.Step IsValue w.machine (steps.FloorRefused (raising_to scope floor) (floors.InUse snapshot)) w.machine × (next ≡ same w)
+Raises w scope floor (Ok u) next =
+    steps.Step IsValue w.machine (steps.FloorStarted (raising_to scope floor)) (steps.floor_started w.machine (raising_to scope floor))
+    × (next ≡ same (moved w (steps.floor_started w.machine (raising_to scope floor))))
+Raises w scope floor (Err start.NothingToDo) next =
+    steps.Step IsValue w.machine (steps.FloorRefused (raising_to scope floor) floors.NothingToDo) w.machine × (next ≡ same w)
+Raises w scope floor (Err (start.NotYet time)) next =
+    steps.Step IsValue w.machine (steps.FloorRefused (raising_to scope floor) (floors.NotYet time)) w.machine × (next ≡ same w)
+Raises w scope floor (Err (start.InUse snapshot)) next =
+    steps.Step IsValue w.machine (steps.FloorRefused (raising_to scope floor) (floors.InUse snapshot)) w.machine × (next ≡ same w)
 Raises w scope floor (Err start.Failed) next = (w.machine.failed ≡ true) × (next ≡ same w)
 Raises w scope floor (Err start.WrongProfile) next = next ≡ same w
 Raises w scope floor (Err start.JobBusy) next = next ≡ same w

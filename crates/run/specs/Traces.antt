@@ -31,7 +31,8 @@ pub record Trace (tells : Bool) : Type 0 where
   pub promises : Promises tells calls answers start end
 
 -- the trace of a list that keeps its promise, from a moment of the store and the places
-abbrev pub trace_of : (tells : Bool) (old : StoreValue) (before : List Held) (calls : List Call) (answers : List Answer) (new : StoreValue) (after : List Held) (start : Moment)
+abbrev pub trace_of : (tells : Bool) (old : StoreValue) (before : List Held) (calls : List Call) (answers : List Answer) (new : StoreValue) (after : List Held)
+    (start : Moment)
     → KeepsPromise tells old before calls answers new after → IsAtMoment tells old before start → Trace tells
 trace_of tells old before calls answers new after start keeps is = record {
   calls = calls;

@@ -1,5 +1,6 @@
 -- Hexadecimal text in pieces.
-use Rattle.std.proofs.Common.{◌≡◌, ℕ, ◌+◌, ◌*◌, ◌/◌, ◌%◌, List, [], ◌∷◌, ◌++◌, length, take, drop, map, refl, sym, ap, ◌∙◌, arith, append_assoc, append-nil, slice_index, Result, Ok, Err, OnOk, zero, suc}
+use Rattle.std.proofs.Common.{◌≡◌, ℕ, ◌+◌, ◌*◌, ◌/◌, ◌%◌, List, [], ◌∷◌, ◌++◌, length, take, drop, map, refl, sym, ap, ◌∙◌, arith, append_assoc, append-nil}
+use Rattle.std.proofs.Common.{slice_index, Result, Ok, Err, OnOk, zero, suc}
 use Rattle.std.specs.List.{flat_map}
 use Rattle.std.specs.Simd.{first_chunks}
 use Rattle.std.proofs.lemmas.List.{take-append-drop, take-map, drop-drop}
@@ -24,7 +25,8 @@ encode-none text [] none = sym (append-nil text)
 encode-none text (x ∷ xs) none = absurd (omega arith)
 
 -- the blocks of bytes and what is left of them
-pub blocks-encode : (n k : ℕ) (xs : List ℕ) → flat_map (λ (b : List ℕ). encode_lower b) (first_chunks n k xs) ++ encode_lower (drop (k * n) xs) ≡ encode_lower xs
+pub blocks-encode : (n k : ℕ) (xs : List ℕ) → flat_map (λ (b : List ℕ). encode_lower b) (first_chunks n k xs) ++ encode_lower (drop (k * n) xs)
+    ≡ encode_lower xs
 blocks-encode n zero xs =
     let none : 0 * n ≡ 0 = omega arith in
     ap (λ (m : ℕ). encode_lower (drop m xs)) none
@@ -42,6 +44,8 @@ front-encode xs front ys same = rw same (
     ∙ pairs-encode xs)
 
 -- what was written before and what is written last are the whole
-pub whole_written : {T E : Type 0} (r : Result T E) (a b c done last text : List ℕ) → OnOk r (c ≡ b ++ last) → b ≡ a ++ done → done ++ last ≡ text → OnOk r (c ≡ a ++ text)
-whole_written (Ok _) a b c done last text here before whole = here ∙ ap (λ (t : List ℕ). t ++ last) before ∙ append_assoc a done last ∙ ap (λ (t : List ℕ). a ++ t) whole
+pub whole_written : {T E : Type 0} (r : Result T E) (a b c done last text : List ℕ) → OnOk r (c ≡ b ++ last) → b ≡ a ++ done → done ++ last ≡ text
+    → OnOk r (c ≡ a ++ text)
+whole_written (Ok _) a b c done last text here before whole =
+    here ∙ ap (λ (t : List ℕ). t ++ last) before ∙ append_assoc a done last ∙ ap (λ (t : List ℕ). a ++ t) whole
 whole_written (Err _) a b c done last text here before whole = here

@@ -1,5 +1,6 @@
 -- Each step of a job makes one device call, and the calls that are left grow fewer.
-use Rattle.std.proofs.Common.{◌≡◌, ◌≢◌, ◌<◌, ◌+◌, ◌-◌, ℕ, Bool, true, false, List, [], ◌∷◌, is_some, Option, Some, None, Result, Ok, Err, MatchBool, MatchOption, nat_lt, if◌then◌else◌, slice_get, arith, inl, inr}
+use Rattle.std.proofs.Common.{◌≡◌, ◌≢◌, ◌<◌, ◌+◌, ◌-◌, ℕ, Bool, true, false, List, [], ◌∷◌, is_some, Option, Some, None, Result, Ok, Err, MatchBool}
+use Rattle.std.proofs.Common.{MatchOption, nat_lt, if◌then◌else◌, slice_get, arith, inl, inr}
 use Rattle.std.proofs.lemmas.Bool.Decides.{nat_tests}
 use Rattle.std.specs.Prelude.{min}
 use Rattle.disk.specs.Calls.{DiskState, Counts, top}
@@ -36,38 +37,47 @@ IsFewer old new = left_of top new.made < left_of top old.made
 counted-fewer : (old new : DiskState) → Counts {T = Unit {0}} {E = DeviceFault} (Ok tt) old new → IsFewer old new
 counted-fewer old new counts = fewer top old.made new.made counts.made (λ full. let no = (counts.full full).0 in cc)
 
-run-fewer : (tells : Bool) (left : List ℕ) (run : Run) (writer : InWriting) (job : Job) (old new : StoreValue) (what : JobDid) → WritesOrSyncs tells left run writer job old (Ok what) new → IsFewer old.disk new.disk
+run-fewer : (tells : Bool) (left : List ℕ) (run : Run) (writer : InWriting) (job : Job) (old new : StoreValue) (what : JobDid)
+    → WritesOrSyncs tells left run writer job old (Ok what) new → IsFewer old.disk new.disk
 run-fewer tells [] run writer job old new what takes = counted-fewer old.disk new.disk takes.call.counts
 run-fewer tells (b ∷ bs) run writer job old new what takes = counted-fewer old.disk new.disk takes.call.counts
 
-anchors-fewer : (tells : Bool) (o : Option ℕ) (anchors : Anchors) (source : Sourced) (written : ℕ) (job : Job) (old new : StoreValue) (what : JobDid) → AnchorsOrSync tells o anchors source written job old (Ok what) new → IsFewer old.disk new.disk
+anchors-fewer : (tells : Bool) (o : Option ℕ) (anchors : Anchors) (source : Sourced) (written : ℕ) (job : Job) (old new : StoreValue) (what : JobDid)
+    → AnchorsOrSync tells o anchors source written job old (Ok what) new → IsFewer old.disk new.disk
 anchors-fewer tells None anchors source written job old new what takes = counted-fewer old.disk new.disk takes.call.counts
 anchors-fewer tells (Some number) anchors source written job old new what takes = counted-fewer old.disk new.disk takes.call.counts
 
-stores-fewer : (tells : Bool) (work : JobWork) (job : Job) (old new : StoreValue) (what : JobDid) → Stores tells work job old (Ok what) new → IsFewer old.disk new.disk
+stores-fewer : (tells : Bool) (work : JobWork) (job : Job) (old new : StoreValue) (what : JobDid) → Stores tells work job old (Ok what) new
+    → IsFewer old.disk new.disk
 stores-fewer tells (Archive run writer) job old new what takes = run-fewer tells writer.left run writer job old new what takes
-stores-fewer tells (Reclaim anchors source written) job old new what takes = anchors-fewer tells (slice_get old.transactions.reserved written) anchors source written job old new what takes
+stores-fewer tells (Reclaim anchors source written) job old new what takes =
+    anchors-fewer tells (slice_get old.transactions.reserved written) anchors source written job old new what takes
 stores-fewer tells (Floor scope floor floors) job old new what takes = absurd takes
 stores-fewer tells (Grow growth) job old new what takes = counted-fewer old.disk new.disk takes.call.counts
 
-first-fewer : (tells : Bool) (work : JobWork) (job : Job) (old new : StoreValue) (what : JobDid) → TurnsJob tells job (first_turn old job) (slot_taken (made_ready work old)) (Ok what) new → IsFewer old.disk new.disk
+first-fewer : (tells : Bool) (work : JobWork) (job : Job) (old new : StoreValue) (what : JobDid)
+    → TurnsJob tells job (first_turn old job) (slot_taken (made_ready work old)) (Ok what) new → IsFewer old.disk new.disk
 first-fewer tells (Archive run writer) job old new what takes = counted-fewer old.disk new.disk takes.call.counts
 first-fewer tells (Reclaim anchors source written) job old new what takes = counted-fewer old.disk new.disk takes.call.counts
 first-fewer tells (Floor scope floor floors) job old new what takes = counted-fewer old.disk new.disk takes.call.counts
 first-fewer tells (Grow growth) job old new what takes = counted-fewer old.disk new.disk takes.call.counts
 
-begun-fewer : (tells b : Bool) (job : Job) (old new : StoreValue) (what : JobDid) → MatchBool b (Path (Result JobDid PumpFault) (Ok what) (Err fault.Busy) × (new ≡ old)) (BeginsJobSlot tells job old (Ok what) new) → IsFewer old.disk new.disk
+begun-fewer : (tells b : Bool) (job : Job) (old new : StoreValue) (what : JobDid)
+    → MatchBool b (Path (Result JobDid PumpFault) (Ok what) (Err fault.Busy) × (new ≡ old)) (BeginsJobSlot tells job old (Ok what) new)
+    → IsFewer old.disk new.disk
 begun-fewer tells true job old new what takes = absurd (let is = takes.0 in cc)
 begun-fewer tells false job old new what (inl short) = absurd (let is = short.1 in cc)
 begun-fewer tells false job old new what (inr takes) = first-fewer tells job.work job old new what takes
 
-step-fewer : (tells : Bool) (stage : JobStage) (job : Job) (old new : StoreValue) (what : JobDid) → TakesJobStep tells stage job old (Ok what) new → IsFewer old.disk new.disk
+step-fewer : (tells : Bool) (stage : JobStage) (job : Job) (old new : StoreValue) (what : JobDid) → TakesJobStep tells stage job old (Ok what) new
+    → IsFewer old.disk new.disk
 step-fewer tells stages.Writing job old new what takes = stores-fewer tells job.work job old new what takes
 step-fewer tells stages.Stored job old new what takes = begun-fewer tells (is_some old.turn) job old new what takes
 step-fewer tells (stages.Turning turn) job old new what takes = counted-fewer old.disk new.disk takes.call.counts
 
 job-fewer : (tells : Bool) (o : Option Job) (old new : StoreValue) (what : JobDid)
-    → MatchOption o (Path (Result JobDid PumpFault) (Ok what) (Ok did.Idle) × (new ≡ old)) (λ job. TakesJobStep tells job.stage job old (Ok what) new) → what ≢ did.Idle → IsFewer old.disk new.disk
+    → MatchOption o (Path (Result JobDid PumpFault) (Ok what) (Ok did.Idle) × (new ≡ old)) (λ job. TakesJobStep tells job.stage job old (Ok what) new)
+    → what ≢ did.Idle → IsFewer old.disk new.disk
 job-fewer tells None old new what takes some = absurd (some (let is = takes.0 in cc))
 job-fewer tells (Some job) old new what takes some = step-fewer tells job.stage job old new what takes
 

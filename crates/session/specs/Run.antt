@@ -31,11 +31,13 @@ EndsRefused tells old l out end = (f : OpenFault) × Refuses tells old l f end.1
 
 -- and one of whose answer a front was written
 abbrev pub EndsUnsaid : Bool → State → Line → Text → End → Type 0
-EndsUnsaid tells old l out end = (r : Reply) × (new : State) × Step tells old l r new × Closes new end.1 × IsFront out (text_of r) × (end.0 ≡ ending.OutputRefused)
+EndsUnsaid tells old l out end =
+    (r : Reply) × (new : State) × Step tells old l r new × Closes new end.1 × IsFront out (text_of r) × (end.0 ≡ ending.OutputRefused)
 
 -- a line of this form writes out, and leaves a session or the end
 abbrev pub Answers : Bool → State → Line → Text → Result State End → Type 0
-Answers tells old l out next = MatchResult next (λ new. (r : Reply) × Step tells old l r new × (out ≡ text_of r)) (λ e. EndsRefused tells old l out e ⊎ EndsUnsaid tells old l out e)
+Answers tells old l out next =
+    MatchResult next (λ new. (r : Reply) × Step tells old l r new × (out ≡ text_of r)) (λ e. EndsRefused tells old l out e ⊎ EndsUnsaid tells old l out e)
 
 -- so does the nth line
 abbrev pub Turn : Bool → ℕ → State → Text → Text → Result State End → Type 0
@@ -48,7 +50,8 @@ Answered tells false n old text new before after = (said text ≡ Some form.Reop
 
 -- the run ends so with the nth line, once the session is closed
 abbrev pub Ended : Bool → ℕ → State → Text → Ending → State → Option Text → Option Text → Type 0
-Ended tells n old line end new before after = (out : Text) × ((disk : DiskState) → Closes new disk → Turn tells n old line out (Err (end, disk))) × Appends before after out
+Ended tells n old line end new before after =
+    (out : Text) × ((disk : DiskState) → Closes new disk → Turn tells n old line out (Err (end, disk))) × Appends before after out
 
 -- the input or the output was refused
 abbrev pub IsCut : Ending → Type 0

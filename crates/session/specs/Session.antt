@@ -1,5 +1,6 @@
 -- One line of the script, on a store and the names in use.
-use Rattle.std.specs.Prelude.{◌≡◌, ◌≢◌, ◌==◌, if◌then◌else◌, ℕ, ◌+◌, ◌↔◌, Bool, true, false, not, ◌||◌, ◌⊎◌, ◌<◌, ◌^◌, nat_lt, List, [], ◌∷◌, ◌++◌, length, Option, Some, None, Result, Ok, Err, IfOk, OnOk, OnErr, IsSome, IsTrue, is_some, position, MatchOption, slice_get, remove}
+use Rattle.std.specs.Prelude.{◌≡◌, ◌≢◌, ◌==◌, if◌then◌else◌, ℕ, ◌+◌, ◌↔◌, Bool, true, false, not, ◌||◌, ◌⊎◌, ◌<◌, ◌^◌, nat_lt, List, [], ◌∷◌, ◌++◌, length}
+use Rattle.std.specs.Prelude.{Option, Some, None, Result, Ok, Err, IfOk, OnOk, OnErr, IsSome, IsTrue, is_some, position, MatchOption, slice_get, remove}
 use Rattle.std.specs.Str.{bytes_eq}
 use Rattle.std.specs.declared.alloc.AllocError.{AllocError}
 use Rattle.std.specs.declared.alloc.Global.{Global}
@@ -217,7 +218,8 @@ IsLast idle (Ok step) = step ≡ idle
 IsLast idle (Err f) = Unit {0}
 
 -- a step is taken and replied, and it is told whether it is the last
-abbrev pub TakesOne : {S : Type 0} → (StoreValue → Result S PumpFault → StoreValue → Type 0) → S → (Result S PumpFault → Reply) → StoreValue → Reply → Bool → StoreValue → Type 0
+abbrev pub TakesOne : {S : Type 0} → (StoreValue → Result S PumpFault → StoreValue → Type 0) → S → (Result S PumpFault → Reply) → StoreValue → Reply → Bool
+    → StoreValue → Type 0
 TakesOne takes idle reply_of old r last new = (answer : Result _ PumpFault) × takes old answer new × (r ≡ reply_of answer) × (IsTrue last ↔ IsLast idle answer)
 
 -- these steps are taken, and none of them is the last
@@ -226,7 +228,8 @@ TakesSteps takes idle old [] new = new ≡ old
 TakesSteps takes idle old (step ∷ steps) new = (mid : StoreValue) × takes old (Ok step) mid × (step ≢ idle) × TakesSteps takes idle mid steps new
 
 -- steps are taken until the last, which alone is replied
-pub record TakesAll {S : Type 0} (takes : StoreValue → Result S PumpFault → StoreValue → Type 0) (idle : S) (reply_of : Result S PumpFault → Reply) (old : StoreValue) (r : Reply) (new : StoreValue) : Type 0 where
+pub record TakesAll {S : Type 0} (takes : StoreValue → Result S PumpFault → StoreValue → Type 0) (idle : S) (reply_of : Result S PumpFault
+    → Reply) (old : StoreValue) (r : Reply) (new : StoreValue) : Type 0 where
   pub steps : List S
   pub mid : StoreValue
   pub before : TakesSteps takes idle old steps mid
@@ -328,7 +331,8 @@ records_found (Err f) = reply.Refused (fault.Query f)
 
 -- `scan`: what a view that is taken now says of a relation's records at a time
 abbrev pub ScanStep : Bool → StoreValue → ℕ → ℕ → Reply → StoreValue → Type 0
-ScanStep tells old relation time r new = (answer : Result (Vec (ℕ × List Text) Global) QueryFault) × AsksScan tells old relation time answer new × (r ≡ records_found answer)
+ScanStep tells old relation time r new =
+    (answer : Result (Vec (ℕ × List Text) Global) QueryFault) × AsksScan tells old relation time answer new × (r ≡ records_found answer)
 
 -- and for the rows of an interval
 abbrev pub AsksRows : Bool → StoreValue → Key → ℕ → ℕ → Result (Vec (Version (List Text)) Global) QueryFault → StoreValue → Type 0
@@ -342,7 +346,8 @@ rows_found (Err f) = reply.Refused (fault.Query f)
 
 -- `between`: what a view that is taken now says of a key's rows from a to b
 abbrev pub BetweenStep : Bool → StoreValue → Key → ℕ → ℕ → Reply → StoreValue → Type 0
-BetweenStep tells old key a b r new = (answer : Result (Vec (Version (List Text)) Global) QueryFault) × AsksRows tells old key a b answer new × (r ≡ rows_found answer)
+BetweenStep tells old key a b r new =
+    (answer : Result (Vec (Version (List Text)) Global) QueryFault) × AsksRows tells old key a b answer new × (r ≡ rows_found answer)
 
 -- the times of a label, or no memory for them
 abbrev pub TimesStep : StoreValue → ℕ → Reply → Type 0
@@ -364,7 +369,8 @@ Closes old given = (end : StoreValue) × AbortsAll old.store old.opened end × (
 
 -- what is said of a store that is open: its last commit and its floor, or how many relations have one where each has its own
 abbrev pub opened_reply : StoreValue → Reply
-opened_reply v = if v.log.profile == 3 then reply.OpenedByRelation (store.last v) (length (store.floors v).own) else reply.Opened (store.last v) (store.floors v).every
+opened_reply v =
+    if v.log.profile == 3 then reply.OpenedByRelation (store.last v) (length (store.floors v).own) else reply.Opened (store.last v) (store.floors v).every
 
 -- what is open is aborted, and the store is closed and opened again
 pub record Reopens (tells : Bool) (old : State) (r : Reply) (new : State) : Type 0 where

@@ -62,13 +62,15 @@ more-nothing k = record { seen = later-nothing k.seen; archive = archive-first k
 
 -- ---- what views read
 
-pub reads-taken : (tells : Bool) (v : StoreValue) (view : ViewValue) (h : History Value) (floors : ℕ → ℕ) → ViewReads tells v view h floors → ReadsArchive (archive_seen tells v) view h floors
+pub reads-taken : (tells : Bool) (v : StoreValue) (view : ViewValue) (h : History Value) (floors : ℕ → ℕ) → ViewReads tells v view h floors
+    → ReadsArchive (archive_seen tells v) view h floors
 reads-taken tells v view h floors reads = record {
   front = reads.front;
   runs = λ told. let r = reads.runs told in record { lists = r.lists; held = r.held; ends = r.ends; marks = r.marks; archived = r.archived };
 }
 
-pub reads-later : (old new : ArchiveSeen) (view : ViewValue) (h : History Value) (floors : ℕ → ℕ) → IsArchiveLater old new → ReadsArchive old view h floors → ReadsArchive new view h floors
+pub reads-later : (old new : ArchiveSeen) (view : ViewValue) (h : History Value) (floors : ℕ → ℕ) → IsArchiveLater old new → ReadsArchive old view h floors
+    → ReadsArchive new view h floors
 reads-later old new view h floors later reads = record {
   front = ap (is_front view.runs) later.runs ∙ front-more view.runs old.runs later.more reads.front;
   runs = λ told.
@@ -82,7 +84,8 @@ reads-later old new view h floors later reads = record {
 }
 
 -- a store with this archive answers such a view of its own
-pub reads-of : (tells : Bool) (v : StoreValue) (view : ViewValue) (h : History Value) (floors : ℕ → ℕ) → view.mark ≡ v.transactions.mark → ReadsArchive (archive_seen tells v) view h floors → ViewReads tells v view h floors
+pub reads-of : (tells : Bool) (v : StoreValue) (view : ViewValue) (h : History Value) (floors : ℕ → ℕ) → view.mark ≡ v.transactions.mark
+    → ReadsArchive (archive_seen tells v) view h floors → ViewReads tells v view h floors
 reads-of tells v view h floors mark reads = record {
   mark = mark;
   front = reads.front;

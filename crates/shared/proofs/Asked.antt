@@ -20,16 +20,21 @@ use Rattle.shared.specs.Shared.{IsShared, Shows}
 use Rattle.shared.proofs.Moments.{still-reads}
 
 -- the view as it was shown, and as it was lent
-module _ (tells : Bool) (start : Machine Value) (brand : ℕ) (table : TableId) (v new : StoreValue) (shares : ℕ) (at : TableId) (pass : SightValue) (h : IsShared tells start brand table v shares at pass) (shown : ViewValue) (asked lent : ViewMoment) (is : shown ≡ asked.shown) (same : asked ≡ lent) (s : Shows start brand pass.archive asked.shown asked.seen) where
-  pub at-says : (key : Key) (time : ℕ) (r : Result (Option Value) QueryFault) → stores.AnswersAtView tells v shown key time r new → OfSeen start lent.seen (λ m. SaysAt (IsSure tells lent.shown.reclaimed time) (answers.at_answer m.published m.floors key time) r)
+module _ (tells : Bool) (start : Machine Value) (brand : ℕ) (table : TableId) (v new : StoreValue) (shares : ℕ) (at : TableId) (pass : SightValue)
+    (h : IsShared tells start brand table v shares at pass) (shown : ViewValue) (asked lent : ViewMoment) (is : shown ≡ asked.shown) (same : asked
+    ≡ lent) (s : Shows start brand pass.archive asked.shown asked.seen) where
+  pub at-says : (key : Key) (time : ℕ) (r : Result (Option Value) QueryFault) → stores.AnswersAtView tells v shown key time r new
+      → OfSeen start lent.seen (λ m. SaysAt (IsSure tells lent.shown.reclaimed time) (answers.at_answer m.published m.floors key time) r)
   at-says key time r says =
       let m = s.machine in
       let reads = still-reads tells start brand table v shares at pass asked.shown asked.seen h s in
       let found = subst (λ (w : ViewValue). stores.AnswersAtView tells v w key time r new) is says in
-      subst (λ (x : ViewMoment). OfSeen start x.seen (λ m. SaysAt (IsSure tells x.shown.reclaimed time) (answers.at_answer m.published m.floors key time) r)) same
+      subst (λ (x : ViewMoment). OfSeen start x.seen (λ m. SaysAt (IsSure tells x.shown.reclaimed time) (answers.at_answer m.published m.floors key time) r))
+      same
       (m, s.reached, s.seen_is, at-answered tells v new h.state asked.shown m.published m.floors key time r h.stands s.stands reads found)
 
-  pub scan_at-says : (relation time : ℕ) (r : Result (Vec (ℕ × Value) Global) QueryFault) → stores.AnswersScanAt tells v shown relation time r new → OfSeen start lent.seen (λ m. SaysScanAt (IsSure tells lent.shown.reclaimed time) m.published m.floors relation time r)
+  pub scan_at-says : (relation time : ℕ) (r : Result (Vec (ℕ × Value) Global) QueryFault) → stores.AnswersScanAt tells v shown relation time r new
+      → OfSeen start lent.seen (λ m. SaysScanAt (IsSure tells lent.shown.reclaimed time) m.published m.floors relation time r)
   scan_at-says relation time r says =
       let m = s.machine in
       let reads = still-reads tells start brand table v shares at pass asked.shown asked.seen h s in
@@ -37,7 +42,8 @@ module _ (tells : Bool) (start : Machine Value) (brand : ℕ) (table : TableId) 
       subst (λ (x : ViewMoment). OfSeen start x.seen (λ m. SaysScanAt (IsSure tells x.shown.reclaimed time) m.published m.floors relation time r)) same
       (m, s.reached, s.seen_is, scan_at-answered tells v new h.state asked.shown m.published m.floors relation time r h.stands s.stands reads found)
 
-  pub between-says : (key : Key) (a b : ℕ) (r : Result (Vec (Version Value) Global) QueryFault) → stores.AnswersRows tells v shown key a b r new → OfSeen start lent.seen (λ m. SaysBetween (IsSure tells lent.shown.reclaimed a) m.published m.floors key a b r)
+  pub between-says : (key : Key) (a b : ℕ) (r : Result (Vec (Version Value) Global) QueryFault) → stores.AnswersRows tells v shown key a b r new
+      → OfSeen start lent.seen (λ m. SaysBetween (IsSure tells lent.shown.reclaimed a) m.published m.floors key a b r)
   between-says key a b r says =
       let m = s.machine in
       let reads = still-reads tells start brand table v shares at pass asked.shown asked.seen h s in
@@ -45,7 +51,8 @@ module _ (tells : Bool) (start : Machine Value) (brand : ℕ) (table : TableId) 
       subst (λ (x : ViewMoment). OfSeen start x.seen (λ m. SaysBetween (IsSure tells x.shown.reclaimed a) m.published m.floors key a b r)) same
       (m, s.reached, s.seen_is, between-answered tells v new h.state asked.shown m.published m.floors key a b r h.stands s.stands reads found)
 
-  pub scan_between-says : (relation a b : ℕ) (r : Result (Vec (ℕ × Version Value) Global) QueryFault) → stores.AnswersScanRows tells v shown relation a b r new → OfSeen start lent.seen (λ m. SaysScanBetween (IsSure tells lent.shown.reclaimed a) m.published m.floors relation a b r)
+  pub scan_between-says : (relation a b : ℕ) (r : Result (Vec (ℕ × Version Value) Global) QueryFault) → stores.AnswersScanRows tells v shown relation a b r new
+      → OfSeen start lent.seen (λ m. SaysScanBetween (IsSure tells lent.shown.reclaimed a) m.published m.floors relation a b r)
   scan_between-says relation a b r says =
       let m = s.machine in
       let reads = still-reads tells start brand table v shares at pass asked.shown asked.seen h s in

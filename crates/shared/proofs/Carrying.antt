@@ -24,7 +24,11 @@ use Rattle.shared.proofs.observer.Observer.TheSendSync as observer
 use Rattle.shared.proofs.Versions.{frozen_send}
 
 view_inside : IsSend view.the_row
-view_inside = declared_send view.the_type (search sendable, (search sendable, (search (sendable, floors.the_send), (search sendable, (search (sendable, runs.the_send), (search (sendable, frozen_send), tt))))))
+view_inside =
+    declared_send view.the_type (
+      search sendable,
+      (search sendable, (search (sendable, floors.the_send), (search sendable, (search (sendable, runs.the_send), (search (sendable, frozen_send), tt))))),
+    )
 
 view_sent : IsSend View.the_row
 view_sent = view_send view.the_row _ _ _ _ view_inside

@@ -28,7 +28,8 @@ after-push t (x ∷ xs) time label = ap (λ (n : ℕ). cond (nat_lt t x.time) (c
 abbrev told_of : Bool → ℕ
 told_of b = cond b 0 1
 
-told-by : (x : CommitHead) (xs : List CommitHead) (time : ℕ) → (is_awaited time xs ≡ true → told_count (redeemed time xs) ≡ told_count xs + 1) → (b : Bool) → cond b x.awaited (is_awaited time xs) ≡ true
+told-by : (x : CommitHead) (xs : List CommitHead) (time : ℕ) → (is_awaited time xs ≡ true → told_count (redeemed time xs) ≡ told_count xs + 1) → (b : Bool)
+    → cond b x.awaited (is_awaited time xs) ≡ true
     → told_count (cond b (record x { awaited = false } ∷ xs) (x ∷ redeemed time xs)) ≡ cond x.awaited 0 1 + told_count xs + 1
 told-by x xs time rest true on =
     let none : told_of x.awaited ≡ 0 = ap told_of on in
@@ -48,7 +49,8 @@ late t x = cond (nat_lt t x.time) (cond x.awaited 0 1) 0
 late-none : (t : ℕ) (x : CommitHead) → x.time ≤ t → late t x ≡ 0
 late-none t x le = let low : nat_lt t x.time ≡ false = grind (arith, nat_tests) in ap (λ (b : Bool). cond b (cond x.awaited 0 1) 0) low
 
-after-by : (t time : ℕ) (x : CommitHead) (xs : List CommitHead) → time ≤ t → told_after t (redeemed time xs) ≡ told_after t xs → (b : Bool) → (x.time == time) ≡ b → told_after t (cond b (record x { awaited = false } ∷ xs) (x ∷ redeemed time xs)) ≡ late t x + told_after t xs
+after-by : (t time : ℕ) (x : CommitHead) (xs : List CommitHead) → time ≤ t → told_after t (redeemed time xs) ≡ told_after t xs → (b : Bool) → (x.time == time)
+    ≡ b → told_after t (cond b (record x { awaited = false } ∷ xs) (x ∷ redeemed time xs)) ≡ late t x + told_after t xs
 after-by t time x xs early rest true is =
     let same : x.time ≡ time = grind (arith, nat_tests) in
     let le : x.time ≤ t = omega (arith, same, early) in
@@ -63,7 +65,8 @@ after-redeemed t time (x ∷ xs) early = after-by t time x xs early (after-redee
 
 -- ---- more is published
 
-later-by : (s t : ℕ) (x : CommitHead) (rest : ℕ) → s ≤ t → rest ≡ 0 → (a : Bool) → nat_lt s x.time ≡ a → (b : Bool) → nat_lt t x.time ≡ b → Path ℕ (cond a (told_of x.awaited) 0) 0 → Path ℕ (cond b (told_of x.awaited) 0 + rest) 0
+later-by : (s t : ℕ) (x : CommitHead) (rest : ℕ) → s ≤ t → rest ≡ 0 → (a : Bool) → nat_lt s x.time ≡ a → (b : Bool) → nat_lt t x.time ≡ b
+    → Path ℕ (cond a (told_of x.awaited) 0) 0 → Path ℕ (cond b (told_of x.awaited) 0 + rest) 0
 later-by s t x rest le none true low true high first = omega (arith, none, first)
 later-by s t x rest le none false low true high first =
     let early : x.time ≤ s = grind (arith, nat_tests) in
@@ -105,7 +108,8 @@ abbrev due : ℕ → CommitHead → ℕ
 due t x = cond (nat_lt t x.time) 0 (cond x.awaited 1 0)
 
 due-late : (t : ℕ) (x : CommitHead) → t < x.time → (late t x ≡ cond x.awaited 0 1) × (due t x ≡ 0)
-due-late t x lt = let high : nat_lt t x.time ≡ true = grind (arith, nat_tests) in (ap (λ (b : Bool). cond b (cond x.awaited 0 1) 0) high, ap (λ (b : Bool). cond b 0 (cond x.awaited 1 0)) high)
+due-late t x lt = let high : nat_lt t x.time ≡ true =
+    grind (arith, nat_tests) in (ap (λ (b : Bool). cond b (cond x.awaited 0 1) 0) high, ap (λ (b : Bool). cond b 0 (cond x.awaited 1 0)) high)
 
 one-of : (b : Bool) → cond b 0 1 + cond b 1 0 ≡ 1
 one-of true = refl
@@ -135,7 +139,8 @@ none-early t s (x ∷ xs) le rising none =
     (first, second)
 
 -- the published commits are those that are told and those that are awaited
-pub published-count : (t p : ℕ) (heads : List CommitHead) → IsRisingAfter t heads → p ≤ length heads → told_after (last_time_after t (take p heads)) heads ≡ 0 → p ≡ told_count heads + awaited_upto (last_time_after t (take p heads)) heads
+pub published-count : (t p : ℕ) (heads : List CommitHead) → IsRisingAfter t heads → p ≤ length heads → told_after (last_time_after t (take p heads)) heads ≡ 0
+    → p ≡ told_count heads + awaited_upto (last_time_after t (take p heads)) heads
 published-count t zero [] rising few none = refl
 published-count t (suc p) [] rising few none = absurd (omega (arith, few))
 published-count t zero (x ∷ xs) rising few none =
@@ -150,4 +155,5 @@ published-count t (suc p) (x ∷ xs) rising few none =
     let shorter : suc p ≤ suc (length xs) = few in
     let rest = published-count x.time p xs rising.2 (omega (arith, shorter)) rest_none in
     let one = due-early (last_time_after x.time (take p xs)) x early in
-    let goal : suc p ≡ cond x.awaited 0 1 + told_count xs + (due (last_time_after x.time (take p xs)) x + awaited_upto (last_time_after x.time (take p xs)) xs) = omega (arith, one, rest) in goal
+    let goal : suc p ≡ cond x.awaited 0 1 + told_count xs + (due (last_time_after x.time (take p xs)) x + awaited_upto (last_time_after x.time (take p xs)) xs)
+    = omega (arith, one, rest) in goal

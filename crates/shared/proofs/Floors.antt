@@ -22,9 +22,11 @@ unfolding floors_listed
 listed-same f g same = map-same f g 0 (2 ^ 16) same
 
 -- one is raised among those that are listed as among those that stand
-pub listed-raised : (scope : Option ℕ) (floor : ℕ) (floors : ℕ → ℕ) → floors_listed (raised scope floor floors) ≡ floors_listed (raised scope floor (floor_in (floors_listed floors)))
+pub listed-raised : (scope : Option ℕ) (floor : ℕ) (floors : ℕ → ℕ) → floors_listed (raised scope floor floors)
+    ≡ floors_listed (raised scope floor (floor_in (floors_listed floors)))
 listed-raised scope floor floors =
-    listed-same (raised scope floor floors) (raised scope floor (floor_in (floors_listed floors))) (λ relation within. ap (λ x. cond (covers scope relation) floor x) (sym (listed floors relation within)))
+    listed-same (raised scope floor floors) (raised scope floor (floor_in (floors_listed floors)))
+    (λ relation within. ap (λ x. cond (covers scope relation) floor x) (sym (listed floors relation within)))
 
 -- what is no lower by relation is no lower by place
 map-later : (f g : ℕ → ℕ) → ((relation : ℕ) → f relation ≤ g relation) → (xs : List ℕ) (place : ℕ) → get_or (map f xs) place 0 ≤ get_or (map g xs) place 0
@@ -32,6 +34,7 @@ map-later f g rise [] place = omega arith
 map-later f g rise (x ∷ xs) zero = rise x
 map-later f g rise (x ∷ xs) (suc place) = map-later f g rise xs place
 
-pub listed-later : (f g : ℕ → ℕ) → ((relation : ℕ) → f relation ≤ g relation) → (relation : ℕ) → floor_in (floors_listed f) relation ≤ floor_in (floors_listed g) relation
+pub listed-later : (f g : ℕ → ℕ) → ((relation : ℕ) → f relation ≤ g relation) → (relation : ℕ)
+    → floor_in (floors_listed f) relation ≤ floor_in (floors_listed g) relation
 unfolding floors_listed
 listed-later f g rise relation = map-later f g rise (range_with_len 0 (2 ^ 16)) relation

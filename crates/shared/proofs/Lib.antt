@@ -8,7 +8,9 @@ pub mod Passes
 pub mod Counting
 pub mod Stepping
 pub mod Moves
+pub mod Awaiting
 pub mod Telling
+pub mod Idling
 pub mod Fresh
 pub mod Committing
 pub mod Moments

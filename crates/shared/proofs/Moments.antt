@@ -24,7 +24,8 @@ use Rattle.shared.proofs.Fronts.{front-then}
 -- ---- views
 
 -- the view is shown by an archive that is known to be later
-pub shows-later : (start : Machine Value) (brand : ℕ) (old new : ArchiveSeen) (view : ViewValue) (seen : Seen) → IsArchiveLater old new → Shows start brand old view seen → Shows start brand new view seen
+pub shows-later : (start : Machine Value) (brand : ℕ) (old new : ArchiveSeen) (view : ViewValue) (seen : Seen) → IsArchiveLater old new
+    → Shows start brand old view seen → Shows start brand new view seen
 shows-later start brand old new view seen later s = record {
   machine = s.machine;
   reached = s.reached;
@@ -35,10 +36,12 @@ shows-later start brand old new view seen later s = record {
 }
 
 -- the store has what the view reads
-pub still-reads : (tells : Bool) (start : Machine Value) (brand : ℕ) (table : TableId) (v : StoreValue) (shares : ℕ) (at : TableId) (pass : SightValue) (view : ViewValue) (seen : Seen) → IsShared tells start brand table v shares at pass → (s : Shows start brand pass.archive view seen)
+pub still-reads : (tells : Bool) (start : Machine Value) (brand : ℕ) (table : TableId) (v : StoreValue) (shares : ℕ) (at : TableId) (pass : SightValue)
+    (view : ViewValue) (seen : Seen) → IsShared tells start brand table v shares at pass → (s : Shows start brand pass.archive view seen)
     → ViewReads tells v view s.machine.published s.machine.floors
 still-reads tells start brand table v shares at pass view seen h s =
-    reads-of tells v view s.machine.published s.machine.floors (s.mark ∙ sym h.mark) (reads-later pass.archive (archive_seen tells v) view s.machine.published s.machine.floors h.archive s.reads)
+    reads-of tells v view s.machine.published s.machine.floors (s.mark
+    ∙ sym h.mark) (reads-later pass.archive (archive_seen tells v) view s.machine.published s.machine.floors h.archive s.reads)
 
 -- ---- transactions
 
@@ -59,46 +62,58 @@ pub works-reached : (start : Machine Value) (brand : ℕ) (t : TxnValue) (seen :
 works-reached start brand t seen w = (w.machine, w.reached, w.seen_is)
 
 -- what it sees is the history of its moment, with its own writes over it
-pub sees : (start : Machine Value) (brand : ℕ) (t : TxnValue) (seen : Seen) → WorksOn start brand t seen → (key : Key) → seen_by t key ≡ value_for (record { txn = t; seen = seen }) key
+pub sees : (start : Machine Value) (brand : ℕ) (t : TxnValue) (seen : Seen) → WorksOn start brand t seen → (key : Key) → seen_by t key
+    ≡ value_for (record { txn = t; seen = seen }) key
 sees start brand t seen w key = ap (λ (o : Option Value). unwrap_or (write_in t.writes key) o) (w.reads key)
 
-pub scans : (start : Machine Value) (brand : ℕ) (t : TxnValue) (seen : Seen) (relation : ℕ) (found : List (ℕ × Value)) → WorksOn start brand t seen → IsScan (seen_by t) relation found → IsScan (value_for (record { txn = t; seen = seen })) relation found
+pub scans : (start : Machine Value) (brand : ℕ) (t : TxnValue) (seen : Seen) (relation : ℕ) (found : List (ℕ × Value)) → WorksOn start brand t seen
+    → IsScan (seen_by t) relation found → IsScan (value_for (record { txn = t; seen = seen })) relation found
 scans start brand t seen relation found w is =
     let same : Path (Key → Option Value) (seen_by t) (value_for (record { txn = t; seen = seen })) = λ i key. sees start brand t seen w key i in
     subst (λ (values : Key → Option Value). IsScan values relation found) same is
 
 -- its writes change nothing of that
-pub rewritten : (start : Machine Value) (brand : ℕ) (t : TxnValue) (seen : Seen) (ws : List (KeyWrite Value)) → WorksOn start brand t seen → WorksOn start brand (record t { writes = ws }) seen
-rewritten start brand t seen ws w = record { machine = w.machine; reached = w.reached; seen_is = w.seen_is; mark = w.mark; snapshot = w.snapshot; reads = w.reads }
+pub rewritten : (start : Machine Value) (brand : ℕ) (t : TxnValue) (seen : Seen) (ws : List (KeyWrite Value)) → WorksOn start brand t seen
+    → WorksOn start brand (record t { writes = ws }) seen
+rewritten start brand t seen ws w =
+    record { machine = w.machine; reached = w.reached; seen_is = w.seen_is; mark = w.mark; snapshot = w.snapshot; reads = w.reads }
 
-pub still-works : {T E : Type 0} (r : Result T E) (start : Machine Value) (brand : ℕ) (t t' : TxnValue) (seen : Seen) (ws : List (KeyWrite Value)) → WorksOn start brand t seen → OnOk r (t' ≡ record t { writes = ws }) → OnErr r (t' ≡ t) → WorksOn start brand t' seen
+pub still-works : {T E : Type 0} (r : Result T E) (start : Machine Value) (brand : ℕ) (t t' : TxnValue) (seen : Seen) (ws : List (KeyWrite Value))
+    → WorksOn start brand t seen → OnOk r (t' ≡ record t { writes = ws }) → OnErr r (t' ≡ t) → WorksOn start brand t' seen
 still-works (Ok done) start brand t t' seen ws w ok err = subst (λ (x : TxnValue). WorksOn start brand x seen) (sym ok) (rewritten start brand t seen ws w)
 still-works (Err why) start brand t t' seen ws w ok err = subst (λ (x : TxnValue). WorksOn start brand x seen) (sym err) w
 
 -- ---- its writes, by a moment that has this transaction
 
-pub changed-ok : {T E : Type 0} (r : Result T E) (t t' : TxnValue) (seen : Seen) (m : TxnMoment) (change : TxnValue → TxnValue) → record { txn = t; seen = seen } ≡ m → OnOk r (t' ≡ change t)
+pub changed-ok : {T E : Type 0} (r : Result T E) (t t' : TxnValue) (seen : Seen) (m : TxnMoment) (change : TxnValue → TxnValue)
+    → record { txn = t; seen = seen } ≡ m → OnOk r (t' ≡ change t)
     → OnOk r (record { txn = t'; seen = seen } ≡ record m { txn = change m.txn })
-changed-ok (Ok done) t t' seen m change is ok = ap (λ (x : TxnValue). record { txn = x; seen = seen }) ok ∙ ap (λ (y : TxnMoment). record y { txn = change y.txn }) is
+changed-ok (Ok done) t t' seen m change is ok =
+    ap (λ (x : TxnValue). record { txn = x; seen = seen }) ok ∙ ap (λ (y : TxnMoment). record y { txn = change y.txn }) is
 changed-ok (Err why) t t' seen m change is ok = tt
 
-pub kept-err : {T E : Type 0} (r : Result T E) (t t' : TxnValue) (seen : Seen) (m : TxnMoment) → record { txn = t; seen = seen } ≡ m → OnErr r (t' ≡ t) → OnErr r (record { txn = t'; seen = seen } ≡ m)
+pub kept-err : {T E : Type 0} (r : Result T E) (t t' : TxnValue) (seen : Seen) (m : TxnMoment) → record { txn = t; seen = seen } ≡ m → OnErr r (t' ≡ t)
+    → OnErr r (record { txn = t'; seen = seen } ≡ m)
 kept-err (Ok done) t t' seen m is err = tt
 kept-err (Err why) t t' seen m is err = ap (λ (x : TxnValue). record { txn = x; seen = seen }) err ∙ is
 
-sees-one : (start : Machine Value) (brand : ℕ) (t : TxnValue) (seen : Seen) (m : TxnMoment) → record { txn = t; seen = seen } ≡ m → WorksOn start brand t seen → (key : Key) → seen_by t key ≡ value_for m key
+sees-one : (start : Machine Value) (brand : ℕ) (t : TxnValue) (seen : Seen) (m : TxnMoment) → record { txn = t; seen = seen } ≡ m → WorksOn start brand t seen
+    → (key : Key) → seen_by t key ≡ value_for m key
 sees-one start brand t seen m is w key = sees start brand t seen w key ∙ ap (λ (y : TxnMoment). value_for y key) is
 
 -- what it sees after a write of a key
-pub sees-after : {T E : Type 0} (r : Result T E) (start : Machine Value) (brand : ℕ) (t t' : TxnValue) (seen : Seen) (m : TxnMoment) (ws : List (KeyWrite Value)) (is_key : Key → Bool) (value : Option Value) → record { txn = t; seen = seen } ≡ m → WorksOn start brand t seen
-    → OnOk r (t' ≡ record t { writes = ws }) → OnOk r ((q : Key) → seen_by t' q ≡ (if is_key q then value else seen_by t q)) → OnOk r ((q : Key) → value_for (record { txn = t'; seen = seen }) q ≡ (if is_key q then value else value_for m q))
+pub sees-after : {T E : Type 0} (r : Result T E) (start : Machine Value) (brand : ℕ) (t t' : TxnValue) (seen : Seen) (m : TxnMoment)
+    (ws : List (KeyWrite Value)) (is_key : Key → Bool) (value : Option Value) → record { txn = t; seen = seen } ≡ m → WorksOn start brand t seen
+    → OnOk r (t' ≡ record t { writes = ws }) → OnOk r ((q : Key) → seen_by t' q ≡ (if is_key q then value else seen_by t q))
+    → OnOk r ((q : Key) → value_for (record { txn = t'; seen = seen }) q ≡ (if is_key q then value else value_for m q))
 sees-after (Ok done) start brand t t' seen m ws is_key value is w ok by_key = λ q.
     let w' : WorksOn start brand t' seen = subst (λ (x : TxnValue). WorksOn start brand x seen) (sym ok) (rewritten start brand t seen ws w) in
     sym (sees start brand t' seen w' q) ∙ by_key q ∙ ap (λ (o : Option Value). if is_key q then value else o) (sees-one start brand t seen m is w q)
 sees-after (Err why) start brand t t' seen m ws is_key value is w ok by_key = tt
 
 -- a fact of what it sees
-pub of-seen : (start : Machine Value) (brand : ℕ) (t : TxnValue) (seen : Seen) (m : TxnMoment) (key : Key) (P : Option Value → Type 0) → record { txn = t; seen = seen } ≡ m → WorksOn start brand t seen → P (seen_by t key) → P (value_for m key)
+pub of-seen : (start : Machine Value) (brand : ℕ) (t : TxnValue) (seen : Seen) (m : TxnMoment) (key : Key) (P : Option Value → Type 0)
+    → record { txn = t; seen = seen } ≡ m → WorksOn start brand t seen → P (seen_by t key) → P (value_for m key)
 of-seen start brand t seen m key P is w holds = subst P (sees-one start brand t seen m is w key) holds
 
 -- a view that has what was seen at last has what was seen before

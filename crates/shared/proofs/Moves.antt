@@ -1,5 +1,6 @@
 -- What one call of the store leaves under the lock.
-use Rattle.std.proofs.Common.{◌≡◌, ℕ, ◌+◌, ◌<◌, ◌^◌, ◌≤◌, ◌==◌, nat_le, nat_lt, Bool, true, false, cond, is_some, List, [], ◌++◌, length, Option, None, Some, Result, Ok, Err, MatchBool, MatchOption, refl, sym, ap, ◌∙◌, subst, arith}
+use Rattle.std.proofs.Common.{◌≡◌, ℕ, ◌+◌, ◌<◌, ◌^◌, ◌≤◌, ◌==◌, nat_le, nat_lt, Bool, true, false, cond, is_some, List, [], ◌++◌, length, Option, None, Some}
+use Rattle.std.proofs.Common.{Result, Ok, Err, MatchBool, MatchOption, refl, sym, ap, ◌∙◌, subst, arith}
 use Rattle.std.specs.Prelude.{IsTrue}
 use Rattle.std.proofs.lemmas.Bool.Decides.{nat_tests}
 use Rattle.std.proofs.lemmas.List.{append-nil}
@@ -52,7 +53,7 @@ use Rattle.law_refinement.specs.Calls.{raising_to, StartsOn}
 use Rattle.law_refinement.specs.Homes.{GoesOn}
 use Rattle.law_refinement.specs.Laws.{submission_of, event_of, begins_in, ends_in, job_ends_in}
 use Rattle.law_refinement.specs.Stands.{Stands, raising_of}
-use Rattle.law_refinement.specs.Leaving.{Leaves, LeftBySubmit, LeftByRedeem, count_in}
+use Rattle.law_refinement.specs.Leaving.{Leaves, LeftBySubmit, LeftByRedeem}
 use Rattle.law_refinement.proofs.FloorStarts.{in-use}
 use Rattle.law_refinement.proofs.Leaving.{pump-leaves}
 use Rattle.law_refinement.proofs.JobLeaving.{start-leaves, reclaim-leaves, floor-leaves, grow-leaves, pumped-leaves}
@@ -71,18 +72,20 @@ use Rattle.shared.specs.Archives.{ArchiveSeen, IsArchiveLater, archive_seen, no_
 use Rattle.shared.specs.Counts.{told_count, told_after}
 use Rattle.shared.specs.Reached.{Reached, opened, stepped}
 use Rattle.shared.specs.Seen.{Seen, SightValue, seen_of, IsLater}
-use Rattle.shared.specs.Shared.{IsShared, Submits, SubmitSays, SubmitHappens, FloorSays, FloorHappens, ArchiveSays, ArchiveHappens, ReclaimSays, ReclaimHappens, GrowthSays, GrowthHappens, queued_seen, job_seen, noted, done_in}
+use Rattle.shared.specs.Shared.{IsShared, Submits, SubmitSays, SubmitHappens, FloorSays, FloorHappens, ArchiveSays, ArchiveHappens, ReclaimSays, ReclaimHappens}
+use Rattle.shared.specs.Shared.{GrowthSays, GrowthHappens, queued_seen, pumped_seen, done_seen, job_seen, noted, done_in}
 use Rattle.shared.proofs.Archives.{archive-same, archive-then, archive-first, archive-on}
 use Rattle.shared.proofs.Counting.{told-push, after-push, told-redeemed, after-redeemed, after-later, none-after}
 use Rattle.shared.proofs.Fronts.{last-seen, later-same}
-use Rattle.shared.proofs.Stepping.{follows, later-published, submit_seen, submit-seen, pump_seen, pump-seen, published-none, job-seen, later-job}
+use Rattle.shared.proofs.Stepping.{follows, submit_seen, submit-seen, broken-seen, published-none, pump-seen, later-pumped, job-seen, later-done, later-job}
 
 -- what is known of an archive, by another name
 pub known : {a b c : ArchiveSeen} → b ≡ a → IsArchiveLater a c → IsArchiveLater b c
 known {a} {b} {c} is later = subst (λ (x : ArchiveSeen). IsArchiveLater x c) (sym is) later
 
 -- the same under another pass of the writer's
-pub repass : (tells : Bool) (start : Machine Value) (brand : ℕ) (table : TableId) (v : StoreValue) (shares : ℕ) (at at' : TableId) (pass pass' : SightValue) → IsShared tells start brand table v shares at pass
+pub repass : (tells : Bool) (start : Machine Value) (brand : ℕ) (table : TableId) (v : StoreValue) (shares : ℕ) (at at' : TableId) (pass pass' : SightValue)
+    → IsShared tells start brand table v shares at pass
     → at' ≡ at → pass'.writes ≡ true → pass'.seen ≡ pass.seen → pass'.archive ≡ pass.archive → IsShared tells start brand table v shares at' pass'
 repass tells start brand table v shares at at' pass pass' h same on seen archive = record {
   state = h.state;
@@ -98,7 +101,8 @@ repass tells start brand table v shares at at' pass pass' h same on seen archive
 }
 
 -- and where it knows the archive as it is now
-pub repass-known : (tells : Bool) (start : Machine Value) (brand : ℕ) (table : TableId) (v : StoreValue) (shares : ℕ) (at at' : TableId) (pass pass' : SightValue) → IsShared tells start brand table v shares at pass
+pub repass-known : (tells : Bool) (start : Machine Value) (brand : ℕ) (table : TableId) (v : StoreValue) (shares : ℕ) (at at' : TableId)
+    (pass pass' : SightValue) → IsShared tells start brand table v shares at pass
     → at' ≡ at → pass'.writes ≡ true → pass'.seen ≡ pass.seen → pass'.archive ≡ archive_seen tells v → IsShared tells start brand table v shares at' pass'
 repass-known tells start brand table v shares at at' pass pass' h same on seen archive = record {
   state = h.state;
@@ -114,15 +118,19 @@ repass-known tells start brand table v shares at at' pass pass' h same on seen a
 }
 
 -- the machine's commits are as they were
-quiet : (tells : Bool) (start : Machine Value) (brand : ℕ) (table : TableId) (old new : StoreValue) (shares : ℕ) (at : TableId) (pass : SightValue) (h : IsShared tells start brand table old shares at pass) (after : Machine Value)
-    → Stands tells new after → GoesOn tells old new → Reached start after → seen_of after ≡ seen_of h.state → new.transactions.mark ≡ old.transactions.mark → new.transactions.heads ≡ old.transactions.heads → IsShared tells start brand table new shares at pass
+quiet : (tells : Bool) (start : Machine Value) (brand : ℕ) (table : TableId) (old new : StoreValue) (shares : ℕ) (at : TableId) (pass : SightValue)
+    (h : IsShared tells start brand table old shares at pass) (after : Machine Value)
+    → Stands tells new after → GoesOn tells old new → Reached start after → seen_of after ≡ seen_of h.state → new.transactions.mark ≡ old.transactions.mark
+    → new.transactions.heads ≡ old.transactions.heads → IsShared tells start brand table new shares at pass
 quiet tells start brand table old new shares at pass h after stands goes reached same mark heads = record {
   state = after;
   stands = stands;
   reached = reached;
   mark = mark ∙ h.mark;
   told = ap told_count heads ∙ h.told;
-  none_waits = ap (λ (l : List CommitHead). told_after (last after.published) l) heads ∙ ap (λ (s : Seen). told_after (last s.published) old.transactions.heads) same ∙ h.none_waits;
+  none_waits =
+      ap (λ (l : List CommitHead). told_after (last after.published) l) heads ∙ ap (λ (s : Seen). told_after (last s.published) old.transactions.heads) same
+      ∙ h.none_waits;
   cell = h.cell;
   seen = h.seen ∙ sym same;
   archive = archive-then pass.archive (archive_seen tells old) (archive_seen tells new) h.archive (archive-on tells old new goes);
@@ -131,7 +139,8 @@ quiet tells start brand table old new shares at pass h after stands goes reached
 
 -- ---- opening
 
-pub begins : (tells : Bool) (start : Machine Value) (brand : ℕ) (table : TableId) (v : StoreValue) (total : ℕ) (at : TableId) (pass : SightValue) → Stands tells v start → v.transactions.mark ≡ brand → told_count v.transactions.heads ≡ length start.published → start.queue ≡ []
+pub begins : (tells : Bool) (start : Machine Value) (brand : ℕ) (table : TableId) (v : StoreValue) (total : ℕ) (at : TableId) (pass : SightValue)
+    → Stands tells v start → v.transactions.mark ≡ brand → told_count v.transactions.heads ≡ length start.published → start.queue ≡ []
     → total ≡ 0 → at ≡ table → pass.seen ≡ seen_of start → pass.archive ≡ no_archive → pass.writes ≡ true → IsShared tells start brand table v total at pass
 begins tells start brand table v total at pass stands mark fresh empty none cell seen archive writes = record {
   state = start;
@@ -139,7 +148,10 @@ begins tells start brand table v total at pass stands mark fresh empty none cell
   reached = opened;
   mark = mark;
   told = omega (arith, fresh, none);
-  none_waits = ap (λ (t : ℕ). told_after t v.transactions.heads) (sym (order-last v.transactions start stands.memory ∙ ap (λ (h : History Value). last (start.published ++ h)) empty ∙ ap last (append-nil start.published))) ∙ none-after 0 v.transactions.heads stands.memory.rising;
+  none_waits =
+      ap (λ (t : ℕ). told_after t v.transactions.heads) (sym (order-last v.transactions start stands.memory
+      ∙ ap (λ (h : History Value). last (start.published ++ h)) empty ∙ ap last (append-nil start.published)))
+      ∙ none-after 0 v.transactions.heads stands.memory.rising;
   cell = cell;
   seen = seen;
   archive = known archive (archive-first (archive_seen tells v));
@@ -148,36 +160,46 @@ begins tells start brand table v total at pass stands mark fresh empty none cell
 
 -- ---- transactions
 
-pub begin-keeps : (tells : Bool) (start : Machine Value) (brand : ℕ) (table : TableId) (old new : StoreValue) (shares : ℕ) (at : TableId) (pass : SightValue) (r : Result TxnValue BeginFault) → IsShared tells start brand table old shares at pass → stores.Begins old r new → IsShared tells start brand table new shares at pass
+pub begin-keeps : (tells : Bool) (start : Machine Value) (brand : ℕ) (table : TableId) (old new : StoreValue) (shares : ℕ) (at : TableId) (pass : SightValue)
+    (r : Result TxnValue BeginFault) → IsShared tells start brand table old shares at pass → stores.Begins old r new
+    → IsShared tells start brand table new shares at pass
 begin-keeps tells start brand table old new shares at pass (Ok txn) h begins =
     let did = begin-stands tells old new (Ok txn) h.state h.stands begins in
     let is = begins.transactions.new_is in
     let mark : new.transactions.mark ≡ old.transactions.mark = ap (λ (v : TransactionsValue). v.mark) is in
-    quiet tells start brand table old new shares at pass h (begun h.state) did.1 (rest-goes tells old new begins.rest mark) (stepped (Began txn.snapshot) h.reached did.0) refl mark (ap (λ (v : TransactionsValue). v.heads) is)
+    quiet tells start brand table old new shares at pass h (begun h.state) did.1 (rest-goes tells old new begins.rest mark)
+    (stepped (Began txn.snapshot) h.reached did.0) refl mark (ap (λ (v : TransactionsValue). v.heads) is)
 begin-keeps tells start brand table old new shares at pass (Err begin.NoMemory) h begins =
     let did = begin-stands tells old new (Err begin.NoMemory) h.state h.stands begins in
     let is = begins.transactions.1 in
     let mark : new.transactions.mark ≡ old.transactions.mark = ap (λ (v : TransactionsValue). v.mark) is in
-    quiet tells start brand table old new shares at pass h h.state did.1 (rest-goes tells old new begins.rest mark) h.reached refl mark (ap (λ (v : TransactionsValue). v.heads) is)
+    quiet tells start brand table old new shares at pass h h.state did.1 (rest-goes tells old new begins.rest mark) h.reached refl mark
+    (ap (λ (v : TransactionsValue). v.heads) is)
 begin-keeps tells start brand table old new shares at pass (Err begin.Failed) h begins =
     let did = begin-stands tells old new (Err begin.Failed) h.state h.stands begins in
     let is = begins.transactions.1 in
     let mark : new.transactions.mark ≡ old.transactions.mark = ap (λ (v : TransactionsValue). v.mark) is in
-    quiet tells start brand table old new shares at pass h h.state did.1 (rest-goes tells old new begins.rest mark) h.reached refl mark (ap (λ (v : TransactionsValue). v.heads) is)
+    quiet tells start brand table old new shares at pass h h.state did.1 (rest-goes tells old new begins.rest mark) h.reached refl mark
+    (ap (λ (v : TransactionsValue). v.heads) is)
 
 over-heads : (v new : TransactionsValue) (number : ℕ) (b : Bool) → new ≡ cond b (over v number) v → (new.mark ≡ v.mark) × (new.heads ≡ v.heads)
 over-heads v new number true is = (ap (λ (x : TransactionsValue). x.mark) is, ap (λ (x : TransactionsValue). x.heads) is)
 over-heads v new number false is = (ap (λ (x : TransactionsValue). x.mark) is, ap (λ (x : TransactionsValue). x.heads) is)
 
-pub abort-keeps : (tells : Bool) (start : Machine Value) (brand : ℕ) (table : TableId) (old new : StoreValue) (shares : ℕ) (at : TableId) (pass : SightValue) (txn : TxnValue) → IsShared tells start brand table old shares at pass → stores.Aborts old txn new → IsShared tells start brand table new shares at pass
+pub abort-keeps : (tells : Bool) (start : Machine Value) (brand : ℕ) (table : TableId) (old new : StoreValue) (shares : ℕ) (at : TableId) (pass : SightValue)
+    (txn : TxnValue) → IsShared tells start brand table old shares at pass → stores.Aborts old txn new → IsShared tells start brand table new shares at pass
 abort-keeps tells start brand table old new shares at pass txn h aborts =
     let kept = over-heads old.transactions new.transactions txn.number (is_own old.transactions txn) aborts.transactions in
     by-own kept.0 kept.1 (is_own old.transactions txn) (abort-stands tells old new txn h.state h.stands aborts)
   where
     by-own : new.transactions.mark ≡ old.transactions.mark → new.transactions.heads ≡ old.transactions.heads → (b : Bool)
-        → MatchBool b ((after : Machine Value) × Step IsValue h.state (Aborted txn.snapshot) after × Stands tells new after) (Stands tells new h.state) → IsShared tells start brand table new shares at pass
-    by-own mark heads true did = quiet tells start brand table old new shares at pass h did.0 did.2 (rest-goes tells old new aborts.rest mark) (stepped (Aborted txn.snapshot) h.reached did.1) (ap seen_of did.1.2) mark heads
-    by-own mark heads false did = quiet tells start brand table old new shares at pass h h.state did (rest-goes tells old new aborts.rest mark) h.reached refl mark heads
+        → MatchBool b ((after : Machine Value) × Step IsValue h.state (Aborted txn.snapshot) after × Stands tells new after) (Stands tells new h.state)
+        → IsShared tells start brand table new shares at pass
+    by-own mark heads true did =
+        quiet tells start brand table old new shares at pass h did.0 did.2 (rest-goes tells old new aborts.rest mark)
+        (stepped (Aborted txn.snapshot) h.reached did.1) (ap seen_of did.1.2) mark heads
+    by-own mark heads false did =
+        quiet tells start brand table old new shares at pass h h.state did (rest-goes tells old new aborts.rest mark) h.reached refl mark heads
 
 -- ---- submits
 
@@ -189,21 +211,31 @@ pub record Submitting (tells : Bool) (old new : StoreValue) (m : Machine Value) 
   pub left : LeftBySubmit (over old.transactions t.number) t label r new.transactions
 
 -- or it is a stranger
-pub submitting : (tells : Bool) (old new : StoreValue) (m : Machine Value) (t : TxnValue) (label now : ℕ) (r : Result Submitted SubmitFault) → Stands tells old m → AreTxnWrites t.state t.snapshot t.writes → label < 2 ^ 64 → stores.Submits old t label now r new
-    → (b : Bool) → is_own old.transactions t ≡ b → MatchBool b (Submitting tells old new m t label now r) ((r ≡ Err refused.Stranger) × (new.transactions ≡ old.transactions) × Stands tells new m)
-submitting tells old new m t label now r stands are range does b is = by-own b (subst (λ (x : Bool). MatchBool x ((after : Machine Value) × Step IsValue m (event_of m (submission_of t label now) r) after × Stands tells new after) (Stands tells new m)) is (submit-stands tells old new t label now r m stands are range does))
-    (subst (λ (x : Bool). MatchBool x (SubmitsOwn (over old.transactions t.number) t label now r new.transactions) ((r ≡ Err refused.Stranger) × (new.transactions ≡ old.transactions))) is does.transactions)
+pub submitting : (tells : Bool) (old new : StoreValue) (m : Machine Value) (t : TxnValue) (label now : ℕ) (r : Result Submitted SubmitFault)
+    → Stands tells old m → AreTxnWrites t.state t.snapshot t.writes → label < 2 ^ 64 → stores.Submits old t label now r new
+    → (b : Bool) → is_own old.transactions t ≡ b
+    → MatchBool b (Submitting tells old new m t label now r) ((r ≡ Err refused.Stranger) × (new.transactions ≡ old.transactions) × Stands tells new m)
+submitting tells old new m t label now r stands are range does b is =
+    by-own b (subst (λ (x : Bool). MatchBool x ((after : Machine Value) × Step IsValue m (event_of m (submission_of t label now) r) after
+    × Stands tells new after) (Stands tells new m)) is (submit-stands tells old new t label now r m stands are range does))
+    (subst (λ (x : Bool). MatchBool x (SubmitsOwn (over old.transactions t.number) t label now r new.transactions) ((r ≡ Err refused.Stranger)
+    × (new.transactions ≡ old.transactions))) is does.transactions)
   where
-    by-own : (b : Bool) → MatchBool b ((after : Machine Value) × Step IsValue m (event_of m (submission_of t label now) r) after × Stands tells new after) (Stands tells new m)
-        → MatchBool b (SubmitsOwn (over old.transactions t.number) t label now r new.transactions) ((r ≡ Err refused.Stranger) × (new.transactions ≡ old.transactions))
+    by-own : (b : Bool) → MatchBool b ((after : Machine Value) × Step IsValue m (event_of m (submission_of t label now) r) after
+        × Stands tells new after) (Stands tells new m)
+        → MatchBool b (SubmitsOwn (over old.transactions t.number) t label now r new.transactions) ((r ≡ Err refused.Stranger)
+        × (new.transactions ≡ old.transactions))
         → MatchBool b (Submitting tells old new m t label now r) ((r ≡ Err refused.Stranger) × (new.transactions ≡ old.transactions) × Stands tells new m)
-    by-own true did says = record { after = did.0; step = did.1; stands = did.2; left = left-is (over old.transactions t.number) new.transactions t label now r says }
+    by-own true did says =
+        record { after = did.0; step = did.1; stands = did.2; left = left-is (over old.transactions t.number) new.transactions t label now r says }
     by-own false did says = (says.0, says.1, did)
 
 -- what is noted of the answer is what is seen of the machine
-noted-seen : (r : Result Submitted SubmitFault) (s : Seen) (c : Commit Value) (label : ℕ) (writes : List (KeyWrite Value)) (brand snapshot : ℕ) → SubmitSays brand snapshot c.time r → c ≡ record { time = c.time; label = label; writes = writes } → submit_seen r s c ≡ noted r s label writes
+noted-seen : (r : Result Submitted SubmitFault) (s : Seen) (c : Commit Value) (label : ℕ) (writes : List (KeyWrite Value)) (brand snapshot : ℕ)
+    → SubmitSays brand snapshot c.time r → c ≡ record { time = c.time; label = label; writes = writes } → submit_seen r s c ≡ noted r s label writes
 noted-seen (Ok (submitted.ReadOnly at)) s c label writes brand snapshot says is = refl
-noted-seen (Ok (submitted.Queued ticket)) s c label writes brand snapshot says is = ap (queued_seen s) is ∙ ap (λ (t : ℕ). queued_seen s (record { time = t; label = label; writes = writes })) (sym says.1)
+noted-seen (Ok (submitted.Queued ticket)) s c label writes brand snapshot says is =
+    ap (queued_seen s) is ∙ ap (λ (t : ℕ). queued_seen s (record { time = t; label = label; writes = writes })) (sym says.1)
 noted-seen (Err why) s c label writes brand snapshot says is = refl
 
 noted-published : (r : Result Submitted SubmitFault) (s : Seen) (label : ℕ) (writes : List (KeyWrite Value)) → (noted r s label writes).published ≡ s.published
@@ -220,8 +252,10 @@ pub record KeepsCounts (old new : TransactionsValue) : Type 0 where
 counts-same : (old new : TransactionsValue) → new.mark ≡ old.mark → new.heads ≡ old.heads → KeepsCounts old new
 counts-same old new mark heads = record { mark = mark; told = ap told_count heads; after = λ t. ap (told_after t) heads }
 
-left-counts : (v new : TransactionsValue) (t : TxnValue) (label : ℕ) (r : Result Submitted SubmitFault) → LeftBySubmit (over v t.number) t label r new → KeepsCounts v new
-left-counts v new t label (Ok (submitted.ReadOnly at)) left = counts-same v new (ap (λ (x : TransactionsValue). x.mark) left.1) (ap (λ (x : TransactionsValue). x.heads) left.1)
+left-counts : (v new : TransactionsValue) (t : TxnValue) (label : ℕ) (r : Result Submitted SubmitFault) → LeftBySubmit (over v t.number) t label r new
+    → KeepsCounts v new
+left-counts v new t label (Ok (submitted.ReadOnly at)) left =
+    counts-same v new (ap (λ (x : TransactionsValue). x.mark) left.1) (ap (λ (x : TransactionsValue). x.heads) left.1)
 left-counts v new t label (Ok (submitted.Queued ticket)) left =
     let is = left.1.new_is in
     record {
@@ -229,16 +263,23 @@ left-counts v new t label (Ok (submitted.Queued ticket)) left =
       told = ap (λ (x : TransactionsValue). told_count x.heads) is ∙ told-push v.heads ticket.time label;
       after = λ at. ap (λ (x : TransactionsValue). told_after at x.heads) is ∙ after-push at v.heads ticket.time label;
     }
-left-counts v new t label (Err (refused.Conflict key)) left = counts-same v new (ap (λ (x : TransactionsValue). x.mark) left) (ap (λ (x : TransactionsValue). x.heads) left)
-left-counts v new t label (Err refused.HeapFull) left = counts-same v new (ap (λ (x : TransactionsValue). x.mark) left) (ap (λ (x : TransactionsValue). x.heads) left)
-left-counts v new t label (Err refused.StatusFull) left = counts-same v new (ap (λ (x : TransactionsValue). x.mark) left) (ap (λ (x : TransactionsValue). x.heads) left)
-left-counts v new t label (Err refused.ClockEnd) left = counts-same v new (ap (λ (x : TransactionsValue). x.mark) left) (ap (λ (x : TransactionsValue). x.heads) left)
-left-counts v new t label (Err refused.NoMemory) left = counts-same v new (ap (λ (x : TransactionsValue). x.mark) left) (ap (λ (x : TransactionsValue). x.heads) left)
-left-counts v new t label (Err refused.Failed) left = counts-same v new (ap (λ (x : TransactionsValue). x.mark) left) (ap (λ (x : TransactionsValue). x.heads) left)
+left-counts v new t label (Err (refused.Conflict key)) left =
+    counts-same v new (ap (λ (x : TransactionsValue). x.mark) left) (ap (λ (x : TransactionsValue). x.heads) left)
+left-counts v new t label (Err refused.HeapFull) left =
+    counts-same v new (ap (λ (x : TransactionsValue). x.mark) left) (ap (λ (x : TransactionsValue). x.heads) left)
+left-counts v new t label (Err refused.StatusFull) left =
+    counts-same v new (ap (λ (x : TransactionsValue). x.mark) left) (ap (λ (x : TransactionsValue). x.heads) left)
+left-counts v new t label (Err refused.ClockEnd) left =
+    counts-same v new (ap (λ (x : TransactionsValue). x.mark) left) (ap (λ (x : TransactionsValue). x.heads) left)
+left-counts v new t label (Err refused.NoMemory) left =
+    counts-same v new (ap (λ (x : TransactionsValue). x.mark) left) (ap (λ (x : TransactionsValue). x.heads) left)
+left-counts v new t label (Err refused.Failed) left =
+    counts-same v new (ap (λ (x : TransactionsValue). x.mark) left) (ap (λ (x : TransactionsValue). x.heads) left)
 left-counts v new t label (Err refused.Stranger) left = absurd left
 
 -- what the answer says of an own transaction's submit
-left-says : (brand : ℕ) (v new : TransactionsValue) (m after : Machine Value) (t : TxnValue) (label now : ℕ) (r : Result Submitted SubmitFault) → v.mark ≡ brand → LeftBySubmit (over v t.number) t label r new → StandsInMemory new after
+left-says : (brand : ℕ) (v new : TransactionsValue) (m after : Machine Value) (t : TxnValue) (label now : ℕ) (r : Result Submitted SubmitFault) → v.mark ≡ brand
+    → LeftBySubmit (over v t.number) t label r new → StandsInMemory new after
     → Step IsValue m (event_of m (submission_of t label now) r) after → SubmitSays brand t.snapshot (commit_made m (submission_of t label now)).time r
 left-says brand v new m after t label now (Ok (submitted.ReadOnly at)) mark left stands step = left.0
 left-says brand v new m after t label now (Ok (submitted.Queued ticket)) mark left stands step =
@@ -246,7 +287,8 @@ left-says brand v new m after t label now (Ok (submitted.Queued ticket)) mark le
 left-says brand v new m after t label now (Err why) mark left stands step = tt
 
 -- what a submit leaves, of an own transaction or of a stranger
-pub record SubmitLeaves (tells : Bool) (start : Machine Value) (brand : ℕ) (m : Machine Value) (old new : StoreValue) (t : TxnValue) (label now : ℕ) (r : Result Submitted SubmitFault) : Type 0 where
+pub record SubmitLeaves (tells : Bool) (start : Machine Value) (brand : ℕ) (m : Machine Value) (old new : StoreValue) (t : TxnValue) (label now : ℕ)
+    (r : Result Submitted SubmitFault) : Type 0 where
   pub after : Machine Value
   pub stands : Stands tells new after
   pub reached : Reached start after
@@ -255,11 +297,16 @@ pub record SubmitLeaves (tells : Bool) (start : Machine Value) (brand : ℕ) (m 
   pub goes : GoesOn tells old new
   pub happens : SubmitHappens start brand t label now r (seen_of after)
 
-pub submit-leaves : (tells : Bool) (start : Machine Value) (brand : ℕ) (m : Machine Value) (old new : StoreValue) (t : TxnValue) (label now : ℕ) (r : Result Submitted SubmitFault) → Stands tells old m → Reached start m → old.transactions.mark ≡ brand → AreTxnWrites t.state t.snapshot t.writes → label < 2 ^ 64 → stores.Submits old t label now r new
+pub submit-leaves : (tells : Bool) (start : Machine Value) (brand : ℕ) (m : Machine Value) (old new : StoreValue) (t : TxnValue) (label now : ℕ)
+    (r : Result Submitted SubmitFault) → Stands tells old m → Reached start m → old.transactions.mark ≡ brand → AreTxnWrites t.state t.snapshot t.writes
+    → label < 2 ^ 64 → stores.Submits old t label now r new
     → SubmitLeaves tells start brand m old new t label now r
-submit-leaves tells start brand m old new t label now r stands reached mark are range does = by-own (is_own old.transactions t) (submitting tells old new m t label now r stands are range does (is_own old.transactions t) refl)
+submit-leaves tells start brand m old new t label now r stands reached mark are range does =
+    by-own (is_own old.transactions t) (submitting tells old new m t label now r stands are range does (is_own old.transactions t) refl)
   where
-    own : (x : Result Submitted SubmitFault) → Submitting tells old new m t label now x → ((after : Machine Value) → Submits start brand t label now x (seen_of after) → SubmitHappens start brand t label now x (seen_of after)) → SubmitLeaves tells start brand m old new t label now x
+    own : (x : Result Submitted SubmitFault) → Submitting tells old new m t label now x
+        → ((after : Machine Value) → Submits start brand t label now x (seen_of after) → SubmitHappens start brand t label now x (seen_of after))
+        → SubmitLeaves tells start brand m old new t label now x
     own x s tells_so =
         let c = commit_made m (submission_of t label now) in
         let says = left-says brand old.transactions new.transactions m s.after t label now x mark s.left s.stands.memory s.step in
@@ -285,10 +332,12 @@ submit-leaves tells start brand m old new t label now r stands reached mark are 
     by-result (Err refused.Failed) s = own (Err refused.Failed) s (λ after d. d)
     by-result (Err refused.Stranger) s = absurd s.left
 
-    stranger : SubmitLeaves tells start brand m old new t label now (Err refused.Stranger) → r ≡ Err refused.Stranger → SubmitLeaves tells start brand m old new t label now r
+    stranger : SubmitLeaves tells start brand m old new t label now (Err refused.Stranger) → r ≡ Err refused.Stranger
+        → SubmitLeaves tells start brand m old new t label now r
     stranger s is = subst (λ (x : Result Submitted SubmitFault). SubmitLeaves tells start brand m old new t label now x) (sym is) s
 
-    by-own : (b : Bool) → MatchBool b (Submitting tells old new m t label now r) ((r ≡ Err refused.Stranger) × (new.transactions ≡ old.transactions) × Stands tells new m) → SubmitLeaves tells start brand m old new t label now r
+    by-own : (b : Bool) → MatchBool b (Submitting tells old new m t label now r) ((r ≡ Err refused.Stranger) × (new.transactions ≡ old.transactions)
+        × Stands tells new m) → SubmitLeaves tells start brand m old new t label now r
     by-own true s = by-result r s
     by-own false s = stranger (record {
       after = m;
@@ -301,13 +350,16 @@ submit-leaves tells start brand m old new t label now r stands reached mark are 
     }) s.0
 
 -- what the pass has noted is what is seen of the machine
-pub noted-is : (tells : Bool) (start : Machine Value) (brand : ℕ) (m : Machine Value) (old new : StoreValue) (t : TxnValue) (label now : ℕ) (r : Result Submitted SubmitFault) (seen : Seen) (writes : List (KeyWrite Value)) (s : SubmitLeaves tells start brand m old new t label now r)
+pub noted-is : (tells : Bool) (start : Machine Value) (brand : ℕ) (m : Machine Value) (old new : StoreValue) (t : TxnValue) (label now : ℕ)
+    (r : Result Submitted SubmitFault) (seen : Seen) (writes : List (KeyWrite Value)) (s : SubmitLeaves tells start brand m old new t label now r)
     → t.writes ≡ writes → seen ≡ seen_of m → noted r seen label writes ≡ seen_of s.after
 noted-is tells start brand m old new t label now r seen writes s same is =
     ap (λ (x : Seen). noted r x label writes) is ∙ ap (λ (ws : List (KeyWrite Value)). noted r (seen_of m) label ws) (sym same) ∙ sym s.noted_is
 
-pub submit-keeps : (tells : Bool) (start : Machine Value) (brand : ℕ) (table : TableId) (old new : StoreValue) (shares : ℕ) (at at' : TableId) (pass pass' : SightValue) (t : TxnValue) (label now : ℕ) (r : Result Submitted SubmitFault) (h : IsShared tells start brand table old shares at pass)
-    → (s : SubmitLeaves tells start brand h.state old new t label now r) → at' ≡ table → pass'.writes ≡ true → pass'.seen ≡ seen_of s.after → pass'.archive ≡ pass.archive → IsShared tells start brand table new shares at' pass'
+pub submit-keeps : (tells : Bool) (start : Machine Value) (brand : ℕ) (table : TableId) (old new : StoreValue) (shares : ℕ) (at at' : TableId)
+    (pass pass' : SightValue) (t : TxnValue) (label now : ℕ) (r : Result Submitted SubmitFault) (h : IsShared tells start brand table old shares at pass)
+    → (s : SubmitLeaves tells start brand h.state old new t label now r) → at' ≡ table → pass'.writes ≡ true → pass'.seen ≡ seen_of s.after → pass'.archive
+    ≡ pass.archive → IsShared tells start brand table new shares at' pass'
 submit-keeps tells start brand table old new shares at at' pass pass' t label now r h s cell on seen archive =
     let published : s.after.published ≡ h.state.published = ap (λ (x : Seen). x.published) s.noted_is ∙ noted-published r (seen_of h.state) label t.writes in
     record {
@@ -331,24 +383,27 @@ pub record Pumped (tells : Bool) (start : Machine Value) (m : Machine Value) (ol
   pub run : MatchBool m.failed ((r ≡ Err pump.Failed) × (after ≡ m)) (Run IsValue m (begins_in m ++ ends_in m.gate r) after)
   pub stands : Stands tells new after
   pub reached : Reached start after
-  pub seen : seen_of after ≡ pump_seen r (seen_of m)
+  pub seen : seen_of after ≡ pumped_seen r (seen_of m)
   pub mark : new.transactions.mark ≡ old.transactions.mark
   pub heads : new.transactions.heads ≡ old.transactions.heads
   pub goes : GoesOn tells old new
 
-pub pumped : (tells : Bool) (start : Machine Value) (m : Machine Value) (old new : StoreValue) (r : Result Did PumpFault) → Reached start m → Stands tells old m → (IsTrue tells → AreSound new.disk.areas) → Pumps tells old r new → Pumped tells start m old new r
+pub pumped : (tells : Bool) (start : Machine Value) (m : Machine Value) (old new : StoreValue) (r : Result Did PumpFault) → Reached start m → Stands tells old m
+    → (IsTrue tells → AreSound new.disk.areas) → Pumps tells old r new → Pumped tells start m old new r
 pumped tells start m old new r reached stands sound pumps =
     let left = pump-leaves tells old new r pumps in
     by-failure left.mark left.heads m.failed refl (pump-stands tells old new r m stands sound pumps)
   where
     by-failure : new.transactions.mark ≡ old.transactions.mark → new.transactions.heads ≡ old.transactions.heads → (b : Bool) → m.failed ≡ b
-        → MatchBool b ((r ≡ Err pump.Failed) × Stands tells new m) ((after : Machine Value) × Run IsValue m (begins_in m ++ ends_in m.gate r) after × Stands tells new after) → Pumped tells start m old new r
+        → MatchBool b ((r ≡ Err pump.Failed) × Stands tells new m) ((after : Machine Value) × Run IsValue m (begins_in m ++ ends_in m.gate r) after
+        × Stands tells new after) → Pumped tells start m old new r
     by-failure mark heads true is did = record {
       after = m;
       run = subst (λ (b : Bool). MatchBool b ((r ≡ Err pump.Failed) × (m ≡ m)) (Run IsValue m (begins_in m ++ ends_in m.gate r) m)) (sym is) (did.0, refl);
       stands = did.1;
       reached = reached;
-      seen = subst (λ (x : Result Did PumpFault). seen_of m ≡ pump_seen x (seen_of m)) (sym did.0) (published-none (seen_of m));
+      seen = subst (λ (x : Result Did PumpFault). seen_of m ≡ pumped_seen x (seen_of m)) (sym did.0) (broken-seen m is
+          ∙ ap (λ (s : Seen). record s { failed = true }) (published-none (seen_of m)));
       mark = mark;
       heads = heads;
       goes = pump-goes tells old new r m stands pumps;
@@ -365,10 +420,13 @@ pumped tells start m old new r reached stands sound pumps =
     }
 
 -- once the pass has gone on
-pub pump-publishes : (tells : Bool) (start : Machine Value) (brand : ℕ) (table : TableId) (old new : StoreValue) (shares : ℕ) (at at' : TableId) (pass pass' : SightValue) (r : Result Did PumpFault) (h : IsShared tells start brand table old shares at pass) → Pumped tells start h.state old new r
-    → at' ≡ table → pass'.writes ≡ true → pass'.seen ≡ pump_seen r (seen_of h.state) → pass'.archive ≡ pass.archive → IsShared tells start brand table new shares at' pass'
+pub pump-publishes : (tells : Bool) (start : Machine Value) (brand : ℕ) (table : TableId) (old new : StoreValue) (shares : ℕ) (at at' : TableId)
+    (pass pass' : SightValue) (r : Result Did PumpFault) (h : IsShared tells start brand table old shares at pass) → Pumped tells start h.state old new r
+    → at' ≡ table → pass'.writes ≡ true → pass'.seen ≡ pumped_seen r (seen_of h.state) → pass'.archive ≡ pass.archive
+    → IsShared tells start brand table new shares at' pass'
 pump-publishes tells start brand table old new shares at at' pass pass' r h p cell on seen archive =
-    let later' : IsLater (seen_of h.state) (seen_of p.after) = subst (λ (s : Seen). IsLater (seen_of h.state) s) (sym p.seen) (later-published (seen_of h.state) (count_in r)) in
+    let later' : IsLater (seen_of h.state) (seen_of p.after) =
+    subst (λ (s : Seen). IsLater (seen_of h.state) s) (sym p.seen) (later-pumped r (seen_of h.state)) in
     let rises : last h.state.published ≤ last p.after.published = last-seen (seen_of h.state) (seen_of p.after) p.stands.machine.history later' in
     record {
       state = p.after;
@@ -376,7 +434,9 @@ pump-publishes tells start brand table old new shares at at' pass pass' r h p ce
       reached = p.reached;
       mark = p.mark ∙ h.mark;
       told = ap told_count p.heads ∙ h.told;
-      none_waits = ap (λ (l : List CommitHead). told_after (last p.after.published) l) p.heads ∙ after-later (last h.state.published) (last p.after.published) old.transactions.heads rises h.none_waits;
+      none_waits =
+          ap (λ (l : List CommitHead). told_after (last p.after.published) l) p.heads
+          ∙ after-later (last h.state.published) (last p.after.published) old.transactions.heads rises h.none_waits;
       cell = cell;
       seen = seen ∙ sym p.seen;
       archive = known archive (archive-then pass.archive (archive_seen tells old) (archive_seen tells new) h.archive (archive-on tells old new p.goes));
@@ -384,8 +444,10 @@ pump-publishes tells start brand table old new shares at at' pass pass' r h p ce
     }
 
 -- what the beginning of an archive answers
-archive-says : (old new : StoreValue) (upto : ℕ) (m : Machine Value) (r : Result (Unit {0}) StartFault) → StandsInMemory old.transactions m → StartsArchive old upto r new → ArchiveSays m upto r
-archive-says old new upto m r stands starts = by-tests old.transactions.failed refl (is_some old.job) (nat_le upto old.archived) (nat_lt (stores.last old) upto) refl (spare old.transactions == 0) starts
+archive-says : (old new : StoreValue) (upto : ℕ) (m : Machine Value) (r : Result (Unit {0}) StartFault) → StandsInMemory old.transactions m
+    → StartsArchive old upto r new → ArchiveSays m upto r
+archive-says old new upto m r stands starts =
+    by-tests old.transactions.failed refl (is_some old.job) (nat_le upto old.archived) (nat_lt (stores.last old) upto) refl (spare old.transactions == 0) starts
   where
     said : (x : Result (Unit {0}) StartFault) → r ≡ x → ArchiveSays m upto x → ArchiveSays m upto r
     said x is says = subst (λ (y : Result (Unit {0}) StartFault). ArchiveSays m upto y) (sym is) says
@@ -408,7 +470,10 @@ archive-says old new upto m r stands starts = by-tests old.transactions.failed r
     by-run works by-last (Err fault.NotGrowable) is = absurd is.0
 
     by-tests : (a : Bool) → old.transactions.failed ≡ a → (b c d : Bool) → nat_lt (stores.last old) upto ≡ d → (e : Bool)
-        → MatchOption (cond a (Some fault.Failed) (cond b (Some fault.JobBusy) (cond c (Some fault.NothingToDo) (cond d (Some (fault.NotYet (stores.last old))) (cond e (Some fault.StatusFull) None))))) (BeginsRun old upto r new) (λ why. (r ≡ Err why) × (new ≡ old))
+        → MatchOption (cond a (Some fault.Failed)
+        (cond b (Some fault.JobBusy)
+        (cond c (Some fault.NothingToDo) (cond d (Some (fault.NotYet (stores.last old))) (cond e (Some fault.StatusFull) None)))))
+        (BeginsRun old upto r new) (λ why. (r ≡ Err why) × (new ≡ old))
         → ArchiveSays m upto r
     by-tests true failed b c d late e is = said (Err fault.Failed) is.0 (sym stands.failed ∙ failed)
     by-tests false works true c d late e is = said (Err fault.JobBusy) is.0 (sym stands.failed ∙ works)
@@ -424,17 +489,22 @@ archive-says old new upto m r stands starts = by-tests old.transactions.failed r
         by-run (sym stands.failed ∙ works) (omega (arith, by-last, last-of)) r is
 
 -- an archive begins, or is refused
-pub archive-begins : (tells : Bool) (start : Machine Value) (brand : ℕ) (table : TableId) (old new : StoreValue) (shares : ℕ) (at : TableId) (pass : SightValue) (upto : ℕ) (r : Result (Unit {0}) StartFault) → IsShared tells start brand table old shares at pass → StartsArchive old upto r new
-    → IsShared tells start brand table new shares at pass × ArchiveHappens start upto r
+pub archive-begins : (tells : Bool) (start : Machine Value) (brand : ℕ) (table : TableId) (old new : StoreValue) (shares : ℕ) (at : TableId) (pass : SightValue)
+    (upto : ℕ) (r : Result (Unit {0}) StartFault) → IsShared tells start brand table old shares at pass → StartsArchive old upto r new
+    → IsShared tells start brand table new shares at pass × ArchiveHappens start upto r pass.seen
 archive-begins tells start brand table old new shares at pass upto r h starts =
     let left = start-leaves old new upto r starts in (
-      quiet tells start brand table old new shares at pass h h.state (archive-start-stands tells old new upto r h.state h.stands starts) (archive-start-goes tells old new upto r h.state h.stands starts) h.reached refl left.mark left.heads,
-      (h.state, h.reached, archive-says old new upto h.state r h.stands.memory starts),
+      quiet tells start brand table old new shares at pass h h.state (archive-start-stands tells old new upto r h.state h.stands starts)
+          (archive-start-goes tells old new upto r h.state h.stands starts) h.reached refl left.mark left.heads,
+      (h.state, h.reached, h.seen, archive-says old new upto h.state r h.stands.memory starts),
     )
 
 -- what the beginning of a reclaim answers
-reclaim-says : (old new : StoreValue) (m : Machine Value) (r : Result (Unit {0}) StartFault) → StandsInMemory old.transactions m → StartsReclaim old r new → ReclaimSays m r
-reclaim-says old new m r stands starts = by-tests old.transactions.failed refl (is_some old.job) (old.archived == old.transactions.reclaimed) (below (oldest old.transactions) old.archived) refl starts
+reclaim-says : (old new : StoreValue) (m : Machine Value) (r : Result (Unit {0}) StartFault) → StandsInMemory old.transactions m → StartsReclaim old r new
+    → ReclaimSays m r
+reclaim-says old new m r stands starts =
+    by-tests old.transactions.failed refl (is_some old.job) (old.archived == old.transactions.reclaimed) (below (oldest old.transactions) old.archived) refl
+    starts
   where
     said : (x : Result (Unit {0}) StartFault) → r ≡ x → ReclaimSays m x → ReclaimSays m r
     said x is says = subst (λ (y : Result (Unit {0}) StartFault). ReclaimSays m y) (sym is) says
@@ -453,35 +523,48 @@ reclaim-says old new m r stands starts = by-tests old.transactions.failed refl (
     by-anchors works (Err fault.ArchiveFull) is = absurd is.0
     by-anchors works (Err fault.NotGrowable) is = absurd is.0
 
-    by-room : m.failed ≡ false → (e : Bool) → MatchOption (cond e (Some fault.StatusFull) None) (BeginsReclaim old r new) (λ why. (r ≡ Err why) × (new ≡ old)) → ReclaimSays m r
+    by-room : m.failed ≡ false → (e : Bool) → MatchOption (cond e (Some fault.StatusFull) None) (BeginsReclaim old r new) (λ why. (r ≡ Err why) × (new ≡ old))
+        → ReclaimSays m r
     by-room works true is = said (Err fault.StatusFull) is.0 works
     by-room works false is = by-anchors works r is
 
-    by-use : m.failed ≡ false → (o : Option ℕ) → below (oldest old.transactions) old.archived ≡ o → MatchOption (refusal_for_use old o) (BeginsReclaim old r new) (λ why. (r ≡ Err why) × (new ≡ old)) → ReclaimSays m r
-    by-use works (Some snapshot) used is = said (Err (fault.InUse snapshot)) is.0 (works, (old.archived, in-use old.transactions.opened m.snapshots old.archived snapshot stands.snapshots used))
+    by-use : m.failed ≡ false → (o : Option ℕ) → below (oldest old.transactions) old.archived ≡ o
+        → MatchOption (refusal_for_use old o) (BeginsReclaim old r new) (λ why. (r ≡ Err why) × (new ≡ old)) → ReclaimSays m r
+    by-use works (Some snapshot) used is =
+        said (Err (fault.InUse snapshot)) is.0 (works, (old.archived, in-use old.transactions.opened m.snapshots old.archived snapshot stands.snapshots used))
     by-use works None used is = by-room works (spare old.transactions == 0) is
 
     by-tests : (a : Bool) → old.transactions.failed ≡ a → (b c : Bool) (o : Option ℕ) → below (oldest old.transactions) old.archived ≡ o
-        → MatchOption (cond a (Some fault.Failed) (cond b (Some fault.JobBusy) (cond c (Some fault.NothingToDo) (refusal_for_use old o)))) (BeginsReclaim old r new) (λ why. (r ≡ Err why) × (new ≡ old)) → ReclaimSays m r
+        → MatchOption (cond a (Some fault.Failed) (cond b (Some fault.JobBusy) (cond c (Some fault.NothingToDo) (refusal_for_use old o))))
+        (BeginsReclaim old r new) (λ why. (r ≡ Err why) × (new ≡ old)) → ReclaimSays m r
     by-tests true failed b c o used is = said (Err fault.Failed) is.0 (sym stands.failed ∙ failed)
     by-tests false works true c o used is = said (Err fault.JobBusy) is.0 (sym stands.failed ∙ works)
     by-tests false works false true o used is = said (Err fault.NothingToDo) is.0 (sym stands.failed ∙ works)
     by-tests false works false false o used is = by-use (sym stands.failed ∙ works) o used is
 
 -- a reclaim begins, or is refused
-pub reclaim-begins : (tells : Bool) (start : Machine Value) (brand : ℕ) (table : TableId) (old new : StoreValue) (shares : ℕ) (at : TableId) (pass : SightValue) (r : Result (Unit {0}) StartFault) → IsShared tells start brand table old shares at pass → StartsReclaim old r new
-    → IsShared tells start brand table new shares at pass × ReclaimHappens start r
+pub reclaim-begins : (tells : Bool) (start : Machine Value) (brand : ℕ) (table : TableId) (old new : StoreValue) (shares : ℕ) (at : TableId) (pass : SightValue)
+    (r : Result (Unit {0}) StartFault) → IsShared tells start brand table old shares at pass → StartsReclaim old r new
+    → IsShared tells start brand table new shares at pass × ReclaimHappens start r pass.seen
 reclaim-begins tells start brand table old new shares at pass r h starts =
     let left = reclaim-leaves old new r starts in (
-      quiet tells start brand table old new shares at pass h h.state (reclaim-start-stands tells old new r h.state h.stands starts) (reclaim-start-goes tells old new r h.state h.stands starts) h.reached refl left.mark left.heads,
-      (h.state, h.reached, reclaim-says old new h.state r h.stands.memory starts),
+      quiet tells start brand table old new shares at pass h h.state (reclaim-start-stands tells old new r h.state h.stands starts)
+          (reclaim-start-goes tells old new r h.state h.stands starts) h.reached refl left.mark left.heads,
+      (h.state, h.reached, h.seen, reclaim-says old new h.state r h.stands.memory starts),
     )
 
+-- a start that is refused for another reason than that is one of a store that works
+first-works : (failed : Bool) (rest : Option StartFault) (Begins : Type 0) (r : Result (Unit {0}) StartFault) (old new : StoreValue)
+    → MatchOption (cond failed (Some fault.Failed) rest) Begins (λ why. (r ≡ Err why) × (new ≡ old)) → (r ≡ Err fault.Failed → ⊥) → failed ≡ false
+first-works true rest Begins r old new is other = absurd (other is.0)
+first-works false rest Begins r old new is other = refl
+
 -- a floor begins, or is refused
-pub floor-begins : (tells : Bool) (start : Machine Value) (brand : ℕ) (table : TableId) (old new : StoreValue) (shares : ℕ) (at : TableId) (pass : SightValue) (scope : Option ℕ) (floor : ℕ) (r : Result (Unit {0}) StartFault) → IsShared tells start brand table old shares at pass → StartsFloor old scope floor r new
-    → IsShared tells start brand table new shares at pass × FloorHappens start scope floor r
+pub floor-begins : (tells : Bool) (start : Machine Value) (brand : ℕ) (table : TableId) (old new : StoreValue) (shares : ℕ) (at : TableId) (pass : SightValue)
+    (scope : Option ℕ) (floor : ℕ) (r : Result (Unit {0}) StartFault) → IsShared tells start brand table old shares at pass → StartsFloor old scope floor r new
+    → IsShared tells start brand table new shares at pass × FloorHappens start scope floor r pass.seen
 floor-begins tells start brand table old new shares at pass scope floor r h starts =
-    let did = by-answer r (floor-start-stands tells old new scope floor r h.state h.stands starts) in (did.0, (h.state, h.reached, did.1))
+    let did = by-answer r refl (floor-start-stands tells old new scope floor r h.state h.stands starts) in (did.0, (h.state, h.reached, h.seen, did.1))
   where
     left : Leaves old.transactions new.transactions
     left = floor-leaves old new scope floor r starts
@@ -492,25 +575,31 @@ floor-begins tells start brand table old new shares at pass scope floor r h star
     same : Stands tells new h.state → IsShared tells start brand table new shares at pass
     same stands = quiet tells start brand table old new shares at pass h h.state stands goes h.reached refl left.mark left.heads
 
-    by-answer : (x : Result (Unit {0}) StartFault) → StartsOn tells h.state (raising_to scope floor) x new → IsShared tells start brand table new shares at pass × FloorSays h.state (raising_to scope floor) x
-    by-answer (Ok done) did = (
-      quiet tells start brand table old new shares at pass h (floor_started h.state (raising_to scope floor)) did.1 goes (stepped (FloorStarted (raising_to scope floor)) h.reached did.0) refl left.mark left.heads,
+    works : (x : Result (Unit {0}) StartFault) → r ≡ x → (x ≡ Err fault.Failed → ⊥) → h.state.failed ≡ false
+    works x is other = sym h.stands.memory.failed ∙ first-works old.transactions.failed _ _ r old new starts (λ failed. other (sym is ∙ failed))
+
+    by-answer : (x : Result (Unit {0}) StartFault) → r ≡ x → StartsOn tells h.state (raising_to scope floor) x new
+        → IsShared tells start brand table new shares at pass × FloorSays h.state (raising_to scope floor) x
+    by-answer (Ok done) is did = (
+      quiet tells start brand table old new shares at pass h (floor_started h.state (raising_to scope floor)) did.1 goes
+          (stepped (FloorStarted (raising_to scope floor)) h.reached did.0) refl left.mark left.heads,
       did.0,
     )
-    by-answer (Err fault.NothingToDo) did = (same did.1, did.0)
-    by-answer (Err (fault.NotYet time)) did = (same did.1, did.0)
-    by-answer (Err (fault.InUse snapshot)) did = (same did.1, did.0)
-    by-answer (Err fault.Failed) did = (same did.1, did.0)
-    by-answer (Err fault.WrongProfile) did = (same did, tt)
-    by-answer (Err fault.JobBusy) did = (same did, tt)
-    by-answer (Err fault.StatusFull) did = (same did, tt)
-    by-answer (Err fault.ArchiveFull) did = absurd did
-    by-answer (Err fault.HeapFull) did = absurd did
-    by-answer (Err fault.NoMemory) did = (same did.1, did.0)
-    by-answer (Err fault.NotGrowable) did = absurd did
+    by-answer (Err fault.NothingToDo) is did = (same did.1, did.0)
+    by-answer (Err (fault.NotYet time)) is did = (same did.1, did.0)
+    by-answer (Err (fault.InUse snapshot)) is did = (same did.1, did.0)
+    by-answer (Err fault.Failed) is did = (same did.1, did.0)
+    by-answer (Err fault.WrongProfile) is did = (same did, works (Err fault.WrongProfile) is (λ no. absurd cc))
+    by-answer (Err fault.JobBusy) is did = (same did, works (Err fault.JobBusy) is (λ no. absurd cc))
+    by-answer (Err fault.StatusFull) is did = (same did, works (Err fault.StatusFull) is (λ no. absurd cc))
+    by-answer (Err fault.ArchiveFull) is did = absurd did
+    by-answer (Err fault.HeapFull) is did = absurd did
+    by-answer (Err fault.NoMemory) is did = (same did.1, (works (Err fault.NoMemory) is (λ no. absurd cc), did.0))
+    by-answer (Err fault.NotGrowable) is did = absurd did
 
 -- what the beginning of a growth answers, by whether the store has failed
-growth-says : (old new : StoreValue) (m : Machine Value) (r : Result (Unit {0}) StartFault) → old.transactions.failed ≡ m.failed → StartsGrowth old r new → GrowthSays m r
+growth-says : (old new : StoreValue) (m : Machine Value) (r : Result (Unit {0}) StartFault) → old.transactions.failed ≡ m.failed → StartsGrowth old r new
+    → GrowthSays m r
 growth-says old new m r same starts = by-tests old.transactions.failed refl (is_some old.job) starts
   where
     said : (x : Result (Unit {0}) StartFault) → r ≡ x → GrowthSays m x → GrowthSays m r
@@ -521,18 +610,21 @@ growth-says old new m r same starts = by-tests old.transactions.failed refl (is_
     by-piece works (Some growth) is = said (Ok tt) is.0 (sym same ∙ works)
 
     by-tests : (failed : Bool) → old.transactions.failed ≡ failed → (busy : Bool)
-        → MatchOption (cond failed (Some fault.Failed) (cond busy (Some fault.JobBusy) None)) (BeginsPiece old (next_piece old.log) r new) (λ why. (r ≡ Err why) × (new ≡ old)) → GrowthSays m r
+        → MatchOption (cond failed (Some fault.Failed) (cond busy (Some fault.JobBusy) None)) (BeginsPiece old (next_piece old.log) r new) (λ why. (r ≡ Err why)
+        × (new ≡ old)) → GrowthSays m r
     by-tests true failed busy is = said (Err fault.Failed) is.0 (sym same ∙ failed)
     by-tests false works true is = said (Err fault.JobBusy) is.0 (sym same ∙ works)
     by-tests false works false is = by-piece works (next_piece old.log) is
 
 -- a growth begins, or is refused
-pub growth-begins : (tells : Bool) (start : Machine Value) (brand : ℕ) (table : TableId) (old new : StoreValue) (shares : ℕ) (at : TableId) (pass : SightValue) (r : Result (Unit {0}) StartFault) → IsShared tells start brand table old shares at pass → StartsGrowth old r new
-    → IsShared tells start brand table new shares at pass × GrowthHappens start r
+pub growth-begins : (tells : Bool) (start : Machine Value) (brand : ℕ) (table : TableId) (old new : StoreValue) (shares : ℕ) (at : TableId) (pass : SightValue)
+    (r : Result (Unit {0}) StartFault) → IsShared tells start brand table old shares at pass → StartsGrowth old r new
+    → IsShared tells start brand table new shares at pass × GrowthHappens start r pass.seen
 growth-begins tells start brand table old new shares at pass r h starts =
     let left = grow-leaves old new r starts in (
-      quiet tells start brand table old new shares at pass h h.state (grow-start-stands tells old new r h.state h.stands starts) (grow-start-goes tells old new r h.state h.stands starts) h.reached refl left.mark left.heads,
-      (h.state, h.reached, growth-says old new h.state r h.stands.memory.failed starts),
+      quiet tells start brand table old new shares at pass h h.state (grow-start-stands tells old new r h.state h.stands starts)
+          (grow-start-goes tells old new r h.state h.stands starts) h.reached refl left.mark left.heads,
+      (h.state, h.reached, h.seen, growth-says old new h.state r h.stands.memory.failed starts),
     )
 
 pub record JobPumped (tells : Bool) (start : Machine Value) (m : Machine Value) (old new : StoreValue) (r : Result JobDid PumpFault) : Type 0 where
@@ -541,21 +633,24 @@ pub record JobPumped (tells : Bool) (start : Machine Value) (m : Machine Value) 
   pub stands : Stands tells new after
   pub reached : Reached start after
   pub seen : seen_of after ≡ job_seen r (raising_of old.job) (seen_of m)
-  pub later : IsLater (seen_of m) (seen_of after)
+  pub later : IsLater (seen_of m) (done_seen r (raising_of old.job) (seen_of m))
   pub left : Leaves old.transactions new.transactions
   pub goes : GoesOn tells old new
 
-pub job-pumped : (tells : Bool) (start : Machine Value) (m : Machine Value) (old new : StoreValue) (r : Result JobDid PumpFault) → Reached start m → Stands tells old m → (IsTrue tells → AreSound new.disk.areas) → PumpsJob tells old r new → JobPumped tells start m old new r
+pub job-pumped : (tells : Bool) (start : Machine Value) (m : Machine Value) (old new : StoreValue) (r : Result JobDid PumpFault) → Reached start m
+    → Stands tells old m → (IsTrue tells → AreSound new.disk.areas) → PumpsJob tells old r new → JobPumped tells start m old new r
 job-pumped tells start m old new r reached stands sound pumps = by-failure m.failed refl (job-pump-stands tells old new r m stands sound pumps)
   where
-    by-failure : (b : Bool) → m.failed ≡ b → MatchBool b ((r ≡ Err pump.Failed) × Stands tells new m) ((after : Machine Value) × Run IsValue m (job_ends_in m r) after × Stands tells new after) → JobPumped tells start m old new r
+    by-failure : (b : Bool) → m.failed ≡ b
+        → MatchBool b ((r ≡ Err pump.Failed) × Stands tells new m) ((after : Machine Value) × Run IsValue m (job_ends_in m r) after × Stands tells new after)
+        → JobPumped tells start m old new r
     by-failure true is did = record {
       after = m;
       run = subst (λ (b : Bool). MatchBool b ((r ≡ Err pump.Failed) × (m ≡ m)) (Run IsValue m (job_ends_in m r) m)) (sym is) (did.0, refl);
       stands = did.1;
       reached = reached;
-      seen = subst (λ (x : Result JobDid PumpFault). seen_of m ≡ job_seen x (raising_of old.job) (seen_of m)) (sym did.0) refl;
-      later = later-same (seen_of m);
+      seen = subst (λ (x : Result JobDid PumpFault). seen_of m ≡ job_seen x (raising_of old.job) (seen_of m)) (sym did.0) (broken-seen m is);
+      later = subst (λ (x : Result JobDid PumpFault). IsLater (seen_of m) (done_seen x (raising_of old.job) (seen_of m))) (sym did.0) (later-same (seen_of m));
       left = pumped-leaves tells old new r pumps;
       goes = job-pump-goes tells old new r m stands pumps;
     }
@@ -565,31 +660,39 @@ job-pumped tells start m old new r reached stands sound pumps = by-failure m.fai
       stands = did.2;
       reached = follows start m did.0 (job_ends_in m r) reached did.1;
       seen = job-seen m did.0 old.job r stands.raises.is did.1;
-      later = later-job m did.0 old.job r stands.machine stands.raises.is did.1;
+      later = later-done m did.0 old.job r stands.machine stands.raises.is did.1;
       left = pumped-leaves tells old new r pumps;
       goes = job-pump-goes tells old new r m stands pumps;
     }
 
 -- what the pass is to see next is later
-pub job-later : (tells : Bool) (start : Machine Value) (brand : ℕ) (table : TableId) (old new : StoreValue) (shares : ℕ) (at : TableId) (pass : SightValue) (r : Result JobDid PumpFault) (h : IsShared tells start brand table old shares at pass) (raising : Option Raising)
-    → raising_of old.job ≡ raising → JobPumped tells start h.state old new r → IsLater pass.seen (job_seen r raising pass.seen)
+pub job-later : (tells : Bool) (start : Machine Value) (brand : ℕ) (table : TableId) (old new : StoreValue) (shares : ℕ) (at : TableId) (pass : SightValue)
+    (r : Result JobDid PumpFault) (h : IsShared tells start brand table old shares at pass) (raising : Option Raising)
+    → raising_of old.job ≡ raising → JobPumped tells start h.state old new r → IsLater pass.seen (done_seen r raising pass.seen)
 job-later tells start brand table old new shares at pass r h raising is p =
-    let first : IsLater (seen_of h.state) (job_seen r (raising_of old.job) (seen_of h.state)) = subst (λ (s : Seen). IsLater (seen_of h.state) s) p.seen p.later in
-    let next : IsLater (seen_of h.state) (job_seen r raising (seen_of h.state)) = subst (λ (o : Option Raising). IsLater (seen_of h.state) (job_seen r o (seen_of h.state))) is first in
-    subst (λ (s : Seen). IsLater s (job_seen r raising s)) (sym h.seen) next
+    let next : IsLater (seen_of h.state) (done_seen r raising (seen_of h.state)) =
+    subst (λ (o : Option Raising). IsLater (seen_of h.state) (done_seen r o (seen_of h.state))) is p.later in
+    subst (λ (s : Seen). IsLater s (done_seen r raising s)) (sym h.seen) next
 
 -- once the pass has gone on
-pub job-keeps : (tells : Bool) (start : Machine Value) (brand : ℕ) (table : TableId) (old new : StoreValue) (shares : ℕ) (at at' : TableId) (pass pass' : SightValue) (r : Result JobDid PumpFault) (h : IsShared tells start brand table old shares at pass) (raising : Option Raising) → raising_of old.job ≡ raising
-    → JobPumped tells start h.state old new r → at' ≡ at → pass'.writes ≡ true → pass'.seen ≡ job_seen r raising pass.seen → pass'.archive ≡ pass.archive → IsShared tells start brand table new shares at' pass'
+pub job-keeps : (tells : Bool) (start : Machine Value) (brand : ℕ) (table : TableId) (old new : StoreValue) (shares : ℕ) (at at' : TableId)
+    (pass pass' : SightValue) (r : Result JobDid PumpFault) (h : IsShared tells start brand table old shares at pass) (raising : Option Raising)
+    → raising_of old.job ≡ raising
+    → JobPumped tells start h.state old new r → at' ≡ at → pass'.writes ≡ true → pass'.seen ≡ job_seen r raising pass.seen → pass'.archive ≡ pass.archive
+    → IsShared tells start brand table new shares at' pass'
 job-keeps tells start brand table old new shares at at' pass pass' r h raising is p same on seen archive =
-    let rises : last h.state.published ≤ last p.after.published = last-seen (seen_of h.state) (seen_of p.after) p.stands.machine.history p.later in
+    let later : IsLater (seen_of h.state) (seen_of p.after) =
+    subst (λ (s : Seen). IsLater (seen_of h.state) s) (sym p.seen) (later-job r (raising_of old.job) (seen_of h.state) p.later) in
+    let rises : last h.state.published ≤ last p.after.published = last-seen (seen_of h.state) (seen_of p.after) p.stands.machine.history later in
     record {
       state = p.after;
       stands = p.stands;
       reached = p.reached;
       mark = p.left.mark ∙ h.mark;
       told = ap told_count p.left.heads ∙ h.told;
-      none_waits = ap (λ (l : List CommitHead). told_after (last p.after.published) l) p.left.heads ∙ after-later (last h.state.published) (last p.after.published) old.transactions.heads rises h.none_waits;
+      none_waits =
+          ap (λ (l : List CommitHead). told_after (last p.after.published) l) p.left.heads
+          ∙ after-later (last h.state.published) (last p.after.published) old.transactions.heads rises h.none_waits;
       cell = same ∙ h.cell;
       seen = seen ∙ ap (job_seen r raising) h.seen ∙ ap (λ (o : Option Raising). job_seen r o (seen_of h.state)) (sym is) ∙ sym p.seen;
       archive = known archive (archive-then pass.archive (archive_seen tells old) (archive_seen tells new) h.archive (archive-on tells old new p.goes));
@@ -599,33 +702,43 @@ job-keeps tells start brand table old new shares at at' pass pass' r h raising i
 -- ---- queries
 
 -- a query leaves the transactions alone
-asked-same : {T : Type 0} (tells : Bool) (old new : StoreValue) (view : ViewValue) (from : ℕ) (Refuses : QueryFault → Type 0) (Recent : T → Type 0) (OfHistory : History Value → T → Type 0) (Exact : Result T QueryFault → Type 0) (answer : Result T QueryFault)
+asked-same : {T : Type 0} (tells : Bool) (old new : StoreValue) (view : ViewValue) (from : ℕ) (Refuses : QueryFault → Type 0) (Recent : T
+    → Type 0) (OfHistory : History Value → T → Type 0) (Exact : Result T QueryFault → Type 0) (answer : Result T QueryFault)
     → OrStranger old view (Finds tells old view from Refuses Recent OfHistory Exact) answer new → new.transactions ≡ old.transactions
 asked-same {T} tells old new view from Refuses Recent OfHistory Exact answer says = by-own (stores.is_own old view) says
   where
-    by-own : (b : Bool) → MatchBool b (Finds tells old view from Refuses Recent OfHistory Exact answer new) ((answer ≡ Err query.Stranger) × (new ≡ old)) → new.transactions ≡ old.transactions
+    by-own : (b : Bool) → MatchBool b (Finds tells old view from Refuses Recent OfHistory Exact answer new) ((answer ≡ Err query.Stranger) × (new ≡ old))
+        → new.transactions ≡ old.transactions
     by-own true finds = ap (λ (v : StoreValue). v.transactions) finds.asks.new_is
     by-own false strange = ap (λ (v : StoreValue). v.transactions) strange.1
 
-pub query-keeps : {T : Type 0} (tells : Bool) (start : Machine Value) (brand : ℕ) (table : TableId) (old new : StoreValue) (shares : ℕ) (at : TableId) (pass : SightValue) (view : ViewValue) (from : ℕ) (Refuses : QueryFault → Type 0) (Recent : T → Type 0) (OfHistory : History Value → T → Type 0)
-    (Exact : Result T QueryFault → Type 0) (answer : Result T QueryFault) → IsShared tells start brand table old shares at pass → OrStranger old view (Finds tells old view from Refuses Recent OfHistory Exact) answer new → IsShared tells start brand table new shares at pass
+pub query-keeps : {T : Type 0} (tells : Bool) (start : Machine Value) (brand : ℕ) (table : TableId) (old new : StoreValue) (shares : ℕ) (at : TableId)
+    (pass : SightValue) (view : ViewValue) (from : ℕ) (Refuses : QueryFault → Type 0) (Recent : T → Type 0) (OfHistory : History Value → T → Type 0)
+    (Exact : Result T QueryFault → Type 0) (answer : Result T QueryFault) → IsShared tells start brand table old shares at pass
+    → OrStranger old view (Finds tells old view from Refuses Recent OfHistory Exact) answer new → IsShared tells start brand table new shares at pass
 query-keeps tells start brand table old new shares at pass view from Refuses Recent OfHistory Exact answer h says =
     let on = query-stands tells old new h.state view from Refuses Recent OfHistory Exact answer h.stands says in
     let same = asked-same tells old new view from Refuses Recent OfHistory Exact answer says in
-    quiet tells start brand table old new shares at pass h h.state on.0 on.1 h.reached refl (ap (λ (v : TransactionsValue). v.mark) same) (ap (λ (v : TransactionsValue). v.heads) same)
+    quiet tells start brand table old new shares at pass h h.state on.0 on.1 h.reached refl (ap (λ (v : TransactionsValue). v.mark) same)
+    (ap (λ (v : TransactionsValue). v.heads) same)
 
 -- ---- tickets
 
-pub redeem-keeps : (tells : Bool) (start : Machine Value) (brand : ℕ) (table : TableId) (old new : StoreValue) (shares : ℕ) (at : TableId) (pass : SightValue) (k : TicketValue) (r : Redeemed) → IsShared tells start brand table old shares at pass → stores.Redeems old k r new
+pub redeem-keeps : (tells : Bool) (start : Machine Value) (brand : ℕ) (table : TableId) (old new : StoreValue) (shares : ℕ) (at : TableId) (pass : SightValue)
+    (k : TicketValue) (r : Redeemed) → IsShared tells start brand table old shares at pass → stores.Redeems old k r new
     → IsShared tells start brand table new (shares + done_in r) at pass
 redeem-keeps tells start brand table old new shares at pass k r h redeems =
     by-result r (redeeming old.transactions new.transactions k r redeems.transactions) (redeem-stands tells old new k r h.state h.stands redeems).1
   where
-    same : (x : Redeemed) → done_in x ≡ 0 → new.transactions ≡ old.transactions → Stands tells new h.state → IsShared tells start brand table new (shares + done_in x) at pass
+    same : (x : Redeemed) → done_in x ≡ 0 → new.transactions ≡ old.transactions → Stands tells new h.state
+        → IsShared tells start brand table new (shares + done_in x) at pass
     same x none is stands = subst (λ (n : ℕ). IsShared tells start brand table new n at pass) (omega (arith, none))
-        (quiet tells start brand table old new shares at pass h h.state stands (rest-goes tells old new redeems.rest (ap (λ (v : TransactionsValue). v.mark) is)) h.reached refl (ap (λ (v : TransactionsValue). v.mark) is) (ap (λ (v : TransactionsValue). v.heads) is))
+        (quiet tells start brand table old new shares at pass h h.state stands
+        (rest-goes tells old new redeems.rest (ap (λ (v : TransactionsValue). v.mark) is)) h.reached refl (ap (λ (v : TransactionsValue). v.mark) is)
+        (ap (λ (v : TransactionsValue). v.heads) is))
 
-    by-result : (x : Redeemed) → LeftByRedeem old.transactions k x new.transactions → Stands tells new h.state → IsShared tells start brand table new (shares + done_in x) at pass
+    by-result : (x : Redeemed) → LeftByRedeem old.transactions k x new.transactions → Stands tells new h.state
+        → IsShared tells start brand table new (shares + done_in x) at pass
     by-result (redeemed.Done time) left stands =
         let heads : new.transactions.heads ≡ orders.redeemed k.time old.transactions.heads = ap (λ (v : TransactionsValue). v.heads) left.3 in
         let one = told-redeemed k.time old.transactions.heads left.1 in
@@ -637,10 +750,14 @@ redeem-keeps tells start brand table old new shares at pass k r h redeems =
           reached = h.reached;
           mark = ap (λ (v : TransactionsValue). v.mark) left.3 ∙ h.mark;
           told = ap told_count heads ∙ omega (arith, one, h.told);
-          none_waits = ap (λ (l : List CommitHead). told_after (last h.state.published) l) heads ∙ after-redeemed (last h.state.published) k.time old.transactions.heads (omega (arith, published, early)) ∙ h.none_waits;
+          none_waits =
+              ap (λ (l : List CommitHead). told_after (last h.state.published) l) heads
+              ∙ after-redeemed (last h.state.published) k.time old.transactions.heads (omega (arith, published, early)) ∙ h.none_waits;
           cell = h.cell;
           seen = h.seen;
-          archive = archive-then pass.archive (archive_seen tells old) (archive_seen tells new) h.archive (archive-on tells old new (rest-goes tells old new redeems.rest (ap (λ (v : TransactionsValue). v.mark) left.3)));
+          archive =
+              archive-then pass.archive (archive_seen tells old) (archive_seen tells new) h.archive
+              (archive-on tells old new (rest-goes tells old new redeems.rest (ap (λ (v : TransactionsValue). v.mark) left.3)));
           writes = h.writes;
         }
     by-result (redeemed.Waiting back) left stands = same (redeemed.Waiting back) refl left.1 stands

@@ -29,34 +29,52 @@ pub begins : (words : List ℕ) → slice_index words 0 ≡ 0 → IsPublished wo
 begins words zero_word = record { writer = 0; own = first_sight; there = refl; writes = refl; word = sym zero_word; legal = tt; each = one }
   where
     one : (by : ℕ) (v : SightValue) → get_elem? (first_sight ∷ []) by ≡ some v → Each 0 nothing_known by v
-    one zero v e = subst (λ (u : SightValue). Each 0 nothing_known 0 u) (some-injective _ _ e) (more-nothing nothing_known, more-nothing nothing_known, λ _. refl)
+    one zero v e =
+        subst (λ (u : SightValue). Each 0 nothing_known 0 u) (some-injective _ _ e) (more-nothing nothing_known, more-nothing nothing_known, λ _. refl)
     one (suc by) v e = absurd (some-ne-none v (sym e))
 
 -- the writer's own view, where this pass is the writer's
-own_is : (words : List ℕ) (views : List SightValue) (by : ℕ) (v : SightValue) (h : IsPublished words views) → get_elem? views by ≡ some v → v.writes ≡ true → h.own ≡ v
+own_is : (words : List ℕ) (views : List SightValue) (by : ℕ) (v : SightValue) (h : IsPublished words views) → get_elem? views by ≡ some v → v.writes ≡ true
+    → h.own ≡ v
 own_is words views by v h at on = some-injective _ _ (sym h.there ∙ ap (get_elem? views) (sym ((h.each by v at).2 on)) ∙ at)
 
 -- the writer's view became w, and the word that of `after`
 mine : (before after : List ℕ) (views : List SightValue) (by : ℕ) (v w : SightValue) (h : IsPublished before views) → get_elem? views by ≡ some v
-    → v.writes ≡ true → w.writes ≡ true → IsMore (known_by v) (known_by w) → IsMore w.heard (known_by w) → last w.seen.published ≡ slice_index after 0 → IsHistory IsValue (order_of w.seen)
+    → v.writes ≡ true → w.writes ≡ true → IsMore (known_by v) (known_by w) → IsMore w.heard (known_by w) → last w.seen.published ≡ slice_index after 0
+    → IsHistory IsValue (order_of w.seen)
     → IsPublished after (set views by w)
-mine before after views by v w h at on on' later heard word legal = record { writer = by; own = w; there = set_there views by v w at; writes = on'; word = word; legal = legal; each = each }
+mine before after views by v w h at on on' later heard word legal =
+    record { writer = by; own = w; there = set_there views by v w at; writes = on'; word = word; legal = legal; each = each }
   where
     each : (j : ℕ) (u : SightValue) → get_elem? (set views by w) j ≡ some u → Each by (known_by w) j u
     each j u e = ⊎_elim
         (λ (t : (j ≡ by) × (w ≡ u)). subst (λ (x : SightValue). Each by (known_by w) j x) t.1 (more-same (known_by w), heard, λ _. t.0))
         (λ (t : (j ≢ by) × (get_elem? views j ≡ some u)).
         let was = h.each j u t.1 in
-        let all : IsMore (known_by h.own) (known_by w) = subst (λ (x : SightValue). IsMore (known_by x) (known_by w)) (sym (own_is before views by v h at on)) later in
-        (more-then (known_by u) (known_by h.own) (known_by w) was.0 all, more-then u.heard (known_by h.own) (known_by w) was.1 all, λ its. was.2 its ∙ sym ((h.each by v at).2 on)))
+        let all : IsMore (known_by h.own) (known_by w) =
+        subst (λ (x : SightValue). IsMore (known_by x) (known_by w)) (sym (own_is before views by v h at on)) later in (
+          more-then (known_by u) (known_by h.own) (known_by w) was.0 all,
+          more-then u.heard (known_by h.own) (known_by w) was.1 all,
+          λ its. was.2 its
+              ∙ sym ((h.each by v at).2 on),
+        ))
         (at_set views by j w u e)
 
 -- the view of a pass that is not the writer's became w
 others : (words : List ℕ) (views : List SightValue) (by : ℕ) (v w : SightValue) (h : IsPublished words views) → get_elem? views by ≡ some v
     → v.writes ≡ false → w.writes ≡ false → IsMore (known_by w) (known_by h.own) → IsMore w.heard (known_by h.own) → IsPublished words (set views by w)
 others words views by v w h at quiet quiet' seen heard =
-    let apart : h.writer ≢ by = λ e. off v.writes (ap (λ (x : SightValue). x.writes) (some-injective _ _ (sym at ∙ ap (get_elem? views) (sym e) ∙ h.there)) ∙ h.writes) quiet in
-    record { writer = h.writer; own = h.own; there = set_else views by h.writer w apart ∙ h.there; writes = h.writes; word = h.word; legal = h.legal; each = each }
+    let apart : h.writer ≢ by =
+    λ e. off v.writes (ap (λ (x : SightValue). x.writes) (some-injective _ _ (sym at ∙ ap (get_elem? views) (sym e) ∙ h.there)) ∙ h.writes) quiet in
+    record {
+      writer = h.writer;
+      own = h.own;
+      there = set_else views by h.writer w apart ∙ h.there;
+      writes = h.writes;
+      word = h.word;
+      legal = h.legal;
+      each = each;
+    }
   where
     each : (j : ℕ) (u : SightValue) → get_elem? (set views by w) j ≡ some u → Each h.writer (known_by h.own) j u
     each j u e = ⊎_elim
@@ -68,15 +86,21 @@ others words views by v w h at quiet quiet' seen heard =
 pub loads : (by : ℕ) (v : SightValue) → v.writes ≡ false → Turns IsPublished by v (λ x. x) Sees
 loads by v quiet words views h at =
     let w : SightValue = record v { seen = h.own.seen } in
-    let was = h.each by v at in
-    (w, others words views by v w h at quiet quiet (record { seen = later-same h.own.seen; archive = was.0.archive }) was.1, (was.0.seen, h.legal, h.word, refl))
+    let was = h.each by v at in (
+      w,
+      others words views by v w h at quiet quiet (record { seen = later-same h.own.seen; archive = was.0.archive }) was.1,
+      (was.0.seen, h.legal, h.word, refl),
+    )
 
 -- a load by a pass that was told what another has seen
 pub learns : (by : ℕ) (v : SightValue) → v.writes ≡ false → Turns IsPublished by v (λ x. x) Learns
 learns by v quiet words views h at =
     let w : SightValue = record v { seen = h.own.seen } in
-    let was = h.each by v at in
-    (w, others words views by v w h at quiet quiet (record { seen = later-same h.own.seen; archive = was.0.archive }) was.1, (was.0.seen, was.1.seen, h.legal, refl))
+    let was = h.each by v at in (
+      w,
+      others words views by v w h at quiet quiet (record { seen = later-same h.own.seen; archive = was.0.archive }) was.1,
+      (was.0.seen, was.1.seen, h.legal, refl),
+    )
 
 -- the writer compares
 pub confirms : (by : ℕ) (v : SightValue) → v.writes ≡ true → Turns IsPublished by v (λ x. x) Confirms
@@ -87,7 +111,8 @@ confirms by v on words views h at = (
 )
 
 -- the writer goes on, and so does the word
-advance : (by : ℕ) (v : SightValue) (next : Seen) (words after : List ℕ) (views : List SightValue) → IsPublished words views → get_elem? views by ≡ some v → v.writes ≡ true → IsLater v.seen next → IsHistory IsValue (order_of next) → last next.published ≡ slice_index after 0
+advance : (by : ℕ) (v : SightValue) (next : Seen) (words after : List ℕ) (views : List SightValue) → IsPublished words views → get_elem? views by ≡ some v
+    → v.writes ≡ true → IsLater v.seen next → IsHistory IsValue (order_of next) → last next.published ≡ slice_index after 0
     → (w : SightValue) × IsPublished after (set views by w) × (w ≡ record v { seen = next })
 advance by v next words after views h at on later legal word =
     let w : SightValue = record v { seen = next } in
@@ -96,16 +121,20 @@ advance by v next words after views h at on later legal word =
     let more : IsMore (known_by v) (known_by w) = record { seen = later; archive = archive-same v.archive } in
     (w, mine words after views by v w h at on on more (more-then v.heard (known_by v) (known_by w) heard more) word legal, refl)
 
-pub publishes : (by : ℕ) (v : SightValue) (next : Seen) (new : List ℕ) → v.writes ≡ true → IsLater v.seen next → IsHistory IsValue (order_of next) → last next.published ≡ slice_index new 0 → Turns IsPublished by v (λ _. new) (Advances next)
+pub publishes : (by : ℕ) (v : SightValue) (next : Seen) (new : List ℕ) → v.writes ≡ true → IsLater v.seen next → IsHistory IsValue (order_of next)
+    → last next.published ≡ slice_index new 0 → Turns IsPublished by v (λ _. new) (Advances next)
 publishes by v next new on later legal word words views h at = advance by v next words new views h at on later legal word
 
-pub queues : (by : ℕ) (v : SightValue) (next : Seen) → v.writes ≡ true → IsLater v.seen next → IsHistory IsValue (order_of next) → next.published ≡ v.seen.published → Turns IsPublished by v (λ x. x) (Advances next)
+pub queues : (by : ℕ) (v : SightValue) (next : Seen) → v.writes ≡ true → IsLater v.seen next → IsHistory IsValue (order_of next) → next.published
+    ≡ v.seen.published → Turns IsPublished by v (λ x. x) (Advances next)
 queues by v next on later legal same words views h at =
-    let word : last next.published ≡ slice_index words 0 = ap last same ∙ ap (λ (x : SightValue). last x.seen.published) (sym (own_is words views by v h at on)) ∙ h.word in
+    let word : last next.published ≡ slice_index words 0 =
+    ap last same ∙ ap (λ (x : SightValue). last x.seen.published) (sym (own_is words views by v h at on)) ∙ h.word in
     advance by v next words words views h at on later legal word
 
 -- the writer knows the archive as it is now
-pub moves : (by : ℕ) (v : SightValue) (archive : ArchiveSeen) → v.writes ≡ true → IsArchiveLater v.archive archive → Turns IsPublished by v (λ x. x) (Moves archive)
+pub moves : (by : ℕ) (v : SightValue) (archive : ArchiveSeen) → v.writes ≡ true → IsArchiveLater v.archive archive
+    → Turns IsPublished by v (λ x. x) (Moves archive)
 moves by v archive on later words views h at =
     let w : SightValue = record v { archive = archive } in
     let own = own_is words views by v h at on in
@@ -127,7 +156,11 @@ forks by v words views h at =
       word = h.word;
       legal = h.legal;
       each = λ j u e. ⊎_elim (λ was. h.each j u was)
-          (λ (same : told v ≡ u). subst (λ (x : SightValue). Each h.writer (known_by h.own) j x) same ((h.each by v at).0, more-nothing (known_by h.own), λ on. off false on refl))
+          (λ (same : told v ≡ u). subst (λ (x : SightValue). Each h.writer (known_by h.own) j x) same (
+            (h.each by v at).0,
+            more-nothing (known_by h.own),
+            λ on. off false on refl,
+          ))
           (at_snoc views (told v) u j e);
     }
 
@@ -136,7 +169,9 @@ pub hears : (by : ℕ) (v : SightValue) (other : ℕ) (u : SightValue) → v.wri
 hears by v other u on still words views h at apart there =
     let w = informed v u in
     let own = own_is words views by v h at on in
-    let theirs : get_elem? views other ≡ some u = ⊎_elim (λ (t : (other ≡ by) × (w ≡ u)). absurd (apart t.0)) (λ (t : (other ≢ by) × (get_elem? views other ≡ some u)). t.1) (at_set views by other w u there) in
+    let theirs : get_elem? views other ≡ some u =
+    ⊎_elim (λ (t : (other ≡ by) × (w ≡ u)). absurd (apart t.0)) (λ (t : (other ≢ by)
+    × (get_elem? views other ≡ some u)). t.1) (at_set views by other w u there) in
     let heard : IsMore (known_by u) (known_by v) = subst (λ (x : SightValue). IsMore (known_by u) (known_by x)) own (h.each other u theirs).0 in
     let word : last v.seen.published ≡ slice_index words 0 = ap (λ (x : SightValue). last x.seen.published) (sym own) ∙ h.word in
     let legal : IsHistory IsValue (order_of v.seen) = subst (λ (x : SightValue). IsHistory IsValue (order_of x.seen)) own h.legal in
@@ -144,9 +179,12 @@ hears by v other u on still words views h at apart there =
     others words (set views by w) other u idle first there still refl (more-nothing (known_by first.own)) (more-nothing (known_by first.own))
 
 -- a pass that is not the writer's is told what another has seen
-pub overhears : (by : ℕ) (v : SightValue) (other : ℕ) (u : SightValue) → v.writes ≡ false → u.writes ≡ false → Merges IsPublished by v other u (informed v u) idle
+pub overhears : (by : ℕ) (v : SightValue) (other : ℕ) (u : SightValue) → v.writes ≡ false → u.writes ≡ false
+    → Merges IsPublished by v other u (informed v u) idle
 overhears by v other u quiet still words views h at apart there =
     let w = informed v u in
-    let theirs : get_elem? views other ≡ some u = ⊎_elim (λ (t : (other ≡ by) × (w ≡ u)). absurd (apart t.0)) (λ (t : (other ≢ by) × (get_elem? views other ≡ some u)). t.1) (at_set views by other w u there) in
+    let theirs : get_elem? views other ≡ some u =
+    ⊎_elim (λ (t : (other ≡ by) × (w ≡ u)). absurd (apart t.0)) (λ (t : (other ≢ by)
+    × (get_elem? views other ≡ some u)). t.1) (at_set views by other w u there) in
     let first = others words views by v w h at quiet quiet (h.each by v at).0 (h.each other u theirs).0 in
     others words (set views by w) other u idle first there still refl (more-nothing (known_by first.own)) (more-nothing (known_by first.own))

@@ -135,7 +135,10 @@ source_send = view_send source.the_row _ _ _ _ source_inside
 work_send : IsSend JobWork.the_row
 work_send = variants_send JobWork.enum (
   (search (sendable, run.the_send), (search (sendable, run_writer.the_send, walk_send), tt)),
-  ((search (sendable, anchors.the_send), (search (sendable, source_send), (search sendable, tt))), ((search (sendable, option.the_send), (search sendable, (search (sendable, floors.the_send), tt))), ((search (sendable, growth.the_send), tt), tt))),
+  (
+    (search (sendable, anchors.the_send), (search (sendable, source_send), (search sendable, tt))),
+    ((search (sendable, option.the_send), (search sendable, (search (sendable, floors.the_send), tt))), ((search (sendable, growth.the_send), tt), tt)),
+  ),
 )
 
 job_send : IsSend Job.the_row
@@ -195,7 +198,8 @@ module _ (L : RattleType) (opening : openings.Ghosts L.Denot) (ledger : ledgers.
 
 -- ---- the store under its lock
 
-pub shared-sync : (D L : RattleType) (disk : devices.Ghosts D.Denot) (opening : openings.Ghosts L.Denot) (ledger : ledgers.Ghosts L.Denot) → IsSend D → IsSync (SharedStore.the_row D L disk opening ledger)
+pub shared-sync : (D L : RattleType) (disk : devices.Ghosts D.Denot) (opening : openings.Ghosts L.Denot) (ledger : ledgers.Ghosts L.Denot) → IsSend D
+    → IsSync (SharedStore.the_row D L disk opening ledger)
 shared-sync D L disk opening ledger crossing =
     let under = locked_send D disk crossing L opening ledger in
     declared_sync (SharedStore.the_type D L disk opening ledger) (

@@ -1,14 +1,16 @@
 -- What was seen, as the machine steps.
-use Rattle.std.proofs.Common.{◌≡◌, ℕ, ◌≤◌, Bool, true, false, cond, List, [], ◌∷◌, ◌++◌, take, drop, Option, None, Some, Result, Ok, Err, refl, sym, ap, ◌∙◌, subst, append_assoc, arith}
+use Rattle.std.proofs.Common.{◌≡◌, ℕ, ◌≤◌, ◌==◌, ◌&&◌, nat_lt, length, Bool, true, false, cond, List, [], ◌∷◌, ◌++◌, take, drop, Option, None, Some, Result, Ok}
+use Rattle.std.proofs.Common.{Err, refl, sym, ap, ◌∙◌, subst, append_assoc, arith}
 use Rattle.std.proofs.lemmas.List.{append-nil, take-append-drop}
 use Rattle.history.specs.Histories.{Commit, History}
 use Rattle.history.specs.Floors.{Raising}
 use Rattle.history.specs.Machine.{Machine, IsMachine, Gate, Shut, Due, MayBeOpen, OfGroup, OfFloor}
-use Rattle.history.specs.Steps.{Event, Step, Run}
+use Rattle.history.specs.Steps.{Event, Step, Run, GroupBegan}
 use Rattle.history.specs.Submissions.{Submission, commit_made}
 use Rattle.history.proofs.Machines.{run-floors}
 use Rattle.law_image.specs.Values.{Value, IsValue}
 use Rattle.group.specs.declared.answers.Did.{Did}
+use Rattle.group.specs.declared.answers.Did.TheVariants as did
 use Rattle.group.specs.declared.answers.PumpFault.{PumpFault}
 use Rattle.group.specs.declared.answers.PumpFault.TheVariants as pump
 use Rattle.group.specs.declared.answers.Submitted.{Submitted}
@@ -27,9 +29,9 @@ use Rattle.law_refinement.specs.Stands.{raising_by, raising_of}
 use Rattle.law_refinement.proofs.Told.{pump-publishes}
 use Rattle.shared.specs.Reached.{Reached, stepped}
 use Rattle.shared.specs.Seen.{Seen, floors_listed, floor_in, seen_of, order_of, IsFrontOf, IsLater}
-use Rattle.shared.specs.Shared.{published_seen, queued_seen, raised_seen, job_seen, is_done}
+use Rattle.shared.specs.Shared.{published_seen, queued_seen, raised_seen, done_seen, failed_seen, pumped_seen, job_seen, is_done, has_failed}
 use Rattle.shared.proofs.Floors.{listed-raised, listed-later}
-use Rattle.shared.proofs.Fronts.{front-same, later-same}
+use Rattle.shared.proofs.Fronts.{front-same, later-same, later-then, later-failed}
 
 pub follows : (start m n : Machine Value) (events : List (Event Value)) → Reached start m → Run IsValue m events n → Reached start n
 follows start m n [] reached run = subst (λ (x : Machine Value). Reached start x) (sym run) reached
@@ -38,13 +40,24 @@ follows start m n (e ∷ es) reached run = follows start run.0 n es (stepped e r
 -- ---- what comes next is later
 
 pub later-queued : (s : Seen) (c : Commit Value) → IsLater s (queued_seen s c)
-later-queued s c = record { published = front-same s.published; order = (c ∷ [], sym (append_assoc s.published s.queue (c ∷ []))); floors = λ relation. omega arith }
+later-queued s c =
+    record {
+      published = front-same s.published;
+      order = (c ∷ [], sym (append_assoc s.published s.queue (c ∷ [])));
+      floors = λ relation. omega arith;
+      failed = λ on. on;
+    }
 
 pub later-published : (s : Seen) (count : ℕ) → IsLater s (published_seen s count)
 later-published s count = record {
   published = (take count s.queue, refl);
-  order = ([], append_assoc s.published (take count s.queue) (drop count s.queue) ∙ ap (λ (l : History Value). s.published ++ l) (take-append-drop count s.queue) ∙ sym (append-nil (order_of s)));
+  order = (
+    [],
+    append_assoc s.published (take count s.queue) (drop count s.queue)
+        ∙ ap (λ (l : History Value). s.published ++ l) (take-append-drop count s.queue) ∙ sym (append-nil (order_of s)),
+  );
   floors = λ relation. omega arith;
+  failed = λ on. on;
 }
 
 -- ---- a submit
@@ -54,7 +67,8 @@ submit_seen (Ok (submitted.ReadOnly at)) s c = s
 submit_seen (Ok (submitted.Queued ticket)) s c = queued_seen s c
 submit_seen (Err why) s c = s
 
-pub submit-seen : (m after : Machine Value) (s : Submission Value) (r : Result Submitted SubmitFault) → Step IsValue m (event_of m s r) after → seen_of after ≡ submit_seen r (seen_of m) (commit_made m s)
+pub submit-seen : (m after : Machine Value) (s : Submission Value) (r : Result Submitted SubmitFault) → Step IsValue m (event_of m s r) after → seen_of after
+    ≡ submit_seen r (seen_of m) (commit_made m s)
 submit-seen m after s (Ok (submitted.ReadOnly at)) step = ap seen_of step.3.2
 submit-seen m after s (Ok (submitted.Queued ticket)) step = ap seen_of step.3.2
 submit-seen m after s (Err (refused.Conflict key)) step = ap seen_of step.3.2
@@ -70,15 +84,99 @@ submit-seen m after s (Err refused.Stranger) step = ap seen_of step.1.2
 pub published-none : (s : Seen) → s ≡ published_seen s 0
 published-none s = ap (λ (h : History Value). record s { published = h }) (sym (append-nil s.published))
 
-abbrev pub pump_seen : Result Did PumpFault → Seen → Seen
-pump_seen r s = published_seen s (count_in r)
+-- whether a store has failed after this answer
+abbrev failed_after : {T : Type 0} → Result T PumpFault → Bool → Bool
+failed_after r before = cond (has_failed r) true before
 
-pub pump-seen : (m n : Machine Value) (r : Result Did PumpFault) → Run IsValue m (begins_in m ++ ends_in m.gate r) n → seen_of n ≡ pump_seen r (seen_of m)
+ended-failed : (m n : Machine Value) (gate : Gate) (r : Result Did PumpFault) → Run IsValue m (ends_in gate r) n → n.failed ≡ failed_after r m.failed
+ended-failed m n gate (Ok (did.Published count)) run = ap (λ (x : Machine Value). x.failed) run.2 ∙ ap (λ (x : Machine Value). x.failed) run.1.4
+ended-failed m n gate (Ok did.Idle) run = ap (λ (x : Machine Value). x.failed) run
+ended-failed m n gate (Ok did.WroteExtent) run = ap (λ (x : Machine Value). x.failed) run
+ended-failed m n gate (Ok did.HeapSynced) run = ap (λ (x : Machine Value). x.failed) run
+ended-failed m n gate (Ok did.BodyWritten) run = ap (λ (x : Machine Value). x.failed) run
+ended-failed m n gate (Ok did.BodySynced) run = ap (λ (x : Machine Value). x.failed) run.2 ∙ ap (λ (x : Machine Value). x.failed) run.1.3
+ended-failed m n gate (Ok did.GateWritten) run = ap (λ (x : Machine Value). x.failed) run.2 ∙ ap (λ (x : Machine Value). x.failed) run.1.2
+ended-failed m n gate (Err pump.Busy) run = ap (λ (x : Machine Value). x.failed) run
+ended-failed m n gate (Err pump.NoMemory) run = ap (λ (x : Machine Value). x.failed) run
+ended-failed m n Shut (Err pump.Failed) run = ap (λ (x : Machine Value). x.failed) run.2 ∙ ap (λ (x : Machine Value). x.failed) run.1.1
+ended-failed m n (Due OfGroup) (Err pump.Failed) run = ap (λ (x : Machine Value). x.failed) run.2.2 ∙ ap (λ (x : Machine Value). x.failed) run.2.1.1
+ended-failed m n (Due OfFloor) (Err pump.Failed) run = ap (λ (x : Machine Value). x.failed) run.2 ∙ ap (λ (x : Machine Value). x.failed) run.1.1
+ended-failed m n (MayBeOpen change) (Err pump.Failed) run = ap (λ (x : Machine Value). x.failed) run.2 ∙ ap (λ (x : Machine Value). x.failed) run.1.1
+
+pump-failed : (m n : Machine Value) (r : Result Did PumpFault) → Run IsValue m (begins_in m ++ ends_in m.gate r) n → n.failed ≡ failed_after r m.failed
+pump-failed m n r run = by-group ((m.group == 0) && nat_lt 0 (length m.queue)) run
+  where
+    by-group : (b : Bool) → Run IsValue m (cond b (GroupBegan ∷ []) [] ++ ends_in m.gate r) n → n.failed ≡ failed_after r m.failed
+    by-group true run = ended-failed run.0 n m.gate r run.2 ∙ ap (λ (x : Machine Value). failed_after r x.failed) run.1.3
+    by-group false run = ended-failed m n m.gate r run
+
+failed-as : (b : Bool) (s : Seen) → record s { failed = cond b true s.failed } ≡ failed_seen b s
+failed-as true s = refl
+failed-as false s = refl
+
+pub pump-seen : (m n : Machine Value) (r : Result Did PumpFault) → Run IsValue m (begins_in m ++ ends_in m.gate r) n → seen_of n ≡ pumped_seen r (seen_of m)
 pump-seen m n r run =
     let p = pump-publishes m n r run in
-    ap (λ (h : History Value). record { published = h; queue = n.queue; floors = floors_listed n.floors }) p.published
-    ∙ ap (λ (q : History Value). record { published = m.published ++ take (count_in r) m.queue; queue = q; floors = floors_listed n.floors }) p.queue
-    ∙ ap (λ (f : ℕ → ℕ). record { published = m.published ++ take (count_in r) m.queue; queue = drop (count_in r) m.queue; floors = floors_listed f }) p.floors
+    ap (λ (h : History Value). record { published = h; queue = n.queue; floors = floors_listed n.floors; failed = n.failed }) p.published
+    ∙ ap (λ (q : History Value). record {
+      published = m.published ++ take (count_in r) m.queue;
+      queue = q;
+      floors = floors_listed n.floors;
+      failed = n.failed;
+    }) p.queue
+    ∙ ap (λ (f : ℕ → ℕ). record {
+      published = m.published ++ take (count_in r) m.queue;
+      queue = drop (count_in r) m.queue;
+      floors = floors_listed f;
+      failed = n.failed;
+    }) p.floors
+    ∙ ap (λ (b : Bool). record {
+      published = m.published ++ take (count_in r) m.queue;
+      queue = drop (count_in r) m.queue;
+      floors = floors_listed m.floors;
+      failed = b;
+    }) (pump-failed m n r run)
+    ∙ failed-as (has_failed r) (published_seen (seen_of m) (count_in r))
+
+-- the commits that are seen are the same in another order of words
+pub published-order : (s : Seen) (count : ℕ) → order_of (published_seen s count) ≡ order_of s
+published-order s count =
+    append_assoc s.published (take count s.queue) (drop count s.queue) ∙ ap (λ (l : History Value). s.published ++ l) (take-append-drop count s.queue)
+
+pub failed-order : (b : Bool) (s : Seen) → order_of (failed_seen b s) ≡ order_of s
+failed-order true s = refl
+failed-order false s = refl
+
+raised-order : (o : Option Raising) (s : Seen) → order_of (raised_seen o s) ≡ order_of s
+raised-order None s = refl
+raised-order (Some r) s = refl
+
+pub done-order : (r : Result JobDid PumpFault) (o : Option Raising) (s : Seen) → order_of (done_seen r o s) ≡ order_of s
+done-order r o s = by-test (is_done r)
+  where
+    by-test : (b : Bool) → order_of (cond b (raised_seen o s) s) ≡ order_of s
+    by-test true = raised-order o s
+    by-test false = refl
+
+failed-published : (b : Bool) (s : Seen) → (failed_seen b s).published ≡ s.published
+failed-published true s = refl
+failed-published false s = refl
+
+pub pumped-published : (r : Result Did PumpFault) (s : Seen) → (pumped_seen r s).published ≡ (published_seen s (count_in r)).published
+pumped-published r s = failed-published (has_failed r) (published_seen s (count_in r))
+
+-- what has failed was seen so, too
+pub broken-seen : (m : Machine Value) → m.failed ≡ true → seen_of m ≡ record (seen_of m) { failed = true }
+broken-seen m on = ap (λ (b : Bool). record (seen_of m) { failed = b }) on
+
+pub later-pumped : (r : Result Did PumpFault) (s : Seen) → IsLater s (pumped_seen r s)
+later-pumped r s = by-failure (has_failed r)
+  where
+    by-failure : (b : Bool) → IsLater s (failed_seen b (published_seen s (count_in r)))
+    by-failure true =
+        later-then s (published_seen s (count_in r)) (record (published_seen s (count_in r)) { failed = true }) (later-published s (count_in r))
+        (later-failed (published_seen s (count_in r)))
+    by-failure false = later-published s (count_in r)
 
 -- ---- a step of a job
 
@@ -87,7 +185,7 @@ same-seen true s = refl
 same-seen false s = refl
 
 -- of a floor's job
-floor-seen : (m n : Machine Value) (what : JobDid) (r : Raising) → Run IsValue m (floor_ends_in what r) n → seen_of n ≡ job_seen (Ok what) (Some r) (seen_of m)
+floor-seen : (m n : Machine Value) (what : JobDid) (r : Raising) → Run IsValue m (floor_ends_in what r) n → seen_of n ≡ done_seen (Ok what) (Some r) (seen_of m)
 floor-seen m n job_did.Idle r run = ap seen_of run
 floor-seen m n job_did.WroteRun r run = ap seen_of run
 floor-seen m n job_did.RunSynced r run = ap seen_of run
@@ -98,42 +196,64 @@ floor-seen m n job_did.ZerosSynced r run = ap seen_of run
 floor-seen m n job_did.BodyWritten r run = ap seen_of run
 floor-seen m n job_did.BodySynced r run = ap seen_of run.2 ∙ ap seen_of run.1.3
 floor-seen m n job_did.GateWritten r run = ap seen_of run.2 ∙ ap seen_of run.1.2
-floor-seen m n job_did.JobDone r run = ap seen_of run.2 ∙ ap seen_of run.1.3 ∙ ap (λ (l : List ℕ). record (seen_of m) { floors = l }) (listed-raised r.scope r.floor m.floors)
+floor-seen m n job_did.JobDone r run =
+    ap seen_of run.2 ∙ ap seen_of run.1.3 ∙ ap (λ (l : List ℕ). record (seen_of m) { floors = l }) (listed-raised r.scope r.floor m.floors)
 
-unchanged-seen : (m n : Machine Value) (what : JobDid) → n ≡ m → seen_of n ≡ job_seen (Ok what) None (seen_of m)
+unchanged-seen : (m n : Machine Value) (what : JobDid) → n ≡ m → seen_of n ≡ done_seen (Ok what) None (seen_of m)
 unchanged-seen m n what run = ap seen_of run ∙ sym (same-seen (is_done (Ok what)) (seen_of m))
 
-work-seen : (m n : Machine Value) (what : JobDid) (work : JobWork) → Run IsValue m (floor_ends what (raising_by work)) n → seen_of n ≡ job_seen (Ok what) (raising_by work) (seen_of m)
+work-seen : (m n : Machine Value) (what : JobDid) (work : JobWork) → Run IsValue m (floor_ends what (raising_by work)) n → seen_of n
+    ≡ done_seen (Ok what) (raising_by work) (seen_of m)
 work-seen m n what (Archive run writer) ran = unchanged-seen m n what ran
 work-seen m n what (Reclaim anchors source written) ran = unchanged-seen m n what ran
 work-seen m n what (Floor scope floor floors) ran = floor-seen m n what (raising_to scope floor) ran
 work-seen m n what (Grow growth) ran = unchanged-seen m n what ran
 
-done-seen : (m n : Machine Value) (what : JobDid) (job : Option Job) → Run IsValue m (floor_ends what (raising_of job)) n → seen_of n ≡ job_seen (Ok what) (raising_of job) (seen_of m)
+done-seen : (m n : Machine Value) (what : JobDid) (job : Option Job) → Run IsValue m (floor_ends what (raising_of job)) n → seen_of n
+    ≡ done_seen (Ok what) (raising_of job) (seen_of m)
 done-seen m n what None ran = unchanged-seen m n what ran
 done-seen m n what (Some job) ran = work-seen m n what job.work ran
 
-job_broken-seen : (m n : Machine Value) (gate : Gate) → Run IsValue m (job_breaks_in gate) n → seen_of n ≡ seen_of m
+job_broken-seen : (m n : Machine Value) (gate : Gate) → Run IsValue m (job_breaks_in gate) n → seen_of n ≡ record (seen_of m) { failed = true }
 job_broken-seen m n Shut run = ap seen_of run.2 ∙ ap seen_of run.1.1
 job_broken-seen m n (Due OfGroup) run = ap seen_of run.2 ∙ ap seen_of run.1.1
-job_broken-seen m n (Due OfFloor) run = ap seen_of run.2.2 ∙ ap seen_of run.2.1.1 ∙ ap seen_of run.1.2
+job_broken-seen m n (Due OfFloor) run = ap seen_of run.2.2 ∙ ap seen_of run.2.1.1 ∙ ap (λ (x : Machine Value). record (seen_of x) { failed = true }) run.1.2
 job_broken-seen m n (MayBeOpen change) run = ap seen_of run.2 ∙ ap seen_of run.1.1
 
-pub job-seen : (m n : Machine Value) (job : Option Job) (r : Result JobDid PumpFault) → m.raising ≡ raising_of job → Run IsValue m (job_ends_in m r) n → seen_of n ≡ job_seen r (raising_of job) (seen_of m)
+pub job-seen : (m n : Machine Value) (job : Option Job) (r : Result JobDid PumpFault) → m.raising ≡ raising_of job → Run IsValue m (job_ends_in m r) n
+    → seen_of n ≡ job_seen r (raising_of job) (seen_of m)
 job-seen m n job (Ok what) is run = done-seen m n what job (subst (λ (o : Option Raising). Run IsValue m (floor_ends what o) n) is run)
 job-seen m n job (Err pump.Busy) is run = ap seen_of run
 job-seen m n job (Err pump.NoMemory) is run = ap seen_of run
 job-seen m n job (Err pump.Failed) is run = job_broken-seen m n m.gate run
 
 -- floors alone are raised
-raised-later : (s n : Seen) (b : Bool) (o : Option Raising) → n ≡ cond b (raised_seen o s) s → ((relation : ℕ) → floor_in s.floors relation ≤ floor_in n.floors relation) → IsLater s n
+raised-later : (s n : Seen) (b : Bool) (o : Option Raising) → n ≡ cond b (raised_seen o s) s
+    → ((relation : ℕ) → floor_in s.floors relation ≤ floor_in n.floors relation) → IsLater s n
 raised-later s n true None is rise = subst (λ (x : Seen). IsLater s x) (sym is) (later-same s)
 raised-later s n true (Some r) is rise = record {
   published = subst (λ (h : History Value). IsFrontOf s.published h) (sym (ap (λ (x : Seen). x.published) is)) (front-same s.published);
   order = subst (λ (h : History Value). IsFrontOf (order_of s) h) (sym (ap order_of is)) (front-same (order_of s));
   floors = rise;
+  failed = λ on. ap (λ (x : Seen). x.failed) is ∙ on;
 }
 raised-later s n false o is rise = subst (λ (x : Seen). IsLater s x) (sym is) (later-same s)
 
-pub later-job : (m n : Machine Value) (job : Option Job) (r : Result JobDid PumpFault) → IsMachine IsValue m → m.raising ≡ raising_of job → Run IsValue m (job_ends_in m r) n → IsLater (seen_of m) (seen_of n)
-later-job m n job r legal is run = raised-later (seen_of m) (seen_of n) (is_done r) (raising_of job) (job-seen m n job r is run) (listed-later m.floors n.floors (λ relation. run-floors IsValue m n (job_ends_in m r) relation legal run))
+-- so a job's step shows no less
+pub later-done : (m n : Machine Value) (job : Option Job) (r : Result JobDid PumpFault) → IsMachine IsValue m → m.raising ≡ raising_of job
+    → Run IsValue m (job_ends_in m r) n → IsLater (seen_of m) (done_seen r (raising_of job) (seen_of m))
+later-done m n job (Ok what) legal is run =
+    let seen = job-seen m n job (Ok what) is run in
+    let later =
+    raised-later (seen_of m) (seen_of n) (is_done (Ok what)) (raising_of job) seen
+    (listed-later m.floors n.floors (λ relation. run-floors IsValue m n (job_ends_in m (Ok what)) relation legal run)) in
+    subst (λ (s : Seen). IsLater (seen_of m) s) seen later
+later-done m n job (Err why) legal is run = later-same (seen_of m)
+
+-- and where the store fails
+pub later-job : (r : Result JobDid PumpFault) (raising : Option Raising) (s : Seen) → IsLater s (done_seen r raising s) → IsLater s (job_seen r raising s)
+later-job r raising s later = by-failure (has_failed r)
+  where
+    by-failure : (b : Bool) → IsLater s (failed_seen b (done_seen r raising s))
+    by-failure true = later-then s (done_seen r raising s) (record (done_seen r raising s) { failed = true }) later (later-failed (done_seen r raising s))
+    by-failure false = later

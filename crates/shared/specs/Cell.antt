@@ -7,7 +7,8 @@ use Rattle.law_image.specs.Values.{IsValue}
 use Rattle.shared.specs.Archives.{ArchiveSeen, no_archive}
 use Rattle.shared.specs.Seen.{Seen, nothing, nothing_known, order_of, known_by, IsLater, IsMore, SightValue}
 
--- One view, the writer's, has seen all commits, which are a history, and the floors, and the word is the last published time. Each other view has seen a front of them and no later floors, and knows an earlier archive.
+-- One view, the writer's, has seen all commits, which are a history, and the floors, and the word is the last published time. Each other view has seen a front
+-- of them and no later floors, and knows an earlier archive.
 pub record IsPublished (words : List ℕ) (views : List SightValue) : Type 0 where
   pub writer : ℕ
   pub own : SightValue
@@ -15,7 +16,8 @@ pub record IsPublished (words : List ℕ) (views : List SightValue) : Type 0 whe
   pub writes : own.writes ≡ true
   pub word : last own.seen.published ≡ slice_index words 0
   pub legal : IsHistory IsValue (order_of own.seen)
-  pub each : (by : ℕ) (v : SightValue) → get_elem? views by ≡ some v → IsMore (known_by v) (known_by own) × IsMore v.heard (known_by own) × (v.writes ≡ true → by ≡ writer)
+  pub each : (by : ℕ) (v : SightValue) → get_elem? views by ≡ some v → IsMore (known_by v) (known_by own) × IsMore v.heard (known_by own)
+      × (v.writes ≡ true → by ≡ writer)
 
 -- a load: all commits and the floors are seen from then on, and the word is the last published time
 abbrev pub Sees : SightValue → List ℕ → List ℕ → SightValue → Type 0

@@ -25,17 +25,21 @@ Recalls view from held Is (Err query.Stranger) = ⊥
 
 -- so the values of a relation at a time, the rows of a key and those of a relation
 abbrev pub RecallsScan : ViewValue → History Value → (ℕ → ℕ) → ℕ → ℕ → Result (Vec (ℕ × Value) Global) QueryFault → Type 0
-RecallsScan view h floors relation time answer = Recalls view time (λ (found : Vec (ℕ × Value) Global). found.items) (answers.IsScanAtAnswer h floors relation time) answer
+RecallsScan view h floors relation time answer =
+    Recalls view time (λ (found : Vec (ℕ × Value) Global). found.items) (answers.IsScanAtAnswer h floors relation time) answer
 
 -- so the rows of a key between two times
 abbrev pub RecallsBetween : ViewValue → History Value → (ℕ → ℕ) → Key → ℕ → ℕ → Result (Vec (Version Value) Global) QueryFault → Type 0
-RecallsBetween view h floors key a b answer = Recalls view a (λ (rows : Vec (Version Value) Global). rows.items) (λ said. answers.between_answer h floors key a b ≡ said) answer
+RecallsBetween view h floors key a b answer =
+    Recalls view a (λ (rows : Vec (Version Value) Global). rows.items) (λ said. answers.between_answer h floors key a b ≡ said) answer
 
 -- so the same rows as a walk, for which memory is never refused
 abbrev pub RecallsWalk : ViewValue → History Value → (ℕ → ℕ) → Key → ℕ → ℕ → Result (List (Version Value)) QueryFault → Type 0
 RecallsWalk view h floors key a b (Err query.NoMemory) = ⊥
-RecallsWalk view h floors key a b answer = Recalls view a (λ (rows : List (Version Value)). rows) (λ said. answers.between_answer h floors key a b ≡ said) answer
+RecallsWalk view h floors key a b answer =
+    Recalls view a (λ (rows : List (Version Value)). rows) (λ said. answers.between_answer h floors key a b ≡ said) answer
 
 -- so the rows of all records of a relation between two times
 abbrev pub RecallsScanBetween : ViewValue → History Value → (ℕ → ℕ) → ℕ → ℕ → ℕ → Result (Vec (ℕ × Version Value) Global) QueryFault → Type 0
-RecallsScanBetween view h floors relation a b answer = Recalls view a (λ (rows : Vec (ℕ × Version Value) Global). rows.items) (answers.IsScanBetweenAnswer h floors relation a b) answer
+RecallsScanBetween view h floors relation a b answer =
+    Recalls view a (λ (rows : Vec (ℕ × Version Value) Global). rows.items) (answers.IsScanBetweenAnswer h floors relation a b) answer

@@ -1,4 +1,4 @@
--- What was seen of a machine's commits and of its floors.
+-- What was seen of a machine's commits and of its floors, and whether it has failed.
 use Rattle.std.specs.Prelude.{ℕ, ◌≡◌, ◌≤◌, ◌^◌, ◌++◌, Bool, true, false, List, [], map, get_or}
 use Rattle.std.specs.List.{range_with_len}
 use Rattle.history.specs.Histories.{History}
@@ -14,15 +14,16 @@ floors_listed floors = map floors (range_with_len 0 (2 ^ 16))
 abbrev pub floor_in : List ℕ → ℕ → ℕ
 floor_in floors relation = get_or floors relation 0
 
--- the published commits, those that wait behind them, and the floors of what is kept
+-- the published commits, those that wait after them, the floors of what is kept, and whether a write or a sync was refused
 pub record Seen : Type 0 where
   pub published : History Value
   pub queue : History Value
   pub floors : List ℕ
+  pub failed : Bool
 
 -- no commit was seen, and no floor
 abbrev pub nothing : Seen
-nothing = record { published = []; queue = []; floors = [] }
+nothing = record { published = []; queue = []; floors = []; failed = false }
 
 -- the commit order
 abbrev pub order_of : Seen → History Value
@@ -30,17 +31,19 @@ order_of s = s.published ++ s.queue
 
 -- what is to be seen of a state of the machine
 abbrev pub seen_of : Machine Value → Seen
-seen_of m = record { published = m.published; queue = m.queue; floors = floors_listed m.floors }
+seen_of m = record { published = m.published; queue = m.queue; floors = floors_listed m.floors; failed = m.failed }
 
 -- the second history begins with the commits of the first
 abbrev pub IsFrontOf : History Value → History Value → Type 0
 IsFrontOf front whole = (rest : History Value) × (whole ≡ front ++ rest)
 
--- commits were published from the front of the queue and added behind it, floors were raised, and nothing else
+-- Commits were published from the front of the queue and added at its end, floors were raised, the store may have failed, and nothing else. A store that has
+-- failed stays so.
 pub record IsLater (old new : Seen) : Type 0 where
   pub published : IsFrontOf old.published new.published
   pub order : IsFrontOf (order_of old) (order_of new)
   pub floors : (relation : ℕ) → floor_in old.floors relation ≤ floor_in new.floors relation
+  pub failed : old.failed ≡ true → new.failed ≡ true
 
 -- the commits and the floors that were seen, and what is known of the archive
 pub record Known : Type 0 where

@@ -1,21 +1,22 @@
 -- What the value under the lock keeps, and what the calls of a shared store answer.
-use Rattle.std.specs.Prelude.{◌≡◌, ℕ, ◌+◌, ◌<◌, ◌≤◌, ◌++◌, Bool, true, false, List, [], ◌∷◌, length, map, take, drop, is_some, IsSome, Contains, Option, None, Some, Result, Ok, Err, MatchBool, if◌then◌else◌}
+use Rattle.std.specs.Prelude.{◌≡◌, ℕ, ◌+◌, ◌<◌, ◌≤◌, ◌++◌, ◌↔◌, ◌⊎◌, Bool, true, false, List, [], ◌∷◌, length, take, drop, IsSome, Contains, Option, None, Some}
+use Rattle.std.specs.Prelude.{Result, Ok, Err, MatchBool, if◌then◌else◌}
 use Rattle.atomic_table.specs.Seated.{TableId}
 use Rattle.history.specs.declared.key.Key.{Key}
 use Rattle.history.specs.declared.key.KeyWrite.{KeyWrite}
 use Rattle.history.specs.FloorStarts as floor_starts
 use Rattle.history.specs.Floors.{Raising, raised}
-use Rattle.history.specs.Histories.{Commit, History, IsHistory, last, state}
+use Rattle.history.specs.Histories.{Commit, History, last, state}
 use Rattle.history.specs.Machine.{Machine}
-use Rattle.history.specs.Steps.{Step, Run, FloorStarted, FloorRefused, floor_started}
+use Rattle.history.specs.Steps.{Step, Run, Aborted, FloorStarted, FloorRefused, floor_started}
 use Rattle.history.specs.Submissions.{commit_made}
 use Rattle.law_image.specs.Values.{Value, IsValue}
 use Rattle.snapshot.specs.Txn.{TxnValue, at_snapshot}
-use Rattle.snapshot.specs.WriteSets.{with_write, without}
 use Rattle.group.specs.Tickets.{TicketValue}
 use Rattle.group.specs.declared.answers.BeginFault.{BeginFault}
 use Rattle.group.specs.declared.answers.BeginFault.TheVariants as begin
 use Rattle.group.specs.declared.answers.Did.{Did}
+use Rattle.group.specs.declared.answers.Did.TheVariants as did
 use Rattle.group.specs.declared.answers.PumpFault.{PumpFault}
 use Rattle.group.specs.declared.answers.PumpFault.TheVariants as pump
 use Rattle.group.specs.declared.answers.Redeemed.{Redeemed}
@@ -33,21 +34,20 @@ use Rattle.store.specs.declared.job.StartFault.TheVariants as start_fault
 use Rattle.law_refinement.specs.Calls.{raising_to}
 use Rattle.law_refinement.specs.Homes.{ViewStands}
 use Rattle.law_refinement.specs.Laws.{submission_of, event_of, begins_in, ends_in, job_ends_in}
+use Rattle.law_refinement.specs.Leaving.{count_in}
 use Rattle.law_refinement.specs.Stands.{Stands}
-use Rattle.shared.specs.declared.change.Change.{Change}
-use Rattle.shared.specs.declared.change.Change.TheVariants as change
-use Rattle.shared.specs.declared.committed.Committed.{Committed}
-use Rattle.shared.specs.declared.committed.Committed.TheVariants as committed
-use Rattle.shared.specs.declared.committed.CommitFault.{CommitFault}
 use Rattle.shared.specs.Archives.{ArchiveSeen, IsArchiveLater, ReadsArchive, archive_seen}
 use Rattle.shared.specs.Counts.{told_count, told_after}
+use Rattle.shared.specs.Moments.{OfSeen}
 use Rattle.shared.specs.Reached.{Reached}
-use Rattle.shared.specs.Seen.{Seen, SightValue, floors_listed, floor_in, seen_of, order_of, IsFrontOf}
+use Rattle.shared.specs.Seen.{Seen, SightValue, floors_listed, floor_in, seen_of}
 
 -- ---- the value under the lock
 
--- The store stands for a state that steps of the machine lead to. The commits for which Done was answered since opening are those in the shares, and none of them waits. The pass is the cell's writer, and has seen all commits and the floors; what it knows of the archive is there still.
-pub record IsShared (tells : Bool) (start : Machine Value) (brand : ℕ) (table : TableId) (store : StoreValue) (shares : ℕ) (at : TableId) (pass : SightValue) : Type 0 where
+-- The store stands for a state that steps of the machine lead to. The commits for which Done was answered since opening are those in the shares, and none of
+-- them waits. The pass is the cell's writer, and has seen all commits and the floors; what it knows of the archive is there still.
+pub record IsShared (tells : Bool) (start : Machine Value) (brand : ℕ) (table : TableId) (store : StoreValue) (shares : ℕ) (at : TableId) (pass : SightValue) :
+    Type 0 where
   pub state : Machine Value
   pub stands : Stands tells store state
   pub reached : Reached start state
@@ -75,6 +75,21 @@ noted (Ok (submitted.ReadOnly at)) s label writes = s
 noted (Ok (submitted.Queued ticket)) s label writes = queued_seen s (record { time = ticket.time; label = label; writes = writes })
 noted (Err why) s label writes = s
 
+-- the device refused a write or a sync, in this step or before
+abbrev pub has_failed : {T : Type 0} → Result T PumpFault → Bool
+has_failed (Ok did) = false
+has_failed (Err pump.Busy) = false
+has_failed (Err pump.NoMemory) = false
+has_failed (Err pump.Failed) = true
+
+-- what is to be seen where that is so
+abbrev pub failed_seen : Bool → Seen → Seen
+failed_seen failed s = if failed then record s { failed = true } else s
+
+-- what is to be seen after a step of a group
+abbrev pub pumped_seen : Result Did PumpFault → Seen → Seen
+pumped_seen result s = failed_seen (has_failed result) (published_seen s (count_in result))
+
 -- whether a job was done
 abbrev pub is_done : Result JobDid PumpFault → Bool
 is_done (Ok job_did.JobDone) = true
@@ -95,9 +110,13 @@ abbrev pub raised_seen : Option Raising → Seen → Seen
 raised_seen None s = s
 raised_seen (Some r) s = record s { floors = floors_listed (raised r.scope r.floor (floor_in s.floors)) }
 
--- what is to be seen after a step of a job, by the floor that was in the making
+-- what is to be seen once a job is done, by the floor that was in the making
+abbrev pub done_seen : Result JobDid PumpFault → Option Raising → Seen → Seen
+done_seen result raising s = if is_done result then raised_seen raising s else s
+
+-- what is to be seen after a step of a job
 abbrev pub job_seen : Result JobDid PumpFault → Option Raising → Seen → Seen
-job_seen result raising s = if is_done result then raised_seen raising s else s
+job_seen result raising s = failed_seen (has_failed result) (done_seen result raising s)
 
 -- this was seen of a state that steps lead to
 abbrev pub SeenReached : Machine Value → Seen → Type 0
@@ -133,7 +152,18 @@ pub record Reads (start : Machine Value) (brand : ℕ) (txn : TxnValue) (seen : 
 abbrev pub BeginHappens : Machine Value → ℕ → Result TxnValue BeginFault → Seen → Type 0
 BeginHappens start brand (Ok txn) seen = Reads start brand txn seen
 BeginHappens start brand (Err begin.NoMemory) seen = SeenReached start seen
-BeginHappens start brand (Err begin.Failed) seen = (m : Machine Value) × Reached start m × (seen ≡ seen_of m) × (m.failed ≡ true)
+BeginHappens start brand (Err begin.Failed) seen = SeenReached start seen × (seen.failed ≡ true)
+
+-- At a state that steps lead to one transaction of this snapshot is over, and what follows was seen. A stranger is only spent.
+pub record IsOver (start : Machine Value) (snapshot : ℕ) (seen : Seen) : Type 0 where
+  pub before : Machine Value
+  pub after : Machine Value
+  pub reached : Reached start before
+  pub step : Step IsValue before (Aborted snapshot) after
+  pub seen_is : seen ≡ seen_of after
+
+abbrev pub AbortHappens : Machine Value → ℕ → Seen → Type 0
+AbortHappens start snapshot seen = IsOver start snapshot seen ⊎ SeenReached start seen
 
 -- ---- submits
 
@@ -159,44 +189,50 @@ SubmitHappens start brand txn label now result seen = Submits start brand txn la
 
 -- ---- steps of groups and jobs
 
--- from a state that steps lead to the machine does what a step of the group answers
-pub record PumpHappens (start : Machine Value) (result : Result Did PumpFault) : Type 0 where
+-- From a state that steps lead to the machine does what a step of the group answers, and what follows was seen. While it works, nothing is to be done just
+-- where no commit waits.
+pub record PumpHappens (start : Machine Value) (result : Result Did PumpFault) (seen : Seen) : Type 0 where
   pub before : Machine Value
   pub after : Machine Value
   pub reached : Reached start before
   pub run : MatchBool before.failed ((result ≡ Err pump.Failed) × (after ≡ before)) (Run IsValue before (begins_in before ++ ends_in before.gate result) after)
+  pub idle : before.failed ≡ false → (result ≡ Ok did.Idle) ↔ (before.queue ≡ [])
+  pub seen_is : seen ≡ seen_of after
 
--- from a state that steps lead to the machine does what a step of a job answers
-pub record JobHappens (start : Machine Value) (result : Result JobDid PumpFault) : Type 0 where
+-- From a state that steps lead to the machine does what a step of a job answers, and what follows was seen.
+pub record JobHappens (start : Machine Value) (result : Result JobDid PumpFault) (seen : Seen) : Type 0 where
   pub before : Machine Value
   pub after : Machine Value
   pub reached : Reached start before
   pub run : MatchBool before.failed ((result ≡ Err pump.Failed) × (after ≡ before)) (Run IsValue before (job_ends_in before result) after)
+  pub seen_is : seen ≡ seen_of after
 
 -- ---- floors
 
--- a floor begins, or it is refused as the machine says; or the store has no floors by relation, another job runs, the log has no slot for it or memory was refused
+-- a floor begins, or it is refused as the machine says; or the store has no floors by relation, another job runs, the log has no slot for it or memory was
+-- refused
 abbrev pub FloorSays : Machine Value → Raising → Result (Unit {0}) StartFault → Type 0
 FloorSays m r (Ok done) = Step IsValue m (FloorStarted r) (floor_started m r)
 FloorSays m r (Err start_fault.NothingToDo) = Step IsValue m (FloorRefused r floor_starts.NothingToDo) m
 FloorSays m r (Err (start_fault.NotYet time)) = Step IsValue m (FloorRefused r (floor_starts.NotYet time)) m
 FloorSays m r (Err (start_fault.InUse snapshot)) = Step IsValue m (FloorRefused r (floor_starts.InUse snapshot)) m
 FloorSays m r (Err start_fault.Failed) = m.failed ≡ true
-FloorSays m r (Err start_fault.JobBusy) = Unit {0}
-FloorSays m r (Err start_fault.StatusFull) = Unit {0}
-FloorSays m r (Err start_fault.WrongProfile) = Unit {0}
+FloorSays m r (Err start_fault.JobBusy) = m.failed ≡ false
+FloorSays m r (Err start_fault.StatusFull) = m.failed ≡ false
+FloorSays m r (Err start_fault.WrongProfile) = m.failed ≡ false
 FloorSays m r (Err start_fault.ArchiveFull) = ⊥
 FloorSays m r (Err start_fault.HeapFull) = ⊥
 FloorSays m r (Err start_fault.NotGrowable) = ⊥
-FloorSays m r (Err start_fault.NoMemory) = IsSome r.scope
+FloorSays m r (Err start_fault.NoMemory) = (m.failed ≡ false) × IsSome r.scope
 
--- at a state that steps lead to the machine does this
-abbrev pub FloorHappens : Machine Value → Option ℕ → ℕ → Result (Unit {0}) StartFault → Type 0
-FloorHappens start scope floor result = (m : Machine Value) × Reached start m × FloorSays m (raising_to scope floor) result
+-- at a state that steps lead to the machine does this, and it was seen
+abbrev pub FloorHappens : Machine Value → Option ℕ → ℕ → Result (Unit {0}) StartFault → Seen → Type 0
+FloorHappens start scope floor result seen = OfSeen start seen (λ m. FloorSays m (raising_to scope floor) result)
 
 -- ---- archives and reclaims
 
--- an archive begins up to a time that is not later than the last commit; or the store has failed, another job runs, nothing more has ended by then, the time is later than the last commit, which is told, the log has no slot for it, or the run finds no room in the archive or no memory
+-- an archive begins up to a time that is not later than the last commit; or the store has failed, another job runs, nothing more has ended by then, the time is
+-- later than the last commit, which is told, the log has no slot for it, or the run finds no room in the archive or no memory
 abbrev pub ArchiveSays : Machine Value → ℕ → Result (Unit {0}) StartFault → Type 0
 ArchiveSays m upto (Ok done) = (m.failed ≡ false) × (upto ≤ last m.published)
 ArchiveSays m upto (Err start_fault.Failed) = m.failed ≡ true
@@ -211,17 +247,19 @@ ArchiveSays m upto (Err (start_fault.InUse snapshot)) = ⊥
 ArchiveSays m upto (Err start_fault.HeapFull) = ⊥
 ArchiveSays m upto (Err start_fault.NotGrowable) = ⊥
 
--- at a state that steps lead to it is so, and nothing of the machine's happens
-abbrev pub ArchiveHappens : Machine Value → ℕ → Result (Unit {0}) StartFault → Type 0
-ArchiveHappens start upto result = (m : Machine Value) × Reached start m × ArchiveSays m upto result
+-- at a state that steps lead to it is so, and nothing of the machine's happens; that state was seen
+abbrev pub ArchiveHappens : Machine Value → ℕ → Result (Unit {0}) StartFault → Seen → Type 0
+ArchiveHappens start upto result seen = OfSeen start seen (λ m. ArchiveSays m upto result)
 
--- a reclaim begins where the store works; or it has failed, another job runs, nothing was archived since the last one, a transaction reads what would go, the first of whose snapshots is told, the log has no slot for it, or its anchors find no extents or no memory
+-- a reclaim begins where the store works; or it has failed, another job runs, nothing was archived since the last one, a transaction reads what would go, the
+-- first of whose snapshots is told, the log has no slot for it, or its anchors find no extents or no memory
 abbrev pub ReclaimSays : Machine Value → Result (Unit {0}) StartFault → Type 0
 ReclaimSays m (Ok done) = m.failed ≡ false
 ReclaimSays m (Err start_fault.Failed) = m.failed ≡ true
 ReclaimSays m (Err start_fault.JobBusy) = m.failed ≡ false
 ReclaimSays m (Err start_fault.NothingToDo) = m.failed ≡ false
-ReclaimSays m (Err (start_fault.InUse snapshot)) = (m.failed ≡ false) × ((upto : ℕ) × (floor_starts.in_use_refusal (floor_starts.in_use_below m.snapshots upto) ≡ Some (floor_starts.InUse snapshot)))
+ReclaimSays m (Err (start_fault.InUse snapshot)) =
+    (m.failed ≡ false) × ((upto : ℕ) × (floor_starts.in_use_refusal (floor_starts.in_use_below m.snapshots upto) ≡ Some (floor_starts.InUse snapshot)))
 ReclaimSays m (Err start_fault.StatusFull) = m.failed ≡ false
 ReclaimSays m (Err start_fault.HeapFull) = m.failed ≡ false
 ReclaimSays m (Err start_fault.NoMemory) = m.failed ≡ false
@@ -230,9 +268,9 @@ ReclaimSays m (Err (start_fault.NotYet time)) = ⊥
 ReclaimSays m (Err start_fault.ArchiveFull) = ⊥
 ReclaimSays m (Err start_fault.NotGrowable) = ⊥
 
--- at a state that steps lead to it is so, and nothing of the machine's happens
-abbrev pub ReclaimHappens : Machine Value → Result (Unit {0}) StartFault → Type 0
-ReclaimHappens start result = (m : Machine Value) × Reached start m × ReclaimSays m result
+-- at a state that steps lead to it is so, and nothing of the machine's happens; that state was seen
+abbrev pub ReclaimHappens : Machine Value → Result (Unit {0}) StartFault → Seen → Type 0
+ReclaimHappens start result seen = OfSeen start seen (λ m. ReclaimSays m result)
 
 -- ---- growths
 
@@ -251,9 +289,9 @@ GrowthSays m (Err start_fault.ArchiveFull) = ⊥
 GrowthSays m (Err start_fault.HeapFull) = ⊥
 GrowthSays m (Err start_fault.NoMemory) = ⊥
 
--- at a state that steps lead to it is so, and nothing of the machine's happens
-abbrev pub GrowthHappens : Machine Value → Result (Unit {0}) StartFault → Type 0
-GrowthHappens start result = (m : Machine Value) × Reached start m × GrowthSays m result
+-- at a state that steps lead to it is so, and nothing of the machine's happens; that state was seen
+abbrev pub GrowthHappens : Machine Value → Result (Unit {0}) StartFault → Seen → Type 0
+GrowthHappens start result seen = OfSeen start seen (λ m. GrowthSays m result)
 
 -- ---- tickets
 
@@ -264,37 +302,10 @@ done_in (redeemed.Waiting ticket) = 0
 done_in redeemed.InDoubt = 0
 done_in redeemed.Stranger = 0
 
--- the answer is about this ticket: after Done its commit was seen published
-abbrev pub RedeemSays : TicketValue → Redeemed → Seen → Type 0
-RedeemSays ticket (redeemed.Done time) seen = (time ≡ ticket.time) × HasCommitAt seen.published time
-RedeemSays ticket (redeemed.Waiting back) seen = back ≡ ticket
-RedeemSays ticket redeemed.InDoubt seen = Unit {0}
-RedeemSays ticket redeemed.Stranger seen = Unit {0}
-
--- ---- commits
-
--- the writes after these changes, over what stood before
-abbrev pub changed : (Key → Option Value) → List (KeyWrite Value) → List Change → List (KeyWrite Value)
-changed before writes [] = writes
-changed before writes (change.Put key fields ∷ changes) = changed before (with_write writes (record { key = key; write = Some (map (λ field. field.now) fields.now) })) changes
-changed before writes (change.Delete key ∷ changes) = changed before (if is_some (before key) then with_write writes (record { key = key; write = None }) else without writes key) changes
-
--- how many commits an answer to `commit` says are published
-abbrev pub commits_in : Result Committed CommitFault → ℕ
-commits_in (Ok (committed.Done time)) = 1
-commits_in (Ok (committed.ReadOnly time)) = 0
-commits_in (Err fault) = 0
-
--- what waiting for a ticket came to
-abbrev pub WaitSays : TicketValue → Result Committed CommitFault → Seen → Type 0
-WaitSays ticket (Ok (committed.Done time)) seen = (time ≡ ticket.time) × HasCommitAt seen.published time × IsHistory IsValue (order_of seen)
-WaitSays ticket (Ok (committed.ReadOnly time)) seen = ⊥
-WaitSays ticket (Err fault) seen = Unit {0}
-
--- of a snapshot of what was seen, these changes are published as one commit, with the time that was answered; or they come to none
-abbrev pub CommitHappens : List Change → ℕ → Result Committed CommitFault → Seen → Type 0
-CommitHappens changes label (Ok (committed.Done time)) seen =
-    (snapshot : History Value) × IsFrontOf snapshot seen.published × Contains seen.published (record { time = time; label = label; writes = changed (state snapshot (last snapshot)) [] changes })
-CommitHappens changes label (Ok (committed.ReadOnly time)) seen =
-    (snapshot : History Value) × IsFrontOf snapshot seen.published × (time ≡ last snapshot) × (changed (state snapshot (last snapshot)) [] changes ≡ [])
-CommitHappens changes label (Err fault) seen = Unit {0}
+-- The answer is about this ticket. After Done its commit was seen published; while it waits, and where the store has failed before, the last published commit
+-- is earlier. A stranger's is another store's, or of a commit that waits no longer.
+abbrev pub RedeemSays : ℕ → TicketValue → Redeemed → Seen → Type 0
+RedeemSays brand ticket (redeemed.Done time) seen = (time ≡ ticket.time) × HasCommitAt seen.published time
+RedeemSays brand ticket (redeemed.Waiting back) seen = (back ≡ ticket) × (last seen.published < ticket.time) × (seen.failed ≡ false)
+RedeemSays brand ticket redeemed.InDoubt seen = (last seen.published < ticket.time) × (seen.failed ≡ true)
+RedeemSays brand ticket redeemed.Stranger seen = ticket.mark ≡ brand → HasCommitAt seen.queue ticket.time → ⊥

@@ -1,8 +1,9 @@
 //! Changes with memory of their own, and what a transaction makes of them.
-ghost use Rattle.std.specs.Prelude.{◌≡◌, ◌≤◌, ◌↔◌, map, take, length, IfOk, OnOk, IsTrue};
+ghost use Rattle.std.specs.Prelude.{◌≡◌, ◌≢◌, ◌≤◌, ◌↔◌, map, take, length, Err, IfOk, IfErr, OnOk, OnErr, IsTrue};
 ghost use Rattle.law_image.specs.Values.{IsValue};
-ghost use Rattle.snapshot.specs.Txn.{at_snapshot, with_put};
-ghost use Rattle.shared.specs.Posted.{write_of, written};
+ghost use Rattle.wire.specs.Values.{HasSizes};
+ghost use Rattle.snapshot.specs.Txn.{at_snapshot, with_put, IsFullFor};
+ghost use Rattle.shared.specs.Posted.{write_of, wrote, written, IsBarred, AreBarred, IsUncopied, AreUncopied};
 
 use crate::change::Change;
 use history::{Key, KeyWrite};
@@ -15,7 +16,8 @@ pub(crate) fn copy_changes(
     alloc: Global,
     changes: &[Change<'_>],
 ) -> Result<Vec<KeyWrite<Value>>, TxnFault>
-    ensures { IfOk result (λ writes. writes.items ≡ map write_of changes.now) }
+    ensures ok { IfOk result (λ writes. writes.items ≡ map write_of changes.now) }
+    ensures err { IfErr result (AreUncopied (map write_of changes.now)) }
 {
     let mut writes = Vec::new(alloc);
     for change in changes {
@@ -28,7 +30,8 @@ pub(crate) fn copy_changes(
 }
 
 fn copy_change(alloc: Global, change: &Change<'_>) -> Result<KeyWrite<Value>, TxnFault>
-    ensures { IfOk result (λ write. write ≡ write_of change.now) }
+    ensures ok { IfOk result (λ write. write ≡ write_of change.now) }
+    ensures err { IfErr result (IsUncopied (write_of change.now)) }
 {
     match *change {
         Change::Put { key, fields } => match Value::new(alloc, fields) {
@@ -103,19 +106,33 @@ pub(crate) fn apply(
     writes: &[KeyWrite<Value>],
 ) -> Result<(), TxnFault>
     ensures ok { OnOk result (txn.new.writes ≡ written (at_snapshot txn.old.state txn.old.snapshot) txn.old.writes writes.now) }
-    ensures snapshot { OnOk result (txn.new.snapshot ≡ txn.old.snapshot) }
+    ensures err { IfErr result (AreBarred (at_snapshot txn.old.state txn.old.snapshot) txn.old.writes writes.now) }
+    ensures snapshot { txn.new.snapshot ≡ txn.old.snapshot }
 {
     for write in writes {
-        match &write.write {
-            Some(value) => put(alloc, txn, write.key, value)?,
-            None => txn.delete(write.key)?,
-        }
+        make_change(alloc, txn, write)?;
     }
     Ok(())
 }
 
+// Makes one of them.
+fn make_change(alloc: Global, txn: &mut Txn, write: &KeyWrite<Value>) -> Result<(), TxnFault>
+    ensures ok { OnOk result (txn.new ≡ record txn.old { writes = wrote (at_snapshot txn.old.state txn.old.snapshot) txn.old.writes write.now.key write.now.write }) }
+    ensures err { IfErr result (IsBarred (at_snapshot txn.old.state txn.old.snapshot) txn.old.writes write.now) }
+    ensures kept { OnErr result (txn.new ≡ txn.old) }
+{
+    match &write.write {
+        Some(value) => put(alloc, txn, write.key, value),
+        None => txn.delete(write.key),
+    }
+}
+
 fn put(alloc: Global, txn: &mut Txn, key: Key, value: &Value) -> Result<(), TxnFault>
-    ensures { OnOk result (txn.new ≡ with_put txn.old key value.now) }
+    ensures ok { OnOk result (txn.new ≡ with_put txn.old key value.now) }
+    ensures missing { result ≢ Err TxnFault.Missing }
+    ensures too_many { (result ≡ Err TxnFault.TooManyKeys) ↔ IsFullFor txn.old.writes key }
+    ensures bad { result ≡ Err TxnFault.BadValue → ¬ HasSizes value.now }
+    ensures err { OnErr result (txn.new ≡ txn.old) }
 {
     let _in_range = value.len();
     let mut parts: [&[u8]; 16] = [&[]; 16];

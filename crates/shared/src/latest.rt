@@ -5,7 +5,6 @@ ghost use Rattle.shared.specs.Moments.{HoldsSeen};
 ghost use Rattle.shared.specs.Seen.{IsLater};
 
 use crate::cell::PublishedCell;
-use crate::locked::Locked;
 use crate::naming::Opening;
 use crate::observer::Observer;
 use crate::shared::SharedStore;
@@ -13,8 +12,8 @@ use crate::shared_view::SharedView;
 use disk::Disk;
 use std::alloc::AllocError;
 use std::mem;
+use std::sync::Wait;
 use std::sync::atomic::Ordering;
-use std::sync::{MutexGuard, Wait};
 
 /// A view that is kept, and a pass that has seen as much.
 pub(crate) struct KeptView<L: Opening> {
@@ -167,7 +166,7 @@ impl<D: Disk, L: Opening> SharedStore<D, L> {
         if view.last() < me.load(rt, &self.cell) {
             let next = self.latest_view(rt, me)?;
             let old = mem::replace(view, next);
-            self.end(rt, old);
+            self.end(old);
             return Ok(());
         }
         let moment = view.tell(&self.cell);
@@ -197,16 +196,17 @@ impl<D: Disk, L: Opening> SharedStore<D, L> {
         Ok(view)
     }
 
-    // Gives the store's lock up, once commits were published or a job was done: a view of now is kept
-    // where a reader asked for one since the last was, and else none. No other call of the store comes before
-    // it is, so that what is kept never shows what was before. What was kept is let go without a lock.
-    pub(crate) fn show<R: Wait>(&self, rt: &R, locked: MutexGuard<'_, Locked<D, L>>) {
-        let mut locked = locked;
-        let next = if self.is_asked.swap(false, Ordering::SeqCst) {
-            locked.kept_view(rt, &self.cell)
-        } else {
-            None
-        };
+    // Once commits were published or a job was done, a view of now is kept where a reader asked for one
+    // since the last was, and else none. The kept view's lock is taken before the store's is given up, so
+    // that a view of before never takes the place of a later one. What was kept is let go without a lock.
+    pub(crate) fn show<R: Wait>(&self, rt: &R) {
+        if !self.is_asked.swap(false, Ordering::SeqCst) {
+            let old = self.latest.lock(rt).renew(None);
+            drop(old);
+            return;
+        }
+        let mut locked = self.locked.lock(rt);
+        let next = locked.kept_view(rt, &self.cell);
         let mut latest = self.latest.lock(rt);
         drop(locked);
         let old = latest.renew(next);

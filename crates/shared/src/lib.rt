@@ -34,4 +34,4 @@ pub use opening::{Opened, fresh_store};
 pub use shared::SharedStore;
 pub use shared_txn::SharedTxn;
 pub use shared_view::SharedView;
-pub use vacuuming::Vacuumed;
+pub use vacuuming::{VacuumEnd, Vacuumed};

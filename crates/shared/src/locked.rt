@@ -9,18 +9,27 @@ ghost use Rattle.law_image.specs.Values.{Value};
 ghost use Rattle.law_refinement.specs.Homes.{IsSure};
 ghost use Rattle.law_refinement.specs.Laws.{SaysAt, SaysScanAt, SaysBetween, SaysScanBetween};
 ghost use Rattle.law_refinement.specs.Stands.{Stands, raising_of};
+ghost use Rattle.store.specs.Archives.{StartsArchive};
+ghost use Rattle.store.specs.Calls.{Begins, Aborts, Submits, Redeems};
+ghost use Rattle.store.specs.Floors.{StartsFloor};
+ghost use Rattle.store.specs.Growths.{StartsGrowth};
+ghost use Rattle.store.specs.Jobs.{PumpsJob};
+ghost use Rattle.store.specs.Pumps.{Pumps};
+ghost use Rattle.store.specs.Reclaims.{StartsReclaim};
 ghost use Rattle.shared.specs.Archives.{no_archive};
 ghost use Rattle.shared.specs.Counts.{told_count, unredeemed};
 ghost use Rattle.shared.specs.Moments.{OfSeen};
 ghost use Rattle.shared.specs.Reached.{Reached};
 ghost use Rattle.shared.specs.Seen.{IsLater, seen_of};
-ghost use Rattle.shared.specs.Shared.{BeginHappens, SubmitHappens, SeenReached, PumpHappens, JobHappens, FloorHappens, ArchiveHappens, ReclaimHappens, GrowthHappens, RedeemSays, done_in};
+ghost use Rattle.shared.specs.Shared.{BeginHappens, AbortHappens, SubmitHappens, SeenReached, PumpHappens, JobHappens, FloorHappens, ArchiveHappens, ReclaimHappens, GrowthHappens, RedeemSays, done_in};
 
 use crate::cell::{PublishedCell, WriterPass};
 use crate::latest::KeptView;
 use crate::moment::Moment;
 use crate::naming::Opening;
-use crate::noting::{count_done, note_archive, note_job, note_published, note_queued};
+use crate::noting::{
+    count_done, has_failed, note_archive, note_failed, note_job, note_published, note_queued,
+};
 use crate::observer::Observer;
 use crate::shared_view::{SharedView, taken_at};
 use crate::signals::Signals;
@@ -38,7 +47,8 @@ use store::{
 
 /// A store that stands for a state that steps of the machine lead to from the opening one, the book
 /// of the commits that callers were told of, and the pass that writes the published time. To a
-/// contract it is the store.
+/// contract it is the store. Each method makes one call of the store at most. Of all but the queries the
+/// first clause says that no more than that changes.
 pub struct Locked<D: Disk, L: Opening> {
     store: Store<D>,
     book: Book<L>,
@@ -85,6 +95,7 @@ impl<D: Disk, L: Opening> Locked<D, L> {
         me: &mut Observer<L>,
     ) -> Result<SharedView<L>, AllocError>
         requires { cell.now.table.shared.table_id ≡ L.table }
+        ensures same { self.new ≡ self.old }
         ensures moment { IfOk result (λ v. v.seen ≡ me.new) }
         ensures later { IsLater me.old me.new }
     {
@@ -97,6 +108,7 @@ impl<D: Disk, L: Opening> Locked<D, L> {
     /// A view of all that is published, to be kept beside the lock, unless memory is refused.
     pub(crate) fn kept_view<R: Wait>(&mut self, rt: &R, cell: &PublishedCell) -> Option<KeptView<L>>
         requires { cell.now.table.shared.table_id ≡ L.table }
+        ensures { self.new ≡ self.old }
     {
         let mut seen = Observer::told_by(cell, &mut self.writer);
         match self.view(rt, cell, &mut seen) {
@@ -112,6 +124,7 @@ impl<D: Disk, L: Opening> Locked<D, L> {
         me: &mut Observer<L>,
     ) -> Result<Txn, BeginFault>
         requires { cell.now.table.shared.table_id ≡ L.table }
+        ensures is { Begins self.old result self.new }
         ensures happens { BeginHappens L.start L.mark result me.new }
         ensures later { IsLater me.old me.new }
     {
@@ -119,9 +132,21 @@ impl<D: Disk, L: Opening> Locked<D, L> {
         self.store.begin()
     }
 
-    pub(crate) fn abort(&mut self, txn: Txn) {
+    pub(crate) fn abort<R: Wait>(
+        &mut self,
+        rt: &R,
+        cell: &PublishedCell,
+        txn: Txn,
+        me: &mut Observer<L>,
+    )
+        requires { cell.now.table.shared.table_id ≡ L.table }
+        ensures is { Aborts self.old txn self.new }
+        ensures happens { AbortHappens L.start txn.snapshot me.new }
+        ensures later { IsLater me.old me.new }
+    {
         // A transaction's writes are in range.
         let _count = txn.writes().len();
+        me.meet(rt, cell, &mut self.writer);
         self.store.abort(txn);
         self.signals.note_move();
     }
@@ -136,6 +161,7 @@ impl<D: Disk, L: Opening> Locked<D, L> {
         me: &mut Observer<L>,
     ) -> Result<Submitted, SubmitFault>
         requires { cell.now.table.shared.table_id ≡ L.table }
+        ensures is { Submits self.old txn label now result self.new }
         ensures happens { SubmitHappens L.start L.mark txn label now result me.new }
         ensures later { IsLater me.old me.new }
     {
@@ -146,38 +172,86 @@ impl<D: Disk, L: Opening> Locked<D, L> {
 
     /// One step of the group that is written. Where it publishes, the cell is told before the lock
     /// is given up.
-    pub(crate) fn pump<R: Wait>(&mut self, rt: &R, cell: &PublishedCell) -> Result<Did, PumpFault>
+    pub(crate) fn pump<R: Wait>(
+        &mut self,
+        rt: &R,
+        cell: &PublishedCell,
+        me: &mut Observer<L>,
+    ) -> Result<Did, PumpFault>
         requires { cell.now.table.shared.table_id ≡ L.table }
-        ensures { PumpHappens L.start result }
+        ensures is { Pumps D.tells self.old result self.new }
+        ensures happens { PumpHappens L.start result me.new }
+        ensures later { IsLater me.old me.new }
     {
         let did = self.store.pump();
         let last = self.store.last();
         note_published(rt, cell, &mut self.writer, &did, last);
+        note_failed(rt, cell, &mut self.writer, has_failed(&did));
+        me.meet(rt, cell, &mut self.writer);
         self.signals.note_pumped(&did, last);
         did
     }
 
-    pub(crate) fn archive_start(&mut self, upto: u64) -> Result<(), StartFault>
-        ensures { ArchiveHappens L.start upto result }
+    pub(crate) fn archive_start<R: Wait>(
+        &mut self,
+        rt: &R,
+        cell: &PublishedCell,
+        upto: u64,
+        me: &mut Observer<L>,
+    ) -> Result<(), StartFault>
+        requires { cell.now.table.shared.table_id ≡ L.table }
+        ensures is { StartsArchive self.old upto result self.new }
+        ensures happens { ArchiveHappens L.start upto result me.new }
+        ensures later { IsLater me.old me.new }
     {
+        me.meet(rt, cell, &mut self.writer);
         self.store.archive_start(upto)
     }
 
-    pub(crate) fn reclaim_start(&mut self) -> Result<(), StartFault>
-        ensures { ReclaimHappens L.start result }
+    pub(crate) fn reclaim_start<R: Wait>(
+        &mut self,
+        rt: &R,
+        cell: &PublishedCell,
+        me: &mut Observer<L>,
+    ) -> Result<(), StartFault>
+        requires { cell.now.table.shared.table_id ≡ L.table }
+        ensures is { StartsReclaim self.old result self.new }
+        ensures happens { ReclaimHappens L.start result me.new }
+        ensures later { IsLater me.old me.new }
     {
+        me.meet(rt, cell, &mut self.writer);
         self.store.reclaim_start()
     }
 
-    pub(crate) fn start_floor(&mut self, scope: Option<u16>, floor: u64) -> Result<(), StartFault>
-        ensures { FloorHappens L.start scope floor result }
+    pub(crate) fn start_floor<R: Wait>(
+        &mut self,
+        rt: &R,
+        cell: &PublishedCell,
+        scope: Option<u16>,
+        floor: u64,
+        me: &mut Observer<L>,
+    ) -> Result<(), StartFault>
+        requires { cell.now.table.shared.table_id ≡ L.table }
+        ensures is { StartsFloor self.old scope floor result self.new }
+        ensures happens { FloorHappens L.start scope floor result me.new }
+        ensures later { IsLater me.old me.new }
     {
+        me.meet(rt, cell, &mut self.writer);
         self.store.start_floor(scope, floor)
     }
 
-    pub(crate) fn grow_start(&mut self) -> Result<(), StartFault>
-        ensures { GrowthHappens L.start result }
+    pub(crate) fn grow_start<R: Wait>(
+        &mut self,
+        rt: &R,
+        cell: &PublishedCell,
+        me: &mut Observer<L>,
+    ) -> Result<(), StartFault>
+        requires { cell.now.table.shared.table_id ≡ L.table }
+        ensures is { StartsGrowth self.old result self.new }
+        ensures happens { GrowthHappens L.start result me.new }
+        ensures later { IsLater me.old me.new }
     {
+        me.meet(rt, cell, &mut self.writer);
         self.store.grow_start()
     }
 
@@ -187,11 +261,14 @@ impl<D: Disk, L: Opening> Locked<D, L> {
         &mut self,
         rt: &R,
         cell: &PublishedCell,
+        me: &mut Observer<L>,
     ) -> Result<JobDid, PumpFault>
         requires { cell.now.table.shared.table_id ≡ L.table }
-        ensures { JobHappens L.start result }
+        ensures is { PumpsJob D.tells self.old result self.new }
+        ensures happens { JobHappens L.start result me.new }
+        ensures later { IsLater me.old me.new }
     {
-        let did = self.job_step(rt, cell);
+        let did = self.job_step(rt, cell, me);
         self.signals.note_job_pumped(&did);
         did
     }
@@ -208,7 +285,8 @@ impl<D: Disk, L: Opening> Locked<D, L> {
     ) -> Redeemed
         requires cell { cell.now.table.shared.table_id ≡ L.table }
         requires part { 0 < share.old.parts }
-        ensures says { RedeemSays ticket result me.new }
+        ensures is { Redeems self.old ticket result self.new }
+        ensures says { RedeemSays L.mark ticket result me.new }
         ensures reached { SeenReached L.start me.new }
         ensures parts { share.new.parts ≡ share.old.parts }
         ensures amount { share.new.amount ≡ share.old.amount + done_in result }
@@ -294,6 +372,7 @@ impl<D: Disk, L: Opening> Locked<D, L> {
         me: &mut Observer<L>,
     ) -> Result<Vec<u64>, AllocError>
         requires { cell.now.table.shared.table_id ≡ L.table }
+        ensures same { self.new ≡ self.old }
         ensures times { IfOk result (λ times. times.items ≡ answers.times_of me.new.published label) }
         ensures reached { SeenReached L.start me.new }
         ensures later { IsLater me.old me.new }
@@ -323,19 +402,31 @@ impl<D: Disk, L: Opening> Locked<D, L> {
         self.signals
     }
 
-    pub(crate) fn end_loops(&mut self) {
+    /// Tells the loops to end. Nothing of the store changes.
+    pub(crate) fn end_loops(&mut self)
+        ensures { self.new ≡ self.old }
+    {
         self.signals.note_end();
     }
 
     // The floor in the making stays known once the job is done.
-    fn job_step<R: Wait>(&mut self, rt: &R, cell: &PublishedCell) -> Result<JobDid, PumpFault>
+    fn job_step<R: Wait>(
+        &mut self,
+        rt: &R,
+        cell: &PublishedCell,
+        me: &mut Observer<L>,
+    ) -> Result<JobDid, PumpFault>
         ghost raising: { Option Raising }
         requires cell { cell.now.table.shared.table_id ≡ L.table }
         requires raising { raising_of self.old.job ≡ raising }
-        ensures { JobHappens L.start result }
+        ensures is { PumpsJob D.tells self.old result self.new }
+        ensures happens { JobHappens L.start result me.new }
+        ensures later { IsLater me.old me.new }
     {
         let did = self.store.job_pump();
         note_job(rt, cell, &mut self.writer, &did);
+        note_failed(rt, cell, &mut self.writer, has_failed(&did));
+        me.meet(rt, cell, &mut self.writer);
         did
     }
 
@@ -352,6 +443,7 @@ impl<D: Disk, L: Opening> Locked<D, L> {
         ghost writes: { List (KeyWrite Value) }
         requires cell { cell.now.table.shared.table_id ≡ L.table }
         requires writes { txn.writes ≡ writes }
+        ensures is { Submits self.old txn label now result self.new }
         ensures happens { SubmitHappens L.start L.mark txn label now result me.new }
         ensures later { IsLater me.old me.new }
     {

@@ -8,10 +8,10 @@ ghost use Rattle.law_image.specs.Values.{Value, IsValue};
 ghost use Rattle.law_refinement.specs.Leaving.{count_in};
 ghost use Rattle.shared.specs.Archives.{IsArchiveLater, archive_seen};
 ghost use Rattle.shared.specs.Seen.{IsLater, order_of};
-ghost use Rattle.shared.specs.Shared.{published_seen, queued_seen, job_seen, is_done, noted, done_in};
+ghost use Rattle.shared.specs.Shared.{published_seen, queued_seen, done_seen, failed_seen, is_done, has_failed, noted, done_in};
 
 use crate::cell::{PublishedCell, WriterPass};
-use crate::observer::{go_on, publish_next, queue_next, raise_next};
+use crate::observer::{go_on, publish_next, queue_next, see_next};
 use disk::Disk;
 use std::marker::Brand;
 use std::sync::Wait;
@@ -95,16 +95,49 @@ pub(crate) fn note_job<R: Wait>(
     ghost raising: { Option Raising }
     requires cell { writer.old.table_id ≡ cell.now.table.shared.table_id }
     requires writes { (cell_view writer.old).writes ≡ true }
-    requires later { IsLater (cell_view writer.old).seen (job_seen did.now raising (cell_view writer.old).seen) }
+    requires later { IsLater (cell_view writer.old).seen (done_seen did.now raising (cell_view writer.old).seen) }
     requires legal { IsHistory IsValue (order_of (cell_view writer.old).seen) }
     ensures cell { writer.new.table_id ≡ writer.old.table_id }
     ensures writes { (cell_view writer.new).writes ≡ true }
-    ensures seen { (cell_view writer.new).seen ≡ job_seen did.now raising (cell_view writer.old).seen }
+    ensures seen { (cell_view writer.new).seen ≡ done_seen did.now raising (cell_view writer.old).seen }
     ensures archive { (cell_view writer.new).archive ≡ (cell_view writer.old).archive }
 {
     if is_done(did) {
-        raise_next(rt, cell, writer);
+        see_next(rt, cell, writer);
     }
+}
+
+/// Where the device refused a write or a sync, the writer's pass has seen that the store has failed.
+pub(crate) fn note_failed<R: Wait>(
+    rt: &R,
+    cell: &PublishedCell,
+    writer: &mut WriterPass,
+    failed: bool,
+)
+    requires cell { writer.old.table_id ≡ cell.now.table.shared.table_id }
+    requires writes { (cell_view writer.old).writes ≡ true }
+    requires legal { IsHistory IsValue (order_of (cell_view writer.old).seen) }
+    ensures cell { writer.new.table_id ≡ writer.old.table_id }
+    ensures writes { (cell_view writer.new).writes ≡ true }
+    ensures seen { (cell_view writer.new).seen ≡ failed_seen failed (cell_view writer.old).seen }
+    ensures archive { (cell_view writer.new).archive ≡ (cell_view writer.old).archive }
+{
+    if failed {
+        see_failure(rt, cell, writer);
+    }
+}
+
+// The writer's pass has seen that the store has failed.
+fn see_failure<R: Wait>(rt: &R, cell: &PublishedCell, writer: &mut WriterPass)
+    requires cell { writer.old.table_id ≡ cell.now.table.shared.table_id }
+    requires writes { (cell_view writer.old).writes ≡ true }
+    requires legal { IsHistory IsValue (order_of (cell_view writer.old).seen) }
+    ensures cell { writer.new.table_id ≡ writer.old.table_id }
+    ensures writes { (cell_view writer.new).writes ≡ true }
+    ensures seen { (cell_view writer.new).seen ≡ record (cell_view writer.old).seen { failed = true } }
+    ensures archive { (cell_view writer.new).archive ≡ (cell_view writer.old).archive }
+{
+    see_next(rt, cell, writer);
 }
 
 /// The writer's pass knows the archive of the store as it is now.
@@ -138,6 +171,18 @@ fn published_in(did: &Result<Did, PumpFault>) -> u32
         Ok(Did::BodySynced) => 0,
         Ok(Did::GateWritten) => 0,
         Err(_) => 0,
+    }
+}
+
+/// Whether the device refused a write or a sync, in this step or before.
+pub(crate) fn has_failed<T>(answer: &Result<T, PumpFault>) -> bool
+    ensures { result ≡ has_failed answer.now }
+{
+    match answer {
+        Ok(_) => false,
+        Err(PumpFault::Busy) => false,
+        Err(PumpFault::NoMemory) => false,
+        Err(PumpFault::Failed) => true,
     }
 }
 

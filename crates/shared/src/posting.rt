@@ -1,12 +1,14 @@
 //! Commits that callers post, and the committer that works for them.
-ghost use Rattle.std.specs.Prelude.{◌≡◌, ◌+◌, ◌<◌, map, IsTrue};
-ghost use Rattle.shared.specs.Posted.{ServedSays, write_of};
+ghost use Rattle.std.specs.Prelude.{◌≡◌, ◌+◌, ◌<◌, IfOk, IsTrue};
+ghost use Rattle.shared.specs.Commits.{WaitSays, CommitHappens, commits_in};
+ghost use Rattle.shared.specs.Loops.{CommitterEnds, EndsCommits};
+ghost use Rattle.shared.specs.Posted.{ServedSays, IsAnswerTo};
 ghost use Rattle.shared.specs.Seen.{IsLater};
-ghost use Rattle.shared.specs.Shared.{SeenReached, RedeemSays, WaitSays, CommitHappens, done_in, commits_in};
+ghost use Rattle.shared.specs.Shared.{SeenReached, RedeemSays, done_in};
 
 use crate::change::Change;
 use crate::committed::{CommitFault, Committed};
-use crate::copied::{apply, are_copies, copy_changes};
+use crate::copied::{apply, copy_changes};
 use crate::naming::Opening;
 use crate::observer::Observer;
 use crate::posts::{Doing, Posts};
@@ -35,7 +37,7 @@ impl<D: Disk, L: Opening> SharedStore<D, L> {
         me: &mut Observer<L>,
     ) -> Result<Committed, CommitFault>
         requires { 0 < share.old.parts }
-        ensures happens { CommitHappens changes.now label result me.new }
+        ensures happens { CommitHappens L.start L.mark changes.now label result me.new }
         ensures parts { share.new.parts ≡ share.old.parts }
         ensures amount { share.new.amount ≡ share.old.amount + commits_in result }
         ensures later { IsLater me.old me.new }
@@ -50,7 +52,7 @@ impl<D: Disk, L: Opening> SharedStore<D, L> {
             now,
             me: me.another(&self.cell),
         };
-        match self.ask(rt, request) {
+        match self.ask(rt, request, changes, label) {
             Ok(served) => {
                 let committed = self.receive(rt, served, changes, label, share, me);
                 self.note_told(rt);
@@ -60,31 +62,54 @@ impl<D: Disk, L: Opening> SharedStore<D, L> {
         }
     }
 
-    // Posts a request, and sleeps until its answer is there. Where no committer is at work it works for the
-    // requests itself.
-    fn ask<R: Wait>(&self, rt: &R, request: Request<L>) -> Result<Served<L>, AllocError> {
+    /// How many calls of `commit` were on their way at once, at most. The store has a place for each.
+    pub fn most_callers<R: Wait>(&self, rt: &R) -> usize {
+        self.posts.lock(rt).count()
+    }
+
+    // Posts a request of these changes and this label, and sleeps until its answer is there. Where no
+    // committer is at work it works for the requests itself.
+    fn ask<R: Wait>(
+        &self,
+        rt: &R,
+        request: Request<L>,
+        changes: &[Change<'_>],
+        label: u64,
+    ) -> Result<Served<L>, AllocError>
+        ensures { IfOk result (IsAnswerTo changes.now label) }
+    {
         let mut posts = self.posts.lock(rt);
         let number = posts.ask(request)?;
         if posts.is_attended() {
             self.queued.notify_all();
-            return Ok(self.wait_served(rt, posts, number));
+            return Ok(self.wait_served(rt, posts, number, changes, label));
         }
         drop(posts);
         self.serve(rt);
-        Ok(self.wait_served(rt, self.posts.lock(rt), number))
+        let posts = self.posts.lock(rt);
+        Ok(self.wait_served(rt, posts, number, changes, label))
     }
 
-    // Sleeps until the answer is at the caller's post.
+    // Sleeps until the answer to these changes and this label is at the caller's post. What lies there
+    // tells nothing of whose it is: so it is compared, and another's is passed over.
     fn wait_served<'a, R: Wait>(
         &'a self,
         rt: &R,
         posts: MutexGuard<'a, Posts<L>>,
         number: usize,
-    ) -> Served<L> {
+        changes: &[Change<'_>],
+        label: u64,
+    ) -> Served<L>
+        ensures { IsAnswerTo changes.now label result }
+    {
         let mut posts = posts;
         for _ in rt.forever() {
             if let Some(served) = posts.take_answer(number) {
-                return served;
+                drop(posts);
+                if served.is_answer_to(changes, label) {
+                    return served;
+                }
+                posts = self.posts.lock(rt);
             }
             posts = self.answered.wait(rt, posts);
         }
@@ -101,8 +126,7 @@ impl<D: Disk, L: Opening> SharedStore<D, L> {
         }
     }
 
-    // What came of a request of these changes and this label. What lies at a post tells nothing of whose
-    // it is: so it is compared.
+    // What came of a request of these changes and this label.
     fn receive<R: Wait>(
         &self,
         rt: &R,
@@ -112,29 +136,18 @@ impl<D: Disk, L: Opening> SharedStore<D, L> {
         share: &mut Share<L>,
         me: &mut Observer<L>,
     ) -> Result<Committed, CommitFault>
-        requires { 0 < share.old.parts }
-        ensures happens { CommitHappens changes.now label result me.new }
+        requires part { 0 < share.old.parts }
+        requires answer { IsAnswerTo changes.now label served }
+        ensures happens { CommitHappens L.start L.mark changes.now label result me.new }
         ensures parts { share.new.parts ≡ share.old.parts }
         ensures amount { share.new.amount ≡ share.old.amount + commits_in result }
         ensures later { IsLater me.old me.new }
     {
-        let (writes, asked, outcome, seen) = served.spend();
+        let (outcome, seen) = served.spend();
         me.learn(rt, &self.cell, seen);
-        let ours = is_answer(asked, &writes, label, changes);
         match outcome {
-            Ok(Submitted::Queued(ticket)) => {
-                if ours {
-                    return self.wait_for(rt, ticket, share, me);
-                }
-                ticket.give_up();
-                Err(CommitFault::InDoubt)
-            }
-            Ok(Submitted::ReadOnly(snapshot)) => {
-                if ours {
-                    return Ok(Committed::ReadOnly(snapshot));
-                }
-                Err(CommitFault::InDoubt)
-            }
+            Ok(Submitted::Queued(ticket)) => self.wait_for(rt, ticket, share, me),
+            Ok(Submitted::ReadOnly(snapshot)) => Ok(Committed::ReadOnly(snapshot)),
             Err(fault) => Err(fault),
         }
     }
@@ -149,7 +162,7 @@ impl<D: Disk, L: Opening> SharedStore<D, L> {
         settled: &mut u64,
     ) -> Redeemed
         requires { 0 < share.old.parts }
-        ensures says { RedeemSays ticket result me.new }
+        ensures says { RedeemSays L.mark ticket result me.new }
         ensures reached { SeenReached L.start me.new }
         ensures parts { share.new.parts ≡ share.old.parts }
         ensures amount { share.new.amount ≡ share.old.amount + done_in result }
@@ -170,7 +183,7 @@ impl<D: Disk, L: Opening> SharedStore<D, L> {
         me: &mut Observer<L>,
     ) -> Result<Committed, CommitFault>
         requires { 0 < share.old.parts }
-        ensures says { WaitSays ticket result me.new }
+        ensures says { WaitSays L.mark ticket result me.new }
         ensures parts { share.new.parts ≡ share.old.parts }
         ensures amount { share.new.amount ≡ share.old.amount + commits_in result }
         ensures later { IsLater me.old me.new }
@@ -246,7 +259,7 @@ impl<D: Disk, L: Opening> SharedStore<D, L> {
         match apply(self.alloc, &mut txn, writes) {
             Ok(()) => {}
             Err(fault) => {
-                self.abort_txn(rt, txn);
+                self.abort_txn(rt, txn, me);
                 return Err(CommitFault::Txn(fault));
             }
         }
@@ -296,27 +309,30 @@ impl<D: Disk, L: Opening> SharedStore<D, L> {
         true
     }
 
-    /// Pumps until it is told to end and the queue is empty, or the store has failed. After each
-    /// answer, with the lock given up, it calls `pause`. Where there is nothing to do it sleeps, and
-    /// before it begins a group, as long as calls of `commit` are on their way to it, so that one gate
-    /// has the commits of all who call.
+    /// Pumps until it is told to end and the queue is empty, or the store has failed, and gives its last
+    /// answer. After each answer, with the lock given up, it calls `pause`. Where there is nothing to do it
+    /// sleeps, and before it begins a group, as long as calls of `commit` are on their way to it, so that
+    /// one gate has the commits of all who call.
     pub fn run_committer<R: Wait, F: FnMut(&R, &Result<Did, PumpFault>)>(
         &self,
         rt: &R,
+        me: &mut Observer<L>,
         mut pause: F,
-    )
+    ) -> Result<Did, PumpFault>
         requires { F.IsAlwaysCallable pause }
+        ensures ends { CommitterEnds L.start result me.new }
+        ensures later { IsLater me.old me.new }
     {
         self.posts.lock(rt).attend();
         let mut after = Signals::new();
         let mut waits = false;
         for _ in rt.forever() {
             self.gather(rt, waits, after.moves());
-            let did = self.step(rt, &mut after);
+            let did = self.step(rt, &mut after, me);
             pause(rt, &did);
             let over = is_over(after.is_ending(), &did);
             if over && self.leaves(rt) {
-                return;
+                return did;
             }
             waits = !over && has_to_wait(&did);
         }
@@ -324,14 +340,10 @@ impl<D: Disk, L: Opening> SharedStore<D, L> {
     }
 }
 
-// Whether these are the copies of the changes, and the label is theirs.
-fn is_answer(asked: u64, writes: &[KeyWrite<Value>], label: u64, changes: &[Change<'_>]) -> bool
-    ensures { IsTrue result → (asked ≡ label) × (map write_of changes.now ≡ writes.now) }
+// Whether a committer is to end after this answer, where it was told to end or not.
+fn is_over(ending: bool, did: &Result<Did, PumpFault>) -> bool
+    ensures { IsTrue result → EndsCommits did.now }
 {
-    asked == label && are_copies(changes, writes)
-}
-
-fn is_over(ending: bool, did: &Result<Did, PumpFault>) -> bool {
     match did {
         Ok(Did::Idle) => ending,
         Err(PumpFault::Failed) => true,

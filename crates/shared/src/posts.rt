@@ -125,6 +125,11 @@ impl<L: Opening> Posts<L> {
         let _ = self.free.push(number);
     }
 
+    /// How many posts there are: as many as callers were on their way at once, at most.
+    pub(crate) fn count(&self) -> usize {
+        self.posts.len()
+    }
+
     /// How many requests are to be worked for.
     pub(crate) fn asked(&self) -> usize {
         self.asked.len()

@@ -1,8 +1,10 @@
 //! What callers of `commit` ask for, and what they are answered.
-ghost use Rattle.std.specs.Prelude.{◌≡◌};
-ghost use Rattle.shared.specs.Posted.{ServedSays, ServedValue};
+ghost use Rattle.std.specs.Prelude.{IsTrue};
+ghost use Rattle.shared.specs.Posted.{ServedSays, ServedValue, IsAnswerTo};
 
+use crate::change::Change;
 use crate::committed::CommitFault;
+use crate::copied::are_copies;
 use crate::naming::Opening;
 use crate::observer::Observer;
 use history::KeyWrite;
@@ -63,24 +65,24 @@ impl<L: Opening> Served<L> {
         }
     }
 
-    /// What was asked for, its label, what came of it and what was seen then.
-    pub(crate) fn spend(
-        self,
-    ) -> (
-        Vec<KeyWrite<Value>>,
-        u64,
-        Result<Submitted, CommitFault>,
-        Observer<L>,
-    )
-        ensures { ServedSays L.start L.mark result.0.items result.1 result.2 result.3 }
+    /// Whether it is the answer to these changes under this label.
+    pub(crate) fn is_answer_to(&self, changes: &[Change<'_>], label: u64) -> bool
+        ensures { IsTrue result → IsAnswerTo changes.now label self.now }
+    {
+        self.label == label && are_copies(changes, &self.writes)
+    }
+
+    /// What came of it, and what was seen then.
+    pub(crate) fn spend(self) -> (Result<Submitted, CommitFault>, Observer<L>)
+        ensures { ServedSays L.start L.mark self.writes self.label result.0 result.1 }
     {
         let Served {
-            writes,
-            label,
+            writes: _,
+            label: _,
             outcome,
             seen,
         } = self;
-        (writes, label, outcome, seen)
+        (outcome, seen)
     }
 }
 

@@ -8,7 +8,7 @@ ghost use Rattle.shared.specs.Counts.{unredeemed};
 ghost use Rattle.shared.specs.Moments.{begun_txn};
 ghost use Rattle.shared.specs.Reached.{Reached};
 ghost use Rattle.shared.specs.Seen.{IsLater};
-ghost use Rattle.shared.specs.Shared.{BeginHappens, SubmitHappens, SeenReached, PumpHappens, RedeemSays, done_in};
+ghost use Rattle.shared.specs.Shared.{BeginHappens, AbortHappens, SubmitHappens, SeenReached, PumpHappens, RedeemSays, done_in};
 
 use crate::cell::PublishedCell;
 use crate::latest::Latest;
@@ -27,10 +27,9 @@ use std::sync::ledger::Share;
 use std::sync::{Condvar, Mutex, Wait};
 use store::{BeginFault, Did, PumpFault, Redeemed, Store, SubmitFault, Submitted, Ticket, Txn};
 
-/// A store under a lock, and beside it the cell of its published time. One holding of the lock makes
-/// at most one call of the store, and behind one that publishes or ends a job, where a reader asked for it,
-/// the view that is kept, which is no call of the device. Beside the lock, too, are the posts of those who call `commit`, and the
-/// view that is kept for those who read, with whether one of them asked since it was.
+/// A store under a lock, and the cell of its published time, which needs none. One holding of the lock
+/// makes at most one call of the store. The posts of those who call `commit` have a lock of their own, and
+/// so has the view that is kept for those who read; a flag says whether one of them asked since it was.
 pub struct SharedStore<D: Disk, L: Opening> {
     pub(crate) alloc: Global,
     pub(crate) locked: Mutex<Locked<D, L>>,
@@ -103,8 +102,11 @@ impl<D: Disk, L: Opening> SharedStore<D, L> {
     }
 
     /// Gives the transaction's snapshot up.
-    pub fn abort<R: Wait>(&self, rt: &R, txn: SharedTxn<L>) {
-        self.abort_txn(rt, txn.spend());
+    pub fn abort<R: Wait>(&self, rt: &R, txn: SharedTxn<L>, me: &mut Observer<L>)
+        ensures happens { AbortHappens L.start txn.txn.snapshot me.new }
+        ensures later { IsLater me.old me.new }
+    {
+        self.abort_txn(rt, txn.spend(), me);
     }
 
     /// Ends a transaction: its writes are queued as a commit, or it is refused.
@@ -122,8 +124,11 @@ impl<D: Disk, L: Opening> SharedStore<D, L> {
         self.submit_txn(rt, txn.spend(), label, now, me)
     }
 
-    pub(crate) fn abort_txn<R: Wait>(&self, rt: &R, txn: Txn) {
-        self.locked.lock(rt).abort(txn);
+    pub(crate) fn abort_txn<R: Wait>(&self, rt: &R, txn: Txn, me: &mut Observer<L>)
+        ensures happens { AbortHappens L.start txn.snapshot me.new }
+        ensures later { IsLater me.old me.new }
+    {
+        self.locked.lock(rt).abort(rt, &self.cell, txn, me);
         self.moved.notify_all();
     }
 
@@ -170,24 +175,30 @@ impl<D: Disk, L: Opening> SharedStore<D, L> {
 
     /// One step of the group that is written. A step that publishes writes the published time before
     /// the lock is given up.
-    pub fn pump<R: Wait>(&self, rt: &R) -> Result<Did, PumpFault>
-        ensures { PumpHappens L.start result }
+    pub fn pump<R: Wait>(&self, rt: &R, me: &mut Observer<L>) -> Result<Did, PumpFault>
+        ensures happens { PumpHappens L.start result me.new }
+        ensures later { IsLater me.old me.new }
     {
         let mut after = Signals::new();
-        self.step(rt, &mut after)
+        self.step(rt, &mut after, me)
     }
 
     // One step of the group, and what the signals are then.
-    pub(crate) fn step<R: Wait>(&self, rt: &R, after: &mut Signals) -> Result<Did, PumpFault>
-        ensures { PumpHappens L.start result }
+    pub(crate) fn step<R: Wait>(
+        &self,
+        rt: &R,
+        after: &mut Signals,
+        me: &mut Observer<L>,
+    ) -> Result<Did, PumpFault>
+        ensures happens { PumpHappens L.start result me.new }
+        ensures later { IsLater me.old me.new }
     {
         let mut locked = self.locked.lock(rt);
-        let did = locked.pump(rt, &self.cell);
+        let did = locked.pump(rt, &self.cell, me);
         *after = locked.signals();
+        drop(locked);
         if is_publication(&did) {
-            self.show(rt, locked);
-        } else {
-            drop(locked);
+            self.show(rt);
         }
         if is_move(&did) {
             self.tell_settled(rt, *after);
@@ -206,7 +217,7 @@ impl<D: Disk, L: Opening> SharedStore<D, L> {
         me: &mut Observer<L>,
     ) -> Redeemed
         requires { 0 < share.old.parts }
-        ensures says { RedeemSays ticket result me.new }
+        ensures says { RedeemSays L.mark ticket result me.new }
         ensures reached { SeenReached L.start me.new }
         ensures parts { share.new.parts ≡ share.old.parts }
         ensures amount { share.new.amount ≡ share.old.amount + done_in result }
@@ -217,8 +228,8 @@ impl<D: Disk, L: Opening> SharedStore<D, L> {
             .redeem(rt, &self.cell, ticket, share, me)
     }
 
-    /// Ends a view. It takes no lock, since the store keeps nothing of its views.
-    pub fn end<R: Wait>(&self, _rt: &R, view: SharedView<L>) {
+    /// Ends a view. It is given no runtime and so takes no lock: the store keeps nothing of its views.
+    pub fn end(&self, view: SharedView<L>) {
         view.spend().spend();
     }
 

@@ -1,4 +1,8 @@
 //! The loop of a vacuum.
+ghost use Rattle.std.specs.Prelude.{◌≡◌, true};
+ghost use Rattle.shared.specs.Loops.{is_running, VacuumHappens, IsAnswerFor, LeadsTo, VacuumEnds};
+ghost use Rattle.shared.specs.Seen.{IsLater};
+
 use crate::naming::Opening;
 use crate::observer::Observer;
 use crate::shared::SharedStore;
@@ -11,6 +15,15 @@ use store::{JobDid, PumpFault, StartFault};
 pub enum Vacuumed {
     Start(Result<(), StartFault>),
     Job(Result<JobDid, PumpFault>),
+}
+
+/// How a vacuum ended.
+#[derive(Clone, Copy, Debug, PartialEq, Eq)]
+pub enum VacuumEnd {
+    /// It was told to, while no job of its own ran. Its last answer, if it had one.
+    Told(Option<Vacuumed>),
+    /// After this answer it could not go on.
+    Over(Vacuumed),
 }
 
 // What a vacuum does next.
@@ -45,19 +58,23 @@ impl<D: Disk, L: Opening> SharedStore<D, L> {
         rt: &R,
         me: &mut Observer<L>,
         mut pause: F,
-    )
+    ) -> VacuumEnd
         requires { F.IsAlwaysCallable pause }
+        ensures ends { VacuumEnds L.start result me.new }
+        ensures later { IsLater me.old me.new }
     {
         let mut doing = Doing::Archives;
+        let mut last = None;
         for _ in rt.forever() {
             let (moves, ending) = self.signals(rt);
             if ending && !is_running(doing) {
-                return;
+                return VacuumEnd::Told(last);
             }
             let answer = self.vacuum(rt, doing, me);
             pause(rt, &answer);
-            match after_vacuum(doing, moves, &answer) {
-                Vacuuming::Over => return,
+            last = Some(answer);
+            match after_vacuum(doing, moves, answer) {
+                Vacuuming::Over => return VacuumEnd::Over(answer),
                 Vacuuming::Goes(next) => doing = next,
                 Vacuuming::Waits(seen, next) => {
                     self.wait_past(rt, seen);
@@ -69,24 +86,36 @@ impl<D: Disk, L: Opening> SharedStore<D, L> {
     }
 
     // One call of the store.
-    fn vacuum<R: Wait>(&self, rt: &R, doing: Doing, me: &mut Observer<L>) -> Vacuumed {
+    fn vacuum<R: Wait>(&self, rt: &R, doing: Doing, me: &mut Observer<L>) -> Vacuumed
+        ensures happens { VacuumHappens L.start result me.new }
+        ensures kind { IsAnswerFor doing result }
+        ensures later { IsLater me.old me.new }
+    {
         match doing {
             Doing::Archives => {
                 let last = self.last_published(rt, me);
-                Vacuumed::Start(self.archive_start(rt, last))
+                Vacuumed::Start(self.archive_start(rt, last, me))
             }
-            Doing::Reclaims(_) => Vacuumed::Start(self.reclaim_start(rt)),
-            Doing::Archiving | Doing::Reclaiming => Vacuumed::Job(self.job_pump(rt)),
+            Doing::Reclaims(_) => Vacuumed::Start(self.reclaim_start(rt, me)),
+            Doing::Archiving | Doing::Reclaiming => Vacuumed::Job(self.job_pump(rt, me)),
         }
     }
 }
 
-fn is_running(doing: Doing) -> bool {
-    matches!(doing, Doing::Archiving | Doing::Reclaiming)
+fn is_running(doing: Doing) -> bool
+    ensures { result ≡ is_running doing }
+{
+    match doing {
+        Doing::Archives | Doing::Reclaims(_) => false,
+        Doing::Archiving | Doing::Reclaiming => true,
+    }
 }
 
 // How a vacuum goes on after this answer, before which there were so many moves.
-fn after_vacuum(doing: Doing, moves: u64, answer: &Vacuumed) -> Vacuuming {
+fn after_vacuum(doing: Doing, moves: u64, answer: Vacuumed) -> Vacuuming
+    requires { IsAnswerFor doing answer }
+    ensures { LeadsTo answer result }
+{
     match answer {
         Vacuumed::Start(started) => after_start(doing, moves, started),
         Vacuumed::Job(did) => after_job(doing, moves, did),
@@ -94,7 +123,9 @@ fn after_vacuum(doing: Doing, moves: u64, answer: &Vacuumed) -> Vacuuming {
 }
 
 // A start that is refused for now leads to the other job, and the second such to sleep.
-fn after_start(doing: Doing, moves: u64, started: &Result<(), StartFault>) -> Vacuuming {
+fn after_start(doing: Doing, moves: u64, started: Result<(), StartFault>) -> Vacuuming
+    ensures { LeadsTo (Vacuumed.Start started) result }
+{
     match (started, doing) {
         (Ok(()), Doing::Archives) => Vacuuming::Goes(Doing::Archiving),
         (Ok(()), _) => Vacuuming::Goes(Doing::Reclaiming),
@@ -110,7 +141,10 @@ fn after_start(doing: Doing, moves: u64, started: &Result<(), StartFault>) -> Va
     }
 }
 
-fn after_job(doing: Doing, moves: u64, did: &Result<JobDid, PumpFault>) -> Vacuuming {
+fn after_job(doing: Doing, moves: u64, did: Result<JobDid, PumpFault>) -> Vacuuming
+    requires { is_running doing ≡ true }
+    ensures { LeadsTo (Vacuumed.Job did) result }
+{
     match (did, doing) {
         (Err(PumpFault::Failed), _) => Vacuuming::Over,
         (Err(PumpFault::Busy), _) => Vacuuming::Waits(moves, doing),

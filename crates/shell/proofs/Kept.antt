@@ -13,7 +13,9 @@ use Rattle.session.specs.declared.ending.Ending.TheVariants.{OutputRefused, Whol
 use Rattle.session.specs.declared.reply.Reply.{Reply}
 use Rattle.command_line.specs.declared.action.Action.{Action}
 use Rattle.command_line.specs.declared.action.Action.TheVariants as action
-use Rattle.shell.specs.Acts.{Acts, Asks, Dumps, DoesNotOpen, GivesOut, Grows, HasNoMemory, HasStatusOf, Input, IsRefused, IsSaid, IsTold, Makes, Output, RefusesTime, RefusesToMake, Runs, RunsNew, RunsScript, SaysAll, SaysArchived, SaysBoth, SaysFront, SaysGrown, SaysSlots, SaysVacuum, Vacuums}
+use Rattle.shell.specs.Acts.{Acts, Asks, Dumps, DoesNotOpen, GivesOut, Grows, HasNoMemory, HasStatusOf, Input, IsRefused, IsSaid, IsTold, Makes, Output}
+use Rattle.shell.specs.Acts.{RefusesTime, RefusesToMake, Runs, RunsNew, RunsScript, SaysAll, SaysArchived, SaysBoth, SaysFront, SaysGrown, SaysSlots}
+use Rattle.shell.specs.Acts.{SaysVacuum, Vacuums}
 use Rattle.shell.specs.Vacuums.{is_refusal}
 use Rattle.shell.specs.declared.vacuuming.Vacuumed.{Vacuumed}
 use Rattle.shell.specs.declared.vacuuming.Vacuumed.TheVariants as vacuumed
@@ -87,7 +89,8 @@ not_opened-kept tells old new o v gives refused = (refused.0, refused.1, refused
 no_memory-kept : (tells : Bool) (old new : DiskState) (o v : Output) → GivesOut o v → HasNoMemory tells old o new → HasNoMemory tells old v new
 no_memory-kept tells old new o v gives lacks = (lacks.0, lacks.1, lacks.2, refused-kept o v _ gives lacks.3)
 
-runs-kept : (tells : Bool) (old new : DiskState) (input : Input) (o v : Output) → GivesOut o v → RunsScript tells old input o new → RunsScript tells old input v new
+runs-kept : (tells : Bool) (old new : DiskState) (input : Input) (o v : Output) → GivesOut o v → RunsScript tells old input o new
+    → RunsScript tells old input v new
 runs-kept tells old new input o v gives (inl refused) = inl (not_opened-kept tells old new o v gives refused)
 runs-kept tells old new input o v gives (inr (inl lacks)) = inr (inl (no_memory-kept tells old new o v gives lacks))
 runs-kept tells old new input o v gives (inr (inr runs)) = inr (inr (record {
@@ -103,16 +106,19 @@ runs-kept tells old new input o v gives (inr (inr runs)) = inr (inr (record {
   status = status-kept runs.end o v gives runs.status;
 }))
 
-unmade-kept : (tells : Bool) (old new : DiskState) (slots : ℕ) (o v : Output) → GivesOut o v → RefusesToMake tells old slots o new → RefusesToMake tells old slots v new
+unmade-kept : (tells : Bool) (old new : DiskState) (slots : ℕ) (o v : Output) → GivesOut o v → RefusesToMake tells old slots o new
+    → RefusesToMake tells old slots v new
 unmade-kept tells old new slots o v gives refused = (refused.0, refused.1, refused-kept o v _ gives refused.2)
 
 makes-kept : (tells : Bool) (old new : DiskState) (slots : ℕ) (o v : Output) → GivesOut o v → Makes tells old slots o new → Makes tells old slots v new
 makes-kept tells old new slots o v gives (inl made) = inl (record { count = made.count; formatted = made.formatted; said = said-kept o v _ gives made.said })
 makes-kept tells old new slots o v gives (inr refused) = inr (unmade-kept tells old new slots o v gives refused)
 
-runs_new-kept : (tells : Bool) (old new : DiskState) (input : Input) (o v : Output) → GivesOut o v → RunsNew tells old input o new → RunsNew tells old input v new
+runs_new-kept : (tells : Bool) (old new : DiskState) (input : Input) (o v : Output) → GivesOut o v → RunsNew tells old input o new
+    → RunsNew tells old input v new
 runs_new-kept tells old new input o v gives (inl refused) = inl (unmade-kept tells old new 16 o v gives refused)
-runs_new-kept tells old new input o v gives (inr runs) = inr (record { made = runs.made; formatted = runs.formatted; sound = runs.sound; runs = runs-kept tells runs.made new input o v gives runs.runs })
+runs_new-kept tells old new input o v gives (inr runs) =
+    inr (record { made = runs.made; formatted = runs.formatted; sound = runs.sound; runs = runs-kept tells runs.made new input o v gives runs.runs })
 
 asks-kept : (tells : Bool) (old new : DiskState) (asks : Line) (o v : Output) → GivesOut o v → Asks tells old asks o new → Asks tells old asks v new
 asks-kept tells old new asks o v gives (inl refused) = inl (not_opened-kept tells old new o v gives refused)
@@ -131,7 +137,8 @@ time-kept : (old new : DiskState) (o v : Output) → GivesOut o v → RefusesTim
 time-kept old new o v gives refused = (refused.0, refused-kept o v _ gives refused.1)
 
 at-kept : (tells : Bool) (old new : DiskState) (time : Option ℕ) (line : ℕ → Line) (o v : Output) → GivesOut o v
-    → MatchOption time (RefusesTime old o new) (λ t. Asks tells old (line t) o new) → MatchOption time (RefusesTime old v new) (λ t. Asks tells old (line t) v new)
+    → MatchOption time (RefusesTime old o new) (λ t. Asks tells old (line t) o new)
+    → MatchOption time (RefusesTime old v new) (λ t. Asks tells old (line t) v new)
 at-kept tells old new None line o v gives refused = time-kept old new o v gives refused
 at-kept tells old new (Some t) line o v gives asks = asks-kept tells old new (line t) o v gives asks
 
@@ -141,7 +148,8 @@ between-kept : (tells : Bool) (old new : DiskState) (from to : Option ℕ) (line
 between-kept tells old new None to line o v gives refused = time-kept old new o v gives refused
 between-kept tells old new (Some s) to line o v gives asks = at-kept tells old new to (line s) o v gives asks
 
-archived-kept : (tells : Bool) (upto : ℕ) (given new : DiskState) (refusal : Reply) (o v : Output) → GivesOut o v → SaysArchived tells upto given refusal o new → SaysArchived tells upto given refusal v new
+archived-kept : (tells : Bool) (upto : ℕ) (given new : DiskState) (refusal : Reply) (o v : Output) → GivesOut o v → SaysArchived tells upto given refusal o new
+    → SaysArchived tells upto given refusal v new
 archived-kept tells upto given new refusal o v gives (inl said) = inl (said.0, said.1, refused-kept o v _ gives said.2)
 archived-kept tells upto given new refusal o v gives (inr lacks) = inr (lacks.0, lacks.1, refused-kept o v _ gives lacks.2)
 
@@ -149,7 +157,8 @@ both-kept : (tells : Bool) (upto : ℕ) (given new : DiskState) (o v : Output) �
 both-kept tells upto given new o v gives (inl said) = inl (said.0, said.1, said-kept o v _ gives said.2)
 both-kept tells upto given new o v gives (inr lacks) = inr (lacks.0, lacks.1, refused-kept o v _ gives lacks.2)
 
-vacuum_said-kept : (tells : Bool) (upto : ℕ) (given new : DiskState) (done : Vacuumed) (o v : Output) → GivesOut o v → SaysVacuum tells upto given done o new → SaysVacuum tells upto given done v new
+vacuum_said-kept : (tells : Bool) (upto : ℕ) (given new : DiskState) (done : Vacuumed) (o v : Output) → GivesOut o v → SaysVacuum tells upto given done o new
+    → SaysVacuum tells upto given done v new
 vacuum_said-kept tells upto given new (vacuumed.Nothing refusal) o v gives said = (said.0, refused-kept o v _ gives said.1)
 vacuum_said-kept tells upto given new (vacuumed.Archived refusal) o v gives said = archived-kept tells upto given new refusal o v gives said
 vacuum_said-kept tells upto given new vacuumed.Both o v gives said = both-kept tells upto given new o v gives said
@@ -177,7 +186,8 @@ slots-kept : (tells : Bool) (given new : DiskState) (o v : Output) → GivesOut 
 slots-kept tells given new o v gives (inl said) = inl (said.0, said.1, said-kept o v _ gives said.2, said.3)
 slots-kept tells given new o v gives (inr lacks) = inr (lacks.0, lacks.1, refused-kept o v _ gives lacks.2)
 
-grown-kept : (tells : Bool) (given new : DiskState) (refused : Option Reply) (o v : Output) → GivesOut o v → SaysGrown tells given refused o new → SaysGrown tells given refused v new
+grown-kept : (tells : Bool) (given new : DiskState) (refused : Option Reply) (o v : Output) → GivesOut o v → SaysGrown tells given refused o new
+    → SaysGrown tells given refused v new
 grown-kept tells given new None o v gives said = slots-kept tells given new o v gives said
 grown-kept tells given new (Some refusal) o v gives said = (said.0, refused-kept o v _ gives said.1)
 
@@ -196,12 +206,32 @@ grows-kept tells old new o v gives (inr (inr did)) = inr (inr (record {
 }))
 
 dumps-kept : (tells : Bool) (old new : DiskState) (o v : Output) → GivesOut o v → Dumps tells old o new → Dumps tells old v new
-dumps-kept tells old new o v gives (inl (inl lacks)) = inl (inl (record { why = lacks.why; fault = lacks.fault; only = lacks.only; same = lacks.same; said = refused-kept o v _ gives lacks.said }))
-dumps-kept tells old new o v gives (inl (inr lacks)) = inl (inr (record { header = lacks.header; reads = lacks.reads; why = lacks.why; fault = lacks.fault; same = lacks.same; said = refused-kept o v _ gives lacks.said }))
-dumps-kept tells old new o v gives (inr (inl done)) = inr (inl (record { header = done.header; slots = done.slots; reads = done.reads; log = done.log; text = done.text; dump = done.dump; said = said-kept o v done.text gives done.said; same = done.same }))
+dumps-kept tells old new o v gives (inl (inl lacks)) =
+    inl (inl (record { why = lacks.why; fault = lacks.fault; only = lacks.only; same = lacks.same; said = refused-kept o v _ gives lacks.said }))
+dumps-kept tells old new o v gives (inl (inr lacks)) =
+    inl (inr (record {
+      header = lacks.header;
+      reads = lacks.reads;
+      why = lacks.why;
+      fault = lacks.fault;
+      same = lacks.same;
+      said = refused-kept o v _ gives lacks.said;
+    }))
+dumps-kept tells old new o v gives (inr (inl done)) =
+    inr (inl (record {
+      header = done.header;
+      slots = done.slots;
+      reads = done.reads;
+      log = done.log;
+      text = done.text;
+      dump = done.dump;
+      said = said-kept o v done.text gives done.said;
+      same = done.same;
+    }))
 dumps-kept tells old new o v gives (inr (inr lacks)) = inr (inr (lacks.0, refused-kept o v _ gives lacks.1))
 
-pub acts-kept : (tells : Bool) (a : Action) (old new : DiskState) (input : Input) (o v : Output) → GivesOut o v → Acts tells a old input o new → Acts tells a old input v new
+pub acts-kept : (tells : Bool) (a : Action) (old new : DiskState) (input : Input) (o v : Output) → GivesOut o v → Acts tells a old input o new
+    → Acts tells a old input v new
 acts-kept tells action.Example old new input o v gives acts = runs_new-kept tells old new input o v gives acts
 acts-kept tells (action.Format dir slots) old new input o v gives acts = makes-kept tells old new slots o v gives acts
 acts-kept tells (action.Run dir) old new input o v gives acts = runs-kept tells old new input o v gives acts

@@ -1,5 +1,6 @@
 -- What was said, and the status.
-use Rattle.std.proofs.Common.{◌≡◌, ◌≢◌, ◌≤◌, ◌⊎◌, ◌∙◌, inl, inr, ℕ, ◌++◌, [], ap, Bool, true, false, Option, Some, None, Result, Ok, Err, refl, sym, subst, arith, append_assoc}
+use Rattle.std.proofs.Common.{◌≡◌, ◌≢◌, ◌≤◌, ◌⊎◌, ◌∙◌, inl, inr, ℕ, ◌++◌, [], ap, Bool, true, false, Option, Some, None, Result, Ok, Err, refl, sym, subst}
+use Rattle.std.proofs.Common.{arith, append_assoc}
 use Rattle.std.specs.Prelude.{MatchBool, MatchOption, MatchResult}
 use Rattle.disk.specs.Calls.{DiskState}
 use Rattle.script.specs.declared.line.Line.{Line}
@@ -13,15 +14,24 @@ use Rattle.session.specs.declared.ending.Ending.TheVariants.{Whole}
 use Rattle.session.specs.declared.reply.Reply.{Reply}
 use Rattle.command_line.specs.declared.action.Action.{Action}
 use Rattle.command_line.specs.declared.action.Action.TheVariants as action
-use Rattle.shell.specs.Acts.{Acts, Asks, Grows, HasStatusOf, Input, IsRefused, IsSaid, IsTold, Makes, Output, RefusesTime, RunsNew, RunsScript, SaysAll, SaysFront, SaysGrown, SaysSlots, SaysVacuum, Vacuums}
+use Rattle.shell.specs.Acts.{Acts, Asks, Grows, HasStatusOf, Input, IsRefused, IsSaid, IsTold, Makes, Output, RefusesTime, RunsNew, RunsScript, SaysAll}
+use Rattle.shell.specs.Acts.{SaysFront, SaysGrown, SaysSlots, SaysVacuum, Vacuums}
 use Rattle.shell.specs.Vacuums.{is_refusal}
 use Rattle.shell.specs.declared.vacuuming.Vacuumed.{Vacuumed}
 use Rattle.shell.specs.declared.vacuuming.Vacuumed.TheVariants as vacuumed
 
 -- one text is said after another, of which the first was said in full
-pub says-more : {T E : Type 0} (a b c : Option Text) (x y : Text) (r : Result T E) (refused : Bool) → Appends a b x → Says b y r c refused → Says a (x ++ y) r c refused
+pub says-more : {T E : Type 0} (a b c : Option Text) (x y : Text) (r : Result T E) (refused : Bool) → Appends a b x → Says b y r c refused
+    → Says a (x ++ y) r c refused
 says-more a b c x y (Ok u) refused first says = Appends-trans a b c x y first says
-says-more a b c x y (Err e) refused first says = ((x ++ says.0.0, (says.0.1.0, ap (λ (t : Text). x ++ t) says.0.1.1 ∙ sym (append_assoc x says.0.0 says.0.1.0)), Appends-trans a b c x says.0.0 first says.0.2), says.1)
+says-more a b c x y (Err e) refused first says = (
+  (
+    x ++ says.0.0,
+    (says.0.1.0, ap (λ (t : Text). x ++ t) says.0.1.1 ∙ sym (append_assoc x says.0.0 says.0.1.0)),
+    Appends-trans a b c x says.0.0 first says.0.2,
+  ),
+  says.1,
+)
 
 -- a front of the first is one of both
 pub front-more : (a b : Option Text) (x y : Text) → AppendsFront a b x → AppendsFront a b (x ++ y)
@@ -35,7 +45,8 @@ pub either-said : {T E : Type 0} (o : Output) (text : Text) (r : Result T E) →
 either-said o text (Ok u) says = inl says
 either-said o text (Err e) says = inr (says.1, says.0)
 
-pub said-by : {T E : Type 0} (o : Output) (text : Text) (r : Result T E) → Says o.before text r o.after o.refused → MatchResult r (λ _. o.status ≡ 0) (λ _. o.status ≡ 1) → IsSaid o text
+pub said-by : {T E : Type 0} (o : Output) (text : Text) (r : Result T E) → Says o.before text r o.after o.refused
+    → MatchResult r (λ _. o.status ≡ 0) (λ _. o.status ≡ 1) → IsSaid o text
 said-by o text (Ok u) says status = inl (status, says)
 said-by o text (Err e) says status = inr (status, (says.1, says.0))
 
@@ -99,7 +110,8 @@ asks-status tells old new asks o (inr (inr asked)) = told-status o asked.answer 
 time-status : (old new : DiskState) (o : Output) → RefusesTime old o new → o.status ≤ 1
 time-status old new o refused = refused-status o _ refused.1
 
-at-status : (tells : Bool) (old new : DiskState) (time : Option ℕ) (line : ℕ → Line) (o : Output) → MatchOption time (RefusesTime old o new) (λ t. Asks tells old (line t) o new) → o.status ≤ 1
+at-status : (tells : Bool) (old new : DiskState) (time : Option ℕ) (line : ℕ → Line) (o : Output)
+    → MatchOption time (RefusesTime old o new) (λ t. Asks tells old (line t) o new) → o.status ≤ 1
 at-status tells old new None line o refused = time-status old new o refused
 at-status tells old new (Some t) line o asks = asks-status tells old new (line t) o asks
 
@@ -120,7 +132,8 @@ vacuums-status tells old new upto o (inl refused) = refused-status o _ refused.2
 vacuums-status tells old new upto o (inr (inl lacks)) = refused-status o _ lacks.3
 vacuums-status tells old new upto o (inr (inr did)) = vacuum_said-status tells upto did.given new did.done o did.says
 
-upto-status : (tells : Bool) (old new : DiskState) (time : Option ℕ) (o : Output) → MatchOption time (RefusesTime old o new) (λ t. Vacuums tells old t o new) → o.status ≤ 1
+upto-status : (tells : Bool) (old new : DiskState) (time : Option ℕ) (o : Output) → MatchOption time (RefusesTime old o new) (λ t. Vacuums tells old t o new)
+    → o.status ≤ 1
 upto-status tells old new None o refused = time-status old new o refused
 upto-status tells old new (Some t) o did = vacuums-status tells old new t o did
 

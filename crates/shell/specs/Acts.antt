@@ -76,7 +76,9 @@ IsRefused o text = (o.status ≡ 1) × (SaysAll o text ⊎ SaysFront o text)
 
 -- the output is given out, or it is refused
 abbrev pub GivesOut : Output → Output → Type 0
-GivesOut old new = (new.before ≡ old.before) × Keeps old.after new.after × (((new.status ≡ old.status) × (new.refused ≡ old.refused)) ⊎ ((new.status ≡ 1) × (new.refused ≡ true)))
+GivesOut old new =
+    (new.before ≡ old.before) × Keeps old.after new.after
+    × (((new.status ≡ old.status) × (new.refused ≡ old.refused)) ⊎ ((new.status ≡ 1) × (new.refused ≡ true)))
 
 -- ---- format
 
@@ -218,12 +220,14 @@ Dumps tells old output new = (HasNoHeader tells old output new ⊎ HasNoLog tell
 
 -- the archive is done, and its records are said; then the reclaim is refused so, which alone is said where the log is not read
 abbrev pub SaysArchived : Bool → ℕ → DiskState → Reply → Output → DiskState → Type 0
-SaysArchived tells upto given refusal output new = ((slots : List Slot) × HasLog tells given slots new × IsRefused output (archived_line upto slots ++ text_of refusal))
+SaysArchived tells upto given refusal output new =
+    ((slots : List Slot) × HasLog tells given slots new × IsRefused output (archived_line upto slots ++ text_of refusal))
     ⊎ ((why : LogFault) × LacksLog tells given why new × IsRefused output (text_of refusal))
 
 -- both are done, and the records of each are said, or why the log is not read
 abbrev pub SaysBoth : Bool → ℕ → DiskState → Output → DiskState → Type 0
-SaysBoth tells upto given output new = ((slots : List Slot) × HasLog tells given slots new × IsSaid output (archived_line upto slots ++ reclaimed_line upto slots))
+SaysBoth tells upto given output new =
+    ((slots : List Slot) × HasLog tells given slots new × IsSaid output (archived_line upto slots ++ reclaimed_line upto slots))
     ⊎ ((why : LogFault) × LacksLog tells given why new × IsRefused output (open_line (open_fault_of why)))
 
 -- of a vacuum that got so far, by the log that stands on the disk once the store is closed
@@ -259,7 +263,8 @@ slots_line header = codes "slots " ++ (decimal (total header) ++ codes "\n")
 
 -- the slots of the header that stands on the disk are said, or why none is read
 abbrev pub SaysSlots : Bool → DiskState → Output → DiskState → Type 0
-SaysSlots tells given output new = ((header : Header) × (IsTrue tells → ReadsHeader given.areas.status.bytes header) × IsSaid output (slots_line header) × (new ≡ given))
+SaysSlots tells given output new =
+    ((header : Header) × (IsTrue tells → ReadsHeader given.areas.status.bytes header) × IsSaid output (slots_line header) × (new ≡ given))
     ⊎ ((why : LogFault) × LacksHeader tells given why new × IsRefused output (open_line (open_fault_of why)))
 
 -- of a growth that was done, or was refused so, once the store is closed
@@ -284,7 +289,8 @@ Grows tells old output new = DoesNotOpen tells old output new ⊎ (HasNoMemory t
 
 -- ---- actions
 
--- With status 0 it is done and said in full. With status 1 the store, the input or the output was refused, which is said as far as the output took it, and the disk is as this says.
+-- With status 0 it is done and said in full. With status 1 the store, the input or the output was refused, which is said as far as the output took it, and the
+-- disk is as this says.
 abbrev pub Acts : Bool → Action → DiskState → Input → Output → DiskState → Type 0
 Acts tells action.Example old input output new = RunsNew tells old input output new
 Acts tells (action.Format dir slots) old input output new = Makes tells old slots output new

@@ -43,7 +43,8 @@ IsBodyText n (body.Commit members) text = (lines : Text) × Each IsMemberLine me
 IsBodyText n (body.Archived run) text = text ≡ numbers_line n (codes " archived ") run.upto run.start run.len run.records
 IsBodyText n (body.Reclaimed anchors) text = text ≡ numbers_line n (codes " reclaimed ") anchors.upto anchors.first anchors.extents anchors.records
 IsBodyText n (body.Floor None floor) text = text ≡ codes "slot " ++ (decimal n ++ (codes " floor " ++ (decimal floor ++ codes "\n")))
-IsBodyText n (body.Floor (Some relation) floor) text = text ≡ codes "slot " ++ (decimal n ++ (codes " floor " ++ (decimal floor ++ (codes " relation " ++ (decimal relation ++ codes "\n")))))
+IsBodyText n (body.Floor (Some relation) floor) text =
+    text ≡ codes "slot " ++ (decimal n ++ (codes " floor " ++ (decimal floor ++ (codes " relation " ++ (decimal relation ++ codes "\n")))))
 
 -- the text of one slot of the log
 abbrev pub IsSlotText : Slot → Text → Type 0

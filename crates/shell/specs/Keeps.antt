@@ -39,7 +39,8 @@ use Rattle.shell.specs.Acts.{Input, IsRefused, IsTold, Output, SaysAll, SaysGrow
 use Rattle.shell.specs.Vacuums.{DoesJob, DoesVacuum}
 use Rattle.shell.specs.declared.vacuuming.Vacuumed.{Vacuumed}
 
--- The lines of the input are run, all or a front of them, and the run keeps the promise: at every moment whatever a stop may leave survives, with every commit of which `done` was written, and what is written is what a run of the machine answers.
+-- The lines of the input are run, all or a front of them, and the run keeps the promise: at every moment whatever a stop may leave survives, with every commit
+-- of which `done` was written, and what is written is what a run of the machine answers.
 pub record LinesKeep (tells : Bool) (h : History Value) (floors : ℕ → ℕ) (store : StoreValue) (input : Input) (output : Output) (new : DiskState) : Type 0 where
   pub lines : List Text
   pub are : AreLines input.text lines
@@ -50,7 +51,8 @@ pub record LinesKeep (tells : Bool) (h : History Value) (floors : ℕ → ℕ) (
 
 -- the store opens as this history; no line is run, or lines are
 abbrev pub OpenedKeeps : Bool → History Value → (ℕ → ℕ) → DiskState → Input → Output → DiskState → Type 0
-OpenedKeeps tells h floors old input output new = (store : StoreValue) × Opens tells old 1 store × ((new ≡ store.disk) ⊎ LinesKeep tells h floors store input output new)
+OpenedKeeps tells h floors old input output new =
+    (store : StoreValue) × Opens tells old 1 store × ((new ≡ store.disk) ⊎ LinesKeep tells h floors store input output new)
 
 -- it does not open, and the disk holds what it held, or it does
 abbrev pub RunKeeps : Bool → History Value → (ℕ → ℕ) → DiskState → Input → Output → DiskState → Type 0
@@ -66,7 +68,8 @@ pub record NewRunKeeps (tells : Bool) (old : DiskState) (input : Input) (output 
 abbrev pub LineLeads : Bool → ScriptMoment → Line → Reply → ScriptMoment → Type 0
 LineLeads tells before l r after = LineKeeps tells l r before after
 
--- The lines of a vacuum are answered as those of a script, and the store is closed: at every moment whatever a stop may leave survives. The log is read of what the disk holds then.
+-- The lines of a vacuum are answered as those of a script, and the store is closed: at every moment whatever a stop may leave survives. The log is read of what
+-- the disk holds then.
 pub record VacuumKeeps (tells : Bool) (h : History Value) (floors : ℕ → ℕ) (store : StoreValue) (upto : ℕ) (output : Output) (new : DiskState) : Type 0 where
   pub done : Vacuumed
   pub after : ScriptMoment
@@ -78,7 +81,8 @@ pub record VacuumKeeps (tells : Bool) (h : History Value) (floors : ℕ → ℕ)
 
 -- the store opens as this history; no line is answered, or lines are
 abbrev pub VacuumOpenedKeeps : Bool → History Value → (ℕ → ℕ) → DiskState → ℕ → Output → DiskState → Type 0
-VacuumOpenedKeeps tells h floors old upto output new = (store : StoreValue) × Opens tells old 1 store × ((new ≡ store.disk) ⊎ VacuumKeeps tells h floors store upto output new)
+VacuumOpenedKeeps tells h floors old upto output new =
+    (store : StoreValue) × Opens tells old 1 store × ((new ≡ store.disk) ⊎ VacuumKeeps tells h floors store upto output new)
 
 -- it does not open, and the disk holds what it held, or it does
 abbrev pub VacuumingKeeps : Bool → DiskState → ℕ → Output → DiskState → Type 0
@@ -97,7 +101,8 @@ pub record GrowthKeeps (tells : Bool) (h : History Value) (floors : ℕ → ℕ)
 
 -- the store opens as this history; no line is answered, or a growth keeps the promise
 abbrev pub GrowthOpenedKeeps : Bool → History Value → (ℕ → ℕ) → DiskState → Output → DiskState → Type 0
-GrowthOpenedKeeps tells h floors old output new = (store : StoreValue) × Opens tells old 1 store × ((new ≡ store.disk) ⊎ GrowthKeeps tells h floors store output new)
+GrowthOpenedKeeps tells h floors old output new =
+    (store : StoreValue) × Opens tells old 1 store × ((new ≡ store.disk) ⊎ GrowthKeeps tells h floors store output new)
 
 -- of whatever history the image stands for: the store does not open, or a growth keeps the promise
 abbrev pub GrowingKeeps : Bool → DiskState → Output → DiskState → Type 0
@@ -137,8 +142,10 @@ IsRowsReply (Err why) r = r ≡ refusal_of why
 abbrev pub OrGaveOut : (Reply → Type 0) → Reply → Type 0
 OrGaveOut Is r = Is r ⊎ ((r ≡ reply.Refused (fault.Query query.NoMemory)) ⊎ (r ≡ reply.Refused (fault.Query query.Device)))
 
--- The line of a question is answered as one of a script, and the store is closed: at every moment whatever a stop may leave survives. What is printed is what the write sets of the history say.
-pub record QuestionKeeps (tells : Bool) (h : History Value) (floors : ℕ → ℕ) (store : StoreValue) (asks : Line) (Is : Reply → Type 0) (output : Output) (new : DiskState) : Type 0 where
+-- The line of a question is answered as one of a script, and the store is closed: at every moment whatever a stop may leave survives. What is printed is what
+-- the write sets of the history say.
+pub record QuestionKeeps (tells : Bool) (h : History Value) (floors : ℕ → ℕ) (store : StoreValue) (asks : Line) (Is : Reply
+    → Type 0) (output : Output) (new : DiskState) : Type 0 where
   pub answer : Reply
   pub after : ScriptMoment
   pub line : LineKeeps tells asks answer (first_script_moment store (machine.opened h floors)) after
@@ -149,24 +156,31 @@ pub record QuestionKeeps (tells : Bool) (h : History Value) (floors : ℕ → �
 -- the store opens as this history; there is no memory for a session, or the question is answered by the history
 abbrev pub QuestionOpenedKeeps : Bool → History Value → (ℕ → ℕ) → DiskState → Line → (Reply → Type 0) → Output → DiskState → Type 0
 QuestionOpenedKeeps tells h floors old asks Is output new =
-    (store : StoreValue) × Opens tells old 1 store × (((new ≡ store.disk) × IsRefused output (refusal_line fault.NoMemory)) ⊎ QuestionKeeps tells h floors store asks Is output new)
+    (store : StoreValue) × Opens tells old 1 store
+    × (((new ≡ store.disk) × IsRefused output (refusal_line fault.NoMemory)) ⊎ QuestionKeeps tells h floors store asks Is output new)
 
 -- of whatever history the image stands for: the store does not open, since the device or memory gives out, or the question is answered by that history
 abbrev pub AskingKeeps : Bool → DiskState → Line → (History Value → (ℕ → ℕ) → Reply → Type 0) → Output → DiskState → Type 0
 AskingKeeps tells old asks Is output new = (header : Header) (h : History Value) (floors : ℕ → ℕ) → IsImageOf header (image_of old.areas) h floors
-    → ((f : OpenFault) × OpenRefuses tells old f new × IsReadFault f × IsRefused output (open_line f)) ⊎ QuestionOpenedKeeps tells h floors old asks (Is h floors) output new
+    → ((f : OpenFault) × OpenRefuses tells old f new × IsReadFault f × IsRefused output (open_line f))
+    ⊎ QuestionOpenedKeeps tells h floors old asks (Is h floors) output new
 
 -- ---- actions
 
--- What each action keeps. A script is run on an empty store, or on the one that a disk holds, of whatever history its image stands for, and so are the lines of a vacuum, of a growth and of a question: at every moment whatever a stop may leave survives. What is printed of a question is what the write sets of that history say. A store that was made is kept as the empty history, and a dump leaves the areas as they were.
+-- What each action keeps. A script is run on an empty store, or on the one that a disk holds, of whatever history its image stands for, and so are the lines of
+-- a vacuum, of a growth and of a question: at every moment whatever a stop may leave survives. What is printed of a question is what the write sets of that
+-- history say. A store that was made is kept as the empty history, and a dump leaves the areas as they were.
 abbrev pub KeepsPromise : Bool → Action → DiskState → Input → Output → DiskState → Type 0
 KeepsPromise tells action.Example old input output new = ((f : FormatFault) × FormatRefuses tells 16 old f new) ⊎ NewRunKeeps tells old input output new
-KeepsPromise tells (action.Run dir) old input output new = (header : Header) (h : History Value) (floors : ℕ → ℕ) → IsImageOf header (image_of old.areas) h floors → RunKeeps tells h floors old input output new
+KeepsPromise tells (action.Run dir) old input output new =
+    (header : Header) (h : History Value) (floors : ℕ → ℕ) → IsImageOf header (image_of old.areas) h floors → RunKeeps tells h floors old input output new
 KeepsPromise tells (action.Format dir slots) old input output new = MakingKeeps tells old slots new
 KeepsPromise tells (action.At dir key time) old input output new =
     MatchOption time (new ≡ old) (λ t. AskingKeeps tells old (line.At key t) (λ h floors. IsValueReply (at_answer h floors key t)) output new)
 KeepsPromise tells (action.Between dir key from to) old input output new =
-    MatchOption from (new ≡ old) (λ a. MatchOption to (new ≡ old) (λ b. AskingKeeps tells old (line.Between key a b) (λ h floors. IsRowsReply (between_answer h floors key a b)) output new))
+    MatchOption from (new
+    ≡ old) (λ a. MatchOption to (new
+    ≡ old) (λ b. AskingKeeps tells old (line.Between key a b) (λ h floors. IsRowsReply (between_answer h floors key a b)) output new))
 KeepsPromise tells (action.Vacuum dir time) old input output new = MatchOption time (new ≡ old) (λ t. VacuumingKeeps tells old t output new)
 KeepsPromise tells (action.Grow dir) old input output new = GrowingKeeps tells old output new
 KeepsPromise tells (action.Dump dir) old input output new = new.areas ≡ old.areas

@@ -32,7 +32,9 @@ DoesAll step l old new = (r : Reply) × (mid : _) × (s : Reply) × step old l r
 
 -- the line is refused so, and nothing comes after it; or it is not, and `finish` is
 abbrev pub DoesPart : {M : Type 0} → (M → Line → Reply → M → Type 0) → Line → M → Reply → M → Type 0
-DoesPart step l old refusal new = (is_refusal refusal ≡ true) × (step old l refusal new ⊎ ((r : Reply) × (mid : _) × step old l r mid × (is_refusal r ≡ false) × step mid line.Finish refusal new))
+DoesPart step l old refusal new =
+    (is_refusal refusal ≡ true)
+    × (step old l refusal new ⊎ ((r : Reply) × (mid : _) × step old l r mid × (is_refusal r ≡ false) × step mid line.Finish refusal new))
 
 -- the job that a line begins is done, or refused so
 abbrev pub DoesJob : {M : Type 0} → (M → Line → Reply → M → Type 0) → Line → M → Option Reply → M → Type 0
@@ -49,7 +51,8 @@ DoesVacuum step upto old vacuumed.Both new = (mid : _) × DoesAll step (line.Arc
 
 -- this log stands on the disk, which is as it was
 abbrev pub HasLog : Bool → DiskState → List Slot → DiskState → Type 0
-HasLog tells old slots new = (header : Header) × (IsTrue tells → ReadsHeader old.areas.status.bytes header) × (IsTrue tells → HoldsLog header old.areas.status.bytes slots) × (new ≡ old)
+HasLog tells old slots new =
+    (header : Header) × (IsTrue tells → ReadsHeader old.areas.status.bytes header) × (IsTrue tells → HoldsLog header old.areas.status.bytes slots) × (new ≡ old)
 
 -- no header is read, or no log that follows it
 abbrev pub HasNoHeaderFor : List ℕ → LogFault → Type 0
@@ -61,7 +64,8 @@ HasNoLogFor bytes why = (header : Header) × ReadsHeader bytes header × IsLogFa
 
 -- no log is read, and the disk is as it was
 abbrev pub LacksLog : Bool → DiskState → LogFault → DiskState → Type 0
-LacksLog tells old why new = (IsTrue tells → (IsHeaderFault why × HasNoHeaderFor old.areas.status.bytes why) ⊎ HasNoLogFor old.areas.status.bytes why) × (new ≡ refused_by why old)
+LacksLog tells old why new =
+    (IsTrue tells → (IsHeaderFault why × HasNoHeaderFor old.areas.status.bytes why) ⊎ HasNoLogFor old.areas.status.bytes why) × (new ≡ refused_by why old)
 
 -- the records that a slot's body names, where it is that of a job up to this time
 abbrev pub records_of : Job → ℕ → Body → Option ℕ

@@ -32,6 +32,26 @@ pub fn are_rows(rows: &[Version<SharedValue>], want: &[Row]) -> bool {
     rows.len() == want.len()
 }
 
+/// Whether these rows of records are told.
+pub fn are_scanned(rows: &[(u64, Version<SharedValue>)], want: &[(u64, Row)]) -> bool {
+    for (row, part) in rows.iter().zip(want.iter()) {
+        if row.0 != part.0 || !is_row(&row.1, &part.1) {
+            return false;
+        }
+    }
+    rows.len() == want.len()
+}
+
+/// Whether these records have these values, each of one field.
+pub fn are_values(found: &[(u64, SharedValue)], want: &[(u64, &str)]) -> bool {
+    for (one, part) in found.iter().zip(want.iter()) {
+        if one.0 != part.0 || !is_text(Some(&one.1), Some(part.1)) {
+            return false;
+        }
+    }
+    found.len() == want.len()
+}
+
 /// Rows of a key, or why they are not told.
 pub type Rows = Result<&'static [Row], QueryFault>;
 

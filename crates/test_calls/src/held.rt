@@ -1,5 +1,5 @@
 //! A transaction and views of a store that are held between its steps, and what they answer.
-use crate::answers::{Rows, Value, are_answer, is_answer};
+use crate::answers::{Row, Rows, Value, are_answer, are_scanned, are_values, is_answer};
 use crate::published::SEVEN;
 use disk::Disk;
 use history::Key;
@@ -148,6 +148,35 @@ pub fn is_none_at<D: Disk>(
 ) -> bool {
     match view {
         Some(view) => matches!(store.scan_at(view, relation, time), Ok(found) if found.is_empty()),
+        None => false,
+    }
+}
+
+/// Whether the records of relation 1 have these values at a time, and no others have any.
+pub fn is_scan_at<D: Disk>(
+    store: &mut Store<D>,
+    view: Option<&View>,
+    time: u64,
+    want: &[(u64, &str)],
+) -> bool {
+    match view {
+        Some(view) => matches!(store.scan_at(view, 1, time), Ok(found) if are_values(&found, want)),
+        None => false,
+    }
+}
+
+/// Whether relation 1 has these rows of its records from one time up to another.
+pub fn is_scan_between<D: Disk>(
+    store: &mut Store<D>,
+    view: Option<&View>,
+    a: u64,
+    b: u64,
+    want: &[(u64, Row)],
+) -> bool {
+    match view {
+        Some(view) => {
+            matches!(store.scan_between(view, 1, a, b), Ok(found) if are_scanned(&found, want))
+        }
         None => false,
     }
 }

@@ -116,7 +116,163 @@ const SHOWS_EACH_ONCE: &[Step] = &[
     Step::End(Which::First),
 ];
 
+/// A key that is a from 100 on and b from 110 on, and another that is x from 105 on.
+const TWO_KEYS: &[Step] = &[
+    Step::Queue(Some("a"), 100),
+    Step::PumpTo(Did::Idle),
+    Step::QueueRecord(8, "x", 105),
+    Step::PumpTo(Did::Idle),
+    Step::Queue(Some("b"), 110),
+    Step::PumpTo(Did::Idle),
+];
+
+/// Nothing ended by 105, and the two values of then are anchors in extent 4. Memory alone has what stood
+/// from 105 on.
+const LEAVES_TWO_ANCHORS: &[Step] = &[
+    Step::Archive(105, Ok(())),
+    Step::Jobs(&[JobDid::RunSynced]),
+    Step::Jobs(SLOT),
+    Step::Reclaim(Ok(())),
+    Step::Jobs(&[JobDid::WroteExtent, JobDid::HeapSynced]),
+    Step::Jobs(SLOT),
+    Step::View(Which::First),
+    Step::Between(
+        Which::First,
+        100,
+        111,
+        Ok(&[(100, 110, "a"), (110, 111, "b")]),
+    ),
+    Step::Recent(Which::First, 104, Err(QueryFault::NeedsDisk)),
+    Step::Recent(Which::First, 105, Ok(Some("a"))),
+    Step::End(Which::First),
+];
+
+/// Extents 1 and 2 are free then and 3 stays: the next three commits take 1, 2 and 5.
+const TAKES_THREE: &[Step] = &[
+    Step::Queue(Some("d"), 120),
+    Step::PumpTo(Did::Idle),
+    Step::Queue(Some("e"), 130),
+    Step::PumpTo(Did::Idle),
+    Step::Queue(Some("f"), 140),
+    Step::PumpTo(Did::Idle),
+];
+
+/// The first bytes of slot 4 once it names a reclaim up to 105, whose two anchors are in extent 4.
+const TWO_ANCHORS: [u8; 28] = [
+    0xc7, 3, 0, 0, 4, 0, 0, 0, 0x69, 0, 0, 0, 0, 0, 0, 0, 4, 0, 0, 0, 1, 0, 0, 0, 2, 0, 0, 0,
+];
+
+/// Extent 4, the last of its chain, with 44 bytes of records: a, which stands from 100 on, and x, which
+/// does from 105 on.
+const TWO_ANCHORS_FRONT: [u8; 60] = [
+    4, 0, 0, 0, 0, 0, 0, 0, 0x2c, 0, 0, 0, 0, 0, 0, 0, //
+    4, 1, 0, 7, 0, 0, 0, 0, 0, 0, 0, 0x64, 0, 0, 0, 0, 0, 0, 0, 1, 1, 0x61, //
+    4, 1, 0, 8, 0, 0, 0, 0, 0, 0, 0, 0x69, 0, 0, 0, 0, 0, 0, 0, 1, 1, 0x78,
+];
+
+/// Extent 3, as the commit of b left it, and those of the next three commits.
+const THIRD_FRONT: [u8; 30] = [
+    3, 0, 0, 0, 0, 0, 0, 0, 0x0e, 0, 0, 0, 0, 0, 0, 0, 1, 1, 0, 7, 0, 0, 0, 0, 0, 0, 0, 1, 1, 0x62,
+];
+
+const SECOND_FRONT: [u8; 30] = [
+    2, 0, 0, 0, 0, 0, 0, 0, 0x0e, 0, 0, 0, 0, 0, 0, 0, 1, 1, 0, 7, 0, 0, 0, 0, 0, 0, 0, 1, 1, 0x65,
+];
+
+const FIFTH_FRONT: [u8; 30] = [
+    5, 0, 0, 0, 0, 0, 0, 0, 0x0e, 0, 0, 0, 0, 0, 0, 0, 1, 1, 0, 7, 0, 0, 0, 0, 0, 0, 0, 1, 1, 0x66,
+];
+
+/// All rows of the four commits, and those from 105 up to 121, once the archive alone has some.
+const SCANS_BOTH_HOMES: &[Step] = &[
+    Step::View(Which::First),
+    Step::ScanAt(Which::First, 105, &[(7, "a")]),
+    Step::ScanBetween(
+        Which::First,
+        100,
+        131,
+        &[
+            (7, (100, 110, "a")),
+            (7, (110, 120, "b")),
+            (7, (130, 131, "c")),
+        ],
+    ),
+    Step::ScanBetween(
+        Which::First,
+        105,
+        121,
+        &[(7, (105, 110, "a")), (7, (110, 120, "b"))],
+    ),
+    Step::End(Which::First),
+];
+
+/// Record 3 is x from 115 on, between two commits of record 7.
+const X_BETWEEN: &[Step] = &[Step::QueueRecord(3, "x", 115), Step::PumpTo(Did::Idle)];
+
+const SCANS_TWO_RECORDS: &[Step] = &[
+    Step::View(Which::First),
+    Step::ScanAt(Which::First, 115, &[(3, "x"), (7, "b")]),
+    Step::ScanAt(Which::First, 125, &[(3, "x")]),
+    Step::NoneAt(Which::First, 2, 115),
+    Step::ScanBetween(
+        Which::First,
+        112,
+        131,
+        &[
+            (3, (115, 131, "x")),
+            (7, (112, 120, "b")),
+            (7, (130, 131, "c")),
+        ],
+    ),
+    Step::Between(Which::First, 140, 140, Err(NOT_YET)),
+    Step::End(Which::First),
+];
+
 const CASES: &[Case] = &[
+    Case(
+        "a scan shows each record's rows by their times",
+        16,
+        ONE_FLOOR,
+        &[Part(&[TWO_COMMITS, X_BETWEEN, TWO_MORE, SCANS_TWO_RECORDS], &[])],
+    ),
+    Case(
+        "a scan shows the rows of both homes",
+        16,
+        ONE_FLOOR,
+        &[
+            Part(
+                &[TWO_COMMITS, TWO_MORE, ARCHIVED, RECLAIMED, SCANS_BOTH_HOMES],
+                &[],
+            ),
+            Part(&[SCANS_BOTH_HOMES], &[]),
+        ],
+    ),
+    Case(
+        "two values that stand at the mark are anchors",
+        16,
+        ONE_FLOOR,
+        &[
+            Part(
+                &[TWO_KEYS, LEAVES_TWO_ANCHORS],
+                &[
+                    AtRest::Bytes(Area::Status, 2560, &TWO_ANCHORS),
+                    AtRest::Bytes(Area::Heap, 24_576, &TWO_ANCHORS_FRONT),
+                    AtRest::Len(Area::Heap, 32_768),
+                ],
+            ),
+            Part(
+                &[TAKES_THREE],
+                &[
+                    AtRest::Bytes(Area::Heap, 0, &NEXT_FRONT),
+                    AtRest::Bytes(Area::Heap, 8192, &SECOND_FRONT),
+                    AtRest::Bytes(Area::Heap, 16_384, &THIRD_FRONT),
+                    AtRest::Bytes(Area::Heap, 24_576, &TWO_ANCHORS_FRONT),
+                    AtRest::Bytes(Area::Heap, 32_768, &FIFTH_FRONT),
+                    AtRest::Len(Area::Heap, 40_960),
+                ],
+            ),
+        ],
+    ),
     Case(
         "a reclaim frees what ended",
         16,

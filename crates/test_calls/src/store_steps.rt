@@ -1,6 +1,9 @@
 //! Steps that are taken with a store, as tables have them, each with its answer.
-use crate::answers::{Rows, Value};
-use crate::held::{Held, Which, abort, begin, end, is_at, is_between, is_none_at, is_recent, view};
+use crate::answers::{Row, Rows, Value};
+use crate::held::{
+    Held, Which, abort, begin, end, is_at, is_between, is_none_at, is_recent, is_scan_at,
+    is_scan_between, view,
+};
 use crate::published::SEVEN;
 use disk::Disk;
 use history::Key;
@@ -12,6 +15,8 @@ use store::{Did, JobDid, PumpFault, StartFault, Store, SubmitFault, Submitted, T
 pub enum Step {
     /// A commit of `SEVEN` is queued at a time: a value of one field of this text, or no value.
     Queue(Option<&'static str>, u64),
+    /// The same of a record of relation 1.
+    QueueRecord(u64, &'static str, u64),
     /// Commits of the value a, one at each time from the first up to the last, are published.
     Commits(u64, u64),
     /// A commit of the record of this number at this time: whether it is queued, or else no slot of
@@ -54,6 +59,10 @@ pub enum Step {
     Between(Which, u64, u64, Rows),
     /// No record of a relation has a value at a time.
     NoneAt(Which, u16, u64),
+    /// The records of relation 1 that have a value at a time, each with it.
+    ScanAt(Which, u64, &'static [(u64, &'static str)]),
+    /// The rows of relation 1 from one time up to another, each with its record.
+    ScanBetween(Which, u64, u64, &'static [(u64, Row)]),
 }
 
 /// Whether a transaction is submitted and its commit queued, and else no slot is left.
@@ -170,6 +179,9 @@ fn floor_of<D: Disk>(store: &Store<D>, scope: Option<u16>) -> u64 {
 fn is_pumped<D: Disk>(alloc: Global, store: &mut Store<D>, step: &Step) -> bool {
     match *step {
         Step::Queue(text, now) => queue(alloc, store, SEVEN, text, now).is_ok(),
+        Step::QueueRecord(record, text, now) => {
+            queue(alloc, store, key_of(record), Some(text), now).is_ok()
+        }
         Step::Commits(first, last) => commits(alloc, store, first, last),
         Step::QueueOther(now, is_queued) => queues_other(alloc, store, now, is_queued),
         Step::Fill(from, count) => fills(alloc, store, from, count),
@@ -195,6 +207,21 @@ fn is_worked<D: Disk>(alloc: Global, store: &mut Store<D>, step: &Step) -> bool 
     }
 }
 
+/// Whether queries are answered as the step says.
+fn is_shown<D: Disk>(alloc: Global, store: &mut Store<D>, held: &Held, step: &Step) -> bool {
+    match *step {
+        Step::At(which, key, time, want) => is_at(store, held.view(which), key, time, want),
+        Step::Recent(which, time, want) => is_recent(held.view(which), time, want),
+        Step::Between(which, a, b, want) => is_between(store, held.view(which), a, b, want),
+        Step::NoneAt(which, relation, time) => is_none_at(store, held.view(which), relation, time),
+        Step::ScanAt(which, time, want) => is_scan_at(store, held.view(which), time, want),
+        Step::ScanBetween(which, a, b, want) => {
+            is_scan_between(store, held.view(which), a, b, want)
+        }
+        _ => is_worked(alloc, store, step),
+    }
+}
+
 /// Whether the store answers as the step says.
 pub fn is_answered<D: Disk>(
     alloc: Global,
@@ -207,10 +234,6 @@ pub fn is_answered<D: Disk>(
         Step::Abort => abort(store, held.take_reader()),
         Step::View(which) => view(store, held, which),
         Step::End(which) => end(store, held.put_view(which, None)),
-        Step::At(which, key, time, want) => is_at(store, held.view(which), key, time, want),
-        Step::Recent(which, time, want) => is_recent(held.view(which), time, want),
-        Step::Between(which, a, b, want) => is_between(store, held.view(which), a, b, want),
-        Step::NoneAt(which, relation, time) => is_none_at(store, held.view(which), relation, time),
-        _ => is_worked(alloc, store, step),
+        _ => is_shown(alloc, store, held, step),
     }
 }

@@ -1,9 +1,9 @@
 //! Archives that a script makes, step by step.
 use crate::archived::{RUN, SLOT};
 use crate::examples::{Example, FOUR_COMMITS, each_goes};
-use crate::machine::Profiles::Each;
+use crate::machine::Profiles::{Each, Newest};
 use crate::steps::Step;
-use crate::steps::Step::{Long, New, Parts, Says, Spells};
+use crate::steps::Step::{Long, New, Parts, Says, Spells, SpellsParts};
 use disk::Area;
 use std::test::Fail;
 
@@ -129,11 +129,8 @@ at 1 7 110 | value 62
     Long(Area::Archive, 0),
 ];
 
-/// An archive of two values of 16 long fields.
-const TWO_PIECES: &[Step] = &[
-    New(16),
-    Parts(&[(
-        "begin a | snapshot 0
+/// Two values of 16 long fields, and a short one, of which an archive up to the last begins.
+const LONG_VALUES: &str = "begin a | snapshot 0
 put a 1 7A | ok
 submit a 1 100 | queued
 flush | idle
@@ -147,25 +144,92 @@ submit c 3 120 | queued
 flush | idle
 archive 120 | started
 job | wrote run
-job | wrote run
+";
+
+/// The second piece of its run.
+const SECOND_PIECE: &str = "job | wrote run
 job | run synced
 job | body written
 job | body synced
 job | gate written
 job | job done
-reopen | last 120 floors 0
+";
+
+/// The run: two records of 4,123 bytes, and the index of their places. Each value has 16 fields of 255
+/// bytes 61.
+const TWO_LONG_RECORDS: Step = SpellsParts(
+    Area::Archive,
+    &[
+        (
+            "0100 0700000000000000 6400000000000000 6e00000000000000 10",
+            1,
+        ),
+        ("E", 16),
+        (
+            "0100 0700000000000000 6e00000000000000 7800000000000000 10",
+            1,
+        ),
+        ("E", 16),
+        ("0000000000000000 1b10000000000000", 1),
+    ],
+);
+
+/// An archive of two values of 16 long fields.
+const TWO_PIECES: &[Step] = &[
+    New(16),
+    Parts(&[
+        (LONG_VALUES, 1),
+        (SECOND_PIECE, 1),
+        (
+            "reopen | last 120 floors 0
 at 1 7 105 | valueA
 at 1 7 119 | valueA
 at 1 7 120 | value 63
 ",
-        1,
-    )]),
+            1,
+        ),
+    ]),
     Spells(
         Area::Status,
         2048,
         "c7 02 00 00 03000000 7800000000000000 0000000000000000 4620000000000000 0200000000000000 ..z 472",
     ),
     Long(Area::Archive, 8262),
+    TWO_LONG_RECORDS,
+];
+
+/// The same with a commit that is published between the two pieces, and takes the slot before the run's.
+const COMMIT_BETWEEN: &[Step] = &[
+    New(16),
+    Parts(&[
+        (LONG_VALUES, 1),
+        (
+            "begin d | snapshot 120
+put d 1 7 64 | ok
+submit d 4 130 | queued
+flush | idle
+redeem d | done 130
+",
+            1,
+        ),
+        (SECOND_PIECE, 1),
+        (
+            "reopen | last 130 floors 0
+at 1 7 105 | valueA
+at 1 7 119 | valueA
+at 1 7 120 | value 63
+at 1 7 130 | value 64
+",
+            1,
+        ),
+    ]),
+    Spells(
+        Area::Status,
+        2560,
+        "c7 02 00 00 04000000 7800000000000000 0000000000000000 4620000000000000 0200000000000000 ..z 472",
+    ),
+    Long(Area::Archive, 8262),
+    TWO_LONG_RECORDS,
 ];
 
 /// An archive that was not finished is made anew.
@@ -193,6 +257,44 @@ job | wrote run
     ]),
     Spells(Area::Status, 2560, SLOT),
     Spells(Area::Archive, 0, RUN),
+];
+
+/// Each of so many commits ends the value of the one before, which an archive then has: the first run is
+/// empty, and each of the others has one record. The values are asked of the runs, and of memory the last.
+const MANY_RUNS: &[Step] = &[
+    New(256),
+    Parts(&[
+        (
+            "begin t | snapshot #
+put t 1 7 61 | ok
+submit t # 0 | queued
+flush | idle
+redeem t | done +
+archive + | started
+finish | idle
+",
+            101,
+        ),
+        (
+            "reclaim | started\nfinish | idle\nreopen | last 101 floors 0\n",
+            1,
+        ),
+        ("at 1 7 + | value 61\n", 101),
+        (
+            "begin u | snapshot 101
+put u 1 7 62 | ok
+submit u 9 0 | queued
+flush | idle
+at 1 7 102 | value 62
+between 1 7 99 103 | 99 100 61
+| 100 101 61
+| 101 102 61
+| 102 103 62
+| rows 4
+",
+            1,
+        ),
+    ]),
 ];
 
 /// A new store has nothing to archive.
@@ -230,9 +332,19 @@ const EXAMPLES: &[Example] = &[
         steps: TWO_PIECES,
     },
     Example {
+        name: "a_commit_between_two_pieces_changes_no_byte_of_the_run",
+        profiles: Each,
+        steps: COMMIT_BETWEEN,
+    },
+    Example {
         name: "what_is_not_finished_is_given_up",
         profiles: Each,
         steps: GIVEN_UP,
+    },
+    Example {
+        name: "a_hundred_runs_are_asked",
+        profiles: Newest,
+        steps: MANY_RUNS,
     },
     Example {
         name: "nothing_is_archived_of_nothing",

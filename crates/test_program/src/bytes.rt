@@ -1,5 +1,5 @@
 //! The bytes of a disk in memory.
-use crate::text::parts_of_profile;
+use crate::text::{parts_of_profile, repeated};
 use disk::{Area, Disk, FaultDisk};
 use std::alloc::Global;
 
@@ -79,6 +79,20 @@ pub fn has_bytes(
             None => false,
         },
         _ => false,
+    }
+}
+
+/// Whether an area of a store of this profile has the bytes that the parts of a text spell.
+pub fn has_parts(
+    alloc: Global,
+    disk: &mut FaultDisk,
+    area: Area,
+    parts: &[(&str, u32)],
+    profile: u8,
+) -> bool {
+    match repeated(alloc, parts) {
+        Ok(text) => has_bytes(alloc, disk, (area, 0, text.as_str()), profile),
+        Err(_) => false,
     }
 }
 

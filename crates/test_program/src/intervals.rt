@@ -1,5 +1,5 @@
 //! Rows of an interval, and scans at a time.
-use crate::examples::{Example, each_goes};
+use crate::examples::{Example, FOUR_COMMITS, each_goes};
 use crate::machine::Profiles::Each;
 use crate::steps::Step;
 use crate::steps::Step::{New, Rows, Runs, Says};
@@ -55,6 +55,26 @@ const CUT: &[Step] = &[
     ),
 ];
 
+/// Rows of a value, another, none, and a third: whole, cut at both ends, while there is no value, of an
+/// empty interval, and of one that ends too late.
+const OF_FOUR: &[Step] = &[
+    New(16),
+    Says(FOUR_COMMITS),
+    Says(
+        "between 1 7 100 131 | 100 110 61
+| 110 120 62
+| 130 131 63
+| rows 3
+between 1 7 105 115 | 105 110 61
+| 110 115 62
+| rows 2
+between 1 7 120 130 | rows 0
+between 1 7 110 110 | refused: empty interval
+between 1 7 100 132 | refused: not yet 130
+",
+    ),
+];
+
 /// What a command answers, and refuses.
 const ASKED: &[Step] = &[
     New(16),
@@ -77,6 +97,11 @@ const EXAMPLES: &[Example] = &[
         name: "rows_are_cut_to_their_interval",
         profiles: Each,
         steps: CUT,
+    },
+    Example {
+        name: "rows_of_four_commits",
+        profiles: Each,
+        steps: OF_FOUR,
     },
     Example {
         name: "a_command_asks_for_rows",

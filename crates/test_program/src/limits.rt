@@ -1,4 +1,5 @@
-//! The limits of values and of write sets.
+//! The limits of values and of write sets, in scripts of more than a thousand lines, and with lines and
+//! answers of more than 4,096 bytes.
 use crate::examples::{Example, each_goes};
 use crate::machine::Profiles::Each;
 use crate::steps::Step::{Extents, New, Parts, Says};

@@ -1,5 +1,5 @@
 //! Steps: what is done to a disk, and what must come of it.
-use crate::bytes::{bytes_of, change, has_bytes, has_extents, is_long, put};
+use crate::bytes::{bytes_of, change, has_bytes, has_extents, has_parts, is_long, put};
 use crate::machine::{KEY, Machine, NEWEST, NO_FAULT, SCRIPT};
 use disk::{Area, Disk, Fault, FaultDisk, MemDisk};
 use script::read_time;
@@ -40,6 +40,8 @@ pub enum Step {
     At(&'static str, &'static str),
     /// The bytes from a place on.
     Spells(Area, usize, &'static str),
+    /// The bytes with which an area begins, as the parts of a text spell them, repeated as `repeated` says.
+    SpellsParts(Area, &'static [(&'static str, u32)]),
     /// How many bytes an area has.
     Long(Area, u64),
     /// The bytes with which each of the heap's extents begins, and no more extents.
@@ -220,6 +222,7 @@ impl Machine {
         let (alloc, profile, disk) = (self.alloc, self.profile, &mut self.disk);
         match *step {
             Step::Spells(area, place, text) => has_bytes(alloc, disk, (area, place, text), profile),
+            Step::SpellsParts(area, parts) => has_parts(alloc, disk, area, parts, profile),
             Step::Long(area, len) => is_long(disk, area, len),
             Step::Extents(extents) => has_extents(alloc, disk, extents, profile),
             Step::Puts(area, place, text) => put(alloc, disk, (area, place, text), profile),

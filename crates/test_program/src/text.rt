@@ -97,6 +97,12 @@ fn push_field(text: &mut String, len: u32) -> Result<(), AllocError> {
     Ok(())
 }
 
+/// A field of 255 bytes as it is stored: its length, and its bytes.
+fn push_stored_field(text: &mut String) -> Result<(), AllocError> {
+    text.push_str(" ff")?;
+    push_field(text, 255)
+}
+
 /// So many fields of this many bytes each.
 fn push_fields(text: &mut String, count: u32, len: u32) -> Result<(), AllocError> {
     for _ in 0..count {
@@ -114,6 +120,7 @@ fn push_sign(text: &mut String, sign: char, number: u32) -> Result<(), AllocErro
         'A' => push_fields(text, 16, 255),
         'B' => push_fields(text, 17, 1),
         'C' => push_fields(text, 1, 256),
+        'E' => push_stored_field(text),
         other => text.push(other),
     }
 }
@@ -126,6 +133,13 @@ fn push_part(text: &mut String, part: &str, number: u32) -> Result<(), AllocErro
     Ok(())
 }
 
+/// A part of a dialogue as its repetition of this number.
+pub fn numbered(alloc: Global, part: &str, number: u32) -> Result<String, AllocError> {
+    let mut text = String::new(alloc);
+    push_part(&mut text, part, number)?;
+    Ok(text)
+}
+
 /// All repetitions of a part of a dialogue.
 fn push_parts(text: &mut String, (part, count): (&str, u32)) -> Result<(), AllocError> {
     for number in 0..count {
@@ -135,8 +149,8 @@ fn push_parts(text: &mut String, (part, count): (&str, u32)) -> Result<(), Alloc
 }
 
 /// A dialogue of parts, each repeated so many times. In a part `#` stands for the repetition's number
-/// from 0, `+` for one more, `@` for 100 more; `A` for 16 fields of 255 bytes, `B` for 17 of one, and
-/// `C` for one of 256.
+/// from 0, `+` for one more, `@` for 100 more; `A` for 16 fields of 255 bytes, `B` for 17 of one, `C` for
+/// one of 256, and `E` for one of 255 as it is stored.
 pub fn repeated(alloc: Global, parts: &[(&str, u32)]) -> Result<String, AllocError> {
     let mut text = String::new(alloc);
     for part in parts {

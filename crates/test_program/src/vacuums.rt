@@ -6,7 +6,8 @@ use crate::raised_floors::FROM_115;
 use crate::refusals::Then::Left;
 use crate::refusals::{Calls, Outcome, Refusals, each_refusal_goes};
 use crate::steps::Step;
-use crate::steps::Step::{At, Dumps, New, Parts, Says, Vacuums};
+use crate::steps::Step::{At, Dumps, Extents, Long, New, Parts, Says, Spells, Vacuums};
+use disk::Area;
 use shell::Action;
 use std::test::Fail;
 
@@ -20,13 +21,18 @@ at 1 7 125 | none
 at 1 7 130 | value 63
 ";
 
+/// The slot of a reclaim up to 120 that leaves no anchors, to its end.
+const NO_ANCHORS: &str = "c7 03 00 00 05000000 7800000000000000 00000000 00000000 00000000 ..z 484";
+
 /// Both say what they did.
 const ENDED: &[Step] = &[
     New(16),
     Says(FOUR_COMMITS),
     Vacuums("120", "archived 2\nreclaimed 0\n", 0),
     Dumps(RECLAIMED_LOG, 0),
+    Spells(Area::Status, 3072, NO_ANCHORS),
     Says(ROWS),
+    Says("scan 1 105 | 7 61\n| rows 1\nreopen | last 130 floors 0\nscan 1 105 | 7 61\n| rows 1\n"),
 ];
 
 /// What 61 was ended before the floor.
@@ -56,12 +62,45 @@ flush | idle
 redeem c | done 110
 ";
 
-/// Nothing ended by 105.
+/// Three more commits of the first key.
+const THREE_MORE: &str = "begin a | snapshot 110
+put a 1 7 64 | ok
+submit a 4 120 | queued
+flush | idle
+begin b | snapshot 120
+put b 1 7 65 | ok
+submit b 5 130 | queued
+flush | idle
+begin c | snapshot 130
+put c 1 7 66 | ok
+submit c 6 140 | queued
+flush | idle
+";
+
+/// Nothing ended by 105, and what stood then is two anchors of 22 bytes each in extent 4. Of the commits'
+/// extents 1 and 2 become free, and 3 stays: the next commits take 1, 2 and 5.
 const EMPTY: &[Step] = &[
     New(16),
     Says(TWO_KEYS),
     Vacuums("105", "archived 0\nreclaimed 2\n", 0),
     Says("between 1 7 100 111 | 100 110 61\n| 110 111 62\n| rows 2\n"),
+    Long(Area::Archive, 0),
+    Spells(
+        Area::Status,
+        2560,
+        "c7 03 00 00 04000000 6900000000000000 04000000 01000000 02000000 ..z 484",
+    ),
+    Says(THREE_MORE),
+    Extents(&[
+        "01000000 00000000 0e000000 00000000 01 0100 0700000000000000 01 01 64 ..z 8162",
+        "02000000 00000000 0e000000 00000000 01 0100 0700000000000000 01 01 65 ..z 8162",
+        "03000000 00000000 0e000000 00000000 01 0100 0700000000000000 01 01 62 ..z 8162",
+        "04000000 00000000 2c000000 00000000
+         04 0100 0700000000000000 6400000000000000 01 01 61
+         04 0100 0800000000000000 6900000000000000 01 01 78 ..z 8132",
+        "05000000 00000000 0e000000 00000000 01 0100 0700000000000000 01 01 66 ..z 8162",
+    ]),
+    Says("between 1 7 100 111 | 100 110 61\n| 110 111 62\n| rows 2\nat 1 8 120 | value 78\n"),
 ];
 
 /// A vacuum behind a vacuum.

@@ -25,7 +25,10 @@ fn push_value(bytes: &mut Vec<u8>, record: u64, value: &Value) -> Result<(), All
     push_write(
         bytes,
         RecordRef {
-            key: Key { record, ..KEY },
+            key: Key {
+                relation: KEY.relation,
+                record,
+            },
             content: ContentRef::Anchor(value),
         },
     )
@@ -45,7 +48,7 @@ fn push_values(alloc: Global, bytes: &mut Vec<u8>, commit: &Commit) -> Result<()
 fn group_bytes(alloc: Global, commits: &[Commit]) -> Option<Vec<u8>> {
     let mut bytes = Vec::new(alloc);
     for commit in commits {
-        let count = commit.keys.len() as u16;
+        let count = commit.keys.len().min(1024) as u16;
         if push_commit(&mut bytes, commit.label, commit.time, count).is_err()
             || push_values(alloc, &mut bytes, commit).is_err()
         {
@@ -63,17 +66,22 @@ fn is_commit(member: &Member, commit: &Commit) -> bool {
         && matches!((records.last(), commit.keys.last()), (Some(record), Some(key)) if record.key.record == *key)
 }
 
+/// Whether these are the commits, one after the other.
+fn are_commits(members: &[Member], commits: &[Commit]) -> bool {
+    for (member, commit) in members.iter().zip(commits.iter()) {
+        if !is_commit(member, commit) {
+            return false;
+        }
+    }
+    members.len() == commits.len()
+}
+
 /// Whether these bytes are a group of these commits.
 fn is_group(alloc: Global, bytes: &[u8], commits: &[Commit]) -> bool {
-    let Ok(Some(Entry::Group(members))) = decode(alloc, MOST, bytes) else {
-        return false;
-    };
-    let members = members.as_slice();
-    members.len() == commits.len()
-        && members
-            .iter()
-            .zip(commits.iter())
-            .all(|(member, commit)| is_commit(member, commit))
+    match decode(alloc, MOST, bytes) {
+        Ok(Some(Entry::Group(members))) => are_commits(members.as_slice(), commits),
+        _ => false,
+    }
 }
 
 /// Whether a group of these commits has just these bytes.
@@ -114,27 +122,28 @@ fn one_commit_is_spelled(rt: HostRuntime) {
     assert!(rt; counted(rt.alloc(), &[b"a"]) == Some(33));
 }
 
+const KEYS: [&[u64]; 17] = [
+    &[0],
+    &[1],
+    &[2],
+    &[3],
+    &[4],
+    &[5],
+    &[6],
+    &[7],
+    &[8],
+    &[9],
+    &[10],
+    &[11],
+    &[12],
+    &[13],
+    &[14],
+    &[15],
+    &[16],
+];
+
 /// The commits of a group: labels from 0 on, times from 100 on, each of one value.
 fn commits_of_a_group(alloc: Global) -> Result<Vec<Commit>, AllocError> {
-    const KEYS: [&[u64]; 17] = [
-        &[0],
-        &[1],
-        &[2],
-        &[3],
-        &[4],
-        &[5],
-        &[6],
-        &[7],
-        &[8],
-        &[9],
-        &[10],
-        &[11],
-        &[12],
-        &[13],
-        &[14],
-        &[15],
-        &[16],
-    ];
     let mut commits = Vec::new(alloc);
     for label in 0..17 {
         commits.push(Commit {
@@ -156,7 +165,15 @@ const SECOND_OF_17: &[u8] =
 const LAST_OF_17: &[u8] =
     b"\x05\x10\0\0\0\0\0\0\0\x74\0\0\0\0\0\0\0\x01\0\x01\x01\0\x10\0\0\0\0\0\0\0\x01\x01a";
 
-/// Whether 17 commits of 33 bytes each are spelled one behind the other.
+/// Whether these are the bytes of 17 commits of 33 bytes each.
+fn are_17(bytes: &[u8]) -> bool {
+    bytes.len() == 561
+        && &bytes[..33] == FIRST_OF_17
+        && &bytes[33..66] == SECOND_OF_17
+        && &bytes[528..] == LAST_OF_17
+}
+
+/// Whether 17 commits are spelled one behind the other.
 fn joins_17(alloc: Global) -> bool {
     let Ok(commits) = commits_of_a_group(alloc) else {
         return false;
@@ -164,11 +181,7 @@ fn joins_17(alloc: Global) -> bool {
     let Some(bytes) = group_bytes(alloc, commits.as_slice()) else {
         return false;
     };
-    bytes.len() == 561
-        && bytes[..33] == *FIRST_OF_17
-        && bytes[33..66] == *SECOND_OF_17
-        && bytes[528..] == *LAST_OF_17
-        && is_group(alloc, bytes.as_slice(), commits.as_slice())
+    are_17(bytes.as_slice()) && is_group(alloc, bytes.as_slice(), commits.as_slice())
 }
 
 #[test]
@@ -176,25 +189,31 @@ fn a_group_of_17_is_joined(rt: HostRuntime) {
     assert!(rt; joins_17(rt.alloc()));
 }
 
+const LONGEST: &[u8] = &[0x78; 255];
+
 const LONG: Commit = Commit {
     label: 1,
     time: 100,
     keys: &[1, 2],
-    value: &[&[0x78; 255]; 16],
+    value: &[LONGEST; 16],
 };
 
 const LONG_FRONT: &[u8] =
     b"\x05\x01\0\0\0\0\0\0\0\x64\0\0\0\0\0\0\0\x02\0\x01\x01\0\x01\0\0\0\0\0\0\0\x10\xffxxxx";
 
-/// Whether two values of 16 fields of 255 bytes have 4,108 bytes each behind their COMMIT.
+const SECOND_KEY: &[u8] = b"\x01\x01\0\x02\0\0\0\0\0\0\0";
+
+/// Whether these are the bytes of two values of 16 fields of 255 bytes: 4,108 each behind their COMMIT.
+fn are_long(bytes: &[u8]) -> bool {
+    bytes.len() == 8235 && bytes.starts_with(LONG_FRONT) && &bytes[4127..4138] == SECOND_KEY
+}
+
+/// Whether a commit of these is spelled so.
 fn is_long(alloc: Global) -> bool {
-    let Some(bytes) = group_bytes(alloc, &[LONG]) else {
-        return false;
-    };
-    bytes.len() == 8235
-        && bytes[..LONG_FRONT.len()] == *LONG_FRONT
-        && bytes[4127..4138] == *b"\x01\x01\0\x02\0\0\0\0\0\0\0"
-        && is_group(alloc, bytes.as_slice(), &[LONG])
+    match group_bytes(alloc, &[LONG]) {
+        Some(bytes) => are_long(bytes.as_slice()) && is_group(alloc, bytes.as_slice(), &[LONG]),
+        None => false,
+    }
 }
 
 #[test]
@@ -302,13 +321,21 @@ const ONE_ANCHOR: AnchorName = AnchorName {
     records: 1,
 };
 
-const ROLLS: &[Roll] = &[
-    Roll { start: 74, len: 48 },
-    Roll {
-        start: 122,
-        len: 16,
-    },
-];
+const FIRST_ROLL: Roll = Roll { start: 74, len: 48 };
+
+const SECOND_ROLL: Roll = Roll {
+    start: 122,
+    len: 16,
+};
+
+const ROLLED: &[u8] =
+    b"\x08\x78\0\0\0\0\0\0\0\0\0\0\0\0\0\0\0\0\0\0\0\x09\x4a\0\0\0\0\0\0\0\x30\0\0\0\0\0\0\0";
+
+const ANCHORED: &[u8] =
+    b"\x08\x82\0\0\0\0\0\0\0\x02\0\0\0\x01\0\0\0\x01\0\0\0\x09\x4a\0\0\0\0\0\0\0\x30\0\0\0\0\0\0\0\x09\x7a\0\0\0\0\0\0\0\x10\0\0\0\0\0\0\0\x06\x78\0\0\0\0\0\0\0\0\0\0\0\0\0\0\0\x4a\0\0\0\0\0\0\0\x02\0\0\0\0\0\0\0\0\0\x06\x82\0\0\0\0\0\0\0\x7a\0\0\0\0\0\0\0\0\0\0\0\0\0\0\0\0\0\0\0\0\0\0\0\0\0";
+
+const FLOORED: &[u8] =
+    b"\x08\x82\0\0\0\0\0\0\0\x02\0\0\0\x01\0\0\0\x01\0\0\0\x09\x4a\0\0\0\0\0\0\0\x30\0\0\0\0\0\0\0\x09\x7a\0\0\0\0\0\0\0\x10\0\0\0\0\0\0\0\x06\x78\0\0\0\0\0\0\0\0\0\0\0\0\0\0\0\x4a\0\0\0\0\0\0\0\x02\0\0\0\0\0\0\0\0\0\x06\x82\0\0\0\0\0\0\0\x7a\0\0\0\0\0\0\0\0\0\0\0\0\0\0\0\0\0\0\0\0\0\0\0\0\0\x07\x82\0\0\0\0\0\0\0\x01\0";
 
 /// The bases of three reclaims, one after the other: the last one has a floor more than the one
 /// before it.
@@ -316,26 +343,26 @@ const BASES: &[Said] = &[
     Said {
         upto: 120,
         anchors: NO_ANCHORS,
-        rolls: &[ROLLS[0]],
+        rolls: &[FIRST_ROLL],
         archives: &[],
         floors: &[],
-        bytes: b"\x08\x78\0\0\0\0\0\0\0\0\0\0\0\0\0\0\0\0\0\0\0\x09\x4a\0\0\0\0\0\0\0\x30\0\0\0\0\0\0\0",
+        bytes: ROLLED,
     },
     Said {
         upto: 130,
         anchors: ONE_ANCHOR,
-        rolls: ROLLS,
+        rolls: &[FIRST_ROLL, SECOND_ROLL],
         archives: &[FIRST_RUN, EMPTY_RUN],
         floors: &[],
-        bytes: b"\x08\x82\0\0\0\0\0\0\0\x02\0\0\0\x01\0\0\0\x01\0\0\0\x09\x4a\0\0\0\0\0\0\0\x30\0\0\0\0\0\0\0\x09\x7a\0\0\0\0\0\0\0\x10\0\0\0\0\0\0\0\x06\x78\0\0\0\0\0\0\0\0\0\0\0\0\0\0\0\x4a\0\0\0\0\0\0\0\x02\0\0\0\0\0\0\0\0\0\x06\x82\0\0\0\0\0\0\0\x7a\0\0\0\0\0\0\0\0\0\0\0\0\0\0\0\0\0\0\0\0\0\0\0\0\0",
+        bytes: ANCHORED,
     },
     Said {
         upto: 130,
         anchors: ONE_ANCHOR,
-        rolls: ROLLS,
+        rolls: &[FIRST_ROLL, SECOND_ROLL],
         archives: &[FIRST_RUN, EMPTY_RUN],
         floors: &[FLOOR],
-        bytes: b"\x08\x82\0\0\0\0\0\0\0\x02\0\0\0\x01\0\0\0\x01\0\0\0\x09\x4a\0\0\0\0\0\0\0\x30\0\0\0\0\0\0\0\x09\x7a\0\0\0\0\0\0\0\x10\0\0\0\0\0\0\0\x06\x78\0\0\0\0\0\0\0\0\0\0\0\0\0\0\0\x4a\0\0\0\0\0\0\0\x02\0\0\0\0\0\0\0\0\0\x06\x82\0\0\0\0\0\0\0\x7a\0\0\0\0\0\0\0\0\0\0\0\0\0\0\0\0\0\0\0\0\0\0\0\0\0\x07\x82\0\0\0\0\0\0\0\x01\0",
+        bytes: FLOORED,
     },
 ];
 
@@ -381,12 +408,12 @@ fn bases_are_spelled(rt: HostRuntime) {
 
 /// Bytes of an entry that are changed, and why they are none then.
 const CHANGED: &[(&str, &[u8], u8, u8)] = &[
-    ("an old version at the front", BASES[0].bytes, 0, 4),
-    ("a base up to 0", BASES[0].bytes, 1, 0),
-    ("a roll of 40 bytes", BASES[0].bytes, 30, 40),
-    ("anchors of no record", BASES[1].bytes, 17, 0),
-    ("anchors in extent 65", BASES[1].bytes, 9, 65),
-    ("a run of a base in the place of one", BASES[1].bytes, 88, 1),
+    ("an old version at the front", ROLLED, 0, 4),
+    ("a base up to 0", ROLLED, 1, 0),
+    ("a roll of 40 bytes", ROLLED, 30, 40),
+    ("anchors of no record", ANCHORED, 17, 0),
+    ("anchors in extent 65", ANCHORED, 9, 65),
+    ("a run of a base in the place of one", ANCHORED, 88, 1),
     ("257 records", ONE_BYTES, 18, 1),
     ("no record", ONE_BYTES, 17, 0),
     ("a time of 0", ONE_BYTES, 9, 0),
@@ -421,6 +448,8 @@ fn changed_bytes_are_no_entry(rt: HostRuntime) {
     }
 }
 
+const ROLL_ALONE: &[u8] = b"\x09\x4a\0\0\0\0\0\0\0\x30\0\0\0\0\0\0\0";
+
 /// Entries of which any front that is shorter is none.
 const CUT: &[&[u8]] = &[ONE_BYTES, FLOOR_BYTES, FIRST_RUN_BYTES];
 
@@ -451,6 +480,6 @@ fn other_bytes_are_no_entry(rt: HostRuntime) {
     }
     assert!(rt; are_none_joined(alloc, FLOOR_BYTES, FLOOR_BYTES));
     assert!(rt; are_none_joined(alloc, ONE_BYTES, FLOOR_BYTES));
-    assert!(rt; are_none_joined(alloc, BASES[2].bytes, FLOOR_BYTES));
-    assert!(rt; are_none_joined(alloc, BASES[1].bytes, &BASES[0].bytes[21..]));
+    assert!(rt; are_none_joined(alloc, FLOORED, FLOOR_BYTES));
+    assert!(rt; are_none_joined(alloc, ANCHORED, ROLL_ALONE));
 }

@@ -135,9 +135,9 @@ fn is_read(alloc: Global, chain: &OneExtent) -> bool {
     let mut reader = ChainReader::new(alloc, chain.kind, EXTENTS, chain.number);
     let image = image_of(&chain.head, chain.body);
     matches!(reader.take(&image), Ok(Taken::Whole))
-        && *reader.numbers() == [chain.number]
+        && reader.numbers() == [chain.number].as_slice()
         && reader.link() == chain.link
-        && *reader.into_content().as_slice() == *chain.body
+        && reader.into_content().as_slice() == chain.body
 }
 
 #[test]
@@ -224,8 +224,8 @@ fn both_taken(
     let mut reader = ChainReader::new(alloc, ChainKind::Log, EXTENTS, 1);
     let one = reader.take(first).ok()?;
     let two = reader.take(second).ok()?;
-    let numbered = *reader.numbers() == [1, 2] && reader.link() == 3;
-    let same = numbered && *reader.into_content().as_slice() == *content;
+    let numbered = reader.numbers() == [1, 2].as_slice() && reader.link() == 3;
+    let same = numbered && reader.into_content().as_slice() == content;
     Some((one, two, same))
 }
 

@@ -96,15 +96,14 @@ fn finds<D: Disk>(
     }
 }
 
-/// The heads that a reader reads to find a key's version in such a run; none where it finds none.
-fn heads_read(alloc: Global, run: RunEntry, record: u64) -> Result<Option<u64>, ArchiveFault> {
+/// Whether a reader finds a key's version in such a run, and the heads that it reads for that.
+fn heads_read(alloc: Global, run: RunEntry, record: u64) -> Result<(bool, u64), ArchiveFault> {
     let Ok(bytes) = many(alloc, run.slot.records) else {
         return Err(ArchiveFault::NoMemory);
     };
     let mut reader = ArchiveReader::without_cache(alloc);
     match finds(&mut reader, &mut disk_of(alloc, bytes), run, record) {
-        Ok(true) => Ok(Some(reader.heads())),
-        Ok(false) => Ok(None),
+        Ok(found) => Ok((found, reader.heads())),
         Err(fault) => Err(fault),
     }
 }
@@ -114,13 +113,13 @@ fn few_heads_are_read_of_many(rt: HostRuntime) {
     for hundred in 0..10u64 {
         let heads = heads_read(rt.alloc(), thousand(), 111 * hundred);
         assert!(rt;
-            matches!(heads, Ok(Some(n)) if n <= 11),
+            matches!(heads, Ok((true, n)) if n <= 11),
             "in hundred {hundred}"
         );
     }
     let heads = heads_read(rt.alloc(), more(), 1023);
-    assert!(rt; matches!(heads, Ok(Some(n)) if n <= 12));
-    assert!(rt; heads_read(rt.alloc(), no_record(), 7) == Ok(None));
+    assert!(rt; matches!(heads, Ok((true, n)) if n <= 12));
+    assert!(rt; heads_read(rt.alloc(), no_record(), 7) == Ok((false, 0)));
 }
 
 const SILENT: Fault = Fault {

@@ -8,7 +8,8 @@ use crate::noted::{Notes, Step, note, step_of, take_all};
 use crate::written::{has, has_rows, key_of, publish_four, queued};
 use disk::{Disk, MemDisk};
 use shared::{
-    Change, CommitFault, Committed, Observer, Opened, Opening, SharedStore, Vacuumed, fresh_store,
+    Change, CommitFault, Committed, Observer, Opened, Opening, SharedStore, VacuumEnd, Vacuumed,
+    fresh_store,
 };
 use std::alloc::{AllocError, Global};
 use std::marker::Brand;
@@ -112,10 +113,10 @@ fn archive_beside_commits<D: Disk, L: Opening, R: Wait + Abort>(
     let first = queued(rt, alloc, store, me, (8, Some("x")), 0);
     let second = queued(rt, alloc, store, me, (9, Some("y")), 0);
     assert_eq!(rt; (first.time(), second.time()), (131, 132));
-    take_all(rt, store, calls, &BESIDE);
+    take_all(rt, store, calls, me, &BESIDE);
     still_waits(rt, store, calls, share, me, first);
     still_waits(rt, store, calls, share, me, second);
-    take_all(rt, store, calls, &AFTER);
+    take_all(rt, store, calls, me, &AFTER);
 }
 
 /// Commits two keys in one commit, and waits until it is published.
@@ -148,10 +149,12 @@ fn pump_one_group<D: Disk, L: Opening, R: Wait + Abort>(
     rt: &R,
     store: &SharedStore<D, L>,
     calls: &AtomicU64,
+    me: Observer<L>,
 ) {
+    let mut me = me;
     let before = calls.load(Ordering::SeqCst);
     for _ in rt.forever() {
-        let did = store.pump(rt);
+        let did = store.pump(rt, &mut me);
         if did != Ok(Did::Idle) {
             assert_eq!(rt; did, Ok(Did::WroteExtent));
             break;
@@ -160,7 +163,7 @@ fn pump_one_group<D: Disk, L: Opening, R: Wait + Abort>(
         thread::yield_now();
     }
     assert_eq!(rt; calls.load(Ordering::SeqCst), before.wrapping_add(1));
-    take_all(rt, store, calls, &ONE_GROUP);
+    take_all(rt, store, calls, &mut me, &ONE_GROUP);
 }
 
 /// A thread commits two keys and waits for it, while another pumps.
@@ -173,10 +176,12 @@ fn commit_beside_pumps<D: Disk + Send, L: Opening + Send + Sync, R: Threads + Wa
 ) -> (Share<L>, Observer<L>)
     requires { 0 < share.parts }
 {
+    let mut me = me;
+    let other = store.another(&mut me);
     let ((committed, share, me), ()) = join(
         rt,
         move || commit_pair(rt, store, share, me),
-        move || pump_one_group(rt, store, calls),
+        move || pump_one_group(rt, store, calls, other),
     );
     assert_eq!(rt; committed, Ok(Committed::Done(133)));
     (share, me)
@@ -196,7 +201,7 @@ fn ask_view<D: Disk, L: Opening, R: Wait + Abort>(
     assert!(rt; has(rt, store, &mut view, 13, (133, "e")));
     let rows = [(132, 133, "c"), (133, 134, "d")];
     assert!(rt; has_rows(rt, store, &mut view, (132, 134), &rows));
-    store.end(rt, view);
+    store.end(view);
 }
 
 /// The vacuum gave this answer. At its first it is told to stop.
@@ -223,10 +228,12 @@ fn vacuum_once<D: Disk, L: Opening, R: Wait + Abort>(
 ) {
     let mut other = store.another(me);
     let mut notes = Notes::new(&VACUUM, calls);
-    store.run_vacuum(rt, me, |rt, answer| {
+    let end = store.run_vacuum(rt, me, |rt, answer| {
         note_vacuumed(rt, store, calls, &mut other, &mut notes, answer);
     });
     assert_eq!(rt; notes.count(), VACUUM.len());
+    let last = Vacuumed::Job(Ok(JobDid::JobDone));
+    assert_eq!(rt; end, VacuumEnd::Told(Some(last)));
 }
 
 /// A committer that was told to stop publishes all that waits.
@@ -240,12 +247,14 @@ fn commit_to_end<D: Disk, L: Opening, R: Wait + Abort>(
     for record in 10..13 {
         queued(rt, alloc, store, me, (record, Some("f")), 0).give_up();
     }
+    let mut other = store.another(me);
     let mut notes = Notes::new(&COMMITTER, calls);
-    store.run_committer(rt, |rt, did| {
-        note(rt, store, calls, me, &mut notes, Step::Group(*did));
+    let last = store.run_committer(rt, me, |rt, did| {
+        note(rt, store, calls, &mut other, &mut notes, Step::Group(*did));
     });
     assert_eq!(rt; notes.count(), COMMITTER.len());
-    assert_eq!(rt; store.reclaim_start(rt), Ok(()));
+    assert_eq!(rt; last, Ok(Did::Idle));
+    assert_eq!(rt; store.reclaim_start(rt, me), Ok(()));
 }
 
 /// The whole example, on a store that was just opened.

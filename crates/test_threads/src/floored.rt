@@ -24,19 +24,29 @@ const STEPS: [JobDid; 4] = [
 ];
 
 /// While a transaction reads before it, or a job runs, no floor begins.
-fn refuse_each<D: Disk, L: Opening, R: Wait + Abort>(rt: &R, store: &SharedStore<D, L>) {
+fn refuse_each<D: Disk, L: Opening, R: Wait + Abort>(
+    rt: &R,
+    store: &SharedStore<D, L>,
+    me: &mut Observer<L>,
+) {
     assert_eq!(rt;
-        store.floor_of_start(rt, 1, 131),
+        store.floor_of_start(rt, 1, 131, me),
         Err(StartFault::InUse(130))
     );
     assert_eq!(rt;
-        store.floor_of_start(rt, 1, 141),
+        store.floor_of_start(rt, 1, 141, me),
         Err(StartFault::NotYet(140))
     );
-    assert_eq!(rt; store.archive_start(rt, 110), Ok(()));
-    assert_eq!(rt; store.floor_of_start(rt, 1, 120), Err(StartFault::JobBusy));
+    assert_eq!(rt; store.archive_start(rt, 110, me), Ok(()));
+    assert_eq!(rt;
+        store.floor_of_start(rt, 1, 120, me),
+        Err(StartFault::JobBusy)
+    );
     // Each relation has a floor of its own, and there is none for all.
-    assert_eq!(rt; store.floor_start(rt, 120), Err(StartFault::WrongProfile));
+    assert_eq!(rt;
+        store.floor_start(rt, 120, me),
+        Err(StartFault::WrongProfile)
+    );
 }
 
 /// A commit is published while a transaction reads before it.
@@ -48,25 +58,29 @@ fn refuse_floors<D: Disk, L: Opening, R: Wait + Abort>(
 ) {
     let open = begun(rt, store, me);
     queued(rt, alloc, store, me, (8, Some("d")), 140).give_up();
-    pump_to(rt, store, Ok(Did::Published(1)));
-    refuse_each(rt, store);
-    store.abort(rt, open);
+    pump_to(rt, store, me, Ok(Did::Published(1)));
+    refuse_each(rt, store, me);
+    store.abort(rt, open, me);
 }
 
 /// The archive that was begun ends, and the floor is raised to 120.
-fn raise_floor<D: Disk, L: Opening, R: Wait + Abort>(rt: &R, store: &SharedStore<D, L>) {
+fn raise_floor<D: Disk, L: Opening, R: Wait + Abort>(
+    rt: &R,
+    store: &SharedStore<D, L>,
+    me: &mut Observer<L>,
+) {
     for _ in 0..10 {
-        if store.job_pump(rt) == Ok(JobDid::JobDone) {
+        if store.job_pump(rt, me) == Ok(JobDid::JobDone) {
             break;
         }
     }
-    assert_eq!(rt; store.floor_of_start(rt, 1, 120), Ok(()));
+    assert_eq!(rt; store.floor_of_start(rt, 1, 120, me), Ok(()));
     for did in STEPS {
-        assert_eq!(rt; store.job_pump(rt), Ok(did));
+        assert_eq!(rt; store.job_pump(rt, me), Ok(did));
     }
-    assert_eq!(rt; store.job_pump(rt), Ok(JobDid::Idle));
+    assert_eq!(rt; store.job_pump(rt, me), Ok(JobDid::Idle));
     assert_eq!(rt;
-        store.floor_of_start(rt, 1, 120),
+        store.floor_of_start(rt, 1, 120, me),
         Err(StartFault::NothingToDo)
     );
 }
@@ -124,14 +138,14 @@ fn answers_by_its_floor<D: Disk + Drop, L: Opening, R: Wait + Abort>(
     let Ok(mut earlier) = store.view(rt, &mut me) else {
         panic!(rt; "no view");
     };
-    raise_floor(rt, &store);
+    raise_floor(rt, &store, &mut me);
     let Ok(mut later) = store.view(rt, &mut me) else {
         panic!(rt; "no view");
     };
     ask_later(rt, &store, &mut later);
     ask_earlier(rt, &store, &mut earlier);
-    store.end(rt, later);
-    store.end(rt, earlier);
+    store.end(later);
+    store.end(earlier);
     let _disk = store.into_store(&mut share).close();
 }
 

@@ -23,14 +23,15 @@ const GATE_STEPS: [JobDid; 4] = [
 ];
 
 /// All steps of a growth. None waits for a group.
-fn grow<D: Disk, L: Opening, R: Wait + Abort>(rt: &R, store: &SharedStore<D, L>) {
-    assert_eq!(rt; store.grow_start(rt), Ok(()));
-    assert_eq!(rt; store.grow_start(rt), Err(StartFault::JobBusy));
+fn grow<D: Disk, L: Opening, R: Wait + Abort>(rt: &R, store: &SharedStore<D, L>, me: Observer<L>) {
+    let mut me = me;
+    assert_eq!(rt; store.grow_start(rt, &mut me), Ok(()));
+    assert_eq!(rt; store.grow_start(rt, &mut me), Err(StartFault::JobBusy));
     for _ in 0..16 {
-        assert_eq!(rt; store.job_pump(rt), Ok(JobDid::WroteZeros));
+        assert_eq!(rt; store.job_pump(rt, &mut me), Ok(JobDid::WroteZeros));
     }
     for did in GATE_STEPS {
-        assert_eq!(rt; store.job_pump(rt), Ok(did));
+        assert_eq!(rt; store.job_pump(rt, &mut me), Ok(did));
     }
 }
 
@@ -44,7 +45,7 @@ fn commit_ten<D: Disk, L: Opening, R: Wait + Abort>(
     let mut me = me;
     for record in 0..10 {
         queued(rt, alloc, store, &mut me, (record, Some("a")), 0).give_up();
-        pump_to(rt, store, Ok(Did::Published(1)));
+        pump_to(rt, store, &mut me, Ok(Did::Published(1)));
     }
 }
 
@@ -55,9 +56,11 @@ fn grow_beside_commits<D: Disk + Send, L: Opening + Send + Sync, R: Threads + Wa
     store: &SharedStore<D, L>,
     me: Observer<L>,
 ) {
+    let mut me = me;
+    let other = store.another(&mut me);
     join(
         rt,
-        move || grow(rt, store),
+        move || grow(rt, store, other),
         move || commit_ten(rt, alloc, store, me),
     );
 }

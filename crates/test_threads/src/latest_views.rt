@@ -34,7 +34,7 @@ fn is_shown<D: Disk, L: Opening, R: Wait>(
     match store.latest_view(rt, me) {
         Ok(view) => {
             let shown = ends_with(&view, wanted.0, wanted.1);
-            store.end(rt, view);
+            store.end(view);
             shown
         }
         Err(AllocError) => false,
@@ -50,7 +50,7 @@ fn publish<D: Disk, L: Opening, R: Wait + Abort>(
     write: (u64, &str),
 ) {
     queued(rt, alloc, store, me, (7, Some(write.1)), write.0).give_up();
-    pump_to(rt, store, Ok(Did::Published(1)));
+    pump_to(rt, store, me, Ok(Did::Published(1)));
 }
 
 /// Views that are asked for twice, behind each commit, and behind commits between which none was.
@@ -79,8 +79,8 @@ fn show_a_floor<D: Disk, L: Opening, R: Wait + Abort>(
     store: &SharedStore<D, L>,
     me: &mut Observer<L>,
 ) {
-    assert_eq!(rt; store.floor_of_start(rt, 1, 150), Ok(()));
-    pump_job(rt, store);
+    assert_eq!(rt; store.floor_of_start(rt, 1, 150, me), Ok(()));
+    pump_job(rt, store, me);
     let Ok(view) = store.latest_view(rt, me) else {
         panic!(rt; "no view");
     };
@@ -89,7 +89,7 @@ fn show_a_floor<D: Disk, L: Opening, R: Wait + Abort>(
         Err(QueryFault::BeforeKept(150))
     );
     let shown = ends_with(&view, 180, "h");
-    store.end(rt, view);
+    store.end(view);
     assert!(rt; refused && shown);
 }
 
@@ -111,7 +111,7 @@ fn renew_behind_commits<D: Disk, L: Opening, R: Wait + Abort>(
             assert!(rt; ends_with(&view, write.0, write.1));
         }
     }
-    store.end(rt, view);
+    store.end(view);
 }
 
 /// Takes views again and again: each has what was published before it was asked for.
@@ -127,7 +127,7 @@ fn watch<D: Disk, L: Opening, R: Wait + Abort>(
             panic!(rt; "no view");
         };
         let shown = view.last();
-        store.end(rt, view);
+        store.end(view);
         assert!(rt; published <= shown);
         thread::yield_now();
     }

@@ -12,9 +12,13 @@ mod grown;
 #[cfg(test)]
 mod latest_views;
 #[cfg(test)]
+mod loops;
+#[cfg(test)]
 mod moved_view;
 #[cfg(test)]
 mod noted;
+#[cfg(test)]
+mod refused;
 #[cfg(test)]
 mod vacuumed;
 #[cfg(test)]

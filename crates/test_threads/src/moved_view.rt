@@ -67,15 +67,15 @@ fn change<D: Disk, L: Opening, R: Wait + Abort>(
     let mut me = me;
     for _ in 0..100 {
         queued(rt, alloc, store, &mut me, (7, Some("d")), 0).give_up();
-        pump_to(rt, store, Ok(Did::Published(1)));
+        pump_to(rt, store, &mut me, Ok(Did::Published(1)));
     }
     let last = store.last_published(rt, &mut me);
-    assert_eq!(rt; store.archive_start(rt, last), Ok(()));
-    pump_job(rt, store);
-    assert_eq!(rt; store.reclaim_start(rt), Ok(()));
-    pump_job(rt, store);
-    assert_eq!(rt; store.floor_of_start(rt, 1, last), Ok(()));
-    pump_job(rt, store);
+    assert_eq!(rt; store.archive_start(rt, last, &mut me), Ok(()));
+    pump_job(rt, store, &mut me);
+    assert_eq!(rt; store.reclaim_start(rt, &mut me), Ok(()));
+    pump_job(rt, store, &mut me);
+    assert_eq!(rt; store.floor_of_start(rt, 1, last, &mut me), Ok(()));
+    pump_job(rt, store, &mut me);
     done.store(true, Ordering::SeqCst);
     me
 }

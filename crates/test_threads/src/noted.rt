@@ -34,11 +34,16 @@ pub fn step_of(answer: &Vacuumed) -> Step {
 }
 
 /// Asks for the step that is wanted.
-fn asked<D: Disk, L: Opening, R: Wait>(rt: &R, store: &SharedStore<D, L>, wanted: Step) -> Step {
+fn asked<D: Disk, L: Opening, R: Wait>(
+    rt: &R,
+    store: &SharedStore<D, L>,
+    me: &mut Observer<L>,
+    wanted: Step,
+) -> Step {
     match wanted {
-        Step::Start(_) => Step::Start(store.archive_start(rt, 120)),
-        Step::Job(_) => Step::Job(store.job_pump(rt)),
-        Step::Group(_) => Step::Group(store.pump(rt)),
+        Step::Start(_) => Step::Start(store.archive_start(rt, 120, me)),
+        Step::Job(_) => Step::Job(store.job_pump(rt, me)),
+        Step::Group(_) => Step::Group(store.pump(rt, me)),
     }
 }
 
@@ -47,11 +52,12 @@ pub fn take_all<D: Disk, L: Opening, R: Wait + Abort>(
     rt: &R,
     store: &SharedStore<D, L>,
     calls: &AtomicU64,
+    me: &mut Observer<L>,
     wanted: &[Step],
 ) {
     for step in wanted {
         let before = calls.load(Ordering::SeqCst);
-        assert_eq!(rt; asked(rt, store, *step), *step);
+        assert_eq!(rt; asked(rt, store, me, *step), *step);
         let made = calls.load(Ordering::SeqCst).wrapping_sub(before);
         assert_eq!(rt; made, device_calls(*step), "{step:?}");
     }
@@ -108,6 +114,6 @@ pub fn note<D: Disk, L: Opening, R: Wait + Abort>(
     let last = notes.compare(rt, calls, step);
     let txn = begun(rt, store, me);
     let snapshot = txn.snapshot();
-    store.abort(rt, txn);
+    store.abort(rt, txn, me);
     assert_eq!(rt; snapshot, last);
 }

@@ -10,7 +10,9 @@ use crate::written::{
     publish_four, pump_job, pump_to, queued, refuses,
 };
 use disk::{Disk, MemDisk};
-use shared::{Observer, Opened, Opening, SharedStore, SharedView, Vacuumed, fresh_store};
+use shared::{
+    Observer, Opened, Opening, SharedStore, SharedView, VacuumEnd, Vacuumed, fresh_store,
+};
 use std::alloc::{AllocError, Global};
 use std::marker::Brand;
 use std::process::Abort;
@@ -61,10 +63,12 @@ fn vacuum_both<D: Disk, L: Opening, R: Wait + Abort>(
 ) {
     let mut other = store.another(me);
     let mut notes = Notes::new(&BOTH, calls);
-    store.run_vacuum(rt, me, |rt, answer| {
+    let end = store.run_vacuum(rt, me, |rt, answer| {
         note_vacuumed(rt, store, calls, &mut other, &mut notes, answer);
     });
     assert_eq!(rt; notes.count(), BOTH.len());
+    let last = Vacuumed::Job(Ok(JobDid::JobDone));
+    assert_eq!(rt; end, VacuumEnd::Told(Some(last)));
 }
 
 /// Whether memory alone shows this one field at a time.
@@ -200,13 +204,13 @@ fn wait_for_a_snapshot<D: Disk, L: Opening, R: Wait + Abort>(
 ) {
     let reader = begun(rt, store, me);
     queued(rt, alloc, store, me, (7, Some("d")), 140).give_up();
-    pump_to(rt, store, Ok(Did::Published(1)));
-    assert_eq!(rt; store.archive_start(rt, 140), Ok(()));
-    pump_job(rt, store);
-    assert_eq!(rt; store.reclaim_start(rt), Err(StartFault::InUse(130)));
-    store.abort(rt, reader);
-    assert_eq!(rt; store.reclaim_start(rt), Ok(()));
-    pump_job(rt, store);
+    pump_to(rt, store, me, Ok(Did::Published(1)));
+    assert_eq!(rt; store.archive_start(rt, 140, me), Ok(()));
+    pump_job(rt, store, me);
+    assert_eq!(rt; store.reclaim_start(rt, me), Err(StartFault::InUse(130)));
+    store.abort(rt, reader, me);
+    assert_eq!(rt; store.reclaim_start(rt, me), Ok(()));
+    pump_job(rt, store, me);
 }
 
 /// The whole example, on a store that was just opened.
@@ -234,8 +238,8 @@ fn answers_from_both<D: Disk + Drop, L: Opening, R: Wait + Abort>(
     ask_store(rt, &store, &mut earlier);
     wait_for_a_snapshot(rt, alloc, &store, &mut me);
     ask_earlier(rt, &earlier);
-    store.end(rt, view);
-    store.end(rt, earlier);
+    store.end(view);
+    store.end(earlier);
     let _disk = store.into_store(&mut share).close();
 }
 

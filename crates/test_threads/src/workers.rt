@@ -6,7 +6,7 @@ use std::process::Abort;
 use std::sync::Wait;
 use std::thread::Threads;
 use store::Store;
-use workload::{Plan, stress, stress_on};
+use workload::{Plan, holds_last_rounds, stress, stress_on};
 
 #[test]
 fn a_stress_counts_each_round_of_each_writer(rt: HostRuntime) {
@@ -64,6 +64,28 @@ fn workers_count_what_the_store_has(rt: HostRuntime) {
         assert_eq!(rt; done, Some(commits));
         assert_eq!(rt; store.last(), commits);
         has_all_rounds(&rt, &store, plan);
+        let mut store = store;
+        assert!(rt; holds_last_rounds(&mut store, plan));
+        assert!(rt; !holds_last_rounds(&mut store, one_round_more(plan)));
+        assert!(rt; !holds_last_rounds(&mut store, one_writer_more(plan)));
         let _disk = store.close();
+    }
+}
+
+/// A plan whose last rounds the store has not.
+fn one_round_more(plan: Plan) -> Plan {
+    Plan {
+        writers: plan.writers,
+        readers: plan.readers,
+        rounds: plan.rounds.wrapping_add(1),
+    }
+}
+
+/// A plan of whose writers one has written nothing.
+fn one_writer_more(plan: Plan) -> Plan {
+    Plan {
+        writers: plan.writers.wrapping_add(1),
+        readers: plan.readers,
+        rounds: plan.rounds,
     }
 }

@@ -55,10 +55,11 @@ pub fn queued<D: Disk, L: Opening, R: Wait + Abort>(
 pub fn pump_to<D: Disk, L: Opening, R: Wait + Abort>(
     rt: &R,
     store: &SharedStore<D, L>,
+    me: &mut Observer<L>,
     wanted: Result<Did, PumpFault>,
 ) {
     for _ in 0..100 {
-        if store.pump(rt) == wanted {
+        if store.pump(rt, me) == wanted {
             return;
         }
     }
@@ -66,9 +67,13 @@ pub fn pump_to<D: Disk, L: Opening, R: Wait + Abort>(
 }
 
 /// Takes steps of the job until it is done.
-pub fn pump_job<D: Disk, L: Opening, R: Wait + Abort>(rt: &R, store: &SharedStore<D, L>) {
+pub fn pump_job<D: Disk, L: Opening, R: Wait + Abort>(
+    rt: &R,
+    store: &SharedStore<D, L>,
+    me: &mut Observer<L>,
+) {
     for _ in 0..100 {
-        if store.job_pump(rt) == Ok(JobDid::JobDone) {
+        if store.job_pump(rt, me) == Ok(JobDid::JobDone) {
             return;
         }
     }
@@ -89,7 +94,7 @@ pub fn publish_four<D: Disk, L: Opening, R: Wait + Abort>(
         (Some("c"), 130),
     ] {
         queued(rt, alloc, store, me, (7, value), now).give_up();
-        pump_to(rt, store, Ok(Did::Published(1)));
+        pump_to(rt, store, me, Ok(Did::Published(1)));
     }
 }
 

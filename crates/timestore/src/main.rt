@@ -1,6 +1,9 @@
 //! The program `timestore`.
 #![tactic(auto)]
 
+ghost use Rattle.std.specs.Prelude.{◌≡◌, ◌↔◌};
+ghost use Rattle.timestore.specs.Folders.{LacksFile};
+
 mod stress;
 
 use crate::stress::run_stress;
@@ -32,8 +35,11 @@ fn print_usage(rt: &(impl Print + Eprint), error: &Error) -> io::Result<ExitCode
     })
 }
 
-/// What the refusal of a folder is called: a folder without the files of a store is no store.
-fn open_fault(fault: &FolderFault) -> OpenFault {
+/// What the refusal of a folder is called: a folder without the files of a store is no store, and one that
+/// is in use is refused as a device is.
+fn open_fault(fault: &FolderFault) -> OpenFault
+    ensures { (result ≡ OpenFault.NotAStore) ↔ LacksFile fault.now }
+{
     match fault {
         FolderFault::Missing { path: _, cause: _ } => OpenFault::NotAStore,
         FolderFault::InUse { path: _ } => OpenFault::Device,

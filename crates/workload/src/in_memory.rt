@@ -1,10 +1,11 @@
 //! Many threads at once over a new store in memory.
-ghost use Rattle.std.specs.Prelude.{◌≡◌, ◌*◌, ◌+◌, [], length, IfOk, IfSome};
-ghost use Rattle.history.specs.Machine.{Machine};
+ghost use Rattle.std.specs.Prelude.{◌≡◌, ◌*◌, ◌+◌, [], true, length, IfOk, IfSome};
+ghost use Rattle.history.specs.Machine.{Machine, opened};
 ghost use Rattle.law_image.specs.Values.{Value};
 ghost use Rattle.law_refinement.specs.Stands.{Stands};
 ghost use Rattle.shared.specs.Counts.{told_count, unredeemed};
 ghost use Rattle.shared.specs.Reached.{Reached};
+ghost use Rattle.workload.specs.Reading.{HasCommitted};
 
 use crate::workers::{Plan, field_of, key_of, run_workers};
 use chains::SharedValue;
@@ -24,21 +25,35 @@ const MARK: u64 = 1;
 
 /// Writers commit their own keys, and readers read them, in threads of their own over a new store in
 /// memory, beside a committer and a vacuum. Gives how many commits there were, and the time of the
-/// last. None where a caller was refused, memory ran out, or a writer's key has not the value of its
-/// last round.
+/// last, in microseconds since 1970. None where a caller was refused, memory ran out, or a writer's key
+/// has not the value of its last round.
 pub fn stress<R: Threads + Wait + Sync>(rt: &R, alloc: Global, plan: Plan) -> Option<(u64, u64)>
-    ensures { IfSome result (λ done. done.0 ≡ plan.writers * plan.rounds) }
+    ensures counted { IfSome result (λ done. done.0 ≡ plan.writers * plan.rounds) }
+    ensures last { IfSome result (λ done. HasCommitted done.0 done.1) }
 {
     let store = match fresh_store(alloc, MemDisk::new(alloc), SLOTS, MARK) {
         Ok(store) => store,
         Err(_disk) => return None,
     };
-    let (mut store, done) = match stress_on(rt, alloc, store, plan) {
-        Ok(ended) => ended,
-        Err((AllocError, store)) => (store, None),
-    };
-    let holds = holds_last_rounds(&mut store, plan);
+    match stress_on(rt, alloc, store, plan) {
+        Ok((store, done)) => count_all(store, done, plan),
+        Err((AllocError, store)) => {
+            let _disk = store.close();
+            None
+        }
+    }
+}
+
+// Ends the store in which so many commits were counted. Gives them and the time of the last commit,
+// where they are all that the plan makes and each writer's key has the value of its last round.
+fn count_all(store: Store<MemDisk>, done: Option<u64>, plan: Plan) -> Option<(u64, u64)>
+    requires { (m : Machine Value) × Stands true store m × Reached (opened [] (λ relation. 0)) m × IfSome done (λ count. length m.published ≡ count + unredeemed store) }
+    ensures counted { IfSome result (λ done. done.0 ≡ plan.writers * plan.rounds) }
+    ensures last { IfSome result (λ done. HasCommitted done.0 done.1) }
+{
+    let mut store = store;
     let last = store.last();
+    let holds = holds_last_rounds(&mut store, plan);
     let _disk = store.close();
     let owed = u64::from(plan.writers) * u64::from(plan.rounds);
     match done {
@@ -67,8 +82,8 @@ pub fn stress_on<D: Disk + Send, R: Threads + Wait + Sync>(
     }
 }
 
-// Whether each writer's key has the value of its last round at the last time.
-fn holds_last_rounds<D: Disk>(store: &mut Store<D>, plan: Plan) -> bool {
+/// Whether each writer's key has the value of its last round at the time of the last commit.
+pub fn holds_last_rounds<D: Disk>(store: &mut Store<D>, plan: Plan) -> bool {
     let last = store.last();
     let view = match store.view() {
         Ok(view) => view,

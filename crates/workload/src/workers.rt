@@ -198,7 +198,7 @@ pub fn read<D: Disk, L: Opening, R: Wait>(
         Err(_) => return Err(QueryFault::NoMemory),
     };
     let answer = store.at(rt, &mut view, key, time);
-    store.end(rt, view);
+    store.end(view);
     answer
 }
 
@@ -256,16 +256,23 @@ fn keep_up<D: Disk + Send, L: Opening + Send + Sync, R: Threads + Wait + Sync>(
     store: &SharedStore<D, L>,
     me: Observer<L>,
 ) {
+    let mut me = me;
+    let other = store.another(&mut me);
     join(
         rt,
-        move || store.run_committer(rt, |_, _| thread::yield_now()),
-        move || vacuum_on(rt, store, me),
+        move || commit_on(rt, store, me),
+        move || vacuum_on(rt, store, other),
     );
+}
+
+fn commit_on<D: Disk, L: Opening, R: Wait>(rt: &R, store: &SharedStore<D, L>, me: Observer<L>) {
+    let mut me = me;
+    let _last = store.run_committer(rt, &mut me, |_, _| thread::yield_now());
 }
 
 fn vacuum_on<D: Disk, L: Opening, R: Wait>(rt: &R, store: &SharedStore<D, L>, me: Observer<L>) {
     let mut me = me;
-    store.run_vacuum(rt, &mut me, |_, _| thread::yield_now());
+    let _end = store.run_vacuum(rt, &mut me, |_, _| thread::yield_now());
 }
 
 // The writers' commits together.

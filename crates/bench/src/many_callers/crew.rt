@@ -185,7 +185,7 @@ fn view_one<D: Disk, L: Opening, R: Wait>(
         Ok(Some(value)) => records::is_version(value, record, 0),
         _ => false,
     };
-    store.end(rt, view);
+    store.end(view);
     right
 }
 
@@ -212,7 +212,7 @@ fn ask<D: Disk, L: Opening, R: Wait>(
             right = right.wrapping_add(u64::from(records::is_version(value, record, 0)));
         }
     }
-    store.end(rt, view);
+    store.end(view);
     right
 }
 
@@ -296,9 +296,14 @@ fn call_all<D: Disk + Send, L: Opening + Send + Sync, R: Threads + Wait + Sync>(
 }
 
 // Publishes until told to end. What it spent.
-fn publish_all<D: Disk, L: Opening, R: Wait + Clock>(rt: &R, store: &SharedStore<D, L>) -> Spent {
+fn publish_all<D: Disk, L: Opening, R: Wait + Clock>(
+    rt: &R,
+    store: &SharedStore<D, L>,
+    me: Observer<L>,
+) -> Spent {
+    let mut me = me;
     let mut watch = Watch::new(rt);
-    store.run_committer(rt, |rt, did| watch.note(rt, did));
+    let _last = store.run_committer(rt, &mut me, |rt, did| watch.note(rt, did));
     watch.spent()
 }
 
@@ -313,7 +318,7 @@ fn load_keys<D: Disk, L: Opening, R: Wait>(
     for record in 0..KEYS {
         let fields = records::fields(record, 0);
         if let Err(fault) = txn.put(alloc, records::key(record), &records::slices(&fields)) {
-            store.abort(rt, txn);
+            store.abort(rt, txn, me);
             return Err(Fault::Txn(fault));
         }
     }
@@ -322,7 +327,7 @@ fn load_keys<D: Disk, L: Opening, R: Wait>(
         store::Submitted::ReadOnly(_) => return Err(Fault::Wrong("nothing was written")),
     }
     for _ in 0..u64::MAX {
-        if store.pump(rt)? == Did::Idle {
+        if store.pump(rt, me)? == Did::Idle {
             break;
         }
     }
@@ -334,13 +339,14 @@ fn run_threads<D: Disk + Send, L: Opening + Send + Sync, R: Threads + Wait + Clo
     store: &SharedStore<D, L>,
     writers: Vec<Writer<L>>,
     readers: Vec<Observer<L>>,
+    me: Observer<L>,
     load: Load,
 ) -> Result<Work, Fault> {
     let start = Instant::now(rt)?;
     let (called, spent) = join(
         rt,
         move || call_all(rt, store, writers, readers, load),
-        move || publish_all(rt, store),
+        move || publish_all(rt, store, me),
     );
     let nanoseconds = nanoseconds(rt, &start)?;
     match (called.commits, called.reads) {
@@ -375,7 +381,9 @@ pub(crate) fn run<D: Disk + Send, L: Opening + Send + Sync, R: Threads + Wait + 
     let writers = writers_for(alloc, &store, &mut all, &mut me, load.writers, load.commits);
     let readers = readers_for(alloc, &store, &mut me, load.readers);
     let done = match (loaded, writers, readers) {
-        (Ok(()), Ok(writers), Ok(readers)) => run_threads(rt, &store, writers, readers, load),
+        (Ok(()), Ok(writers), Ok(readers)) => {
+            run_threads(rt, &store, writers, readers, me, load)
+        }
         (Err(fault), _, _) => Err(fault),
         (_, Err(AllocError), _) | (_, _, Err(AllocError)) => Err(Fault::Memory(AllocError)),
     };

@@ -75,7 +75,7 @@ fn queue<D: Disk, L: Opening, R: Wait + Clock>(
         &[&first, &second, &third, &fourth],
     );
     if let Err(fault) = put {
-        store.abort(rt, txn);
+        store.abort(rt, txn, me);
         return Err(Fault::Txn(fault));
     }
     let start = Instant::now(rt);
@@ -107,11 +107,12 @@ fn note_queued<R: Clock>(
 fn publish<D: Disk, L: Opening, R: Wait + Clock>(
     rt: &R,
     store: &SharedStore<D, L>,
+    me: &mut Observer<L>,
     held: &mut Held,
 ) -> Result<(), Fault> {
     for _ in 0..u64::MAX {
         let start = Instant::now(rt)?;
-        let did = store.pump(rt)?;
+        let did = store.pump(rt, me)?;
         let time = nanoseconds(rt, &start)?;
         match did {
             Did::Idle => return Ok(()),
@@ -149,7 +150,7 @@ fn look<D: Disk, L: Opening, R: Wait + Clock>(
     let start = Instant::now(rt)?;
     let view = store.view(rt, me)?;
     let time = nanoseconds(rt, &start);
-    store.end(rt, view);
+    store.end(view);
     held.view.push(time?)?;
     Ok(())
 }
@@ -171,7 +172,7 @@ fn round<D: Disk, L: Opening, R: Wait + Clock>(
         queue(rt, alloc, store, me, held, member, version)?.give_up();
     }
     let last = queue(rt, alloc, store, me, held, 0, version)?;
-    match publish(rt, store, held) {
+    match publish(rt, store, me, held) {
         Ok(()) => look(rt, store, share, me, held, last),
         Err(fault) => {
             last.give_up();
@@ -184,11 +185,12 @@ fn round<D: Disk, L: Opening, R: Wait + Clock>(
 fn finish<D: Disk, L: Opening, R: Wait + Clock>(
     rt: &R,
     store: &SharedStore<D, L>,
+    me: &mut Observer<L>,
     held: &mut Held,
 ) -> Result<(), Fault> {
     for _ in 0..u64::MAX {
         let start = Instant::now(rt)?;
-        let did = store.job_pump(rt)?;
+        let did = store.job_pump(rt, me)?;
         held.job.push(nanoseconds(rt, &start)?)?;
         if did == JobDid::JobDone {
             break;
@@ -206,13 +208,13 @@ fn vacuum<D: Disk, L: Opening, R: Wait + Clock>(
 ) -> Result<(), Fault> {
     let last = store.last_published(rt, me);
     let start = Instant::now(rt)?;
-    store.archive_start(rt, last)?;
+    store.archive_start(rt, last, me)?;
     held.start.push(nanoseconds(rt, &start)?)?;
-    finish(rt, store, held)?;
+    finish(rt, store, me, held)?;
     let start = Instant::now(rt)?;
-    store.reclaim_start(rt)?;
+    store.reclaim_start(rt, me)?;
     held.start.push(nanoseconds(rt, &start)?)?;
-    finish(rt, store, held)
+    finish(rt, store, me, held)
 }
 
 fn all_rounds<D: Disk, L: Opening, R: Wait + Clock>(

@@ -199,9 +199,14 @@ fn vacuum_on<D: Disk, L: Opening, R: Wait + Clock>(
     me: Observer<L>,
 ) {
     let mut me = me;
-    store.run_vacuum(rt, &mut me, |rt, _| {
+    let _end = store.run_vacuum(rt, &mut me, |rt, _| {
         thread::sleep(rt, Duration::from_millis(VACUUM_MS))
     });
+}
+
+fn commit_on<D: Disk, L: Opening, R: Wait>(rt: &R, store: &SharedStore<D, L>, me: Observer<L>) {
+    let mut me = me;
+    let _last = store.run_committer(rt, &mut me, |_, _| {});
 }
 
 // Publishes, archives and reclaims, until told to end.
@@ -210,10 +215,12 @@ fn keep_up<D: Disk + Send, L: Opening + Send + Sync, R: Threads + Wait + Clock +
     store: &SharedStore<D, L>,
     me: Observer<L>,
 ) {
+    let mut me = me;
+    let other = store.another(&mut me);
     join(
         rt,
-        move || store.run_committer(rt, |_, _| {}),
-        move || vacuum_on(rt, store, me),
+        move || commit_on(rt, store, me),
+        move || vacuum_on(rt, store, other),
     );
 }
 

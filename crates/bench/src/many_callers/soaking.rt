@@ -172,7 +172,7 @@ fn transact_one<D: Disk, L: Opening, R: Wait + Clock>(
     let mut txn = store.begin(rt, me).ok()?;
     let snapshot = txn.snapshot();
     let Some(read) = rewrite(alloc, &mut txn, record, label) else {
-        store.abort(rt, txn);
+        store.abort(rt, txn, me);
         return None;
     };
     let ending = match store.submit(rt, txn, label, 0, me) {
@@ -348,6 +348,6 @@ pub(crate) fn read_once<D: Disk, L: Opening, R: Wait>(
     };
     let mut view = taken.ok()?;
     let asked = ask_view(rt, store, &mut view, random, seen, notes);
-    store.end(rt, view);
+    store.end(view);
     asked
 }

@@ -6,4 +6,9 @@ use Rattle.c_exports.proofs.ts_begin.Goals as goal
 pub returns : goal.returns
 returns c =
     let fits : SFits w32 c.put_back.result = search rules in
-    rw (c.in-Some.ensures.some, sym c.deref_mut.ensures.value, c.put_back.ensures.engine) (c.begin-code.result, to_z-of_z w32 c.put_back.result fits ∙ c.put_back.ensures.code, c.begin-code.ensures)
+    rw (c.in-Some.ensures.some, sym c.deref_mut.ensures.value, c.put_back.ensures.engine) (
+      c.begin-code.result,
+      to_z-of_z w32 c.put_back.result fits
+          ∙ c.put_back.ensures.code,
+      c.begin-code.ensures,
+    )

@@ -6,4 +6,9 @@ use Rattle.c_exports.proofs.ts_grow.Goals as goal
 pub returns : goal.returns
 returns c =
     let fits : SFits w32 c.put_back.result = search rules in
-    rw (c.in-Some.ensures.some, sym c.deref_mut.ensures.value, c.put_back.ensures.engine) (c.grow-code.result, to_z-of_z w32 c.put_back.result fits ∙ c.put_back.ensures.code, c.grow-code.ensures)
+    rw (c.in-Some.ensures.some, sym c.deref_mut.ensures.value, c.put_back.ensures.engine) (
+      c.grow-code.result,
+      to_z-of_z w32 c.put_back.result fits
+          ∙ c.put_back.ensures.code,
+      c.grow-code.ensures,
+    )

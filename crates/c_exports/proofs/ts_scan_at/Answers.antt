@@ -6,4 +6,8 @@ use Rattle.c_exports.proofs.ts_scan_at.Goals as goal
 pub returns-clause-answers : goal.returns-clause-answers
 returns-clause-answers c =
     let fits : SFits w32 c.put_back.result = search rules in
-    rw (c.in-Some.ensures.some, sym c.deref.ensures) (c.scan_at-code.result, to_z-of_z w32 c.put_back.result fits ∙ c.put_back.ensures.code, c.scan_at-code.ensures)
+    rw (c.in-Some.ensures.some, sym c.deref.ensures) (
+      c.scan_at-code.result,
+      to_z-of_z w32 c.put_back.result fits ∙ c.put_back.ensures.code,
+      c.scan_at-code.ensures,
+    )

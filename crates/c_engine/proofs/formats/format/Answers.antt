@@ -9,7 +9,8 @@ use Rattle.recovery.specs.Format.{IsFormatted}
 use Rattle.c_engine.proofs.formats.format.Goals as goal
 
 -- all of a list, read to the front
-whole : (b buf old behind : List ℕ) (len : ℕ) → buf ≡ slice_range b 0 (0 + length old) → length buf ≡ length old → length old ≡ len → len ≡ length b → take len (buf ++ behind) ≡ b
+whole : (b buf old behind : List ℕ) (len : ℕ) → buf ≡ slice_range b 0 (0 + length old) → length buf ≡ length old → length old ≡ len → len ≡ length b
+    → take len (buf ++ behind) ≡ b
 whole b buf old behind len read same all is =
     take_at buf behind len (omega (arith, same, all)) ∙ read ∙ take_all (0 + length old - 0) b (omega (arith, all, is))
 

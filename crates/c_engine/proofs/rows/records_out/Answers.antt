@@ -10,7 +10,8 @@ loop-entry-preserved c =
     let here : i < length found = c.loop-entry-test.true in
     let short : length (map shown_record (take i found)) < 2 ^ 63 = omega (arith, length-map (take i found) shown_record, length-take i found) in
     let same : shown_as c.row.result c.value.result.now ≡ shown_record (get_or found i c.entry-item.result) =
-    (λ j. record { number = (c.row.ensures j).«record»; from = (c.row.ensures j).from; upto = (c.row.ensures j).upto; value = c.value.ensures j }) ∙ ap shown_record c.entry-item.is in
+    (λ j. record { number = (c.row.ensures j).«record»; from = (c.row.ensures j).from; upto = (c.row.ensures j).upto; value = c.value.ensures j })
+    ∙ ap shown_record c.entry-item.is in
     subst (λ (l : List Shown). AreLaid l c.copy.new.self c.copy.new.rows c.copy.new.out)
     (ap (λ (s : Shown). map shown_record (take i found) ++ s ∷ []) same ∙ sym (map_more shown_record found i c.entry-item.result here))
     (c.copy.ensures (map shown_record (take i found)) short c.loop-entry.invariant)

@@ -10,7 +10,8 @@ loop-entry-preserved c =
     let here : i < length found = c.loop-entry-test.true in
     let short : length (map shown_entry (take i found)) < 2 ^ 63 = omega (arith, length-map (take i found) shown_entry, length-take i found) in
     let same : shown_as c.row-row.result c.value.result.now ≡ shown_entry (get_or found i c.entry-item.result) =
-    (λ j. record { number = (c.row-row.ensures j).«record»; from = (c.row-row.ensures j).from; upto = (c.row-row.ensures j).upto; value = c.value.ensures j }) ∙ ap shown_entry c.entry-item.is in
+    (λ j. record { number = (c.row-row.ensures j).«record»; from = (c.row-row.ensures j).from; upto = (c.row-row.ensures j).upto; value = c.value.ensures j })
+    ∙ ap shown_entry c.entry-item.is in
     subst (λ (l : List Shown). AreLaid l c.copy.new.self c.copy.new.rows c.copy.new.out)
     (ap (λ (s : Shown). map shown_entry (take i found) ++ s ∷ []) same ∙ sym (map_more shown_entry found i c.entry-item.result here))
     (c.copy.ensures (map shown_entry (take i found)) short c.loop-entry.invariant)

@@ -1,4 +1,4 @@
-use Rattle.std.proofs.Common.{ℕ, List, rules, arith}
+use Rattle.std.proofs.Common.{rules, arith}
 use Rattle.wire.proofs.FieldsRead.{whole_rest}
 use Rattle.wire.proofs.Zeros.{AreBytes}
 use Rattle.log_entries.proofs.Bases.{parts_read}

@@ -1,5 +1,4 @@
-use Rattle.std.proofs.Common.{◌≡◌, ◌<◌, ◌+◌, [], ◌∷◌, length, sym, refl, ◌∙◌, ap, arith, length-append}
-use Rattle.deltas.specs.declared.«record».Record.{Record}
+use Rattle.std.proofs.Common.{◌<◌, [], ◌∷◌, length, sym, ◌∙◌, ap, arith, length-append}
 use Rattle.deltas.specs.Records.{spelling}
 use Rattle.log_entries.specs.Ranges.{IsStored}
 use Rattle.log_entries.proofs.Codes.{record_code}

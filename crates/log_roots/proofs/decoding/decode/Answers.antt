@@ -9,7 +9,7 @@ use Rattle.log_roots.proofs.decoding.decode.Goals as goal
 pub returns-then-is_said-clause-found : goal.returns-then-is_said-clause-found
 returns-then-is_said-clause-found c = record {
   gate = slice_index c.args.bytes.now 16;
-  gate_fits = ?;
+  gate_fits = c.fits-bytes 16;
   turned = c.read_roots-roots.ensures.turned;
   in_range = (c.is_said-is_said.ensures.0 c.if-is_said.true).0;
   bytes_are = (c.is_said-is_said.ensures.0 c.if-is_said.true).1;
@@ -21,5 +21,7 @@ returns-then-is_said-clause-only c = λ roots has. ap (λ x. Some x) (c.read_roo
 pub returns-else-is_said-clause-only : goal.returns-else-is_said-clause-only
 returns-else-is_said-clause-only c = λ roots has.
     let same : c.read_roots-roots.result ≡ roots = c.read_roots-roots.ensures.is ∙ roots_read c.args.bytes.now roots has in
-    let said = c.is_said-is_said.ensures.1 (subst (λ (x : Roots). IsRoots x × (c.args.bytes.now ≡ roots_bytes (slice_index c.args.bytes.now 16) x)) (sym same) (has.in_range, bytes_read c.args.bytes.now roots has)) in
+    let said =
+    c.is_said-is_said.ensures.1 (subst (λ (x : Roots). IsRoots x
+    × (c.args.bytes.now ≡ roots_bytes (slice_index c.args.bytes.now 16) x)) (sym same) (has.in_range, bytes_read c.args.bytes.now roots has)) in
     absurd (false≢true (sym c.if-is_said.false ∙ said))

@@ -16,11 +16,14 @@ lacks (held.View x) never = tt
 
 pub returns-in_default : goal.returns-in_default
 returns-in_default c =
-    let here : slice_get c.args.places.now c.args.at ≡ Some c.replace.result = slice_get-get_or c.args.places.now c.args.at c.index-places-at.result (omega arith) ∙ ap (λ (h : Held). Some h) (sym c.replace.ensures.value) in
+    let here : slice_get c.args.places.now c.args.at ≡ Some c.replace.result =
+    slice_get-get_or c.args.places.now c.args.at c.index-places-at.result (omega arith) ∙ ap (λ (h : Held). Some h) (sym c.replace.ensures.value) in
     record {
       some = tt;
       none = (
         subst HasNoTicket (sym here) (lacks c.replace.result c.in_default.not-Ticket),
-        c.put_back.ensures ∙ set-set c.args.places.now c.args.at c.replace.new.dest c.replace.result ∙ ap (λ (h : Held). slice_set c.args.places.now c.args.at h) c.replace.ensures.value ∙ set-get_or c.args.places.now c.args.at c.index-places-at.result,
+        c.put_back.ensures ∙ set-set c.args.places.now c.args.at c.replace.new.dest c.replace.result
+            ∙ ap (λ (h : Held). slice_set c.args.places.now c.args.at h) c.replace.ensures.value
+            ∙ set-get_or c.args.places.now c.args.at c.index-places-at.result,
       );
     }

@@ -8,11 +8,13 @@ use Rattle.law_refinement.specs.OnDisk.{IsImageOf}
 use Rattle.law_opening.proofs.Formatted.{formatted-leaves, formatted-stands}
 use Rattle.run.proofs.opening.format.Goals as goal
 
-by-result : (slots : _) (old new : Areas) (r : Result (Unit {0}) FormatFault) → OnOk r (IsFormatted slots old new) → OnOk r ((image : Image) → LeavesImage new image → IsImageOf (new_header 3 slots) image [] (λ relation. 0))
+by-result : (slots : _) (old new : Areas) (r : Result (Unit {0}) FormatFault) → OnOk r (IsFormatted slots old new)
+    → OnOk r ((image : Image) → LeavesImage new image → IsImageOf (new_header 3 slots) image [] (λ relation. 0))
 by-result slots old new (Ok u) is = λ image left. formatted-leaves slots old new image is left
 by-result slots old new (Err why) is = tt
 
-read-by-result : (slots : _) (old new : Areas) (r : Result (Unit {0}) FormatFault) → OnOk r (IsFormatted slots old new) → OnOk r (IsImageOf (new_header 3 slots) (image_of new) [] (λ relation. 0))
+read-by-result : (slots : _) (old new : Areas) (r : Result (Unit {0}) FormatFault) → OnOk r (IsFormatted slots old new)
+    → OnOk r (IsImageOf (new_header 3 slots) (image_of new) [] (λ relation. 0))
 read-by-result slots old new (Ok u) is = formatted-stands slots old new is
 read-by-result slots old new (Err why) is = tt
 
@@ -22,6 +24,8 @@ returns g c = record {
   occupied = c.format.ensures.occupied;
   free = c.format.ensures.free;
   refuses = c.format.ensures.refuses;
-  stands = λ told. by-result c.args.slots (g.D.Disk.state c.args.disk.now).areas (g.D.Disk.state c.format.new.disk).areas c.format.result (c.format.ensures.formatted told);
-  reads = λ told. read-by-result c.args.slots (g.D.Disk.state c.args.disk.now).areas (g.D.Disk.state c.format.new.disk).areas c.format.result (c.format.ensures.formatted told);
+  stands = λ told. by-result c.args.slots (g.D.Disk.state c.args.disk.now).areas (g.D.Disk.state c.format.new.disk).areas c.format.result
+      (c.format.ensures.formatted told);
+  reads = λ told. read-by-result c.args.slots (g.D.Disk.state c.args.disk.now).areas (g.D.Disk.state c.format.new.disk).areas c.format.result
+      (c.format.ensures.formatted told);
 }

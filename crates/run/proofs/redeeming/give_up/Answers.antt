@@ -16,4 +16,5 @@ returns-in_default g c =
 pub returns : goal.returns
 returns g c =
     let some = c.in-Some.ensures.some in
-    subst (λ (l : List Held). Goes g.D.Disk.tells c.args.store.now c.args.places.now (call.GiveUp c.args.ticket) answer.GiveUp c.args.store.now (l ++ held.Nothing ∷ [])) (sym some.1) (give_up-goes g.D.Disk.tells c.args.store.now c.args.places.now c.args.ticket c.in-Some.given some.0)
+    subst (λ (l : List Held). Goes g.D.Disk.tells c.args.store.now c.args.places.now (call.GiveUp c.args.ticket) answer.GiveUp c.args.store.now (l
+    ++ held.Nothing ∷ [])) (sym some.1) (give_up-goes g.D.Disk.tells c.args.store.now c.args.places.now c.args.ticket c.in-Some.given some.0)

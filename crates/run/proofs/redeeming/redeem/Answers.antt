@@ -24,7 +24,11 @@ pub returns-clause-goes : goal.returns-clause-goes
 returns-clause-goes g c =
     let some = c.in-Some.ensures.some in
     let left : Held = c.redeemed-answer.result.1 in
-    let now : c.put_back.new.places ≡ slice_set c.args.places.now c.args.ticket left = c.put_back.ensures ∙ ap (λ (l : List Held). slice_set l c.args.ticket left) some.1 ∙ set-set c.args.places.now c.args.ticket held.Nothing left in
-    subst (λ (l : List Held). Goes g.D.Disk.tells c.args.store.now c.args.places.now (call.Redeem c.args.ticket) c.redeemed-answer.result.0 c.redeem.new.self (l ++ held.Nothing ∷ [])) (sym now)
-    (subst (λ (r : Answer × Held). Goes g.D.Disk.tells c.args.store.now c.args.places.now (call.Redeem c.args.ticket) r.0 c.redeem.new.self (slice_set c.args.places.now c.args.ticket r.1 ++ held.Nothing ∷ [])) (sym c.redeemed-answer.ensures)
+    let now : c.put_back.new.places ≡ slice_set c.args.places.now c.args.ticket left =
+    c.put_back.ensures ∙ ap (λ (l : List Held). slice_set l c.args.ticket left) some.1 ∙ set-set c.args.places.now c.args.ticket held.Nothing left in
+    subst (λ (l : List Held). Goes g.D.Disk.tells c.args.store.now c.args.places.now (call.Redeem c.args.ticket) c.redeemed-answer.result.0 c.redeem.new.self (l
+    ++ held.Nothing ∷ [])) (sym now)
+    (subst (λ (r : Answer
+    × Held). Goes g.D.Disk.tells c.args.store.now c.args.places.now (call.Redeem c.args.ticket) r.0 c.redeem.new.self
+    (slice_set c.args.places.now c.args.ticket r.1 ++ held.Nothing ∷ [])) (sym c.redeemed-answer.ensures)
     (redeem-goes g.D.Disk.tells c.args.store.now c.redeem.new.self c.args.places.now c.args.ticket c.in-Some.shown c.redeem.result some.0 c.redeem.ensures))

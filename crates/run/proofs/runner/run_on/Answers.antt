@@ -34,8 +34,10 @@ loop-call-preserved g c =
     let places : c.push_reserved-in-loop-call.new.self.items ≡ c.step-answer.new.places ++ c.step-answer.result.1 ∷ [] =
     c.push_reserved-in-loop-call.ensures.items
     ∙ ap (λ (l : List Held). l ++ c.step-answer.result.1 ∷ [])
-    (lent_back c.step-answer.new.places c.loop-call.places.items c.loop-call.places.len (c.step-answer.auto.places ∙ ap length c.deref_mut.ensures.value) (sym c.deref_mut.ensures.len ∙ ap length c.deref_mut.ensures.value)) in
-    let more : take (c.loop-call.call-index + 1) c.args.calls.now ≡ calls ++ call ∷ [] = take_more c.args.calls.now c.loop-call.call-index Begin (omega arith) in
+    (lent_back c.step-answer.new.places c.loop-call.places.items c.loop-call.places.len (c.step-answer.auto.places
+    ∙ ap length c.deref_mut.ensures.value) (sym c.deref_mut.ensures.len ∙ ap length c.deref_mut.ensures.value)) in
+    let more : take (c.loop-call.call-index + 1) c.args.calls.now ≡ calls ++ call ∷ [] =
+    take_more c.args.calls.now c.loop-call.call-index Begin (omega arith) in
     record {
       answers_room = omega arith;
       answers_made = omega arith;
@@ -44,7 +46,9 @@ loop-call-preserved g c =
       few = omega (arith, c.step-answer.ensures.made, c.loop-call.invariant.few);
       so_far = λ start is.
           let before = c.loop-call.invariant.so_far start is in
-          let did = c.step-answer.ensures.links before.0 (subst (λ (l : List Held). IsAtMoment g.D.Disk.tells c.loop-call.store l before.0) (sym c.deref_mut.ensures.value) before.2) in (
+          let did =
+          c.step-answer.ensures.links before.0
+          (subst (λ (l : List Held). IsAtMoment g.D.Disk.tells c.loop-call.store l before.0) (sym c.deref_mut.ensures.value) before.2) in (
             did.0,
             subst (λ (l : List Call). Chain g.D.Disk.tells l c.push_reserved.new.self.items start did.0) (sym more)
                 (subst (λ (l : List Answer). Chain g.D.Disk.tells (calls ++ call ∷ []) l start did.0) (sym c.push_reserved.ensures.items)
@@ -55,9 +59,11 @@ loop-call-preserved g c =
 
 pub returns-clause-run : goal.returns-clause-run
 returns-clause-run g c = λ start is.
-    let here : IsAtMoment g.D.Disk.tells c.args.store.now c.reserve.new.self.items start = subst (λ (l : List Held). IsAtMoment g.D.Disk.tells c.args.store.now l start) (sym c.in_ok-reserve.ensures.items) is in
+    let here : IsAtMoment g.D.Disk.tells c.args.store.now c.reserve.new.self.items start =
+    subst (λ (l : List Held). IsAtMoment g.D.Disk.tells c.args.store.now l start) (sym c.in_ok-reserve.ensures.items) is in
     let so_far = c.loop-call.invariant.so_far start here in
-    let all : take c.loop-call.call-index c.args.calls.now ≡ c.args.calls.now = take_all c.loop-call.call-index c.args.calls.now (omega (arith, c.loop-call-test.false)) in (
+    let all : take c.loop-call.call-index c.args.calls.now ≡ c.args.calls.now =
+    take_all c.loop-call.call-index c.args.calls.now (omega (arith, c.loop-call-test.false)) in (
       so_far.0,
       record {
         first = moment-leaves g.D.Disk.tells c.args.store.now c.args.places.now.items start is;

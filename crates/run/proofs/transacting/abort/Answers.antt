@@ -15,5 +15,7 @@ returns-in_default-clause-goes g c =
 pub returns-clause-goes : goal.returns-clause-goes
 returns-clause-goes g c =
     let some = c.in-Some.ensures.some in
-    subst (λ (l : List Held). Goes g.D.Disk.tells c.args.store.now c.args.places.now (call.Abort c.args.transaction) answer.Abort c.abort.new.self (l ++ held.Nothing ∷ [])) (sym some.1)
-    (abort-goes g.D.Disk.tells c.args.store.now c.abort.new.self c.args.places.now c.args.transaction c.in-Some.txn some.0 c.writes-count.ensures.are c.abort.ensures)
+    subst (λ (l : List Held). Goes g.D.Disk.tells c.args.store.now c.args.places.now (call.Abort c.args.transaction) answer.Abort c.abort.new.self (l
+    ++ held.Nothing ∷ [])) (sym some.1)
+    (abort-goes g.D.Disk.tells c.args.store.now c.abort.new.self c.args.places.now c.args.transaction c.in-Some.txn some.0 c.writes-count.ensures.are
+    c.abort.ensures)

@@ -8,4 +8,5 @@ use Rattle.run.proofs.transacting.begin.Goals as goal
 
 pub returns-clause-goes : goal.returns-clause-goes
 returns-clause-goes g c =
-    subst (λ (r : Answer × Held). Goes g.D.Disk.tells c.args.store.now c.args.places.now call.Begin r.0 c.begin.new.self (c.args.places.now ++ r.1 ∷ [])) (sym c.begun.ensures) (begin-goes g.D.Disk.tells c.args.store.now c.begin.new.self c.args.places.now c.begin.result c.begin.ensures)
+    subst (λ (r : Answer × Held). Goes g.D.Disk.tells c.args.store.now c.args.places.now call.Begin r.0 c.begin.new.self (c.args.places.now ++ r.1
+    ∷ [])) (sym c.begun.ensures) (begin-goes g.D.Disk.tells c.args.store.now c.begin.new.self c.args.places.now c.begin.result c.begin.ensures)

@@ -18,12 +18,18 @@ returns-in_default g c =
 pub put_back-requires : goal.put_back-requires
 put_back-requires g c =
     let some = c.in-Some.ensures.some in
-    ap (λ (l : List Held). slice_get l c.args.transaction) some.1 ∙ get-set_same c.args.places.now c.args.transaction (held.Transaction c.in-Some.txn) held.Nothing some.0
+    ap (λ (l : List Held). slice_get l c.args.transaction) some.1
+    ∙ get-set_same c.args.places.now c.args.transaction (held.Transaction c.in-Some.txn) held.Nothing some.0
 
 pub returns : goal.returns
 returns g c =
     let some = c.in-Some.ensures.some in
     let new : Held = held.Transaction c.delete-outcome.new.self in
-    let now : c.put_back.new.places ≡ slice_set c.args.places.now c.args.transaction new = c.put_back.ensures ∙ ap (λ (l : List Held). slice_set l c.args.transaction new) some.1 ∙ set-set c.args.places.now c.args.transaction held.Nothing new in
-    subst (λ (l : List Held). Goes g.D.Disk.tells c.args.store.now c.args.places.now (call.Delete c.args.transaction c.args.key) (answer.Delete c.delete-outcome.result) c.args.store.now (l ++ held.Nothing ∷ [])) (sym now)
-    (delete-goes g.D.Disk.tells c.args.store.now c.args.places.now c.args.transaction c.args.key c.in-Some.txn c.delete-outcome.new.self c.delete-outcome.result some.0 c.delete-outcome.ensures.ok c.delete-outcome.ensures.missing c.delete-outcome.ensures.too_many c.delete-outcome.ensures.bad c.delete-outcome.ensures.err)
+    let now : c.put_back.new.places ≡ slice_set c.args.places.now c.args.transaction new =
+    c.put_back.ensures ∙ ap (λ (l : List Held). slice_set l c.args.transaction new) some.1
+    ∙ set-set c.args.places.now c.args.transaction held.Nothing new in
+    subst (λ (l : List Held). Goes g.D.Disk.tells c.args.store.now c.args.places.now (call.Delete c.args.transaction c.args.key)
+    (answer.Delete c.delete-outcome.result) c.args.store.now (l ++ held.Nothing ∷ [])) (sym now)
+    (delete-goes g.D.Disk.tells c.args.store.now c.args.places.now c.args.transaction c.args.key c.in-Some.txn c.delete-outcome.new.self c.delete-outcome.result
+    some.0 c.delete-outcome.ensures.ok c.delete-outcome.ensures.missing c.delete-outcome.ensures.too_many c.delete-outcome.ensures.bad
+    c.delete-outcome.ensures.err)

@@ -13,17 +13,24 @@ use Rattle.run.proofs.transacting.put.Goals as goal
 pub returns-in_default : goal.returns-in_default
 returns-in_default g c =
     let none = c.in_default.ensures.none in
-    unknown-goes g.D.Disk.tells c.args.store.now c.args.places.now c.take_transaction.new.places (call.Put c.args.transaction c.args.key c.args.fields) none.1 none.0
+    unknown-goes g.D.Disk.tells c.args.store.now c.args.places.now c.take_transaction.new.places (call.Put c.args.transaction c.args.key c.args.fields) none.1
+    none.0
 
 pub put_back-requires : goal.put_back-requires
 put_back-requires g c =
     let some = c.in-Some.ensures.some in
-    ap (λ (l : List Held). slice_get l c.args.transaction) some.1 ∙ get-set_same c.args.places.now c.args.transaction (held.Transaction c.in-Some.txn) held.Nothing some.0
+    ap (λ (l : List Held). slice_get l c.args.transaction) some.1
+    ∙ get-set_same c.args.places.now c.args.transaction (held.Transaction c.in-Some.txn) held.Nothing some.0
 
 pub returns : goal.returns
 returns g c =
     let some = c.in-Some.ensures.some in
     let new : Held = held.Transaction c.put-outcome.new.self in
-    let now : c.put_back.new.places ≡ slice_set c.args.places.now c.args.transaction new = c.put_back.ensures ∙ ap (λ (l : List Held). slice_set l c.args.transaction new) some.1 ∙ set-set c.args.places.now c.args.transaction held.Nothing new in
-    subst (λ (l : List Held). Goes g.D.Disk.tells c.args.store.now c.args.places.now (call.Put c.args.transaction c.args.key c.args.fields) (answer.Put c.put-outcome.result) c.args.store.now (l ++ held.Nothing ∷ [])) (sym now)
-    (put-goes g.D.Disk.tells c.args.store.now c.args.places.now c.args.transaction c.args.key c.args.fields c.in-Some.txn c.put-outcome.new.self c.put-outcome.result some.0 c.put-outcome.ensures.ok c.put-outcome.ensures.missing c.put-outcome.ensures.too_many c.put-outcome.ensures.bad c.put-outcome.ensures.err)
+    let now : c.put_back.new.places ≡ slice_set c.args.places.now c.args.transaction new =
+    c.put_back.ensures ∙ ap (λ (l : List Held). slice_set l c.args.transaction new) some.1
+    ∙ set-set c.args.places.now c.args.transaction held.Nothing new in
+    subst (λ (l : List Held). Goes g.D.Disk.tells c.args.store.now c.args.places.now (call.Put c.args.transaction c.args.key c.args.fields)
+    (answer.Put c.put-outcome.result) c.args.store.now (l ++ held.Nothing ∷ [])) (sym now)
+    (put-goes g.D.Disk.tells c.args.store.now c.args.places.now c.args.transaction c.args.key c.args.fields c.in-Some.txn c.put-outcome.new.self
+    c.put-outcome.result some.0 c.put-outcome.ensures.ok c.put-outcome.ensures.missing c.put-outcome.ensures.too_many c.put-outcome.ensures.bad
+    c.put-outcome.ensures.err)

@@ -7,10 +7,13 @@ use Rattle.run.proofs.viewing.at.Goals as goal
 
 pub returns-in_default-clause-goes : goal.returns-in_default-clause-goes
 returns-in_default-clause-goes g c =
-    unknown-goes g.D.Disk.tells c.args.store.now c.args.places.now c.args.places.now (call.At c.args.view c.args.key c.args.time) refl (held-no_view (slice_get c.args.places.now c.args.view) c.in_default.ensures)
+    unknown-goes g.D.Disk.tells c.args.store.now c.args.places.now c.args.places.now (call.At c.args.view c.args.key c.args.time) refl
+    (held-no_view (slice_get c.args.places.now c.args.view) c.in_default.ensures)
 
 pub returns-clause-goes : goal.returns-clause-goes
-returns-clause-goes g c = at-goes g.D.Disk.tells c.args.store.now c.at.new.self c.args.places.now c.args.view c.args.key c.args.time c.in-Some.asked.now c.at.result (held-view (slice_get c.args.places.now c.args.view) c.in-Some.asked.now c.in-Some.ensures) c.at.ensures
+returns-clause-goes g c =
+    at-goes g.D.Disk.tells c.args.store.now c.at.new.self c.args.places.now c.args.view c.args.key c.args.time c.in-Some.asked.now c.at.result
+    (held-view (slice_get c.args.places.now c.args.view) c.in-Some.asked.now c.in-Some.ensures) c.at.ensures
 
 pub returns-clause-made : goal.returns-clause-made
 returns-clause-made g c = asked-few g.D.Disk.tells c.args.store.now c.at.new.self c.in-Some.asked.now c.args.time _ _ _ _ c.at.result c.at.ensures

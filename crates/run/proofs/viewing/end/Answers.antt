@@ -16,4 +16,5 @@ returns-in_default-clause-goes g c =
 pub returns-clause-goes : goal.returns-clause-goes
 returns-clause-goes g c =
     let some = c.in-Some.ensures.some in
-    subst (λ (l : List Held). Goes g.D.Disk.tells c.args.store.now c.args.places.now (call.End c.args.view) answer.End c.end.new.self (l ++ held.Nothing ∷ [])) (sym some.1) (end-goes g.D.Disk.tells c.args.store.now c.end.new.self c.args.places.now c.args.view c.in-Some.ended some.0 c.end.ensures)
+    subst (λ (l : List Held). Goes g.D.Disk.tells c.args.store.now c.args.places.now (call.End c.args.view) answer.End c.end.new.self (l ++ held.Nothing
+    ∷ [])) (sym some.1) (end-goes g.D.Disk.tells c.args.store.now c.end.new.self c.args.places.now c.args.view c.in-Some.ended some.0 c.end.ensures)

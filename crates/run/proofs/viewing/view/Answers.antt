@@ -8,4 +8,5 @@ use Rattle.run.proofs.viewing.view.Goals as goal
 
 pub returns : goal.returns
 returns g c =
-    subst (λ (r : Answer × Held). Goes g.D.Disk.tells c.args.store.now c.args.places.now call.View r.0 c.args.store.now (c.args.places.now ++ r.1 ∷ [])) (sym c.viewed.ensures) (view-goes g.D.Disk.tells c.args.store.now c.args.places.now c.view.result c.view.ensures)
+    subst (λ (r : Answer × Held). Goes g.D.Disk.tells c.args.store.now c.args.places.now call.View r.0 c.args.store.now (c.args.places.now ++ r.1
+    ∷ [])) (sym c.viewed.ensures) (view-goes g.D.Disk.tells c.args.store.now c.args.places.now c.view.result c.view.ensures)

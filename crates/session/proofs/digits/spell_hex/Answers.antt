@@ -15,6 +15,8 @@ pub returns : goal.returns
 returns c =
     let bytes : List ℕ = c.args.bytes.now in
     let all : take c.loop-block.block-index c.as_chunks.result.0.now ≡ c.as_chunks.result.0.now = take_all _ _ c.loop-block-test.false in
-    let whole : flat_map (λ (b : List ℕ). encode_lower b) (take c.loop-block.block-index c.as_chunks.result.0.now) ++ encode_lower c.as_chunks.result.1.now ≡ encode_lower bytes =
+    let whole : flat_map (λ (b : List ℕ). encode_lower b) (take c.loop-block.block-index c.as_chunks.result.0.now) ++ encode_lower c.as_chunks.result.1.now
+    ≡ encode_lower bytes =
     rw (all, c.as_chunks.ensures.front, c.as_chunks.ensures.back) (blocks-encode 16 (length bytes / 16) bytes) in
-    whole_written c.spell_rest.result c.args.text.now.items c.loop-block.text.items c.spell_rest.new.text.items _ _ _ c.spell_rest.ensures c.loop-block.invariant whole
+    whole_written c.spell_rest.result c.args.text.now.items c.loop-block.text.items c.spell_rest.new.text.items _ _ _ c.spell_rest.ensures
+    c.loop-block.invariant whole

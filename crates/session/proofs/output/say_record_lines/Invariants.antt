@@ -6,4 +6,5 @@ use Rattle.session.specs.Texts as told
 use Rattle.session.proofs.output.say_record_lines.Given as goal
 
 abbrev pub invariant-loop-pair : goal.invariant-loop-pair
-invariant-loop-pair g l = Appends (text_said g.W.Write.contents l.initial.output) (text_said g.W.Write.contents l.output) (flat_map told.record_text (take l.pair-index l.found))
+invariant-loop-pair g l =
+    Appends (text_said g.W.Write.contents l.initial.output) (text_said g.W.Write.contents l.output) (flat_map told.record_text (take l.pair-index l.found))

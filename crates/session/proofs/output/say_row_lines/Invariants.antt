@@ -6,4 +6,5 @@ use Rattle.session.specs.Texts as told
 use Rattle.session.proofs.output.say_row_lines.Given as goal
 
 abbrev pub invariant-loop-row : goal.invariant-loop-row
-invariant-loop-row g l = Appends (text_said g.W.Write.contents l.initial.output) (text_said g.W.Write.contents l.output) (flat_map told.row_text (take l.row-index l.rows))
+invariant-loop-row g l =
+    Appends (text_said g.W.Write.contents l.initial.output) (text_said g.W.Write.contents l.output) (flat_map told.row_text (take l.row-index l.rows))

@@ -4,5 +4,11 @@ use Rattle.store.specs.Values.{StoreValue}
 use Rattle.session.proofs.queries.rows_between.Goals as goal
 
 pub returns : goal.returns
-returns g c =
-    (Some c.in-Ok.view, (c.in-Ok.ensures, subst (λ (v : StoreValue). AnswersRows g.D.Disk.tells c.args.store.now c.in-Ok.view c.args.key c.args.a c.args.b c.between-found.result v) (sym c.end.ensures) c.between-found.ensures))
+returns g c = (
+  Some c.in-Ok.view,
+  (
+    c.in-Ok.ensures,
+    subst (λ (v : StoreValue). AnswersRows g.D.Disk.tells c.args.store.now c.in-Ok.view c.args.key c.args.a c.args.b c.between-found.result v)
+        (sym c.end.ensures) c.between-found.ensures,
+  ),
+)

@@ -6,7 +6,8 @@ use Rattle.session.proofs.stepping.take_steps.Given as goal
 
 -- what takes the rest has taken all
 abbrev pub invariant-loop-work : goal.invariant-loop-work
-invariant-loop-work g l = (r : Reply) (end : told.Stored) → told.EndsWork g.D.Disk.tells l.work l.store r end → told.EndsWork g.D.Disk.tells l.initial.work l.initial.store r end
+invariant-loop-work g l =
+    (r : Reply) (end : told.Stored) → told.EndsWork g.D.Disk.tells l.work l.store r end → told.EndsWork g.D.Disk.tells l.initial.work l.initial.store r end
 
 -- each step makes a device call, and there are not so many
 abbrev pub decreases-loop-work : goal.decreases-loop-work

@@ -10,4 +10,10 @@ returns c =
     ap (λ (l : List (Bor Text)). map (λ (part : Bor Text). part.now) l) c.deref-2.ensures.value ∙ c.in-Ok-slices.ensures
     ∙ ap (λ (l : List (Vec ℕ Global)). map (λ (f : Vec ℕ Global). f.items) l) c.deref.ensures.value ∙ c.in-Ok.ensures in
     let puts = c.put.ensures in
-    inr (subst (λ (f : List Text). told.AnswersPut c.args.txn.now c.args.key f c.put.result c.put.new.self) is (record { ok = puts.ok; missing = puts.missing; too_many = puts.too_many; bad = puts.bad; err = puts.err }))
+    inr (subst (λ (f : List Text). told.AnswersPut c.args.txn.now c.args.key f c.put.result c.put.new.self) is (record {
+      ok = puts.ok;
+      missing = puts.missing;
+      too_many = puts.too_many;
+      bad = puts.bad;
+      err = puts.err;
+    }))

@@ -7,7 +7,8 @@ pub returns-in-Err : goal.returns-in-Err
 returns-in-Err g c = inl (c.in-Err.fault, c.in-Err.ensures.err, c.refuse.ensures)
 
 pub returns-in-Err-new : goal.returns-in-Err-new
-returns-in-Err-new g c = inr (inl (c.in-Ok.store, c.in-Ok.ensures.ok, c.close.ensures ∙ ap (λ (s : StoreValue). s.disk) c.in-Err-new.ensures.err, c.refuse-in-Err-new.ensures))
+returns-in-Err-new g c =
+    inr (inl (c.in-Ok.store, c.in-Ok.ensures.ok, c.close.ensures ∙ ap (λ (s : StoreValue). s.disk) c.in-Err-new.ensures.err, c.refuse-in-Err-new.ensures))
 
 pub returns : goal.returns
 returns g c = inr (inr (record {

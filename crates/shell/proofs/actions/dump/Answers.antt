@@ -10,7 +10,14 @@ use Rattle.shell.proofs.Said.{said-by}
 use Rattle.shell.proofs.actions.dump.Goals as goal
 
 pub returns-in-Err : goal.returns-in-Err
-returns-in-Err g c = inl (inl (record { why = c.in-Err.fault; fault = c.in-Err.ensures.fault; only = c.in-Err.ensures.only; same = c.in-Err.ensures.same; said = c.refuse_log.ensures }))
+returns-in-Err g c =
+    inl (inl (record {
+      why = c.in-Err.fault;
+      fault = c.in-Err.ensures.fault;
+      only = c.in-Err.ensures.only;
+      same = c.in-Err.ensures.same;
+      said = c.refuse_log.ensures;
+    }))
 
 pub returns-in-Err-read_log : goal.returns-in-Err-read_log
 returns-in-Err-read_log g c =
@@ -19,7 +26,8 @@ returns-in-Err-read_log g c =
       header = c.in-Ok.header;
       reads = c.in-Ok.ensures.found;
       why = c.in-Err-read_log.fault;
-      fault = λ tells. subst (λ (s : DiskState). IsLogFault c.in-Ok.header s.areas.status.bytes c.in-Err-read_log.fault) kept (c.in-Err-read_log.ensures.fault tells);
+      fault = λ tells. subst (λ (s : DiskState). IsLogFault c.in-Ok.header s.areas.status.bytes c.in-Err-read_log.fault) kept
+          (c.in-Err-read_log.ensures.fault tells);
       same = subst (λ (s : DiskState). g.D.Disk.state c.read_log.new.disk ≡ refused_by c.in-Err-read_log.fault s) kept c.in-Err-read_log.ensures.same;
       said = c.refuse_log-in-Err-read_log.ensures;
     }))
@@ -31,11 +39,13 @@ returns-in-Ok-dump_text g c =
       header = c.in-Ok.header;
       slots = c.in-Ok-read_log.slots.items;
       reads = c.in-Ok.ensures.found;
-      log = λ tells. subst (λ (s : DiskState). HoldsLog c.in-Ok.header s.areas.status.bytes c.in-Ok-read_log.slots.items) kept (c.in-Ok-read_log.ensures.log tells);
+      log = λ tells. subst (λ (s : DiskState). HoldsLog c.in-Ok.header s.areas.status.bytes c.in-Ok-read_log.slots.items) kept
+          (c.in-Ok-read_log.ensures.log tells);
       text = c.in-Ok-dump_text.text.items;
       dump = subst (λ (slots : List Slot). IsDump c.in-Ok.header slots c.in-Ok-dump_text.text.items) c.as_slice.ensures.value c.in-Ok-dump_text.ensures;
       said = said-by (told g.W.Write.contents c.status_of.result c.args.output.now c.say.new.self) c.in-Ok-dump_text.text.items c.say.result
-          (subst (λ (t : Text). Says (g.W.Write.contents c.args.output.now.writer) t c.say.result (g.W.Write.contents c.say.new.self.writer) c.say.new.self.refused) c.as_slice-in-Ok-dump_text.ensures.value c.say.ensures) c.status_of.ensures;
+          (subst (λ (t : Text). Says (g.W.Write.contents c.args.output.now.writer) t c.say.result (g.W.Write.contents c.say.new.self.writer)
+          c.say.new.self.refused) c.as_slice-in-Ok-dump_text.ensures.value c.say.ensures) c.status_of.ensures;
       same = c.in-Ok-read_log.ensures.same ∙ kept;
     }))
 

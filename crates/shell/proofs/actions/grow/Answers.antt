@@ -9,7 +9,8 @@ pub returns-in-Err : goal.returns-in-Err
 returns-in-Err g c = inl (c.in-Err.fault, c.in-Err.ensures.err, c.refuse.ensures)
 
 pub returns-in-Err-new : goal.returns-in-Err-new
-returns-in-Err-new g c = inr (inl (c.in-Ok.store, c.in-Ok.ensures.ok, c.close.ensures ∙ ap (λ (s : StoreValue). s.disk) c.in-Err-new.ensures.err, c.refuse-in-Err-new.ensures))
+returns-in-Err-new g c =
+    inr (inl (c.in-Ok.store, c.in-Ok.ensures.ok, c.close.ensures ∙ ap (λ (s : StoreValue). s.disk) c.in-Err-new.ensures.err, c.refuse-in-Err-new.ensures))
 
 pub returns : goal.returns
 returns g c = inr (inr (record {
@@ -17,7 +18,8 @@ returns g c = inr (inr (record {
   opens = c.in-Ok.ensures.ok;
   refused = c.do_job-refused.result;
   asked = c.do_job-refused.new.session;
-  does = subst (λ (s : State). DoesJob (Step g.D.Disk.tells) line.Grow s c.do_job-refused.result c.do_job-refused.new.session) c.in-Ok-new.ensures.ok c.do_job-refused.ensures;
+  does = subst (λ (s : State). DoesJob (Step g.D.Disk.tells) line.Grow s c.do_job-refused.result c.do_job-refused.new.session) c.in-Ok-new.ensures.ok
+      c.do_job-refused.ensures;
   given = g.D.Disk.state c.close-disk.result;
   closes = c.close-disk.ensures;
   says = c.tell_grown-status.ensures;

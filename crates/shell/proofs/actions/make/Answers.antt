@@ -8,7 +8,8 @@ pub returns-in-Ok : goal.returns-in-Ok
 returns-in-Ok g c = inl (record {
   count = search rules;
   formatted = c.in-Ok.ensures.formatted;
-  said = said-by (told g.W.Write.contents c.status_of.result c.args.output.now c.say_formatted-said.new.output) (codes "formatted " ++ (decimal c.args.slots ++ codes "\n")) c.say_formatted-said.result c.say_formatted-said.ensures c.status_of.ensures;
+  said = said-by (told g.W.Write.contents c.status_of.result c.args.output.now c.say_formatted-said.new.output) (codes "formatted "
+      ++ (decimal c.args.slots ++ codes "\n")) c.say_formatted-said.result c.say_formatted-said.ensures c.status_of.ensures;
 })
 
 pub returns-in-Err : goal.returns-in-Err

@@ -9,7 +9,8 @@ pub returns-in-Ok : goal.returns-in-Ok
 returns-in-Ok g c = inl (
   c.in-Ok.slots.items,
   c.in-Ok.ensures.log,
-  subst (λ (slots : List Slot). IsRefused (told g.W.Write.contents c.refuse_after.result c.args.output.now c.refuse_after.new.output) (archived_line c.args.upto slots ++ text_of c.args.refusal.now))
+  subst (λ (slots : List Slot). IsRefused (told g.W.Write.contents c.refuse_after.result c.args.output.now c.refuse_after.new.output)
+      (archived_line c.args.upto slots ++ text_of c.args.refusal.now))
       c.as_slice.ensures.value c.refuse_after.ensures,
 )
 

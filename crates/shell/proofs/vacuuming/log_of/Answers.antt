@@ -18,6 +18,10 @@ returns-in-Ok-read_log-clause-log g c =
 pub returns-in-Err-read_log-clause-fault : goal.returns-in-Err-read_log-clause-fault
 returns-in-Err-read_log-clause-fault g c =
     let kept = c.in-Ok.ensures.same in (
-      λ tells. inr (c.in-Ok.header, c.in-Ok.ensures.found tells, subst (λ (s : DiskState). IsLogFault c.in-Ok.header s.areas.status.bytes c.in-Err-read_log.fault) kept (c.in-Err-read_log.ensures.fault tells)),
+      λ tells. inr (
+        c.in-Ok.header,
+        c.in-Ok.ensures.found tells,
+        subst (λ (s : DiskState). IsLogFault c.in-Ok.header s.areas.status.bytes c.in-Err-read_log.fault) kept (c.in-Err-read_log.ensures.fault tells),
+      ),
       subst (λ (s : DiskState). g.D.Disk.state c.read_log.new.disk ≡ refused_by c.in-Err-read_log.fault s) kept c.in-Err-read_log.ensures.same,
     )

@@ -9,4 +9,5 @@ abbrev pub ghosts-one_call_a_holding-L-Ledger : goal.ghosts-one_call_a_holding-L
 ghosts-one_call_a_holding-L-Ledger g a = record { name = a.opened.blank.name; parts = a.opened.blank.parts }
 
 abbrev pub ghosts-one_call_a_holding-L-Opening : goal.ghosts-one_call_a_holding-L-Opening
-ghosts-one_call_a_holding-L-Opening g a = record { start = opened [] (λ relation. 0); mark = a.opened.store.transactions.mark; table = a.opened.cell.table.shared.table_id }
+ghosts-one_call_a_holding-L-Opening g a =
+    record { start = opened [] (λ relation. 0); mark = a.opened.store.transactions.mark; table = a.opened.cell.table.shared.table_id }

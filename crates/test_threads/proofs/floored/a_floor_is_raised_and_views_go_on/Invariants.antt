@@ -9,4 +9,5 @@ abbrev pub ghosts-answers_by_its_floor-L-Ledger : goal.ghosts-answers_by_its_flo
 ghosts-answers_by_its_floor-L-Ledger g a = record { name = a.opened.blank.name; parts = a.opened.blank.parts }
 
 abbrev pub ghosts-answers_by_its_floor-L-Opening : goal.ghosts-answers_by_its_floor-L-Opening
-ghosts-answers_by_its_floor-L-Opening g a = record { start = opened [] (λ relation. 0); mark = a.opened.store.transactions.mark; table = a.opened.cell.table.shared.table_id }
+ghosts-answers_by_its_floor-L-Opening g a =
+    record { start = opened [] (λ relation. 0); mark = a.opened.store.transactions.mark; table = a.opened.cell.table.shared.table_id }

@@ -9,4 +9,5 @@ abbrev pub ghosts-fills_new_slots-L-Ledger : goal.ghosts-fills_new_slots-L-Ledge
 ghosts-fills_new_slots-L-Ledger g a = record { name = a.opened.blank.name; parts = a.opened.blank.parts }
 
 abbrev pub ghosts-fills_new_slots-L-Opening : goal.ghosts-fills_new_slots-L-Opening
-ghosts-fills_new_slots-L-Opening g a = record { start = opened [] (λ relation. 0); mark = a.opened.store.transactions.mark; table = a.opened.cell.table.shared.table_id }
+ghosts-fills_new_slots-L-Opening g a =
+    record { start = opened [] (λ relation. 0); mark = a.opened.store.transactions.mark; table = a.opened.cell.table.shared.table_id }

@@ -9,4 +9,5 @@ abbrev pub ghosts-shows_what_is_published-L-Ledger : goal.ghosts-shows_what_is_p
 ghosts-shows_what_is_published-L-Ledger g a = record { name = a.opened.blank.name; parts = a.opened.blank.parts }
 
 abbrev pub ghosts-shows_what_is_published-L-Opening : goal.ghosts-shows_what_is_published-L-Opening
-ghosts-shows_what_is_published-L-Opening g a = record { start = opened [] (λ relation. 0); mark = a.opened.store.transactions.mark; table = a.opened.cell.table.shared.table_id }
+ghosts-shows_what_is_published-L-Opening g a =
+    record { start = opened [] (λ relation. 0); mark = a.opened.store.transactions.mark; table = a.opened.cell.table.shared.table_id }

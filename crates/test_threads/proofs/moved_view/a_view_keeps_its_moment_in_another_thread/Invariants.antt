@@ -9,4 +9,5 @@ abbrev pub ghosts-keeps_its_moment-L-Ledger : goal.ghosts-keeps_its_moment-L-Led
 ghosts-keeps_its_moment-L-Ledger g a = record { name = a.opened.blank.name; parts = a.opened.blank.parts }
 
 abbrev pub ghosts-keeps_its_moment-L-Opening : goal.ghosts-keeps_its_moment-L-Opening
-ghosts-keeps_its_moment-L-Opening g a = record { start = opened [] (λ relation. 0); mark = a.opened.store.transactions.mark; table = a.opened.cell.table.shared.table_id }
+ghosts-keeps_its_moment-L-Opening g a =
+    record { start = opened [] (λ relation. 0); mark = a.opened.store.transactions.mark; table = a.opened.cell.table.shared.table_id }

@@ -9,4 +9,5 @@ abbrev pub ghosts-answers_from_both-L-Ledger : goal.ghosts-answers_from_both-L-L
 ghosts-answers_from_both-L-Ledger g a = record { name = a.opened.blank.name; parts = a.opened.blank.parts }
 
 abbrev pub ghosts-answers_from_both-L-Opening : goal.ghosts-answers_from_both-L-Opening
-ghosts-answers_from_both-L-Opening g a = record { start = opened [] (λ relation. 0); mark = a.opened.store.transactions.mark; table = a.opened.cell.table.shared.table_id }
+ghosts-answers_from_both-L-Opening g a =
+    record { start = opened [] (λ relation. 0); mark = a.opened.store.transactions.mark; table = a.opened.cell.table.shared.table_id }

@@ -4,4 +4,5 @@ use Rattle.disk.proofs.mem_disk.MemDisk.TheSendSync as mem_disk
 use Rattle.test_threads.proofs.workers.run_plan.Goals as goal
 
 pub stress_on-requires : goal.stress_on-requires
-stress_on-requires g c κs within = (search rules, (search rules, (search (sendable, mem_disk.the_send), (search sendable, (c.in-Ok.ensures.stands, (c.in-Ok.ensures.fresh, refl))))))
+stress_on-requires g c κs within =
+    (search rules, (search rules, (search (sendable, mem_disk.the_send), (search sendable, (c.in-Ok.ensures.stands, (c.in-Ok.ensures.fresh, refl))))))

@@ -18,7 +18,8 @@ invariant_of-self-clause-chained c =
     let after : Place = record { stamp = place.stamp; held = Transaction c.delete.new.self; next = place.next } in
     let at = there tag places number place some c.index_mut.ensures.value in
     let names = written tag places number place after some c.index_mut.ensures.value refl in
-    stays_taken places c.args.self.now.free (place_in number) place after at.at (named_taken (named_in tag places number) place some names.0) refl c.args.self.now.chained
+    stays_taken places c.args.self.now.free (place_in number) place after at.at (named_taken (named_in tag places number) place some names.0) refl
+    c.args.self.now.chained
 
 pub returns-in-Transaction : goal.returns-in-Transaction
 returns-in-Transaction c =
@@ -35,7 +36,8 @@ returns-in-Transaction c =
       before = c.in-Transaction.txn;
       after = c.delete.new.self;
       named_is = held;
-      does = deletes c.args.key c.in-Transaction.txn c.delete.new.self c.delete.result c.delete.ensures.ok c.delete.ensures.missing c.delete.ensures.too_many c.delete.ensures.bad c.delete.ensures.err;
+      does = deletes c.args.key c.in-Transaction.txn c.delete.new.self c.delete.result c.delete.ensures.ok c.delete.ensures.missing c.delete.ensures.too_many
+          c.delete.ensures.bad c.delete.ensures.err;
       names = names.1;
       stamps = record { stamps = same_stamps places (place_in number) place after at.at refl; tag = refl };
     }

@@ -22,7 +22,9 @@ returns c =
     let at = c.args.self.now.free in
     let free = nothing_in places at place c.requires.free c.index_mut-place.ensures.value in
     let after : Place = record { stamp = place.stamp; held = c.replace.new.dest; next = place.next } in
-    let names = kept c.args.self.now.tag places c.number_of.result at place after c.args.held c.number_of.ensures.tag c.number_of.ensures.place c.number_of.ensures.stamp free.at free.none refl c.replace.ensures.after in
+    let names =
+    kept c.args.self.now.tag places c.number_of.result at place after c.args.held c.number_of.ensures.tag c.number_of.ensures.place
+    c.number_of.ensures.stamp free.at free.none refl c.replace.ensures.after in
     record {
       free = names.0;
       own = c.number_of.ensures.tag;

@@ -17,7 +17,8 @@ invariant_of-self-clause-chained c =
     let after : Place = record { stamp = place.stamp; held = Transaction c.put.new.txn; next = place.next } in
     let at = there tag places number place some c.index_mut.ensures.value in
     let names = written tag places number place after some c.index_mut.ensures.value refl in
-    stays_taken places c.args.self.now.free (place_in number) place after at.at (named_taken (named_in tag places number) place some names.0) refl c.args.self.now.chained
+    stays_taken places c.args.self.now.free (place_in number) place after at.at (named_taken (named_in tag places number) place some names.0) refl
+    c.args.self.now.chained
 
 pub returns-in-Transaction : goal.returns-in-Transaction
 returns-in-Transaction c =

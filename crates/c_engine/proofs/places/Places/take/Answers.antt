@@ -15,7 +15,9 @@ invariant_of-self-clause-chained c =
     let at = there c.args.self.now.tag places number place c.requires c.index_mut-place.ensures.value in
     let low : place_in number < 65536 = omega arith in
     let named_is = written c.args.self.now.tag places number place place c.requires c.index_mut-place.ensures.value refl in
-    becomes_free places c.args.self.now.free (place_in number) place after at.at low (named_taken (named_in c.args.self.now.tag places number) place c.requires named_is.0) (is_free c.replace-held.new.dest c.replace-held.ensures.after) refl
+    becomes_free places c.args.self.now.free (place_in number) place after at.at low
+    (named_taken (named_in c.args.self.now.tag places number) place c.requires named_is.0) (is_free c.replace-held.new.dest c.replace-held.ensures.after)
+    refl
     c.args.self.now.chained
 
 pub returns-clause-held : goal.returns-clause-held
@@ -36,6 +38,7 @@ returns-clause-taken c =
     let low : place_in number < 65536 = omega arith in
     record {
       names = emptied c.args.self.now.tag places number place after c.requires c.index_mut-place.ensures.value c.replace-held.ensures.after;
-      free = free_here (slice_set places (place_in number) after) (place_in number) after (set_here places (place_in number) place after at.at) low c.replace-held.ensures.after;
+      free = free_here (slice_set places (place_in number) after) (place_in number) after (set_here places (place_in number) place after at.at) low
+          c.replace-held.ensures.after;
       stamps = record { stamps = raised_stamp places (place_in number) place after at.at refl; tag = refl };
     }

@@ -15,7 +15,8 @@ invariant_of-self-in-Ok-clause-sound c =
 pub invariant_of-self-in-Ok-clause-noted : goal.invariant_of-self-in-Ok-clause-noted
 invariant_of-self-in-Ok-clause-noted c =
     subst (λ (a : Areas). ∥ writes_of c.write.new.self ≡ last_writes a ∥₁) (sym c.then-self.ensures)
-    (write_noted c.args.area c.args.at c.args.bytes.now (writes_of c.args.self.now.writes) (writes_of c.write.new.self) c.args.self.now.shadow.areas c.args.self.now.noted c.in-Ok.ensures.noted)
+    (write_noted c.args.area c.args.at c.args.bytes.now (writes_of c.args.self.now.writes) (writes_of c.write.new.self) c.args.self.now.shadow.areas
+    c.args.self.now.noted c.in-Ok.ensures.noted)
 
 pub returns-in-Ok-clause-areas : goal.returns-in-Ok-clause-areas
 returns-in-Ok-clause-areas c told =

@@ -18,7 +18,8 @@ returns-in-Some-clause-placed c = λ yes.
           take_more_set c.args.rows.now it.rows _ few
           ∙ ap (λ (n : ℕ). take it.rows c.args.rows.now ++ record (row_at it.bytes (shown_as c.args.row c.args.value.now)) { len = n } ∷ []) len;
       value_is =
-          let long : length bytes ≡ min c.in-Some.len (length c.copy_out.new.out) = ap (λ (l : List ℕ). length l) (sym is) ∙ length-take c.in-Some.len c.copy_out.new.out in
+          let long : length bytes ≡ min c.in-Some.len (length c.copy_out.new.out) =
+          ap (λ (l : List ℕ). length l) (sym is) ∙ length-take c.in-Some.len c.copy_out.new.out in
           let room : length bytes ≤ length c.copy_out.new.out = omega (arith, long) in
           put_behind it.bytes _ c.args.out.now c.copy_out.new.out bytes within room (ap (λ (n : ℕ). take n c.copy_out.new.out) (sym len) ∙ is);
     }

@@ -9,4 +9,5 @@ returns-in_default-clause-taken c = (refl, is_bad c.args.self.now c.args.image.n
 pub returns-clause-taken : goal.returns-clause-taken
 returns-clause-taken c =
     rw c.taken_of.ensures
-    (takes c.args.self.now c.fitting.ensures.taking (extent_of c.in-Some.extent) c.in-Some.ensures.found.0 c.args.image.now c.in-Some.ensures.found.1 c.push.new.self c.in_ok-push.ensures.ok)
+    (takes c.args.self.now c.fitting.ensures.taking (extent_of c.in-Some.extent) c.in-Some.ensures.found.0 c.args.image.now c.in-Some.ensures.found.1
+    c.push.new.self c.in_ok-push.ensures.ok)

@@ -5,7 +5,11 @@ use Rattle.session.proofs.session.Session.reopen.Goals as goal
 pub returns-in-Ok : goal.returns-in-Ok
 returns-in-Ok g c = record {
   given = g.D.Disk.state c.close.result;
-  closes = subst (λ (s : told.State). told.Closes s (g.D.Disk.state c.close.result)) c.self.view_is (c.abort_all.new.store, c.abort_all.ensures.store, c.close.ensures);
+  closes = subst (λ (s : told.State). told.Closes s (g.D.Disk.state c.close.result)) c.self.view_is (
+    c.abort_all.new.store,
+    c.abort_all.ensures.store,
+    c.close.ensures,
+  );
   sound = λ tells. g.met.D.Disk.sound c.close.result tells;
   opened = c.in-Ok.store;
   opens = c.in-Ok.ensures.ok;

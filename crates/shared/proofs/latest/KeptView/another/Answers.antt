@@ -1,4 +1,4 @@
-use Rattle.std.proofs.Common.{◌≡◌, ℕ, ◌≤◌, ap, subst, sym, ◌∙◌}
+use Rattle.std.proofs.Common.{◌≤◌, ap, subst, sym, ◌∙◌}
 use Rattle.history.specs.Histories.{last}
 use Rattle.shared.specs.Moments.{ViewMoment}
 use Rattle.shared.specs.Seen.{Seen, IsLater}

@@ -1,10 +1,14 @@
-use Rattle.std.proofs.Common.{rules, ap, subst, sym, ◌∙◌}
-use Rattle.history.specs.Histories.{IsHistory}
-use Rattle.law_image.specs.Values.{IsValue}
+use Rattle.std.proofs.Common.{Bool, rules, ap, subst, sym, ◌∙◌, Option}
+use Rattle.crossbeam_utils.specs.Seq.{cell_view}
+use Rattle.history.specs.Floors.{Raising}
+use Rattle.history.specs.Histories.{History, IsHistory}
+use Rattle.law_image.specs.Values.{Value, IsValue}
 use Rattle.store.specs.Values.{StoreValue}
 use Rattle.law_refinement.specs.Stands.{raising_of}
-use Rattle.shared.specs.Seen.{Seen, order_of}
+use Rattle.shared.specs.Seen.{Seen, order_of, seen_of}
+use Rattle.shared.specs.Shared.{failed_seen, has_failed, job_seen}
 use Rattle.shared.proofs.Moves.{job-pumped, job-later, job-keeps}
+use Rattle.shared.proofs.Stepping.{done-order, failed-order}
 use Rattle.shared.proofs.locked.Locked.job_step.Goals as goal
 
 pub note_job-requires : goal.note_job-requires
@@ -18,16 +22,50 @@ note_job-requires g c =
     let legal = subst (λ (s : Seen). IsHistory IsValue (order_of s)) (sym h.seen) h.stands.machine.history in
     search rules
 
+pub note_failed-requires-clause-legal : goal.note_failed-requires-clause-legal
+note_failed-requires-clause-legal g c =
+    let h = c.self.invariant in
+    let seen = (cell_view c.self.inside.writer).seen in
+    let same = ap order_of c.note_job.ensures.seen ∙ done-order c.job_pump-did.result g.raising seen ∙ ap order_of h.seen in
+    subst (λ (l : History Value). IsHistory IsValue l) (sym same) h.stands.machine.history
+
+pub meet-requires-clause-legal : goal.meet-requires-clause-legal
+meet-requires-clause-legal g c =
+    let h = c.self.invariant in
+    let seen = (cell_view c.self.inside.writer).seen in
+    let noted = (cell_view c.note_job.new.writer).seen in
+    let same =
+    ap order_of c.note_failed.ensures.seen ∙ failed-order c.has_failed.result noted ∙ ap order_of c.note_job.ensures.seen
+    ∙ done-order c.job_pump-did.result g.raising seen ∙ ap order_of h.seen in
+    subst (λ (l : History Value). IsHistory IsValue l) (sym same) h.stands.machine.history
+
 pub invariant_of-self : goal.invariant_of-self
 invariant_of-self g c =
     let h = c.self.invariant in
     let p = job-pumped _ _ _ _ _ _ h.reached h.stands c.job_pump-did.ensures.sound c.job_pump-did.ensures.is in
+    let r = c.job_pump-did.result in
     let n = c.note_job.ensures in
+    let f = c.note_failed.ensures in
+    let w = c.meet.ensures.writer in
     let raising = ap (λ (v : StoreValue). raising_of v.job) c.self.view_is ∙ c.requires.1.1.1.1 in
-    job-keeps _ _ _ _ _ _ _ _ _ _ _ _ h _ raising p n.cell n.writes n.seen n.archive
+    let seen = f.seen ∙ ap (λ (b : Bool). failed_seen b (cell_view c.note_job.new.writer).seen) c.has_failed.ensures ∙ ap (failed_seen (has_failed r)) n.seen in
+    job-keeps _ _ _ _ _ _ _ _ _ _ _ _ h _ raising p (w.0 ∙ f.cell ∙ n.cell) w.1 (w.2 ∙ seen) (w.3 ∙ f.archive ∙ n.archive)
 
-pub returns : goal.returns
-returns g c =
+pub returns-clause-happens : goal.returns-clause-happens
+returns-clause-happens g c =
     let h = c.self.invariant in
     let p = job-pumped _ _ _ _ _ _ h.reached h.stands c.job_pump-did.ensures.sound c.job_pump-did.ensures.is in
-    record { before = h.state; after = p.after; reached = h.reached; run = p.run }
+    let r = c.job_pump-did.result in
+    let raising = ap (λ (v : StoreValue). raising_of v.job) c.self.view_is ∙ c.requires.1.1.1.1 in
+    let seen =
+    c.note_failed.ensures.seen ∙ ap (λ (b : Bool). failed_seen b (cell_view c.note_job.new.writer).seen) c.has_failed.ensures
+    ∙ ap (failed_seen (has_failed r)) c.note_job.ensures.seen in
+    record {
+      before = h.state;
+      after = p.after;
+      reached = h.reached;
+      run = p.run;
+      seen_is =
+          c.meet.ensures.seen ∙ seen ∙ ap (job_seen r g.raising) h.seen ∙ ap (λ (o : Option Raising). job_seen r o (seen_of h.state)) (sym raising)
+          ∙ sym p.seen;
+    }

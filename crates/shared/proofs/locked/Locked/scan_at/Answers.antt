@@ -8,4 +8,6 @@ invariant_of-self g c =
     query-keeps _ _ _ _ _ _ _ _ _ _ _ _ _ _ _ _ (repass _ _ _ _ _ _ _ _ _ _ c.self.invariant w.0 w.1 w.2 w.3) c.scan_at.ensures
 
 pub returns-clause-says : goal.returns-clause-says
-returns-clause-says g c = scan_at-says _ _ _ _ _ _ _ _ _ c.self.invariant _ _ _ c.shown.ensures c.compare.ensures.kept c.compare.ensures.shows c.args.relation c.args.time c.scan_at.result c.scan_at.ensures
+returns-clause-says g c =
+    scan_at-says _ _ _ _ _ _ _ _ _ c.self.invariant _ _ _ c.shown.ensures c.compare.ensures.kept c.compare.ensures.shows c.args.relation c.args.time
+    c.scan_at.result c.scan_at.ensures

@@ -8,4 +8,6 @@ invariant_of-self g c =
     query-keeps _ _ _ _ _ _ _ _ _ _ _ _ _ _ _ _ (repass _ _ _ _ _ _ _ _ _ _ c.self.invariant w.0 w.1 w.2 w.3) c.scan_between.ensures
 
 pub returns-clause-says : goal.returns-clause-says
-returns-clause-says g c = scan_between-says _ _ _ _ _ _ _ _ _ c.self.invariant _ _ _ c.shown.ensures c.compare.ensures.kept c.compare.ensures.shows c.args.relation c.args.a c.args.b c.scan_between.result c.scan_between.ensures
+returns-clause-says g c =
+    scan_between-says _ _ _ _ _ _ _ _ _ c.self.invariant _ _ _ c.shown.ensures c.compare.ensures.kept c.compare.ensures.shows c.args.relation c.args.a c.args.b
+    c.scan_between.result c.scan_between.ensures

@@ -37,4 +37,5 @@ returns-clause-happens g c =
     let h = c.self.invariant in
     let s = submit-leaves _ _ _ _ _ _ _ _ _ _ h.stands h.reached h.mark c.writes-count.ensures.are (omega arith) c.submit-submitted.ensures in
     let is = noted-is _ _ _ _ _ _ _ _ _ _ _ _ s c.requires.1.1.1.1 h.seen in
-    subst (λ (x : Seen). SubmitHappens g.L.Opening.start g.L.Opening.mark c.args.txn c.args.label c.args.now c.submit-submitted.result x) (sym (c.meet.ensures.seen ∙ c.note_queued.ensures.seen ∙ is)) s.happens
+    subst (λ (x : Seen). SubmitHappens g.L.Opening.start g.L.Opening.mark c.args.txn c.args.label c.args.now c.submit-submitted.result x)
+    (sym (c.meet.ensures.seen ∙ c.note_queued.ensures.seen ∙ is)) s.happens

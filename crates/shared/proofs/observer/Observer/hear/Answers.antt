@@ -8,8 +8,16 @@ split_pass-told-requires g c = (search rules, (search rules, (c.requires.1 ∙ s
 
 pub join_pass-requires : goal.join_pass-requires
 join_pass-requires g c =
-    let s = c.split_pass-told.ensures.given in
-    (search rules, (search rules, ((c.self.invariant.0 ∙ sym c.requires.0, s.0 ∙ c.requires.1 ∙ sym c.self.invariant.0, s.2), overhears _ _ _ _ c.self.invariant.1 (ap (λ (v : SightValue). v.writes) s.1))))
+    let s = c.split_pass-told.ensures.given in (
+      search rules,
+      (
+        search rules,
+        (
+          (c.self.invariant.0 ∙ sym c.requires.0, s.0 ∙ c.requires.1 ∙ sym c.self.invariant.0, s.2),
+          overhears _ _ _ _ c.self.invariant.1 (ap (λ (v : SightValue). v.writes) s.1),
+        ),
+      ),
+    )
 
 pub load_as-requires : goal.load_as-requires
 load_as-requires g c =

@@ -1,4 +1,4 @@
-use Rattle.std.proofs.Common.{◌≡◌, ◌∙◌, ◌≤◌, ap, subst, sym, arith}
+use Rattle.std.proofs.Common.{◌∙◌, ◌≤◌, ap, subst, sym, arith}
 use Rattle.history.specs.Histories.{last}
 use Rattle.shared.specs.Moments.{ViewMoment, HoldsSeen}
 use Rattle.shared.specs.Seen.{Known, Seen, IsLater}

@@ -8,4 +8,7 @@ pub returns-clause-holds : goal.returns-clause-holds
 returns-clause-holds g c =
     let is = ap (λ (v : ViewMoment). v.seen) c.another.ensures.kept ∙ c.in_ok-view.ensures.moment in
     let seen = subst (λ (s : Seen). IsLater c.view.new.me s) (sym c.another-seen.ensures.kept) (later-same c.view.new.me) in
-    subst (λ (s : Seen). IsFrontOf c.args.me.now.published s.published × IsLater s c.another-seen.new.self) (sym is) (c.in_ok-view.ensures.later.published, seen)
+    subst (λ (s : Seen). IsFrontOf c.args.me.now.published s.published × IsLater s c.another-seen.new.self) (sym is) (
+      c.in_ok-view.ensures.later.published,
+      seen,
+    )

@@ -8,4 +8,5 @@ use Rattle.shared.proofs.shared_view.SharedView.compare.Goals as goal
 pub returns-clause-shows : goal.returns-clause-shows
 returns-clause-shows g c =
     let e = c.compare.ensures in
-    subst (λ (k : Known). Shows g.L.Opening.start g.L.Opening.mark (cell_view c.args.writer.now).archive c.self.inside.view k.seen) (sym e.kept) (shows-later _ _ _ _ _ _ e.more.archive c.self.invariant)
+    subst (λ (k : Known). Shows g.L.Opening.start g.L.Opening.mark (cell_view c.args.writer.now).archive c.self.inside.view k.seen) (sym e.kept)
+    (shows-later _ _ _ _ _ _ e.more.archive c.self.invariant)

@@ -1,0 +1,116 @@
+-- How the loops of a shared store end.
+use Rattle.std.specs.Prelude.{◌≡◌, ◌⊎◌, ℕ, Bool, true, false, Option, None, Some, Result, Ok, Err, MatchOption}
+use Rattle.history.specs.Machine.{Machine}
+use Rattle.law_image.specs.Values.{Value}
+use Rattle.group.specs.declared.answers.Did.{Did}
+use Rattle.group.specs.declared.answers.Did.TheVariants as did
+use Rattle.group.specs.declared.answers.PumpFault.{PumpFault}
+use Rattle.group.specs.declared.answers.PumpFault.TheVariants as pump
+use Rattle.store.specs.declared.job.JobDid.TheVariants as job_did
+use Rattle.store.specs.declared.job.StartFault.{StartFault}
+use Rattle.store.specs.declared.job.StartFault.TheVariants as start_fault
+use Rattle.shared.specs.declared.vacuuming.Doing.{Doing}
+use Rattle.shared.specs.declared.vacuuming.Doing.TheVariants as doing
+use Rattle.shared.specs.declared.vacuuming.Vacuuming.{Vacuuming}
+use Rattle.shared.specs.declared.vacuuming.Vacuuming.TheVariants as vacuuming
+use Rattle.shared.specs.declared.vacuuming.Vacuumed.{Vacuumed}
+use Rattle.shared.specs.declared.vacuuming.Vacuumed.TheVariants as vacuumed
+use Rattle.shared.specs.declared.vacuuming.VacuumEnd.{VacuumEnd}
+use Rattle.shared.specs.declared.vacuuming.VacuumEnd.TheVariants as vacuum_end
+use Rattle.shared.specs.Seen.{Seen}
+use Rattle.shared.specs.Shared.{PumpHappens, JobHappens, ArchiveHappens, ReclaimHappens}
+
+-- ---- the committer
+
+-- a committer may end after this answer: nothing was to be done, or the store has failed
+abbrev pub EndsCommits : Result Did PumpFault → Type 0
+EndsCommits (Ok did.Idle) = Unit {0}
+EndsCommits (Ok did.WroteExtent) = ⊥
+EndsCommits (Ok did.HeapSynced) = ⊥
+EndsCommits (Ok did.BodyWritten) = ⊥
+EndsCommits (Ok did.BodySynced) = ⊥
+EndsCommits (Ok did.GateWritten) = ⊥
+EndsCommits (Ok (did.Published count)) = ⊥
+EndsCommits (Err pump.Busy) = ⊥
+EndsCommits (Err pump.NoMemory) = ⊥
+EndsCommits (Err pump.Failed) = Unit {0}
+
+-- it ended after this answer, with this seen
+pub record CommitterEnds (start : Machine Value) (result : Result Did PumpFault) (seen : Seen) : Type 0 where
+  pub ends : EndsCommits result
+  pub happens : PumpHappens start result seen
+
+-- ---- the vacuum
+
+-- a job of the vacuum's own runs
+abbrev pub is_running : Doing → Bool
+is_running doing.Archives = false
+is_running doing.Archiving = true
+is_running (doing.Reclaims moves) = false
+is_running doing.Reclaiming = true
+
+-- what the store answered to a start of an archive or of a reclaim, or to a step of a job
+abbrev pub VacuumHappens : Machine Value → Vacuumed → Seen → Type 0
+VacuumHappens start (vacuumed.Start result) seen = ((upto : ℕ) × ArchiveHappens start upto result seen) ⊎ ReclaimHappens start result seen
+VacuumHappens start (vacuumed.Job result) seen = JobHappens start result seen
+
+-- after this answer no job of the vacuum's own runs
+abbrev pub Rests : Vacuumed → Type 0
+Rests (vacuumed.Start (Ok done)) = ⊥
+Rests (vacuumed.Start (Err why)) = Unit {0}
+Rests (vacuumed.Job (Ok job_did.JobDone)) = Unit {0}
+Rests (vacuumed.Job (Ok job_did.Idle)) = Unit {0}
+Rests (vacuumed.Job (Ok job_did.WroteRun)) = ⊥
+Rests (vacuumed.Job (Ok job_did.RunSynced)) = ⊥
+Rests (vacuumed.Job (Ok job_did.WroteExtent)) = ⊥
+Rests (vacuumed.Job (Ok job_did.HeapSynced)) = ⊥
+Rests (vacuumed.Job (Ok job_did.WroteZeros)) = ⊥
+Rests (vacuumed.Job (Ok job_did.ZerosSynced)) = ⊥
+Rests (vacuumed.Job (Ok job_did.BodyWritten)) = ⊥
+Rests (vacuumed.Job (Ok job_did.BodySynced)) = ⊥
+Rests (vacuumed.Job (Ok job_did.GateWritten)) = ⊥
+Rests (vacuumed.Job (Err why)) = ⊥
+
+-- a start is refused for good: what it waits for comes from no other call
+abbrev pub IsForGood : StartFault → Type 0
+IsForGood start_fault.Failed = Unit {0}
+IsForGood start_fault.WrongProfile = Unit {0}
+IsForGood start_fault.JobBusy = ⊥
+IsForGood start_fault.NothingToDo = ⊥
+IsForGood (start_fault.NotYet time) = Unit {0}
+IsForGood (start_fault.InUse snapshot) = ⊥
+IsForGood start_fault.StatusFull = Unit {0}
+IsForGood start_fault.ArchiveFull = Unit {0}
+IsForGood start_fault.HeapFull = Unit {0}
+IsForGood start_fault.NoMemory = ⊥
+IsForGood start_fault.NotGrowable = Unit {0}
+
+-- after this answer a vacuum cannot go on: a start is refused for good, or the store has failed
+abbrev pub EndsVacuum : Vacuumed → Type 0
+EndsVacuum (vacuumed.Start (Ok done)) = ⊥
+EndsVacuum (vacuumed.Start (Err why)) = IsForGood why
+EndsVacuum (vacuumed.Job (Ok did)) = ⊥
+EndsVacuum (vacuumed.Job (Err pump.Busy)) = ⊥
+EndsVacuum (vacuumed.Job (Err pump.NoMemory)) = ⊥
+EndsVacuum (vacuumed.Job (Err pump.Failed)) = Unit {0}
+
+-- an answer to a step is one of a job that runs
+abbrev pub IsAnswerFor : Doing → Vacuumed → Type 0
+IsAnswerFor doing (vacuumed.Start result) = Unit {0}
+IsAnswerFor doing (vacuumed.Job result) = is_running doing ≡ true
+
+-- a vacuum goes on so after this answer
+abbrev pub LeadsTo : Vacuumed → Vacuuming → Type 0
+LeadsTo answer vacuuming.Over = EndsVacuum answer
+LeadsTo answer (vacuuming.Goes next) = is_running next ≡ false → Rests answer
+LeadsTo answer (vacuuming.Waits moves next) = is_running next ≡ false → Rests answer
+
+-- the last answer so far, if there is one, and what comes next
+abbrev pub IsSoFar : Machine Value → Doing → Option Vacuumed → Seen → Type 0
+IsSoFar start next None seen = Unit {0}
+IsSoFar start next (Some answer) seen = VacuumHappens start answer seen × (is_running next ≡ false → Rests answer)
+
+-- it ended so, with this seen
+abbrev pub VacuumEnds : Machine Value → VacuumEnd → Seen → Type 0
+VacuumEnds start (vacuum_end.Told last) seen = MatchOption last (Unit {0}) (λ answer. VacuumHappens start answer seen × Rests answer)
+VacuumEnds start (vacuum_end.Over answer) seen = VacuumHappens start answer seen × EndsVacuum answer

@@ -1,0 +1,15 @@
+use Rattle.std.proofs.Common.{◌≡◌, ◌≤◌, ℕ, ◌+◌, ◌∙◌, length, Option, Some, arith, subst}
+use Rattle.std.specs.Prelude.{IfSome}
+use Rattle.law_refinement.proofs.Memory.{last-is}
+use Rattle.workload.proofs.in_memory.count_all.Goals as goal
+
+-- so many are among those that were made
+counts : (made others : ℕ) (o : Option ℕ) (count : ℕ) → o ≡ Some count → IfSome o (λ n. made ≡ n + others) → count ≤ made
+counts made others o count is told =
+    let all : made ≡ count + others = subst (λ (x : Option ℕ). IfSome x (λ n. made ≡ n + others)) is told in
+    omega (arith, all)
+
+pub returns-in-Some-clause-last : goal.returns-in-Some-clause-last
+returns-in-Some-clause-last c =
+    let r = c.requires in
+    (r.0, r.2, counts (length r.0.published) _ _ _ c.in-Some.is r.3, c.last-last.ensures ∙ last-is _ _ r.1.memory)
