@@ -73,8 +73,8 @@ module _ (n : ℕ) (r : Reply) (m : HostMoment) (new : Host) (is : IsHostMoment 
   -- ---- what is acknowledged
 
   -- the moment with one commit more that is acknowledged
-  abbrev at-done : ℕ → World → Moment
-  at-done time w = record { store = after.store; world = w; done = time ∷ m.at.done }
+  abbrev at-done : ℕ → List Held → World → Moment
+  at-done time ys w = record { store = after.store; held = ys; world = w; done = time ∷ m.at.done }
 
   acknowledges : asks old.state ≡ false → (time : ℕ) (w : World) (place : ℕ → ℕ) (ys : List Held) → r.said ≡ code.Ok → r.info.a ≡ time
       → was_published old.state old.before time ≡ true → Does true m.at.world (call.Redeem i) (answer.Redeem (told.Done time)) w
@@ -85,9 +85,10 @@ module _ (n : ℕ) (r : Reply) (m : HostMoment) (new : Host) (is : IsHostMoment 
       has : HasCommitAt w.machine.published time
       has = (call-acknowledges true m.at.world (call.Redeem i) (answer.Redeem (told.Done time)) w m.at.done does follows is.is.published).0
 
-      is-at : IsAtMoment true after.store ys (at-done time w)
+      is-at : IsAtMoment true after.store ys (at-done time ys w)
       is-at = record {
         store = refl;
+        places = refl;
         world = world;
         published =
             call-acknowledges true m.at.world (call.Redeem i) (answer.Redeem (told.Done time)) w m.at.done does follows is.is.published;
@@ -97,9 +98,9 @@ module _ (n : ℕ) (r : Reply) (m : HostMoment) (new : Host) (is : IsHostMoment 
       is-done = sym (ap (λ (x : Code). with_redeemed x r.info.a m.at.done) said ∙ ap (λ (t : ℕ). t ∷ m.at.done) named_is)
 
       link : (before : Option Moment) → IsAtStage after.state
-          (record { host = record { engine = after; areas = m.host.areas }; at = at-done time w; before = before }) → HostLink event m new
+          (record { host = record { engine = after; areas = m.host.areas }; at = at-done time ys w; before = before }) → HostLink event m new
       link before st = record {
-        after = record { host = record { engine = after; areas = m.host.areas }; at = at-done time w; before = before };
+        after = record { host = record { engine = after; areas = m.host.areas }; at = at-done time ys w; before = before };
         host = λ k. record { engine = after; areas = sym areas k };
         done = is-done;
         follows = follows;
@@ -113,7 +114,7 @@ module _ (n : ℕ) (r : Reply) (m : HostMoment) (new : Host) (is : IsHostMoment 
 
       by-state : (s : EngineState) → old.state ≡ s → IsAtStage s m → was_published s old.before time ≡ true → HostLink event m new
       by-state Settled settled st was = link None (subst (λ (s : EngineState).
-          IsAtStage s (record { host = record { engine = after; areas = m.host.areas }; at = at-done time w; before = None })) (sym (same.state ∙ settled))
+          IsAtStage s (record { host = record { engine = after; areas = m.host.areas }; at = at-done time ys w; before = None })) (sym (same.state ∙ settled))
           (record { none = refl; areas = st.areas ∙ sym same.areas; sound = st.sound }))
       by-state (Asks step) asking st was = absurd (false≢true (sym answered ∙ ap asks asking))
       by-state Failed failed st was =
@@ -133,13 +134,13 @@ module _ (n : ℕ) (r : Reply) (m : HostMoment) (new : Host) (is : IsHostMoment 
           ) in
           let before : Moment = record b { done = time ∷ b.done } in
           link (Some before) (subst (λ (s : EngineState). IsAtStage s
-          (record { host = record { engine = after; areas = m.host.areas }; at = at-done time w; before = Some before })) (sym (same.state ∙ failed))
+          (record { host = record { engine = after; areas = m.host.areas }; at = at-done time ys w; before = Some before })) (sym (same.state ∙ failed))
           (record {
             before = before;
             was = record {
               is_before = refl;
               held = st.was.held;
-              was = record { store = st.was.was.store; world = st.was.was.world; published = (there, st.was.was.published) };
+              was = record { store = st.was.was.store; places = st.was.was.places; world = st.was.was.world; published = (there, st.was.was.published) };
               done = ap (λ (l : List ℕ). time ∷ l) st.was.done;
               more = more;
               goes_on = whole;
@@ -171,7 +172,7 @@ module _ (n : ℕ) (r : Reply) (m : HostMoment) (new : Host) (is : IsHostMoment 
         by-published : (b : Bool) → was_published old.state old.before time ≡ b
             → MatchBool b ((r.said ≡ code.Ok) × (r.info.a ≡ time)) (r.said ≡ code.InDoubt) → HostLink event m new
         by-published true was tell =
-            let did = redeem-goes true old.store after.store is.held i t (redeemed.Done time) here redeems m.at.world is.is.world in
+            let did = (redeem-goes true old.store after.store is.held i t (redeemed.Done time) here redeems).leads m.at.world is.is.world in
             acknowledges answered time did.0 is.place (slice_set is.held i held.Nothing ++ held.Nothing ∷ []) tell.0 tell.1 was did.1 did.2 did.3
             (out held.Nothing held.Nothing after.places tells.0) same
         by-published false was tell =

@@ -75,7 +75,7 @@ module _ (e : Event) (m : HostMoment) (new : Host) (is : IsHostMoment m) (areas 
   abbrev step-moment : World → HostMoment
   step-moment w = record {
     host = record { engine = after; areas = m.host.areas };
-    at = record { store = after.store; world = w; done = m.at.done };
+    at = record { store = after.store; held = ys; world = w; done = m.at.done };
     before =
         Some m.at;
   }
@@ -109,7 +109,7 @@ module _ (e : Event) (m : HostMoment) (new : Host) (is : IsHostMoment m) (areas 
     follows = follows;
     is = record {
       held = ys;
-      is = record { store = refl; world = world; published = follows-have m.at.world w m.at.done follows is.is.published };
+      is = record { store = refl; places = refl; world = world; published = follows-have m.at.world w m.at.done follows is.is.published };
       place = is.place;
       numbers = numbers.pushed after.places is.held is.place held.Nothing (subst (λ (p : Places). Holds p is.held is.place) (sym places) is.numbers);
       stage = subst (λ (x : EngineState). IsAtStage x (step-moment w)) (sym state) st;
@@ -126,7 +126,7 @@ module _ (e : Event) (m : HostMoment) (new : Host) (is : IsHostMoment m) (areas 
         (numbers.pushed after.places is.held is.place held.Nothing (subst (λ (p : Places). Holds p is.held is.place) (sym places) is.numbers))
         (record { areas = leads; state = keeps.0; before = keeps.1 }) areas silent
     done-step taken (Some due) is_due leads keeps =
-        let did = goes m.at.world is.is.world in
+        let did = goes.leads m.at.world is.is.world in
         at-step did.0 did.2 did.3 places (Asks taken) keeps.0 (record {
           before = m.at;
           was = was-before did.0 did.2 keeps.1;
@@ -147,7 +147,7 @@ module _ (e : Event) (m : HostMoment) (new : Host) (is : IsHostMoment m) (areas 
         (numbers.pushed after.places is.held is.place held.Nothing (subst (λ (p : Places). Holds p is.held is.place) (sym places) is.numbers))
         (record { areas = same refl; state = keeps.0; before = keeps.1 }) areas silent
     refused-step false same keeps =
-        let did = goes m.at.world is.is.world in
+        let did = goes.leads m.at.world is.is.world in
         at-step did.0 did.2 did.3 places Failed keeps.0 (record
         { before = m.at; was = was-before did.0 did.2 keeps.1; left = λ image l. inl (subst (λ b. LeavesImage b image) as-before l) })
 
@@ -197,11 +197,11 @@ NoneIsDone new m = (new.engine ≡ m.host.engine) × (new.areas ≡ m.host.areas
 
 -- the moment after a call that was made
 abbrev made-moment : HostMoment → Host → HostMoment
-made-moment m new = record { host = new; at = record { store = new.engine.store; world = m.at.world; done = m.at.done }; before = None }
+made-moment m new = record { host = new; at = record { store = new.engine.store; held = m.at.held; world = m.at.world; done = m.at.done }; before = None }
 
 -- and after one that was refused
 abbrev refused-moment : HostMoment → Host → HostMoment
-refused-moment m new = record { host = new; at = record { store = new.engine.store; world = m.at.world; done = m.at.done }; before = m.before }
+refused-moment m new = record { host = new; at = record { store = new.engine.store; held = m.at.held; world = m.at.world; done = m.at.done }; before = m.before }
 
 pub makes : (r : Reply) (m : HostMoment) (new : Host) → IsHostMoment m → HostStep (Makes r) m.host new → HostLink (Makes r) m new
 makes r m new is step = by-state m.host.engine.state refl is.stage step.told step.done
@@ -229,6 +229,7 @@ makes r m new is step = by-state m.host.engine.state refl is.stage step.told ste
             held = is.held;
             is = record {
               store = refl;
+              places = is.is.places;
               world = subst (λ (v : StoreValue). IsWorld true v is.held m.at.world) (sym told.0) is.is.world;
               published =
                   is.is.published;
@@ -266,6 +267,7 @@ refuses r m new is step = by-state m.host.engine.state refl is.stage step.told s
             held = is.held;
             is = record {
               store = refl;
+              places = is.is.places;
               world = subst (λ (v : StoreValue). IsWorld true v is.held m.at.world) (sym told.0) is.is.world;
               published =
                   is.is.published;
