@@ -29,7 +29,7 @@ use Rattle.law_log_layout.proofs.Places.{AreWithin, ArePart, within-append, apar
 use Rattle.law_log_layout.proofs.Places.{gate-within}
 use Rattle.law_log_layout.proofs.Joining.{log-within}
 use Rattle.law_log_layout.proofs.ReclaimGoes.{log-stands}
-use Rattle.law_log_layout.proofs.BaseJoins.{all-behind}
+use Rattle.law_layout.proofs.Lists.{all_of_back}
 
 -- ---- the extents are free
 
@@ -135,7 +135,7 @@ base-rests l n front back a split at =
     record {
       parts = subst (λ (ps : List Part). KeepsAll ps a) (sym parts_are)
           (AllByRecursion-append (λ (p : Part). KeepsPart p.place p.bytes a) (new_parts n) (map extent_part stay) at.written
-          (all-behind (λ (p : Part). KeepsPart p.place p.bytes a) (map extent_part (old ++ flat_map extents_of front)) (map extent_part stay)
+          (all_of_back (λ (p : Part). KeepsPart p.place p.bytes a) (map extent_part (old ++ flat_map extents_of front)) (map extent_part stay)
           (subst (λ (ps : List Part). KeepsAll ps a) old_are (at.log).parts)));
       ends = (at.log).ends;
     }

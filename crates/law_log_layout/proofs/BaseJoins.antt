@@ -22,6 +22,7 @@ use Rattle.law_log.specs.Chains.{IsUpTo, IsNoBase}
 use Rattle.law_log.proofs.Telling.{tells-all}
 use Rattle.law_log.proofs.Based.{base-placed}
 use Rattle.law_layout.specs.Runs.{StoredRun}
+use Rattle.law_layout.proofs.Lists.{all_of_back}
 use Rattle.wire.specs.declared.slot.Run.{Run}
 use Rattle.log_extents.specs.Chains.{first_or}
 use Rattle.log_entries.specs.declared.entry.Roll.{Roll}
@@ -32,10 +33,6 @@ use Rattle.law_log_layout.specs.Reclaims.{NewBase, with_new_base, MayTakePlace, 
 use Rattle.law_log_layout.proofs.GroupJoins.{runs-split}
 
 -- ---- the chains that stay
-
-pub all-behind : {X : Type 0} (P : X → Type 0) (xs ys : List X) → AllByRecursion P (xs ++ ys) → AllByRecursion P ys
-all-behind P [] ys all = all
-all-behind P (x ∷ xs) ys all = all-behind P xs ys all.1
 
 -- none of them is a base, so they tell the same whatever the rolls name
 same-told : (a b : List Head) (chains : List PlacedChain) → AllByRecursion IsNoBase (chains_told a chains) → chains_told b chains ≡ chains_told a chains
@@ -126,7 +123,10 @@ base-is_log most root l reading h floors front back n is stands may plan =
     let olds = (n.anchors).records in
     let runs = map (λ (s : StoredRun). s.records) l.runs in (
       record {
-        placed = (may.placed, all-behind (IsPlaced most) front back (subst (λ (cs : List PlacedChain). AllByRecursion (IsPlaced most) cs) may.split is.placed));
+        placed = (
+          may.placed,
+          all_of_back (IsPlaced most) front back (subst (λ (cs : List PlacedChain). AllByRecursion (IsPlaced most) cs) may.split is.placed),
+        );
         chained = (refl, may.chained);
         anchors = may.anchors;
         next = is.next;

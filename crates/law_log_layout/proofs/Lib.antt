@@ -9,3 +9,4 @@ pub mod ReclaimGoes
 pub mod BaseJoins
 pub mod EntryJoins
 pub mod BaseGoes
+pub mod OneLog

@@ -14,7 +14,7 @@ use Rattle.log_writer.specs.Turns.{Part}
 use Rattle.log_writer.specs.Turns.{extent_part, head_part, written_parts}
 
 -- an extent whose body fits has 8,192 bytes
-linked-length : (e : LinkedExtent) → length e.body ≤ 8168 → length (linked_bytes e) ≡ 8192
+pub linked-length : (e : LinkedExtent) → length e.body ≤ 8168 → length (linked_bytes e) ≡ 8192
 unfolding linked_bytes u32_bytes
 linked-length e fits = omega (arith, length-append e.body (replicate {A = ℕ} (8168 - length e.body) 0), length-replicate {A = ℕ} (8168 - length e.body) 0, fits)
 

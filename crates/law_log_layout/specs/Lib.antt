@@ -4,3 +4,4 @@ pub mod HeapLog
 pub mod Laws
 pub mod Reclaims
 pub mod Entries
+pub mod OneLog

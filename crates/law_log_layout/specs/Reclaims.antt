@@ -17,7 +17,8 @@ use Rattle.log_entries.specs.declared.entry.Base.{Base}
 use Rattle.log_entries.specs.declared.entry.Entry.TheVariants as entries
 use Rattle.log_entries.specs.Ranges.{run_of}
 use Rattle.law_log_layout.specs.HeapLog.{PlacedChain, PlacedAnchors, PlacedRoll, HeapLog, live_numbers, IsPlaced, ArePlaced, AreChained, base_told}
-use Rattle.law_log_layout.specs.HeapLog.{chains_told, runs_from, AreNamed, AreNamesOf, IsStoredRoll, spans_of, AreSpansApart, IsLogOf, HeapStandsFor, extents_of, anchor_extents}
+use Rattle.law_log_layout.specs.HeapLog.{chains_told, runs_from, AreNamed, AreNamesOf, IsStoredRoll, spans_of, AreSpansApart, IsLogOf, HeapStandsFor}
+use Rattle.law_log_layout.specs.HeapLog.{extents_of, anchor_extents}
 use Rattle.law_log_layout.specs.Laws.{KeepsArchive, KeepsLog}
 use Rattle.law_log_layout.specs.Turns.{HoldsAll, KeepsAll}
 use Rattle.log_writer.specs.Turns.{extent_part, Part}

@@ -2,6 +2,7 @@
 ghost use Rattle.law_log_layout.specs.Laws.{ChainGoes, EntryGoes, GroupEnds, GroupGoes, ReclaimGoes, RootGoes};
 ghost use Rattle.law_log_layout.specs.Reclaims.{BaseGoes, BaseIsLog, BaseRests};
 ghost use Rattle.law_log_layout.specs.Entries.{FloorIsLog, RunIsLog};
+ghost use Rattle.law_log_layout.specs.OneLog.{OneLogInHeap};
 
 /// A chain's way behind the log, at every moment: a stop leaves the log without it, or, from the write
 /// of its gate on, with it or without; and once that is synced with it.
@@ -51,4 +52,9 @@ pub fn entry_is_log()
 pub fn base_goes()
     ensures goes { BaseGoes }
     ensures rests { BaseRests }
+{}
+
+/// A heap holds one log at most from a root on: its chains, where it ends, and its anchors.
+pub fn one_log_in_heap()
+    ensures { OneLogInHeap }
 {}
