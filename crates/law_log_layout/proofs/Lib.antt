@@ -10,3 +10,4 @@ pub mod BaseJoins
 pub mod EntryJoins
 pub mod BaseGoes
 pub mod OneLog
+pub mod OneReading

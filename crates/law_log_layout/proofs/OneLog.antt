@@ -28,7 +28,7 @@ use Rattle.law_log_layout.proofs.Joining.{opened-bytes}
 
 -- ---- parts of one place
 
-part-same : (place : ℕ) (a b heap : List ℕ) → length a ≡ length b → HoldsPart place a heap → HoldsPart place b heap → a ≡ b
+pub part-same : (place : ℕ) (a b heap : List ℕ) → length a ≡ length b → HoldsPart place a heap → HoldsPart place b heap → a ≡ b
 part-same place a b heap same is_a is_b =
     sym is_a.is ∙ ap (λ (n : ℕ). slice_range heap place (place + n)) same ∙ is_b.is
 

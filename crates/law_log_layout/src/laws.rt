@@ -2,7 +2,7 @@
 ghost use Rattle.law_log_layout.specs.Laws.{ChainGoes, EntryGoes, GroupEnds, GroupGoes, ReclaimGoes, RootGoes};
 ghost use Rattle.law_log_layout.specs.Reclaims.{BaseGoes, BaseIsLog, BaseRests};
 ghost use Rattle.law_log_layout.specs.Entries.{FloorIsLog, RunIsLog};
-ghost use Rattle.law_log_layout.specs.OneLog.{OneLogInHeap};
+ghost use Rattle.law_log_layout.specs.OneLog.{OneLogInHeap, OneReading};
 
 /// A chain's way behind the log, at every moment: a stop leaves the log without it, or, from the write
 /// of its gate on, with it or without; and once that is synced with it.
@@ -54,7 +54,9 @@ pub fn base_goes()
     ensures rests { BaseRests }
 {}
 
-/// A heap holds one log at most from a root on: its chains, where it ends, and its anchors.
+/// A heap holds one log at most from a root on: its chains, where it ends, and its anchors. With an
+/// archive it tells one log, of the same members and anchors.
 pub fn one_log_in_heap()
-    ensures { OneLogInHeap }
+    ensures heap { OneLogInHeap }
+    ensures reading { OneReading }
 {}
