@@ -24,6 +24,7 @@ use Rattle.law_log.proofs.Based.{base-placed}
 use Rattle.law_layout.specs.Runs.{StoredRun}
 use Rattle.law_layout.proofs.Lists.{all_of_back}
 use Rattle.wire.specs.declared.slot.Run.{Run}
+use Rattle.law_log_layout.specs.HeapLog.{KeepsShares}
 use Rattle.log_extents.specs.Chains.{first_or}
 use Rattle.log_entries.specs.declared.entry.Roll.{Roll}
 use Rattle.log_entries.specs.declared.entry.Entry.{Entry}
@@ -93,9 +94,10 @@ members-based mark front back le ends =
 pub base-is_log : (most root : ℕ) (l : HeapLog) (reading : Reading) (h : History Value) (floors : ℕ → ℕ) (front back : List PlacedChain) (n : NewBase)
     (is : IsLogOf most root l reading)
     → StandsFor reading h floors → MayTakePlace most l is.names front back n → IsReclaimPlan reading (n.anchors).records
+    → KeepsShares most (with_new_base l n back) (based_reading reading is.names n back)
     → IsLogOf most (first_or 0 n.numbers) (with_new_base l n back) (based_reading reading is.names n back)
     × StandsFor (based_reading reading is.names n back) h floors
-base-is_log most root l reading h floors front back n is stands may plan =
+base-is_log most root l reading h floors front back n is stands may plan shares =
     let all = chains_told is.names l.chains in
     let first = chains_told is.names front in
     let rest = chains_told is.names back in
@@ -138,6 +140,9 @@ base-is_log most root l reading h floors front back n is stands may plan =
         each_run = is.each_run;
         each_roll = may.each_roll;
         archive_apart = may.archive_apart;
+        archives_in_row = may.archives_in_row;
+        rolls_in_row = may.rolls_in_row;
+        shares = shares;
         names = n.names;
         are_names = may.are_names;
         rules = subst (λ (cs : List LogChain). KeepsChainRules (OfBase b ∷ cs)) (sym same) so_placed.0;

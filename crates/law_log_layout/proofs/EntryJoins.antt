@@ -35,7 +35,7 @@ use Rattle.log_entries.specs.declared.entry.AnchorName.{AnchorName}
 use Rattle.log_entries.specs.Ranges.{run_of}
 use Rattle.law_log_layout.specs.HeapLog.{PlacedChain, HeapLog, IsPlaced, chain_told, chains_told, floor_told, runs_behind, runs_from, rolls_in, anchors_in}
 use Rattle.law_log_layout.specs.HeapLog.{AreNamed}
-use Rattle.law_log_layout.specs.HeapLog.{spans_of, AreSpansApart, IsLogOf, with_chain, with_runs, MayJoin}
+use Rattle.law_log_layout.specs.HeapLog.{spans_of, AreSpansApart, run_span, archives_in, AreSpansInRow, KeepsShares, IsLogOf, with_chain, with_runs, MayJoin}
 use Rattle.law_log_layout.specs.Entries.{placed_floor, placed_archive, runs_with}
 use Rattle.law_log_layout.proofs.GroupJoins.{chained-more, runs-split, none-more, live-more}
 
@@ -127,11 +127,16 @@ module _ (most root : ℕ) (l : HeapLog) (reading : Reading) (h : History Value)
   entry-is_log : (c : PlacedChain) (runs : List StoredRun) → MayJoin most l c → anchors_in c.entry ≡ [] → rolls_in c.entry ≡ []
       → IsWithEntry chains (chain_told is.names c.entry) → map (λ (s : StoredRun). s.entry) runs ≡ runs_behind (runs_from [] l.chains) c.entry
       → AllByRecursion IsStoredRun runs → AreSpansApart (spans_of runs l.rolls)
+      → AreSpansInRow 0 (map run_span (flat_map (λ (d : PlacedChain). archives_in d.entry) (l.chains ++ c ∷ [])))
+      → KeepsShares most (with_runs l c runs) (record reading {
+        log = told_behind (reclaimed_by chains) (told chains) (chain_told is.names c.entry);
+        runs = map (λ (s : StoredRun). s.records) runs;
+      })
       → IsLogOf most root (with_runs l c runs) (record reading {
         log = told_behind (reclaimed_by chains) (told chains) (chain_told is.names c.entry);
         runs = map (λ (s : StoredRun). s.records) runs;
       })
-  entry-is_log c runs joins no_anchors no_rolls with runs_are each apart =
+  entry-is_log c runs joins no_anchors no_rolls with runs_are each apart row shares =
       let e = chain_told is.names c.entry in
       let same : chains_told is.names (l.chains ++ c ∷ []) ≡ chains ++ e ∷ [] =
       map-append (λ (d : PlacedChain). chain_told is.names d.entry) l.chains (c ∷ []) in
@@ -150,6 +155,9 @@ module _ (most root : ℕ) (l : HeapLog) (reading : Reading) (h : History Value)
         each_run = each;
         each_roll = is.each_roll;
         archive_apart = apart;
+        archives_in_row = row;
+        rolls_in_row = is.rolls_in_row;
+        shares = shares;
         names = is.names;
         are_names = is.are_names;
         rules = subst KeepsChainRules (sym same) with.rules;
@@ -170,9 +178,10 @@ module _ (most root : ℕ) (l : HeapLog) (reading : Reading) (h : History Value)
 
   pub floor-is_log : (numbers : List ℕ) (link : ℕ) (f : RelationFloor) → MayJoin most l (placed_floor numbers link f)
       → floor_of reading.log f.relation < f.floor → f.floor ≤ last h
+      → KeepsShares most (with_chain l (placed_floor numbers link f)) (with_floor reading (Some f.relation) f.floor)
       → IsLogOf most root (with_chain l (placed_floor numbers link f)) (with_floor reading (Some f.relation) f.floor)
       × StandsFor (with_floor reading (Some f.relation) f.floor) h (raised (Some f.relation) f.floor floors)
-  floor-is_log numbers link f joins above le =
+  floor-is_log numbers link f joins above le shares =
       let c = placed_floor numbers link f in
       let told_above : floor_of (told chains) f.relation < f.floor =
       subst (λ (log : List Slot). floor_of log f.relation < f.floor) log_is above in
@@ -189,7 +198,10 @@ module _ (most root : ℕ) (l : HeapLog) (reading : Reading) (h : History Value)
       ap (λ (rs : List (List ArchiveRecord)). record reading { log = told chains ++ floor_slot (floor_told f) ∷ []; runs = rs }) runs_is
       ∙ ap (λ (log : List Slot). record reading { log = log ++ floor_slot (floor_told f) ∷ [] }) (sym log_is) in (
         subst (λ (r : Reading). IsLogOf most root (with_chain l c) r) reading_now
-            (entry-is_log c l.runs joins refl refl behind is.runs_named is.each_run is.archive_apart),
+            (entry-is_log c l.runs joins refl refl behind is.runs_named is.each_run is.archive_apart
+            (subst (λ (rs : List Run). AreSpansInRow 0 (map run_span rs))
+            (sym (none-more (λ (d : PlacedChain). archives_in d.entry) l.chains c refl)) is.archives_in_row)
+            (subst (λ (r : Reading). KeepsShares most (with_chain l c) r) (sym reading_now) shares)),
         floor-in_heap reading h floors (Some f.relation) f.floor stands heap (
           refl,
           omega (arith, le, last-is reading h floors stands, told-is_last (last_time reading.log) (reclaim_mark reading.log) ((form).log).published),
@@ -199,10 +211,12 @@ module _ (most root : ℕ) (l : HeapLog) (reading : Reading) (h : History Value)
 
   pub run-is_log : (numbers : List ℕ) (link : ℕ) (a : Archive) (s : StoredRun) → MayJoin most l (placed_archive numbers link a)
       → a.runs ≤ length l.runs → s.entry ≡ run_of a → IsStoredRun s → AreSpansApart (spans_of (runs_with l a s) l.rolls)
+      → AreSpansInRow 0 (map run_span (flat_map (λ (c : PlacedChain). archives_in c.entry) (l.chains ++ placed_archive numbers link a ∷ [])))
       → IsMergePlan reading (length l.runs - a.runs) a.upto s.records → archived_upto reading < a.upto → a.upto ≤ last h
+      → KeepsShares most (with_runs l (placed_archive numbers link a) (runs_with l a s)) (with_merged reading (length l.runs - a.runs) a.upto s.records)
       → IsLogOf most root (with_runs l (placed_archive numbers link a) (runs_with l a s)) (with_merged reading (length l.runs - a.runs) a.upto s.records)
       × StandsFor (with_merged reading (length l.runs - a.runs) a.upto s.records) h floors
-  run-is_log numbers link a s joins few entry_is each apart plan later le =
+  run-is_log numbers link a s joins few entry_is each apart row plan later le shares =
       let c = placed_archive numbers link a in
       let kept = length l.runs - a.runs in
       let named = map (λ (r : StoredRun). r.entry) l.runs in
@@ -236,6 +250,9 @@ module _ (most root : ℕ) (l : HeapLog) (reading : Reading) (h : History Value)
         subst (λ (p : List Slot × List (List ArchiveRecord)). IsLogOf most root (with_runs l c (runs_with l a s)) (record reading { log = p.0; runs = p.1 }))
             (λ i. (logs i, runs i))
             (entry-is_log c (runs_with l a s) joins refl refl behind runs_are
-            (AllByRecursion-append IsStoredRun (take kept l.runs) (s ∷ []) (take-all IsStoredRun kept l.runs is.each_run) (each, tt)) apart),
+            (AllByRecursion-append IsStoredRun (take kept l.runs) (s ∷ []) (take-all IsStoredRun kept l.runs is.each_run) (each, tt)) apart row
+            (subst (λ (p : List Slot
+            × List (List ArchiveRecord)). KeepsShares most (with_runs l c (runs_with l a s)) (record reading { log = p.0; runs = p.1 }))
+            (λ i. (sym logs i, sym runs i)) shares)),
         merge-stands_for reading h floors stands heap kept a.upto s.records plan later le,
       )

@@ -25,7 +25,7 @@ use Rattle.log_entries.specs.declared.entry.Member.{Member}
 use Rattle.law_log_layout.specs.Turns.{KeepsAll, HoldsOld, HoldsNew}
 use Rattle.law_log_layout.specs.Turns.{IsAt, IsDone, MayBe, MayBecome}
 use Rattle.law_log_layout.specs.HeapLog.{PlacedChain, PlacedRoll, HeapLog, extents_of, heap_parts, name_bytes, HoldsRoll, HeapStandsFor}
-use Rattle.law_log_layout.specs.HeapLog.{IsLogOf, member_told, with_chain, with_runs, turn_of, placed_group, MayJoin}
+use Rattle.law_log_layout.specs.HeapLog.{IsLogOf, member_told, with_chain, with_runs, KeepsShares, turn_of, placed_group, MayJoin}
 use Rattle.law_log_layout.specs.Laws.{KeepsArchive, IsEntryWay, stage_after_all}
 use Rattle.law_log_layout.proofs.Goes.{goes}
 use Rattle.law_log_layout.proofs.Joining.{joined-part, opened-bytes, parts-more, chain-free, chain-joined}
@@ -153,12 +153,13 @@ pub group-goes : (most root : ℕ) (l : HeapLog) (reading : Reading) (h next : H
     → ℕ) (numbers : List ℕ) (link : ℕ) (members : List Member) (stage : Stage) (areas : Areas)
     → IsLogOf most root l reading → StandsFor reading h floors → IsGroupOf reading h next (map member_told members)
     → MayJoin most l (placed_group numbers link members)
+    → KeepsShares most (with_chain l (placed_group numbers link members)) (with_group reading (map member_told members))
     → AreSound areas → KeepsArchive l areas.archive → IsAt (heap_parts l) (turn_of l.next (placed_group numbers link members)) stage areas.heap
     → (let c = placed_group numbers link members in IsEntryWay most root l (with_chain l c) c h (h ++ next) floors floors stage areas)
-group-goes most root l reading h next floors numbers link members stage areas is stands group joins sound archive at =
+group-goes most root l reading h next floors numbers link members stage areas is stands group joins shares sound archive at =
     let heap : is_in_heap reading.profile ≡ true = ap (λ (r : Reading). is_in_heap r.profile) is.reading_is in
     entry-goes most root l (placed_group numbers link members) l.runs reading (with_group reading (map member_told members)) h (h ++ next) floors floors stage
-    areas is stands joins (group-is_log most root l reading h next floors numbers link members is stands group joins)
+    areas is stands joins (group-is_log most root l reading h next floors numbers link members is stands group joins shares)
     (group-stands_for reading h floors stands (map member_told members) next group (room reading heap)) sound archive (record {
       rolls = archive.rolls;
       runs = archive.runs;

@@ -18,6 +18,7 @@ use Rattle.law_log.proofs.Telling.{tells-all}
 use Rattle.law_log.proofs.Behind.{comes-behind}
 use Rattle.law_layout.specs.Runs.{StoredRun}
 use Rattle.wire.specs.declared.slot.Run.{Run}
+use Rattle.law_log_layout.specs.HeapLog.{run_span, archives_in, AreSpansInRow, KeepsShares}
 use Rattle.log_extents.specs.Chains.{first_or, AreDistinct}
 use Rattle.log_entries.specs.declared.entry.Member.{Member}
 use Rattle.log_entries.specs.declared.entry.AnchorName.{AnchorName}
@@ -53,8 +54,9 @@ pub group-is_log : (most root : ℕ) (l : HeapLog) (reading : Reading) (h next :
     → ℕ) (numbers : List ℕ) (link : ℕ) (members : List Member)
     → IsLogOf most root l reading → StandsFor reading h floors → IsGroupOf reading h next (map member_told members)
     → MayJoin most l (placed_group numbers link members)
+    → KeepsShares most (with_chain l (placed_group numbers link members)) (with_group reading (map member_told members))
     → IsLogOf most root (with_chain l (placed_group numbers link members)) (with_group reading (map member_told members))
-group-is_log most root l reading h next floors numbers link members is stands group joins =
+group-is_log most root l reading h next floors numbers link members is stands group joins shares =
     let c = placed_group numbers link members in
     let chains = chains_told is.names l.chains in
     let told_members = map member_told members in
@@ -84,6 +86,10 @@ group-is_log most root l reading h next floors numbers link members is stands gr
       each_run = is.each_run;
       each_roll = is.each_roll;
       archive_apart = is.archive_apart;
+      archives_in_row = subst (λ (rs : List Run). AreSpansInRow 0 (map run_span rs))
+          (sym (none-more (λ (d : PlacedChain). archives_in d.entry) l.chains c refl)) is.archives_in_row;
+      rolls_in_row = is.rolls_in_row;
+      shares = shares;
       names = is.names;
       are_names = is.are_names;
       rules = subst KeepsChainRules (sym same) with.rules;

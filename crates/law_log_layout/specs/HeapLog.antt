@@ -1,5 +1,11 @@
 -- The log in the heap where it lies, and what an image that has it reads as.
-use Rattle.std.specs.Prelude.{◌*◌, ◌^◌, ◌⊎◌}
+use Rattle.std.specs.Prelude.{◌*◌, ◌^◌, ◌⊎◌, ◌+◌, ◌≤◌, ◌/◌, nat_lt, filter, if◌then◌else◌}
+use Rattle.std.specs.List.Sorted.{IsStrictlySortedBy}
+use Rattle.history.specs.Key.{key_cmp}
+use Rattle.history.specs.declared.key.Key.{Key}
+use Rattle.history.specs.Versions.{stands_at, as_write}
+use Rattle.law_image.specs.Facts.{heap_versions, old_writes}
+use Rattle.law_image.specs.Log.{archive_mark, reclaim_mark, told_time}
 use Rattle.std.specs.Prelude.{ℕ, ◌≡◌, ◌<◌, ◌-◌, List, [], ◌∷◌, ◌++◌, length, map, take, flat_map, Contains, ◌↔◌}
 use Rattle.std.specs.List.{AllByRecursion}
 use Rattle.wire.specs.Numbers.{u64_bytes}
@@ -191,15 +197,65 @@ pub record Span : Type 0 where
   pub start : ℕ
   pub len : ℕ
 
+-- the part of a run, and of a roll
+abbrev pub run_span : Run → Span
+run_span run = record { start = run.start; len = run.len }
+
+abbrev pub roll_span : PlacedRoll → Span
+roll_span r = record { start = r.roll.start; len = r.roll.len }
+
 -- the parts of the archive that the log names
 abbrev pub spans_of : List StoredRun → List PlacedRoll → List Span
-spans_of runs rolls = map (λ (s : StoredRun). record { start = s.entry.start; len = s.entry.len }) runs
-    ++ map (λ (r : PlacedRoll). record { start = r.roll.start; len = r.roll.len }) rolls
+spans_of runs rolls = map (λ (s : StoredRun). run_span s.entry) runs ++ map roll_span rolls
 
 -- no two of them have a byte in common
 abbrev pub AreSpansApart : List Span → Type 0
 AreSpansApart [] = Unit {0}
 AreSpansApart (s ∷ spans) = AllByRecursion (λ (t : Span). AreApart s.start s.len t.start t.len) spans × AreSpansApart spans
+
+-- each of them begins at or behind the end of the one before it
+abbrev pub AreSpansInRow : ℕ → List Span → Type 0
+AreSpansInRow place [] = Unit {0}
+AreSpansInRow place (s ∷ spans) = (place ≤ s.start) × AreSpansInRow (s.start + s.len) spans
+
+-- the runs that a chain names, also where another took the place of them since
+abbrev pub archives_in : Entry → List Run
+archives_in (Group members) = []
+archives_in (Archived archive) = run_of archive ∷ []
+archives_in (Floor floor) = []
+archives_in (entries.Base base) = map run_of base.archives
+
+-- ---- its shares of the heap
+
+-- the extents of a chain that count as the log's: all but the base's
+abbrev pub counted_of : List ℕ → Entry → List ℕ
+counted_of numbers (Group members) = numbers
+counted_of numbers (Archived archive) = numbers
+counted_of numbers (Floor floor) = numbers
+counted_of numbers (entries.Base base) = []
+
+-- the anchors of the state at a time: an old record for each version that stands then, in the order of the keys
+pub record AreAnchorsAt (time : ℕ) (reading : Reading) (olds : List OldRecord) : Type 0 where
+  pub each : (key : Key) → old_writes olds key ≡ map as_write (filter (stands_at time) (heap_versions reading key))
+  pub rising : IsStrictlySortedBy key_cmp (map (λ (old : OldRecord). old.key) olds)
+
+-- a base has room for one roll more
+abbrev pub IsBaseSmall : ℕ → Entry → Type 0
+IsBaseSmall most (Group members) = Unit {0}
+IsBaseSmall most (Archived archive) = Unit {0}
+IsBaseSmall most (Floor floor) = Unit {0}
+IsBaseSmall most (entries.Base base) = count_of (length (entry_bytes (entries.Base base)) + 17) ≤ most / 16
+
+-- Half of the heap is the log's, with where it ends and, if not all is archived, one extent more. A quarter is that of the base that stands and of the anchors
+-- of
+-- any state from the reclaim mark on: a sixteenth and three.
+pub record KeepsShares (most : ℕ) (l : HeapLog) (reading : Reading) : Type 0 where
+  pub log : length (flat_map (λ (c : PlacedChain). counted_of c.numbers c.entry) l.chains) + 1 +
+      (if nat_lt (archive_mark reading.log) (told_time reading.log) then 1 else 0)
+      ≤ most / 2
+  pub anchors : (time : ℕ) (olds : List OldRecord) → reclaim_mark reading.log ≤ time → AreAnchorsAt time reading olds
+      → count_of (length (flat_map old_bytes olds)) ≤ (3 * most) / 16
+  pub base : AllByRecursion (λ (c : PlacedChain). IsBaseSmall most c.entry) l.chains
 
 -- ---- the image
 
@@ -217,6 +273,9 @@ pub record IsLogOf (most root : ℕ) (l : HeapLog) (reading : Reading) : Type 0 
   pub each_run : AllByRecursion IsStoredRun l.runs
   pub each_roll : AllByRecursion IsStoredRoll l.rolls
   pub archive_apart : AreSpansApart (spans_of l.runs l.rolls)
+  pub archives_in_row : AreSpansInRow 0 (map run_span (flat_map (λ (c : PlacedChain). archives_in c.entry) l.chains))
+  pub rolls_in_row : AreSpansInRow 0 (map roll_span l.rolls)
+  pub shares : KeepsShares most l reading
   pub names : List Head
   pub are_names : AreNamesOf l.rolls names
   pub rules : KeepsChainRules (chains_told names l.chains)

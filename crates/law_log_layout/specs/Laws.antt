@@ -6,14 +6,14 @@ use Rattle.history.specs.Histories.{History}
 use Rattle.law_image.specs.Values.{Value}
 use Rattle.law_image.specs.Reading.{Reading}
 use Rattle.law_image.specs.StandsFor.{StandsFor}
-use Rattle.law_image.specs.Plans.{IsGroupOf}
+use Rattle.law_image.specs.Plans.{IsGroupOf, with_group}
 use Rattle.law_layout.specs.Runs.{StoredRun, run_bytes}
 use Rattle.deltas.specs.Extents.{extent_start}
 use Rattle.disk.specs.Parts.{KeepsPart}
 use Rattle.log_entries.specs.declared.entry.Member.{Member}
 use Rattle.law_log_layout.specs.HeapLog.{PlacedChain, PlacedRoll, HeapLog, heap_parts, name_bytes, HeapStandsFor, IsLogOf, member_told, with_chain, with_runs}
 use Rattle.law_log_layout.specs.HeapLog.{turn_of}
-use Rattle.law_log_layout.specs.HeapLog.{placed_group, MayJoin}
+use Rattle.law_log_layout.specs.HeapLog.{placed_group, MayJoin, KeepsShares}
 use Rattle.disk.specs.Areas.{AreaState, Areas, Image, AreSound, LeavesImage, MayLeave}
 use Rattle.disk.specs.declared.area.DeviceFault.{DeviceFault}
 use Rattle.law_log_layout.specs.Roots.{NamesRoot, other, IsHeaderApart}
@@ -95,6 +95,7 @@ GroupGoes =
     → ℕ) (numbers : List ℕ) (link : ℕ) (members : List Member) (stage : Stage) (areas : Areas)
     → IsLogOf most root l reading → StandsFor reading h floors → IsGroupOf reading h next (map member_told members)
     → MayJoin most l (placed_group numbers link members)
+    → KeepsShares most (with_chain l (placed_group numbers link members)) (with_group reading (map member_told members))
     → AreSound areas → KeepsArchive l areas.archive → IsAt (heap_parts l) (turn_of l.next (placed_group numbers link members)) stage areas.heap
     → (let c = placed_group numbers link members in IsEntryWay most root l (with_chain l c) c h (h ++ next) floors floors stage areas)
 

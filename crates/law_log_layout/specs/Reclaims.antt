@@ -1,5 +1,5 @@
 -- A base in the place of the log's front, where it lies.
-use Rattle.std.specs.Prelude.{ℕ, ◌≡◌, List, [], ◌∷◌, ◌++◌, map, Result, Ok}
+use Rattle.std.specs.Prelude.{ℕ, ◌≡◌, List, [], ◌∷◌, ◌++◌, map, flat_map, Result, Ok}
 use Rattle.std.specs.List.{AllByRecursion}
 use Rattle.disk.specs.Areas.{AreaState, Areas, Image, AreSound, LeavesImage}
 use Rattle.disk.specs.Calls.{Writes, Syncs}
@@ -17,7 +17,8 @@ use Rattle.log_entries.specs.declared.entry.Base.{Base}
 use Rattle.log_entries.specs.declared.entry.Entry.TheVariants as entries
 use Rattle.log_entries.specs.Ranges.{run_of}
 use Rattle.law_log_layout.specs.HeapLog.{PlacedChain, PlacedAnchors, PlacedRoll, HeapLog, live_numbers, IsPlaced, ArePlaced, AreChained, base_told}
-use Rattle.law_log_layout.specs.HeapLog.{chains_told, runs_from, AreNamed, AreNamesOf, IsStoredRoll, spans_of, AreSpansApart, IsLogOf, HeapStandsFor}
+use Rattle.law_log_layout.specs.HeapLog.{chains_told, runs_from, AreNamed, AreNamesOf, IsStoredRoll, spans_of, AreSpansApart, run_span, roll_span, archives_in}
+use Rattle.law_log_layout.specs.HeapLog.{AreSpansInRow, KeepsShares, IsLogOf, HeapStandsFor}
 use Rattle.law_log_layout.specs.HeapLog.{extents_of, anchor_extents}
 use Rattle.law_log_layout.specs.Laws.{KeepsArchive, KeepsLog}
 use Rattle.law_log_layout.specs.Turns.{HoldsAll, KeepsAll}
@@ -58,6 +59,9 @@ pub record MayTakePlace (most : ℕ) (l : HeapLog) (names : List Head) (front ba
   pub runs_named : map run_of (n.base).archives ≡ runs_from [] front
   pub each_roll : AllByRecursion IsStoredRoll n.rolls
   pub archive_apart : AreSpansApart (spans_of l.runs n.rolls)
+  pub archives_in_row : AreSpansInRow 0
+      (map run_span (flat_map (λ (c : PlacedChain). archives_in c.entry) (placed_base n.numbers n.link n.base ∷ back)))
+  pub rolls_in_row : AreSpansInRow 0 (map roll_span n.rolls)
   pub are_names : AreNamesOf n.rolls n.names
   pub place : TakesPlace (chains_told names front) (chains_told names back) (base_told n.names n.base)
 
@@ -70,6 +74,7 @@ abbrev pub BaseIsLog : Type 0
 BaseIsLog = (most root : ℕ) (l : HeapLog) (reading : Reading) (h : History Value) (floors : ℕ → ℕ) (front back : List PlacedChain) (n : NewBase)
     (is : IsLogOf most root l reading)
     → StandsFor reading h floors → MayTakePlace most l is.names front back n → IsReclaimPlan reading (n.anchors).records
+    → KeepsShares most (with_new_base l n back) (based_reading reading is.names n back)
     → IsLogOf most (first_or 0 n.numbers) (with_new_base l n back) (based_reading reading is.names n back)
     × StandsFor (based_reading reading is.names n back) h floors
 
