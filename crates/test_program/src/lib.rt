@@ -57,8 +57,6 @@ mod refused_example;
 #[cfg(test)]
 mod refused_floors;
 #[cfg(test)]
-mod second_stops;
-#[cfg(test)]
 mod sessions;
 #[cfg(test)]
 mod steps;

@@ -41,27 +41,27 @@ const TORN: &[(u8, usize)] = &[
 const SETTLED: &[(u8, usize)] = &[(OPEN, 0)];
 
 /// The byte of an open gate.
-pub const OPEN: u8 = 0xC7;
+const OPEN: u8 = 0xC7;
 
 /// What a refused step says, and so do the writing steps behind it.
 const REFUSED: &str = "refused: failed\n";
 
-/// A dialogue as text, and its script.
+/// A sweep as text.
 #[derive(Drop)]
-pub struct Dialogue {
-    pub lines: String,
-    pub script: String,
+struct Dialogue {
+    lines: String,
+    script: String,
 }
 
-/// A dialogue of parts, as `repeated` has them.
-pub fn dialogue_of(alloc: Global, parts: &[(&str, u32)]) -> Result<Dialogue, AllocError> {
-    let lines = repeated(alloc, parts)?;
+/// A sweep's dialogue, and its script.
+fn dialogue_of(alloc: Global, sweep: &Sweep) -> Result<Dialogue, AllocError> {
+    let lines = repeated(alloc, sweep.parts)?;
     let script = script_of(alloc, lines.as_str(), usize::MAX)?;
     Ok(Dialogue { lines, script })
 }
 
 /// How many lines were answered before a step was refused.
-pub fn answered(said: &str) -> usize {
+fn answered(said: &str) -> usize {
     match said.split_once(REFUSED) {
         Some((before, _)) => before.lines().count(),
         None => said.lines().count(),
@@ -75,11 +75,11 @@ fn is_log_sync(line: &str) -> bool {
 }
 
 /// How many gates stand open behind so many lines of a dialogue, and how many do where those are left open
-/// that are not yet synced. Of more lines the steps have begun. A line that ends so writes a gate.
-pub fn gates(dialogue: &str, (lines, begun): (usize, usize), gate: &str) -> (usize, usize) {
+/// that are not yet synced. Of more lines the steps have begun.
+fn gates(dialogue: &str, (lines, begun): (usize, usize), gate: &str) -> (usize, usize) {
     let (mut synced, mut written): (usize, usize) = (0, 0);
     for (number, line) in dialogue.lines().take(begun).enumerate() {
-        if line.ends_with(gate) {
+        if line == gate {
             written = written.saturating_add(1);
         }
         if number < lines && is_log_sync(line) {
@@ -98,14 +98,13 @@ fn size_left(machine: &Machine, tail: usize) -> Option<u64> {
     Some(status.saturating_add(heap).saturating_add(archive))
 }
 
-/// Whether nothing is torn, since all was synced.
-pub fn is_settled(machine: &Machine) -> bool {
-    size_left(machine, 0) == size_left(machine, 1)
-}
-
-/// Each filling of what is torn.
+/// Each filling of what is torn. Where all is synced nothing is.
 fn fillings(machine: &Machine) -> &'static [(u8, usize)] {
-    if is_settled(machine) { SETTLED } else { TORN }
+    if size_left(machine, 0) == size_left(machine, 1) {
+        SETTLED
+    } else {
+        TORN
+    }
 }
 
 /// Whether what a stop leaves, with each filling of what is torn, has its gates.
@@ -125,7 +124,7 @@ fn each_left_goes(machine: &mut Machine, sweep: &Sweep, (synced, written): (usiz
 
 /// What came of a script of which a call is refused.
 #[derive(Clone, Copy)]
-pub enum Came {
+enum Came {
     /// The store was not opened.
     Unopened,
     /// A step was refused.
@@ -137,23 +136,23 @@ pub enum Came {
 }
 
 /// Whether the script is answered as the dialogue says, and from the refused step on as a failed store
-/// does: so, with as many lines, unless a stop says it no one.
-fn is_failed(machine: &Machine, failed: &str, dialogue: &str) -> bool {
+/// does, with as many lines.
+fn is_failed(machine: &Machine, sweep: &Sweep, dialogue: &str) -> bool {
     let said = machine.said();
-    let is_long = failed == "" || said.lines().count() == dialogue.lines().count();
+    let is_long = sweep.failed == "" || said.lines().count() == dialogue.lines().count();
     match behind_answers(said, dialogue, answered(said), machine.profile) {
-        Some(rest) => is_long && rest.starts_with(REFUSED) && rest.ends_with(failed),
+        Some(rest) => is_long && rest.starts_with(REFUSED) && rest.ends_with(sweep.failed),
         None => false,
     }
 }
 
 /// What came of it, by what was said.
-pub fn what_came(machine: &Machine, failed: &str, dialogue: &str) -> Came {
+fn what_came(machine: &Machine, sweep: &Sweep, dialogue: &str) -> Came {
     if machine.said() == "refused: device\n" {
         Came::Unopened
     } else if are_answers(machine.said(), dialogue, machine.profile) {
         Came::Whole
-    } else if is_failed(machine, failed, dialogue) {
+    } else if is_failed(machine, sweep, dialogue) {
         Came::Failed
     } else {
         Came::Wrong
@@ -166,7 +165,7 @@ fn refuses(machine: &mut Machine, sweep: &Sweep, dialogue: &Dialogue, fault: Fau
         return Came::Wrong;
     }
     machine.does(SCRIPT, dialogue.script.as_str());
-    let came = what_came(machine, sweep.failed, dialogue.lines.as_str());
+    let came = what_came(machine, sweep, dialogue.lines.as_str());
     let lines = answered(machine.said());
     let begun = lines.saturating_add(1);
     let gates = gates(dialogue.lines.as_str(), (lines, begun), sweep.gate);
@@ -203,7 +202,7 @@ fn refuses_each(
 
 /// A sweep in each of its profiles.
 fn goes(alloc: Global, sweep: &Sweep, write_reaches: bool) -> Result<(), Fail> {
-    let dialogue = dialogue_of(alloc, sweep.parts)?;
+    let dialogue = dialogue_of(alloc, sweep)?;
     for profile in sweep.profiles.all() {
         refuses_each(alloc, sweep, &dialogue, (write_reaches, *profile))?;
     }
@@ -252,7 +251,7 @@ fn stops_behind_each(
 
 /// A stop between two lines of a sweep, in each of its profiles.
 fn goes_between(alloc: Global, sweep: &Sweep) -> Result<(), Fail> {
-    let dialogue = dialogue_of(alloc, sweep.parts)?;
+    let dialogue = dialogue_of(alloc, sweep)?;
     for profile in sweep.profiles.all() {
         stops_behind_each(alloc, sweep, dialogue.lines.as_str(), *profile)?;
     }

@@ -168,9 +168,9 @@ const LAST_OF_17: &[u8] =
 /// Whether these are the bytes of 17 commits of 33 bytes each.
 fn are_17(bytes: &[u8]) -> bool {
     bytes.len() == 561
-        && &bytes[..33] == FIRST_OF_17
+        && bytes.starts_with(FIRST_OF_17)
         && &bytes[33..66] == SECOND_OF_17
-        && &bytes[528..] == LAST_OF_17
+        && bytes.ends_with(LAST_OF_17)
 }
 
 /// Whether 17 commits are spelled one behind the other.

@@ -1,5 +1,5 @@
 use Rattle.test_calls.proofs.WriteSets.{sorted_one}
 use Rattle.test_calls.proofs.key_versions.a_frozen_view_of_many_keys_stays.Goals as goal
 
-pub prepare-requires-clause-rising : goal.prepare-requires-clause-rising
-prepare-requires-clause-rising g c = sorted_one _
+pub with_commit-requires-clause-rising : goal.with_commit-requires-clause-rising
+with_commit-requires-clause-rising g c = sorted_one _

@@ -1,0 +1,5 @@
+use Rattle.test_calls.proofs.WriteSets.{sorted_one}
+use Rattle.test_calls.proofs.key_versions.a_commit_is_not_in_an_earlier_frozen_view.Goals as goal
+
+pub with_commit-requires-clause-rising : goal.with_commit-requires-clause-rising
+with_commit-requires-clause-rising g c = sorted_one _
