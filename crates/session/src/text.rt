@@ -228,7 +228,8 @@ fn write_refused<W: Write>(output: &mut W, words: &str) -> io::Result<()>
 
 /// Writes the line of a refusal by its words and a number.
 fn write_refused_number<W: Write>(output: &mut W, words: &str, number: u64) -> io::Result<()>
-    ensures { OnOk result (Appends (W.contents output.old) (W.contents output.new) (codes "refused: " ++ (words.now ++ (codes " " ++ (decimal number ++ codes "\n"))))) }
+    ensures { OnOk result (Appends (W.contents output.old) (W.contents output.new)
+        (codes "refused: " ++ (words.now ++ (codes " " ++ (decimal number ++ codes "\n"))))) }
 {
     writeln!(output, "refused: {words} {number}")
 }

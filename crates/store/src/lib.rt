@@ -22,3 +22,4 @@ pub use recovery::OpenFault;
 pub use snapshot::{Txn, TxnFault};
 pub use store::Store;
 pub use timequery::{QueryFault, View};
+pub use wire::Profile;

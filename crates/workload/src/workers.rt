@@ -304,7 +304,8 @@ pub fn run_workers<D: Disk + Send, L: Opening + Send + Sync, R: Threads + Wait +
     requires name { (opened.blank.name ≡ L.name) × (opened.blank.parts ≡ L.parts) × (opened.cell.table.shared.table_id ≡ L.table) }
     requires parts { L.parts ≡ plan.writers + 1 }
     requires fresh { IsFresh D.tells L.start L.mark opened.store (cell_view opened.writer) }
-    ensures counted { (m : Machine Value) × Stands D.tells result.0 m × Reached L.start m × IfSome result.1 (λ done. length m.published ≡ length L.start.published + done + unredeemed result.0) }
+    ensures counted { (m : Machine Value) × Stands D.tells result.0 m × Reached L.start m
+        × IfSome result.1 (λ done. length m.published ≡ length L.start.published + done + unredeemed result.0) }
 {
     let (store, mut all, mut me) = opened.named::<L>();
     let badges = badges_for(alloc, &store, &mut all, &mut me, plan.writers);

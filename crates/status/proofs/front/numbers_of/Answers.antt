@@ -6,7 +6,7 @@ pub returns : goal.returns
 returns c =
     let gates = gates_say c.args.front.now c.open_pieces.result c.told-front c.open_pieces.ensures.few c.open_pieces.ensures.open c.open_pieces.ensures.next in
     record {
-      profile = search rules;
+      profile = c.requires;
       slots = search rules;
       few_pieces = gates.0;
       open_pieces = gates.1;
