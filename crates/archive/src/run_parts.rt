@@ -116,8 +116,8 @@ impl ArchiveReader {
             → slice_get records n ≡ Some r → IsSeen records last.now → Answers result (IsPlaced records r) }
         ensures exact { IsTrue D.tells → IsRight (kept_of self.old) (archive_of (D.state disk.old))
             → MatchResult result (λ placed. (placed ≡ placed_at (archive_of (D.state disk.old)) run.now n)
-            × IsHeadSound (archive_of (D.state disk.old)) run.now last.now n) (IfDamaged
-            (λ _. IsHeadBroken (archive_of (D.state disk.old)) run.now last.now n)) }
+            × IsHeadSound (archive_of (D.state disk.old)) run.now last.now n)
+            (IfDamaged (λ _. IsHeadBroken (archive_of (D.state disk.old)) run.now last.now n)) }
     {
         let place = self.read_place(disk, run, n)?;
         let mut bytes = [0; HEAD_LEN];

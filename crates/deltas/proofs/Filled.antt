@@ -132,8 +132,8 @@ packed_whole before (x ∷ xs) count used body none short so_far some =
 
 pub body_filled : (before left : List Record) (count used : ℕ) (body written : List ℕ) → first_within (8176 - used) left ≡ None → IsShort left
     → IsFilling before left count used body
-    → written ≡ take used body ++ replicate (8176 - used) 0 → (bytes : List ℕ) × IsFirstBody before bytes (record { records = count; used = used }) left
-    × (written ≡ bytes ++ replicate (8176 - length bytes) 0)
+    → written ≡ take used body ++ replicate (8176 - used) 0
+    → (bytes : List ℕ) × IsFirstBody before bytes (record { records = count; used = used }) left × (written ≡ bytes ++ replicate (8176 - length bytes) 0)
 body_filled before left count used body written none short so_far written_is =
     let used_is = so_far.used_is in
     let fits = so_far.fits in (
@@ -160,8 +160,8 @@ zeros_behind used body zeros len fits is =
     nil_from_length (post_of used (length body - used) body) (omega (arith, length-drop (length body - used) (drop used body), length-drop used body)) in
     let count : length (take (length body - used) (drop used body)) ≡ 8176 - used =
     omega (arith, length-take (length body - used) (drop used body), length-drop used body) in
-    ap (λ (l : List ℕ). take used body ++ (zeros ++ l)) behind ∙ ap (λ (l : List ℕ). take used body ++ l)
-    (append-nil zeros ∙ is ∙ ap (λ n. replicate n 0) count)
+    ap (λ (l : List ℕ). take used body ++ (zeros ++ l)) behind
+    ∙ ap (λ (l : List ℕ). take used body ++ l) (append-nil zeros ∙ is ∙ ap (λ n. replicate n 0) count)
 
 -- the header written in front of them
 pub header_in_front : (number next used : ℕ) (old body image bytes : List ℕ) → length old ≡ 8192 → length bytes ≤ 8176 → used ≡ length bytes

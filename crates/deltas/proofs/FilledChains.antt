@@ -62,8 +62,8 @@ pub record IsCounting (before left : List Record) (extents records used : ℕ) :
 pub none_counted : (before : List Record) → IsCounting before before 0 0 8176
 none_counted before = record { bodies_are = first 8176 before (omega arith); counted = omega arith; fits = omega arith; few = omega arith }
   where
-    first : (full : ℕ) (records : List Record) → 8176 ≤ full → 0 + length (bodies_from (replicate full 0) (map spelling records))
-        ≡ 1 + length (bodies (map spelling records))
+    first : (full : ℕ) (records : List Record) → 8176 ≤ full
+        → 0 + length (bodies_from (replicate full 0) (map spelling records)) ≡ 1 + length (bodies (map spelling records))
     first full [] most = refl
     first full (r ∷ rs) most =
         let some = spelling-some r in

@@ -130,8 +130,8 @@ redeemed-rising t time (x ∷ xs) rising =
 pub length-redeemed : (time : ℕ) (heads : List CommitHead) → length (redeemed time heads) ≡ length heads
 length-redeemed time [] = refl
 length-redeemed time (x ∷ xs) =
-    elim (x.time == time) as (λ b. length (cond b (record x { awaited = false } ∷ xs) (x ∷ redeemed time xs)) ≡ length (x ∷ xs))
-    [ true ↦ refl | false ↦ ap suc (length-redeemed time xs) ]
+    elim (x.time == time) as (λ b. length (cond b (record x { awaited = false } ∷ xs) (x ∷ redeemed time xs))
+    ≡ length (x ∷ xs)) [ true ↦ refl | false ↦ ap suc (length-redeemed time xs) ]
 
 -- what a redeem answers and leaves, by what it finds
 pub unknown : (time : ℕ) (v : CommitOrderValue) → is_awaited time v.heads ≡ false → (Unknown ≡ state_of_ticket time v) × (v ≡ after_redeem time v)

@@ -97,8 +97,8 @@ wrote-fits (Storing member extent) group queue all fits asks =
 claimed-place : (o : Option QueuedValue) (member extent group waiting : ℕ) → claimed_by (place_behind o member extent) group waiting ≡ waiting
 claimed-place None member extent group waiting = refl
 claimed-place (Some q) member extent group waiting =
-    elim (nat_lt (extent + 1) (length q.stored)) as (λ b. claimed_by (cond b (Storing member (extent + 1)) (Storing (member + 1) 0)) group waiting ≡ waiting)
-    [ true ↦ refl | false ↦ refl ]
+    elim (nat_lt (extent + 1) (length q.stored)) as (λ b. claimed_by (cond b (Storing member (extent + 1)) (Storing (member + 1) 0)) group waiting
+    ≡ waiting) [ true ↦ refl | false ↦ refl ]
 
 claimed-behind : (queue : List QueuedValue) (s : GroupStage) (group waiting : ℕ) → claimed_by (stage_behind queue s) group waiting ≡ claimed_by s group waiting
 claimed-behind queue NoGroup group waiting = refl

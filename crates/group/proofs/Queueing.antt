@@ -33,8 +33,8 @@ use Rattle.group.proofs.Publishing.{numbers-stored, length-stored, out-joined}
 some_bodies : (body : List ℕ) (rs : List (List ℕ)) → 0 < length (bodies_from body rs)
 some_bodies body [] = omega arith
 some_bodies body (r ∷ rs) =
-    elim (nat_le (length body + length r) 8176) as (λ b. 0 < length (cond b (bodies_from (body ++ r) rs) (body ∷ bodies_from r rs)))
-    [ true ↦ some_bodies (body ++ r) rs | false ↦ omega arith ]
+    elim (nat_le (length body + length r) 8176) as (λ b. 0
+    < length (cond b (bodies_from (body ++ r) rs) (body ∷ bodies_from r rs))) [ true ↦ some_bodies (body ++ r) rs | false ↦ omega arith ]
 
 -- some writes need an extent
 pub bodies-some : (versions : List KeyWrites) (writes : List (KeyWrite Value)) → 0 < length writes → 0 < length (bodies_over versions writes)

@@ -104,8 +104,8 @@ module _ (after : List KeyWrites) (mark : ℕ) where
   set-stored (x ∷ xs) (suc k) q found all = (all.0, set-stored xs k q found all.1)
 
   set-by : (time : ℕ) (qs : List QueuedValue) (place : ℕ) (q : QueuedValue) → slice_get qs place ≡ Some q → latest after ≤ latest q.after
-      → AllByRecursion (λ (z : QueuedValue). latest z.after ≤ time) qs → AllByRecursion (λ (z : QueuedValue). latest z.after ≤ time)
-      (slice_set qs place (anew q))
+      → AllByRecursion (λ (z : QueuedValue). latest z.after ≤ time) qs
+      → AllByRecursion (λ (z : QueuedValue). latest z.after ≤ time) (slice_set qs place (anew q))
   set-by time [] place q found le all = tt
   set-by time (x ∷ xs) zero q found le all =
       let same : x ≡ q = cc in

@@ -80,15 +80,15 @@ impl Model for Transactions {
       heads = t.order.heads;
       published = t.order.published;
       versions = t.versions;
-      pending = t.pending;
+      pending =
+          t.pending;
       queue = t.queue.items;
       usages = t.extents;
       times = t.times;
       reserved = t.reserved.items;
       slots = t.slots;
       used = t.used;
-      group =
-          t.group;
+      group = t.group;
       stage = t.stage;
       floors = t.floors;
       reclaimed = t.reclaimed;

@@ -17,9 +17,8 @@ ghost use Rattle.law_opening.specs.Laws.{LeavesFronts};
 ghost use Rattle.run.specs.Promise.{Promise};
 
 use disk::Disk;
-use recovery::FormatFault;
 use std::alloc::Global;
-use store::{OpenFault, Store};
+use store::{FormatFault, OpenFault, Store};
 
 /// Makes the status area that of a new store with this many slots, 16 to 65,536.
 ///

@@ -6,11 +6,10 @@ ghost use Rattle.session.specs.Session as told;
 use crate::names::{MAX_NAMES, OpenName, TicketName};
 use crate::reply::Reply;
 use disk::Disk;
-use recovery::OpenFault;
 use script::Line;
 use std::alloc::Global;
 use std::marker::Model;
-use store::Store;
+use store::{OpenFault, Store};
 
 /// The mark of a session's store.
 pub const MARK: u64 = 1;

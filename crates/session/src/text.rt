@@ -6,18 +6,16 @@ ghost use Rattle.session.specs.Texts as told;
 
 use crate::digits::spell_hex;
 use crate::fault::Fault;
-use chains::SharedValue;
 use disk::Area;
-use group::{BeginFault, Did, PumpFault, SubmitFault};
 use history::Version;
 use itoa::Buffer;
-use recovery::{FormatFault, OpenFault};
-use snapshot::TxnFault;
 use std::alloc::AllocError;
 use std::io;
 use std::io::Write;
-use store::{JobDid, StartFault};
-use timequery::QueryFault;
+use store::{
+    BeginFault, Did, FormatFault, JobDid, OpenFault, PumpFault, QueryFault, SharedValue,
+    StartFault, SubmitFault, TxnFault,
+};
 
 /// Spells a field: its bytes in hexadecimal, the empty field as `-`.
 fn spell_field(text: &mut Vec<u8>, field: &[u8]) -> Result<(), AllocError>

@@ -7,13 +7,11 @@ use crate::fault::Fault;
 use crate::names::{OpenName, TicketName};
 use crate::reply::Reply;
 use crate::session::Session;
-use chains::SharedValue;
 use disk::Disk;
-use group::{Redeemed, Submitted};
 use history::Key;
 use script::{Fields, Name};
-use snapshot::{Txn, TxnFault};
 use std::alloc::{AllocError, Global};
+use store::{Redeemed, SharedValue, Submitted, Txn, TxnFault};
 
 /// Puts the value of these fields; memory for their bytes may be refused too.
 fn put_fields(txn: &mut Txn, alloc: Global, key: Key, fields: Fields<'_>) -> Result<(), TxnFault>

@@ -16,7 +16,6 @@ use crate::vacuuming::{Job, Vacuumed, do_job, do_jobs, is_refusal, log_of, recor
 use command_line::Action;
 use disk::{Area, Disk};
 use history::Key;
-use recovery::{OpenFault, format};
 use script::Line;
 use session::{
     Answers, Ending, Fault, LineInput, Lines, MARK, Refused, Reply, Session, answer_lines,
@@ -25,7 +24,7 @@ use session::{
 use status::{Header, LogFault, read_header, read_log};
 use std::alloc::Global;
 use std::io::Write;
-use store::Store;
+use store::{OpenFault, Store, format};
 use wire::Slot;
 
 /// The status of what was done and said in full.

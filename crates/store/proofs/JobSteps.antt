@@ -64,8 +64,8 @@ pub began : (tells : Bool) (job : Job) (body : Body) (turn : TurnState) (log tak
     (new : StoreValue)
     → body ≡ slot_body job.work → turn.number ≡ log.used → turn.body ≡ spelling log.profile (record { number = log.used; body = body })
     → turn.stage ≡ slots.Begun → taken ≡ record log { writing = true }
-    → parts_of made log other before archived runs_end archive disk ≡ made_ready job.work
-    (parts_of transactions log other before archived runs_end archive disk)
+    → parts_of made log other before archived runs_end archive disk
+    ≡ made_ready job.work (parts_of transactions log other before archived runs_end archive disk)
     → TurnsJob tells job turn (parts_of made taken other before archived runs_end archive disk) result new
     → BeginsJobSlot tells job (parts_of transactions log other before archived runs_end archive disk) result new
 began tells job body turn log taken transactions made other before archived runs_end archive disk result new body_is number text stage taken_is made_is turns =
@@ -92,17 +92,17 @@ pub at-writing : (tells : Bool) (work : JobWork) (stage : JobStage) (transaction
     (archived runs_end : ℕ) (archive : ArchiveValue) (disk : DiskState) (result : Result JobDid PumpFault) (new : StoreValue)
     → stage ≡ stages.Writing
     → Stores tells work (writing work) (parts_of transactions log turn (Some (writing work)) archived runs_end archive disk) result new
-    → TakesJobStep tells stage (record { work = work; stage = stage }) (parts_of transactions log turn
-    (Some (record { work = work; stage = stage })) archived runs_end archive disk) result new
+    → TakesJobStep tells stage (record { work = work; stage = stage })
+    (parts_of transactions log turn (Some (record { work = work; stage = stage })) archived runs_end archive disk) result new
 at-writing tells work stage transactions log turn archived runs_end archive disk result new is takes = rw is takes
 
 pub at-stored : (tells : Bool) (work : JobWork) (stage : JobStage) (transactions : TransactionsValue) (log : LogState) (turn : Option TurnState)
     (archived runs_end : ℕ) (archive : ArchiveValue) (disk : DiskState) (result : Result JobDid PumpFault) (new : StoreValue)
     → stage ≡ stages.Stored → is_some turn ≡ false
-    → BeginsJobSlot tells (record { work = work; stage = stages.Stored }) (parts_of transactions log turn
-    (Some (record { work = work; stage = stages.Stored })) archived runs_end archive disk) result new
-    → TakesJobStep tells stage (record { work = work; stage = stage }) (parts_of transactions log turn
-    (Some (record { work = work; stage = stage })) archived runs_end archive disk) result new
+    → BeginsJobSlot tells (record { work = work; stage = stages.Stored })
+    (parts_of transactions log turn (Some (record { work = work; stage = stages.Stored })) archived runs_end archive disk) result new
+    → TakesJobStep tells stage (record { work = work; stage = stage })
+    (parts_of transactions log turn (Some (record { work = work; stage = stage })) archived runs_end archive disk) result new
 at-stored tells work stage transactions log turn archived runs_end archive disk result new is free begins = rw (is, free) begins
 
 pub at-turning : (tells : Bool) (work : JobWork) (stage : JobStage) (own : TurnState) (transactions : TransactionsValue) (log : LogState)
@@ -110,9 +110,9 @@ pub at-turning : (tells : Bool) (work : JobWork) (stage : JobStage) (own : TurnS
     → stage ≡ stages.Turning own
     → ((before : Option Job) → TurnsJob tells (record { work = work; stage = stages.Stored }) own
     (parts_of transactions log turn before archived runs_end archive disk) result new)
-    → TakesJobStep tells stage (record { work = work; stage = stage }) (parts_of transactions log turn
-    (Some (record { work = work; stage = stage })) archived runs_end archive disk) result new
+    → TakesJobStep tells stage (record { work = work; stage = stage })
+    (parts_of transactions log turn (Some (record { work = work; stage = stage })) archived runs_end archive disk) result new
 at-turning tells work stage own transactions log turn archived runs_end archive disk result new is turns =
-    rw is (turns-alike tells own work stages.Stored (stages.Turning own) (parts_of transactions log turn
-    (Some (record { work = work; stage = stages.Turning own })) archived runs_end archive disk) result new
+    rw is (turns-alike tells own work stages.Stored (stages.Turning own)
+    (parts_of transactions log turn (Some (record { work = work; stage = stages.Turning own })) archived runs_end archive disk) result new
     (turns (Some (record { work = work; stage = stages.Turning own }))))

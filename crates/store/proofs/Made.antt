@@ -31,8 +31,8 @@ turned-one : (tells : Bool) (o : Option TurnState) (old new : StoreValue) (what 
 turned-one tells None old new what takes = absurd takes
 turned-one tells (Some turn) old new what takes = made-one old.disk new.disk takes.call.counts
 
-begun-one : (tells b : Bool) (old new : StoreValue) (what : Did) → MatchBool b (Path (Result Did PumpFault) (Ok what) (Err fault.Busy) × (new ≡ old))
-    (MayBeginSlot tells old (Ok what) new) → MakesOne old.disk new.disk
+begun-one : (tells b : Bool) (old new : StoreValue) (what : Did)
+    → MatchBool b (Path (Result Did PumpFault) (Ok what) (Err fault.Busy) × (new ≡ old)) (MayBeginSlot tells old (Ok what) new) → MakesOne old.disk new.disk
 begun-one tells true old new what takes = absurd (let is = takes.0 in cc)
 begun-one tells false old new what (inl short) = absurd (let is = short.1 in cc)
 begun-one tells false old new what (inr takes) = made-one old.disk new.disk takes.turns.call.counts

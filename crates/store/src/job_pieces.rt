@@ -179,8 +179,8 @@ fn store_anchors<D: Disk>(
 
 // The number of the extent at this place, and of the one behind it, 0 for none.
 fn next_extent(reserved: &[Extent], place: usize) -> Option<(u32, u32)>
-    ensures is { MatchOption result (slice_get reserved.now place ≡ None) (λ r. (slice_get reserved.now place ≡ Some r.0)
-        × (r.1 ≡ first_number (drop (place + 1) reserved.now))) }
+    ensures is { MatchOption result (slice_get reserved.now place ≡ None)
+        (λ r. (slice_get reserved.now place ≡ Some r.0) × (r.1 ≡ first_number (drop (place + 1) reserved.now))) }
     ensures low { IfSome result (λ r. 1 ≤ r.0) }
     ensures high { IfSome result (λ r. r.0 ≤ 65536) }
     ensures within { IfSome result (λ r. place < length reserved.now) }

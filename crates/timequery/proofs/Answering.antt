@@ -40,8 +40,8 @@ find-part {X} p q (x ∷ xs) none =
     let Goal : Bool → Bool → Type 0 = λ a b. q x ≡ b → cond b (Some x) (find q xs) ≡ None → find q (cond a (x ∷ filter p xs) (filter p xs)) ≡ None in
     let all : (a b : Bool) → Goal a b = λ a b. elim b as (λ b. Goal a b) [
       | true ↦ λ is h. absurd cc
-      | false ↦ λ is h. elim a as (λ a. find q (cond a (x ∷ filter p xs) (filter p xs)) ≡ None)
-          [ true ↦ rw is (find-part p q xs h) | false ↦ find-part p q xs h ]
+      | false ↦ λ is h. elim a as (λ a. find q (cond a (x ∷ filter p xs) (filter p xs))
+          ≡ None) [ true ↦ rw is (find-part p q xs h) | false ↦ find-part p q xs h ]
     ] in
     all (p x) (q x) refl none
 
@@ -236,7 +236,7 @@ module _ (tells : Bool) (kept : List (ℕ × List ℕ)) (disk : DiskState) (v : 
       let one : (number : ℕ) → between h (key_of relation number) t (t + 1) ≡ option_to_list (option_map (row_at t) (state h t (key_of relation number))) =
       λ number.
       let apart = history-apart (key_of relation number) in
-      rows-one apart.0 t (versions_of h (key_of relation number)) apart.1 ∙ ap (λ (o : Option Value). option_to_list (option_map (row_at t) o))
-      (history-is (key_of relation number) t le) in
+      rows-one apart.0 t (versions_of h (key_of relation number)) apart.1
+      ∙ ap (λ (o : Option Value). option_to_list (option_map (row_at t) o)) (history-is (key_of relation number) t le) in
       values-said relation t (values_of found) from le
       (values-are (λ key. between h key t (t + 1)) (state h t) relation t found one (both-scanned relation t (t + 1) found from order same))

@@ -14,8 +14,8 @@ module _ (number : ℕ) where
   lesser-split [] = refl
   lesser-split (q ∷ qs) =
       let rest = lesser-split qs in
-      elim (nat_lt q.0 number) as (λ t. cond t (q ∷ lesser number qs) [] ++ cond t (not_lesser number qs) (q ∷ qs) ≡ q ∷ qs)
-      [ true ↦ ap (λ (xs : List Row). q ∷ xs) rest | false ↦ refl ]
+      elim (nat_lt q.0 number) as (λ t. cond t (q ∷ lesser number qs) [] ++ cond t (not_lesser number qs) (q ∷ qs)
+      ≡ q ∷ qs) [ true ↦ ap (λ (xs : List Row). q ∷ xs) rest | false ↦ refl ]
 
   pub lesser-below : (qs : List Row) → AllByRecursion (λ (q : Row). q.0 < number) (lesser number qs)
   lesser-below [] = tt
@@ -41,8 +41,13 @@ module _ (number : ℕ) where
   lesser-order [] order = tt
   lesser-order (q ∷ qs) order =
       let rest = lesser-order qs order.1 in
-      elim (nat_lt q.0 number) as (λ t. AreInOrder (cond t (q ∷ lesser number qs) []))
-      [ true ↦ (lesser-all (λ (x : Row). q.0 ≤ x.0) qs order.0, rest) | false ↦ tt ]
+      elim (nat_lt q.0 number) as (λ t. AreInOrder (cond t (q ∷ lesser number qs) [])) [
+        | true ↦ (
+          lesser-all (λ (x : Row). q.0 ≤ x.0) qs order.0,
+          rest,
+        )
+        | false ↦ tt
+      ]
 
   pub rest-order : (qs : List Row) → AreInOrder qs → AreInOrder (not_lesser number qs)
   rest-order [] order = tt

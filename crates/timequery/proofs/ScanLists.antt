@@ -54,8 +54,8 @@ numbers-over bound [] over = tt
 numbers-over bound (p ∷ []) over = (over.0, tt)
 numbers-over bound (p ∷ q ∷ qs) over =
     let rest = numbers-over bound (q ∷ qs) over.1 in
-    elim (q.0 == p.0) as (λ t. AllByRecursion (λ (m : ℕ). bound < m) (cond t (numbers (q ∷ qs)) (p.0 ∷ numbers (q ∷ qs))))
-    [ true ↦ rest | false ↦ (over.0, rest) ]
+    elim (q.0 == p.0) as (λ t. AllByRecursion (λ (m : ℕ). bound < m)
+    (cond t (numbers (q ∷ qs)) (p.0 ∷ numbers (q ∷ qs)))) [ true ↦ rest | false ↦ (over.0, rest) ]
 
 numbers-rise : (ps : List Row) → AreInOrder ps → Rises (numbers ps)
 unfolding numbers Rises
@@ -174,8 +174,8 @@ numbers-some (p ∷ []) = (own-some p [], tt)
 numbers-some (p ∷ q ∷ qs) =
     let ps : List Row = q ∷ qs in
     let rest = all-still p ps (numbers ps) (numbers-some (q ∷ qs)) in
-    elim (q.0 == p.0) as (λ t. AllByRecursion (λ (n : ℕ). rows_of n (p ∷ ps) ≢ []) (cond t (numbers ps) (p.0 ∷ numbers ps)))
-    [ true ↦ rest | false ↦ (own-some p ps, rest) ]
+    elim (q.0 == p.0) as (λ t. AllByRecursion (λ (n : ℕ). rows_of n (p ∷ ps) ≢ [])
+    (cond t (numbers ps) (p.0 ∷ numbers ps))) [ true ↦ rest | false ↦ (own-some p ps, rest) ]
 
 numbers-all : (n : ℕ) (ps : List Row) → rows_of n ps ≢ [] → Contains (numbers ps) n
 unfolding numbers

@@ -77,9 +77,9 @@ module _ (t : ℕ) (of : ℕ → Option Value) where
   unfolding listed
   only n value [] there = absurd (Contains-nil (n, value) there)
   only n value (k ∷ ks) there =
-      let Goal : Option Value → Type 0 = λ o. of k ≡ o → Contains (values_of
-      (map (λ (row : Version Value). let r : Row = (k, row) in r) (option_to_list (option_map (row_at t) o)) ++ flat_map (listed t of) ks)) (n, value)
-      → of n ≡ Some value in
+      let Goal : Option Value → Type 0 = λ o. of k ≡ o → Contains
+      (values_of (map (λ (row : Version Value). let r : Row = (k, row) in r) (option_to_list (option_map (row_at t) o)) ++ flat_map (listed t of) ks))
+      (n, value) → of n ≡ Some value in
       let all : (o : Option Value) → Goal o = λ o. elim o as Goal [
         | None ↦ λ is h. only n value ks h
         | Some found ↦ λ is h.
@@ -127,8 +127,9 @@ values-are rows_of value_of relation t found same scan =
     let of : ℕ → Option Value = λ n. value_of (key_of relation n) in
     let ns = scan.numbers in
     let found_is : found ≡ flat_map (listed t of) ns = scan.found_is ∙ flat-same ns in
-    let some : AllByRecursion (λ (n : ℕ). of n ≢ None) ns = all-of (λ (n : ℕ). of n ≢ None) ns
-    (λ n there none. (scan.each n).0 there (same n ∙ ap (λ (o : Option Value). option_to_list (option_map (row_at t) o)) none)) in
+    let some : AllByRecursion (λ (n : ℕ). of n ≢ None) ns =
+    all-of (λ (n : ℕ). of n ≢ None) ns (λ n there none. (scan.each n).0 there
+    (same n ∙ ap (λ (o : Option Value). option_to_list (option_map (row_at t) o)) none)) in
     let firsts_are : map (λ (p : ℕ × Value). p.0) (values_of found) ≡ ns =
     ap (λ (rs : List Row). map (λ (p : ℕ × Value). p.0) (values_of rs)) found_is ∙ firsts t of ns some in
     record {

@@ -141,8 +141,8 @@ module _ (relation a b : ℕ) where
   scanned-above key (c ∷ cs) is above =
       let rest = scanned-above key cs is above.1 in
       let up = above.0 in
-      let Goal : Bool → Type 0 = λ t. (c.key.relation == relation) ≡ t → AllByRecursion (λ (q : Row). key.record ≤ q.0)
-      (cond t (shown_rows a b c) [] ++ scanned_rows relation a b cs) in
+      let Goal : Bool → Type 0 = λ t. (c.key.relation == relation) ≡ t
+      → AllByRecursion (λ (q : Row). key.record ≤ q.0) (cond t (shown_rows a b c) [] ++ scanned_rows relation a b cs) in
       let all : (t : Bool) → Goal t = λ t. elim t as Goal [
         | true ↦ λ same.
             let least : key.record ≤ c.key.record = grind (arith, nat_tests) in

@@ -45,8 +45,8 @@ impl View {
         time: u64,
     ) -> Result<Option<SharedValue>, QueryFault>
         ensures disk { D.state disk.new ≡ after_query result (D.state disk.old) }
-        ensures kept { (limit : ℕ) → RunsEndBy limit self.now.runs → Keeps limit D.tells (archive_of (D.state disk.old)) (kept_of reader.old)
-            (kept_of reader.new) }
+        ensures kept { (limit : ℕ) → RunsEndBy limit self.now.runs
+            → Keeps limit D.tells (archive_of (D.state disk.old)) (kept_of reader.old) (kept_of reader.new) }
         ensures heads { reader.new.heads ≤ reader.old.heads + heads_to_find time self.now.runs }
         ensures refused { IfErr result (RefusesAt self.now key.relation time) }
         ensures recent { self.now.reclaimed ≤ time → (reader.new ≡ reader.old)
@@ -91,12 +91,12 @@ impl View {
         b: u64,
     ) -> Result<Vec<Version<SharedValue>>, QueryFault>
         ensures disk { D.state disk.new ≡ after_query result (D.state disk.old) }
-        ensures kept { (limit : ℕ) → RunsEndBy limit self.now.runs → Keeps limit D.tells (archive_of (D.state disk.old)) (kept_of reader.old)
-            (kept_of reader.new) }
+        ensures kept { (limit : ℕ) → RunsEndBy limit self.now.runs
+            → Keeps limit D.tells (archive_of (D.state disk.old)) (kept_of reader.old) (kept_of reader.new) }
         ensures heads { IfOk result (λ found. reader.new.heads ≤ reader.old.heads + heads_to_find a self.now.runs + length found.items) }
         ensures refused { IfErr result (RefusesRows self.now key.relation a b) }
-        ensures recent { self.now.reclaimed ≤ a → (reader.new ≡ reader.old) × IfOk result
-            (λ found. AnswersBetween self.now key.relation a b found.items (rows_in self.now.state a b key)) }
+        ensures recent { self.now.reclaimed ≤ a → (reader.new ≡ reader.old)
+            × IfOk result (λ found. AnswersBetween self.now key.relation a b found.items (rows_in self.now.state a b key)) }
         ensures only { (h : History values.Value) → ReadsHistory D.tells (kept_of reader.old) (D.state disk.old) self.now h
             → Answers result (λ found. between_answer h (floor_at self.now.floors) key a b ≡ Ok found.items) }
         ensures exact { IsTrue D.tells → IsRight (kept_of reader.old) (archive_of (D.state disk.old))
@@ -127,8 +127,8 @@ impl View {
         b: u64,
     ) -> Result<Vec<ScanRow>, QueryFault>
         ensures disk { D.state disk.new ≡ after_query result (D.state disk.old) }
-        ensures kept { (limit : ℕ) → RunsEndBy limit self.now.runs → Keeps limit D.tells (archive_of (D.state disk.old)) (kept_of reader.old)
-            (kept_of reader.new) }
+        ensures kept { (limit : ℕ) → RunsEndBy limit self.now.runs
+            → Keeps limit D.tells (archive_of (D.state disk.old)) (kept_of reader.old) (kept_of reader.new) }
         ensures refused { IfErr result (RefusesRuns a self.now.runs) }
         ensures in_order { IfOk result (λ found. IsNonDecreasingBy (λ row. row.0) found.items) }
         ensures only { (lists : List (List ArchiveRecord)) → IsTrue D.tells → IsRight (kept_of reader.old) (archive_of (D.state disk.old))
@@ -160,8 +160,8 @@ impl View {
         time: u64,
     ) -> Result<Vec<(u64, SharedValue)>, QueryFault>
         ensures disk { D.state disk.new ≡ after_query result (D.state disk.old) }
-        ensures kept { (limit : ℕ) → RunsEndBy limit self.now.runs → Keeps limit D.tells (archive_of (D.state disk.old)) (kept_of reader.old)
-            (kept_of reader.new) }
+        ensures kept { (limit : ℕ) → RunsEndBy limit self.now.runs
+            → Keeps limit D.tells (archive_of (D.state disk.old)) (kept_of reader.old) (kept_of reader.new) }
         ensures refused { IfErr result (RefusesAt self.now relation time) }
         ensures recent { self.now.reclaimed ≤ time → (reader.new ≡ reader.old)
             × IfOk result (λ found. AnswersAt self.now relation time found.items (scanned relation time self.now.state)) }
@@ -193,11 +193,11 @@ impl View {
         b: u64,
     ) -> Result<Vec<(u64, Version<SharedValue>)>, QueryFault>
         ensures disk { D.state disk.new ≡ after_query result (D.state disk.old) }
-        ensures kept { (limit : ℕ) → RunsEndBy limit self.now.runs → Keeps limit D.tells (archive_of (D.state disk.old)) (kept_of reader.old)
-            (kept_of reader.new) }
+        ensures kept { (limit : ℕ) → RunsEndBy limit self.now.runs
+            → Keeps limit D.tells (archive_of (D.state disk.old)) (kept_of reader.old) (kept_of reader.new) }
         ensures refused { IfErr result (RefusesRows self.now relation a b) }
-        ensures recent { self.now.reclaimed ≤ a → (reader.new ≡ reader.old) × IfOk result
-            (λ found. AnswersBetween self.now relation a b found.items (scanned_rows relation a b self.now.state)) }
+        ensures recent { self.now.reclaimed ≤ a → (reader.new ≡ reader.old)
+            × IfOk result (λ found. AnswersBetween self.now relation a b found.items (scanned_rows relation a b self.now.state)) }
         ensures only { (h : History values.Value) → ReadsHistory D.tells (kept_of reader.old) (D.state disk.old) self.now h
             → Answers result (λ found. IsScanBetweenAnswer h (floor_at self.now.floors) relation a b (Ok found.items)) }
         ensures exact { IsTrue D.tells → IsRight (kept_of reader.old) (archive_of (D.state disk.old))

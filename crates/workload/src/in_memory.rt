@@ -8,14 +8,13 @@ ghost use Rattle.shared.specs.Reached.{Reached};
 ghost use Rattle.workload.specs.Reading.{HasCommitted};
 
 use crate::workers::{Plan, field_of, key_of, run_workers};
-use chains::SharedValue;
 use disk::{Disk, MemDisk};
 use shared::{Opened, fresh_store};
 use std::alloc::{AllocError, Global};
 use std::marker::Brand;
 use std::sync::Wait;
 use std::thread::Threads;
-use store::{QueryFault, Store};
+use store::{QueryFault, SharedValue, Store};
 
 /// The slots of the log of a stress's store.
 const SLOTS: u32 = 32_768;

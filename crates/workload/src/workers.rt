@@ -10,7 +10,6 @@ ghost use Rattle.shared.specs.Reached.{Reached};
 ghost use Rattle.workload.specs.Reading.{ReadSays};
 ghost use Rattle.shared.specs.Seen.{IsLater, seen_of};
 
-use chains::SharedValue;
 use disk::Disk;
 use history::Key;
 use shared::{Change, Committed, Observer, Opened, Opening, SharedStore};
@@ -19,7 +18,7 @@ use std::sync::Wait;
 use std::sync::ledger::Share;
 use std::thread;
 use std::thread::{Threads, join, map_vec};
-use store::{QueryFault, Store};
+use store::{QueryFault, SharedValue, Store};
 
 /// The relation of the keys that the writers commit.
 const RELATION: u16 = 1;

@@ -14,8 +14,8 @@ loop-record-preserved g c =
       | then-used-len-gt-BODY_LEN w ↦
           rw (w.extents-is, w.used-is) (next_begun _ _ _ _ _ _ _ _ next c.advance.ensures c.loan_len-len.ensures.is c.loan_len-len.ensures.short
           w.if-used-len-gt-BODY_LEN.true c.loop-record.invariant)
-      | else-used-len-gt-BODY_LEN w ↦ rw (w.extents-is, w.used-is) (next_added _ _ _ _ _ _ _ _ next c.advance.ensures c.loan_len-len.ensures.is
-          w.if-used-len-gt-BODY_LEN.false c.loop-record.invariant)
+      | else-used-len-gt-BODY_LEN w ↦ rw (w.extents-is, w.used-is)
+          (next_added _ _ _ _ _ _ _ _ next c.advance.ensures c.loan_len-len.ensures.is w.if-used-len-gt-BODY_LEN.false c.loop-record.invariant)
     ]
 
 pub returns : goal.returns

@@ -16,13 +16,13 @@ loop-record-preserved g c =
     elim c.if-len-loan_len-gt-BODY_LEN.branch [
       | then-len-loan_len-gt-BODY_LEN+in_ok-push+in_ok-body-2 w ↦
           rw (w.packed-is, w.body-is)
-          (next_begins _ _ _ _ _ _ _ _ next c.advance-in-Some-peek.ensures (omega
-          (arith, w.if-len-loan_len-gt-BODY_LEN.true, c.len.ensures.is, c.loan_len.ensures.is)) w.in_ok-push.ensures.items w.in_ok-body-2.ensures
+          (next_begins _ _ _ _ _ _ _ _ next c.advance-in-Some-peek.ensures
+          (omega (arith, w.if-len-loan_len-gt-BODY_LEN.true, c.len.ensures.is, c.loan_len.ensures.is)) w.in_ok-push.ensures.items w.in_ok-body-2.ensures
           c.loop-record.invariant)
       | else-len-loan_len-gt-BODY_LEN w ↦
           rw (w.packed-is, w.body-is)
-          (next_joins _ _ _ _ _ _ _ _ next c.advance-in-Some-peek.ensures (omega
-          (arith, w.if-len-loan_len-gt-BODY_LEN.false, c.len.ensures.is, c.loan_len.ensures.is)) refl w.push-else-len-loan_len-gt-BODY_LEN.ensures
+          (next_joins _ _ _ _ _ _ _ _ next c.advance-in-Some-peek.ensures
+          (omega (arith, w.if-len-loan_len-gt-BODY_LEN.false, c.len.ensures.is, c.loan_len.ensures.is)) refl w.push-else-len-loan_len-gt-BODY_LEN.ensures
           c.loop-record.invariant)
     ]
 

@@ -71,12 +71,8 @@ returns-clause-new c =
       room =
           vec_capacity c.self.inside.heads - vec_len c.self.inside.heads;
     }) ≡ c.args.self.now = c.self.view_is in
-    let heads : set c.self.inside.heads.items c.in-Some.place (record {
-      time = c.index_mut.result.now.time;
-      label = c.index_mut.result.now.label;
-      awaited =
-          false;
-    }) ≡ redeemed c.args.time c.args.self.now.heads
+    let heads : set c.self.inside.heads.items c.in-Some.place
+    (record { time = c.index_mut.result.now.time; label = c.index_mut.result.now.label; awaited = false }) ≡ redeemed c.args.time c.args.self.now.heads
     = found_redeemed _ _ _ _ c.self.invariant.rising found c.index_mut.ensures.value
     ∙ ap (λ (v : CommitOrderValue). redeemed c.args.time v.heads) c.self.view_is in
     (λ i. record { heads = heads i; published = (fields i).published; room = (fields i).room }) ∙ done.1

@@ -49,8 +49,8 @@ invariant_of-self-2 c =
     let after_is : c.in_ok-after.after ≡ with_commit (ordered v) time writes =
     c.in_ok-after.ensures.is ∙ ap (λ (m : List KeyWrites). with_commit m time writes)
     (c.ordered.ensures.is ∙ ap (λ (w : TransactionsValue). ordered w) (sym c.self.view_is)) in
-    let first_is : c.first_number.result ≡ first_number numbers = c.first_number.ensures
-    ∙ ap (λ (ss : List StoredExtent). first_number (map (λ s. s.extent) ss)) (c.deref.ensures.value ∙ stored_is)
+    let first_is : c.first_number.result ≡ first_number numbers =
+    c.first_number.ensures ∙ ap (λ (ss : List StoredExtent). first_number (map (λ s. s.extent) ss)) (c.deref.ensures.value ∙ stored_is)
     ∙ ap first_number (numbers-stored numbers _ sealed) in
     let extents_is : c.len-extents.result ≡ length numbers = omega (arith, c.len-extents.ensures, c.args.accepted.bodies.ok.0, its.many) in
     let mark_is : c.ordered_mark-reclaimed.result ≡ ordered_mark v =

@@ -33,7 +33,8 @@ returns-in-Ok-make_place g c =
     let job_is = c.put_in_place.ensures ∙ (λ i. Some (record { work = Archive (run_is i) (writer_is i); stage = Writing })) in
     let placed = c.in-Ok-make_place.ensures.ok in
     let in_range = c.in-Some-archive_run.ensures.in_range c.in_default.ensures.in_range.0 c.in_default.ensures.in_range.1 in
-    subst (λ (x : StoreValue). StartsArchive x upto (Ok tt) (parts_of c.lend_slot.new.self s.log s.turn c.put_in_place.new.place s.archived.upto
-    s.archived.runs_end c.make_place.new.self (g.D.Disk.state s.disk))) c.self.view_is
+    subst (λ (x : StoreValue). StartsArchive x upto (Ok tt)
+    (parts_of c.lend_slot.new.self s.log s.turn c.put_in_place.new.place s.archived.upto s.archived.runs_end c.make_place.new.self
+    (g.D.Disk.state s.disk))) c.self.view_is
     (begun v upto c.in-Some-archive_run.run' _ _ none fits in_range run_is refl refl floors_are
     (λ i. parts_of (lent i) s.log s.turn (job_is i) s.archived.upto s.archived.runs_end (placed i) (g.D.Disk.state s.disk)))

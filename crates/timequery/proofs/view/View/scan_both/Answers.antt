@@ -23,8 +23,8 @@ pub returns-in_err-archived-clause-refused : goal.returns-in_err-archived-clause
 returns-in_err-archived-clause-refused g c =
     let runs_are = c.as_slice.ensures ∙ ap (λ (w : ViewValue). w.runs) c.self.view_is in
     let p = err_from_is_err_and c.from_residual.result c.from_residual.ensures.1 in
-    rw (p.1, p.2) (refused-runs c.args.a c.args.self.now.runs _ (subst (λ (rs : List RunEntry). IsFaultIn c.args.a rs c.in_err-archived.field-0.0) runs_are
-    c.in_err-archived.ensures.damaged))
+    rw (p.1, p.2) (refused-runs c.args.a c.args.self.now.runs _
+    (subst (λ (rs : List RunEntry). IsFaultIn c.args.a rs c.in_err-archived.field-0.0) runs_are c.in_err-archived.ensures.damaged))
 
 pub returns-in_err-recent-clause-kept : goal.returns-in_err-recent-clause-kept
 returns-in_err-recent-clause-kept g c = λ limit ends.
