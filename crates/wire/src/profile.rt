@@ -71,6 +71,7 @@ impl Profile {
     pub fn has_pieces(self) -> bool
         ensures some { IsTrue result ↔ (self ≢ 1) }
         ensures none { (result ≡ false) ↔ (self ≡ 1) }
+        ensures known { IsProfile self }
     {
         match self.rules {
             Rules::FixedSlots => false,
