@@ -102,8 +102,7 @@ pub queued-is : (v : TransactionsValue) (label time first extents records : ℕ)
     → Path QueuedValue (record {
       entry = record { label = label; time = time; first = first; extents = extents; records = records };
       after = after;
-      reclaimed =
-          reclaimed;
+      reclaimed = reclaimed;
       stored = stored;
     }) (queued_as v label time writes numbers)
 queued-is v label time first extents records after reclaimed stored writes numbers e1 e2 e3 e4 e5 e6 = rw (e1, e2, e3, e4, e5, e6) refl

@@ -1356,8 +1356,7 @@ module _ (tells : Bool) (v new : StoreValue) (m : Machine Value) (stands : Stand
       let in_step : IsInStep (record v {
         log = log;
         job = Some (record j { stage = job.Turning (record t { stage = slots.slot_stage_after t.stage }) });
-        disk =
-            new.disk;
+        disk = new.disk;
       }) = record {
         slots = omega (arith, many, stands.in_step.slots, one, lends v m j.work j.stage kept-now);
         used = used ∙ stands.in_step.used;

@@ -90,8 +90,7 @@ fails v job made new run_is stage same c = record {
   in_step = record {
     slots = c.slots ∙ ap (λ (n : ℕ). v.transactions.slots + n) (sym same.lent);
     used = c.used;
-    turns =
-        λ works. absurd (let is : true ≡ false = works in cc);
+    turns = λ works. absurd (let is : true ≡ false = works in cc);
   };
   in_range = record { slots = c.few; run = run_is c.run; stage = stage; behind = same.behind };
 }

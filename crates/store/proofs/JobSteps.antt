@@ -74,13 +74,11 @@ began tells job body turn log taken transactions made other before archived runs
     let turn_is : turn ≡ record {
       number = log.used;
       body = spelling log.profile (record { number = log.used; body = slot_body job.work });
-      stage =
-          slots.Begun;
+      stage = slots.Begun;
     } = λ i. record { number = number i; body = spelled i; stage = stage i } in
     inr (subst (λ (v : StoreValue). TurnsJob tells job (record {
       number = log.used;
-      body =
-          spelling log.profile (record { number = log.used; body = slot_body job.work });
+      body = spelling log.profile (record { number = log.used; body = slot_body job.work });
       stage = slots.Begun;
     }) (slot_taken v) result new) made_is
     (subst (λ (t : TurnState). TurnsJob tells job t (slot_taken (parts_of made log other before archived runs_end archive disk)) result new) turn_is

@@ -43,8 +43,7 @@ opened_on mark r archive disk = record {
     heads = map head_as r.commits.items;
     published = length r.commits.items;
     versions = r.chains;
-    pending =
-        None;
+    pending = None;
     queue = [];
     usages = r.extents;
     times = times_of r.live.items;

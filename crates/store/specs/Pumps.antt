@@ -65,8 +65,7 @@ store_of transactions log turn disk = record {
   job = None;
   archived = 0;
   runs_end = 0;
-  archive =
-      record { runs = []; next = []; kept = [] };
+  archive = record { runs = []; next = []; kept = [] };
   disk = disk;
 }
 
@@ -109,8 +108,7 @@ taken v = record v { transactions = at_stage stages.Turning v.transactions; log 
 abbrev pub TakesSlot : Bool → Body → StoreValue → Result Did PumpFault → StoreValue → Type 0
 TakesSlot tells body old result new = TurnsSlot tells (record {
   number = old.log.used;
-  body =
-      spelling old.log.profile (record { number = old.log.used; body = body });
+  body = spelling old.log.profile (record { number = old.log.used; body = body });
   stage = slots.Begun;
 }) (taken old) result new
 

@@ -111,8 +111,7 @@ fields_alone n bytes front small few has is =
         all = again.behind;
         few = few;
         short = omega arith;
-        each =
-            subst AreAllFields (sym again.are) (fields_at-fields n bytes small);
+        each = subst AreAllFields (sym again.are) (fields_at-fields n bytes small);
       },
       again.are,
     )

@@ -46,8 +46,7 @@ value_found (n ∷ bytes) after rest count value small some count_is after_is no
       record {
         some = omega (arith, len, not_none);
         few = omega (arith, len, few);
-        fields =
-            subst AreAllFields (sym found.2) (fields_at-fields count after small_after);
+        fields = subst AreAllFields (sym found.2) (fields_at-fields count after small_after);
       },
       λ i. sym first i ∷ sym back i,
     )

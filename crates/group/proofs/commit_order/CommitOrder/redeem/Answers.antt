@@ -68,8 +68,7 @@ returns-clause-new c =
     let fields : (record {
       heads = c.self.inside.heads.items;
       published = c.self.inside.published;
-      room =
-          vec_capacity c.self.inside.heads - vec_len c.self.inside.heads;
+      room = vec_capacity c.self.inside.heads - vec_len c.self.inside.heads;
     }) ≡ c.args.self.now = c.self.view_is in
     let heads : set c.self.inside.heads.items c.in-Some.place
     (record { time = c.index_mut.result.now.time; label = c.index_mut.result.now.label; awaited = false }) ≡ redeemed c.args.time c.args.self.now.heads

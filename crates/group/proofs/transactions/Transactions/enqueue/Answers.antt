@@ -29,8 +29,7 @@ invariant_of-self-2 c =
       reserved = i.reserved.items;
       slots = i.slots;
       used = i.used;
-      group =
-          i.group;
+      group = i.group;
       stage = i.stage;
       floors = i.floors;
       reclaimed = i.reclaimed;

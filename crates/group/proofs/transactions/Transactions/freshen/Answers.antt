@@ -24,8 +24,7 @@ invariant_of-self c =
       reserved = i.reserved.items;
       slots = i.slots;
       used = i.used;
-      group =
-          i.group;
+      group = i.group;
       stage = i.stage;
       floors = i.floors;
       reclaimed = i.reclaimed;
@@ -54,8 +53,7 @@ returns-clause-ok c =
       reserved = i.reserved.items;
       slots = i.slots;
       used = i.used;
-      group =
-          i.group;
+      group = i.group;
       stage = i.stage;
       floors = i.floors;
       reclaimed = i.reclaimed;

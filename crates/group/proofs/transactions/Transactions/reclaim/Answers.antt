@@ -25,8 +25,7 @@ invariant_of-self c =
       reserved = i.reserved.items;
       slots = i.slots;
       used = i.used;
-      group =
-          i.group;
+      group = i.group;
       stage = i.stage;
       floors = i.floors;
       reclaimed = i.reclaimed;
@@ -65,8 +64,7 @@ returns-clause-is c =
       reserved = i.reserved.items;
       slots = i.slots;
       used = i.used;
-      group =
-          i.group;
+      group = i.group;
       stage = i.stage;
       floors = i.floors;
       reclaimed = i.reclaimed;
