@@ -1,0 +1,49 @@
+-- How many bytes the anchors of a state take, told commit by commit.
+use Rattle.std.specs.Prelude.{ℕ, ◌+◌, ◌-◌, ◌≤◌, nat_le, List, [], ◌∷◌, filter, Option, None, Some}
+use Rattle.history.specs.declared.key.Key.{Key}
+use Rattle.history.specs.declared.key.KeyWrite.{KeyWrite}
+use Rattle.history.specs.Queries.{values_after}
+use Rattle.law_image.specs.Values.{Value}
+use Rattle.law_image.specs.Reading.{Member}
+use Rattle.law_image.specs.Facts.{commit_read, field_bytes}
+
+-- how many bytes the anchor of a value has, 0 if there is no value
+abbrev pub old_len : Option Value → ℕ
+old_len None = 0
+old_len (Some value) = 20 + field_bytes value
+
+-- The bytes of the anchors behind a commit's writes, where they were so many before, and the keys had these values:
+-- for each write without the anchor of the old value, and with that of the new one.
+abbrev pub len_behind : ℕ → (Key → Option Value) → List (KeyWrite Value) → ℕ
+len_behind len before [] = len
+len_behind len before (w ∷ ws) = len_behind ((len - old_len (before w.key)) + old_len w.write) before ws
+
+-- behind a member
+abbrev pub len_after : ℕ → (Key → Option Value) → Member → ℕ
+len_after len before m = len_behind len before (commit_read before m).writes
+
+-- behind each of these members
+abbrev pub lens_behind : ℕ → (Key → Option Value) → List Member → List ℕ
+lens_behind len before [] = []
+lens_behind len before (m ∷ ms) =
+    len_after len before m ∷ lens_behind (len_after len before m) (values_after before (commit_read before m)) ms
+
+-- behind the last of them
+abbrev pub len_from : ℕ → (Key → Option Value) → List Member → ℕ
+len_from len before [] = len
+len_from len before (m ∷ ms) = len_from (len_after len before m) (values_after before (commit_read before m)) ms
+
+-- behind the last of them whose time is at most this
+abbrev pub len_upto : ℕ → ℕ → (Key → Option Value) → List Member → ℕ
+len_upto time len before members = len_from len before (filter (λ m. nat_le m.head.time time) members)
+
+-- the anchor of each old value is among so many bytes: no subtraction goes below zero
+abbrev pub AreCounted : ℕ → (Key → Option Value) → List (KeyWrite Value) → Type 0
+AreCounted len before [] = Unit {0}
+AreCounted len before (w ∷ ws) = (old_len (before w.key) ≤ len) × AreCounted ((len - old_len (before w.key)) + old_len w.write) before ws
+
+-- so it is at each of these members
+abbrev pub AreAllCounted : ℕ → (Key → Option Value) → List Member → Type 0
+AreAllCounted len before [] = Unit {0}
+AreAllCounted len before (m ∷ ms) =
+    AreCounted len before (commit_read before m).writes × AreAllCounted (len_after len before m) (values_after before (commit_read before m)) ms

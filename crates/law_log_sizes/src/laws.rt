@@ -1,0 +1,1 @@
+//! Laws of the bytes that the anchors of a state take.
