@@ -1,3 +1,4 @@
 pub mod Putting
 pub mod Commits
 pub mod Standing
+pub mod Walking

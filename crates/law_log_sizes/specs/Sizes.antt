@@ -1,11 +1,16 @@
 -- How many bytes the anchors of a state take, told commit by commit.
-use Rattle.std.specs.Prelude.{ℕ, ◌+◌, ◌-◌, ◌≤◌, nat_le, List, [], ◌∷◌, filter, Option, None, Some}
+use Rattle.std.specs.Prelude.{ℕ, ◌+◌, ◌-◌, ◌<◌, ◌≤◌, ◌^◌, nat_le, List, [], ◌∷◌, map, filter, Option, None, Some}
+use Rattle.std.specs.List.{AllByRecursion}
+use Rattle.std.specs.List.Sorted.{IsStrictlySortedBy}
 use Rattle.history.specs.declared.key.Key.{Key}
 use Rattle.history.specs.declared.key.KeyWrite.{KeyWrite}
+use Rattle.history.specs.Key.{key_cmp}
 use Rattle.history.specs.Queries.{values_after}
 use Rattle.law_image.specs.Values.{Value}
-use Rattle.law_image.specs.Reading.{Member}
+use Rattle.law_image.specs.Reading.{Member, OldRecord, Reading}
+use Rattle.law_image.specs.Log.{AreRisingAfter}
 use Rattle.law_image.specs.Facts.{commit_read, field_bytes}
+use Rattle.law_image.specs.StandsFor.{IsAnchorUpto}
 
 -- how many bytes the anchor of a value has, 0 if there is no value
 abbrev pub old_len : Option Value → ℕ
@@ -47,3 +52,17 @@ abbrev pub AreAllCounted : ℕ → (Key → Option Value) → List Member → Ty
 AreAllCounted len before [] = Unit {0}
 AreAllCounted len before (m ∷ ms) =
     AreCounted len before (commit_read before m).writes × AreAllCounted (len_after len before m) (values_after before (commit_read before m)) ms
+
+-- ---- what a reading has to keep
+
+-- the records of a member are by rising key
+abbrev pub HasRisingKeys : Member → Type 0
+HasRisingKeys m = IsStrictlySortedBy key_cmp (map (λ r. r.key) m.records)
+
+-- A reading keeps its order: the anchors are by rising key and none is later than the mark; the members' times rise after it, and their records are by rising key.
+pub record IsOrdered (mark : ℕ) (reading : Reading) : Type 0 where
+  pub range : mark < 2 ^ 63
+  pub anchors : IsStrictlySortedBy key_cmp (map (λ (old : OldRecord). old.key) reading.anchors)
+  pub anchor_times : AllByRecursion (IsAnchorUpto mark) reading.anchors
+  pub times : AreRisingAfter mark (map (λ (m : Member). m.head) reading.members)
+  pub keys : AllByRecursion HasRisingKeys reading.members
