@@ -2,3 +2,4 @@ pub mod Putting
 pub mod Commits
 pub mod Standing
 pub mod Walking
+pub mod Sizes
