@@ -21,7 +21,7 @@ use Rattle.law_image.specs.StandsFor.{IsAnchorUpto}
 use Rattle.law_image.specs.Plans.{with_group}
 use Rattle.law_image.proofs.FactsOf.{old_writes-rising}
 use Rattle.law_log_sizes.specs.Sizes.{len_after, len_from, len_upto, lens_behind, AreAllCounted, IsOrdered}
-use Rattle.law_log_sizes.specs.Temp.{AreAnchorsAt}
+use Rattle.law_log_layout.specs.HeapLog.{AreAnchorsAt}
 use Rattle.law_log_sizes.proofs.Putting.{AreSorted, olds_len, first_value}
 use Rattle.law_log_sizes.proofs.Commits.{same-olds}
 use Rattle.law_log_sizes.proofs.Standing.{standing, standing_from, standing-append, standing-is, none-standing, standing-anchors, latest-anchors}
@@ -64,7 +64,7 @@ module _ (mark : ℕ) (reading : Reading) (ordered : IsOrdered mark reading) whe
   some-anchors time le lt = record { each = λ key. (walked time).writes key ∙ sym (stands time key le lt); rising = (walked time).sorted }
 
   -- and these alone
-  only-anchors : (time : ℕ) (olds : List OldRecord) → mark ≤ time → time < 2 ^ 63 → AreAnchorsAt time reading olds → olds ≡ (walked time).list
+  pub only-anchors : (time : ℕ) (olds : List OldRecord) → mark ≤ time → time < 2 ^ 63 → AreAnchorsAt time reading olds → olds ≡ (walked time).list
   only-anchors time olds le lt are =
       same-olds olds (walked time).list are.rising (walked time).sorted (λ key. are.each key ∙ stands time key le lt ∙ sym ((walked time).writes key))
 
@@ -125,6 +125,17 @@ lens-append s len f (m ∷ ms) ns up =
     lens-append m.head.time next g ms ns up.2
     ∙ ap (λ (v : Key → Option Value). lens_behind next g ms ++ lens_behind (len_from next g ms) v ns)
     (fun_ext (λ key. values_after-step f c (commits_from g ms) (2 ^ 63) key (omega (arith, up.1)))))
+
+pub from-append : (s len : ℕ) (f : Key → Option Value) (ms ns : List Member) → HasRisingTimes s (commits_from f ms)
+    → len_from len f (ms ++ ns) ≡ len_from (len_from len f ms) (values_left f ms) ns
+from-append s len f [] ns up = refl
+from-append s len f (m ∷ ms) ns up =
+    let c = commit_read f m in
+    let g = values_after f c in
+    let next = len_after len f m in
+    from-append m.head.time next g ms ns up.2
+    ∙ ap (λ (v : Key → Option Value). len_from (len_from next g ms) v ns)
+    (fun_ext (λ key. values_after-step f c (commits_from g ms) (2 ^ 63) key (omega (arith, up.1))))
 
 pub counted-append : (s len : ℕ) (f : Key → Option Value) (ms ns : List Member) → HasRisingTimes s (commits_from f ms)
     → AreAllCounted len f (ms ++ ns) → AreAllCounted (len_from len f ms) (values_left f ms) ns

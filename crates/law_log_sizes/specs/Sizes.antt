@@ -1,5 +1,5 @@
 -- How many bytes the anchors of a state take, told commit by commit.
-use Rattle.std.specs.Prelude.{ℕ, ◌+◌, ◌-◌, ◌<◌, ◌≤◌, ◌^◌, nat_le, List, [], ◌∷◌, map, filter, Option, None, Some}
+use Rattle.std.specs.Prelude.{ℕ, ◌≡◌, ◌+◌, ◌-◌, ◌<◌, ◌≤◌, ◌^◌, nat_le, List, [], ◌∷◌, length, map, filter, flat_map, Option, None, Some}
 use Rattle.std.specs.List.{AllByRecursion}
 use Rattle.std.specs.List.Sorted.{IsStrictlySortedBy}
 use Rattle.history.specs.declared.key.Key.{Key}
@@ -9,8 +9,10 @@ use Rattle.history.specs.Queries.{values_after}
 use Rattle.law_image.specs.Values.{Value}
 use Rattle.law_image.specs.Reading.{Member, OldRecord, Reading}
 use Rattle.law_image.specs.Log.{AreRisingAfter}
-use Rattle.law_image.specs.Facts.{commit_read, field_bytes}
+use Rattle.law_image.specs.Facts.{commit_read, field_bytes, values_at_mark}
 use Rattle.law_image.specs.StandsFor.{IsAnchorUpto}
+use Rattle.law_layout.specs.Records.{old_bytes}
+use Rattle.law_log_layout.specs.HeapLog.{AreAnchorsAt}
 
 -- how many bytes the anchor of a value has, 0 if there is no value
 abbrev pub old_len : Option Value → ℕ
@@ -66,3 +68,29 @@ pub record IsOrdered (mark : ℕ) (reading : Reading) : Type 0 where
   pub anchor_times : AllByRecursion (IsAnchorUpto mark) reading.anchors
   pub times : AreRisingAfter mark (map (λ (m : Member). m.head) reading.members)
   pub keys : AllByRecursion HasRisingKeys reading.members
+
+-- ---- the numbers of a reading
+
+-- the bytes of anchors
+abbrev pub anchors_len : List OldRecord → ℕ
+anchors_len olds = length (flat_map old_bytes olds)
+
+-- the number of the anchors that its base names, and then that behind each of its members
+abbrev pub sizes : Reading → List ℕ
+sizes reading =
+    anchors_len reading.anchors ∷ lens_behind (anchors_len reading.anchors) (values_at_mark reading) reading.members
+
+-- the number behind the last member whose time is at most this
+abbrev pub size_at : ℕ → Reading → ℕ
+size_at time reading = len_upto time (anchors_len reading.anchors) (values_at_mark reading) reading.members
+
+-- the number behind the last member
+abbrev pub size_now : Reading → ℕ
+size_now reading = len_from (anchors_len reading.anchors) (values_at_mark reading) reading.members
+
+-- A state has one list of anchors, of so many bytes.
+pub record HasAnchors (time : ℕ) (reading : Reading) (len : ℕ) : Type 0 where
+  pub list : List OldRecord
+  pub are : AreAnchorsAt time reading list
+  pub only : (olds : List OldRecord) → AreAnchorsAt time reading olds → olds ≡ list
+  pub len_is : anchors_len list ≡ len

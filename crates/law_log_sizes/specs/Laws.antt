@@ -1,0 +1,63 @@
+-- Laws of the bytes that the anchors of a state take.
+use Rattle.std.specs.Prelude.{ℕ, ◌≡◌, ◌<◌, ◌≤◌, ◌^◌, List, ◌++◌, length, map, Some, ◌↔◌}
+use Rattle.std.specs.List.{AllByRecursion}
+use Rattle.history.specs.declared.key.Key.{Key}
+use Rattle.history.specs.Histories.{History}
+use Rattle.law_image.specs.Values.{Value}
+use Rattle.law_image.specs.Reading.{Member, OldRecord, Reading}
+use Rattle.law_image.specs.Log.{last_time_after, AreRisingAfter}
+use Rattle.law_image.specs.Facts.{values_at_mark, values_now}
+use Rattle.law_image.specs.StandsFor.{StandsFor, reclaimed_upto}
+use Rattle.law_image.specs.Plans.{with_group}
+use Rattle.law_layout.specs.Records.{old_bytes}
+use Rattle.log_extents.specs.Chains.{count_of}
+use Rattle.law_log_layout.specs.HeapLog.{AreAnchorsAt}
+use Rattle.law_log_sizes.specs.Sizes.{old_len, lens_behind, len_from, AreAllCounted, HasRisingKeys, IsOrdered}
+use Rattle.law_log_sizes.specs.Sizes.{anchors_len, sizes, size_at, size_now, HasAnchors}
+
+-- the bytes of an anchor are told by its value alone
+abbrev pub OldLenIs : Type 0
+OldLenIs = (key : Key) (from : ℕ) (value : Value) → length (old_bytes (record { key = key; from = from; value = value })) ≡ old_len (Some value)
+
+-- the anchors of the state at a time, from the mark on, have as many bytes as the number behind the last member up to the time
+abbrev pub StateHasSize : Type 0
+StateHasSize = (mark time : ℕ) (reading : Reading) (olds : List OldRecord) → IsOrdered mark reading → mark ≤ time → time < 2 ^ 63
+    → AreAnchorsAt time reading olds → anchors_len olds ≡ size_at time reading
+
+-- there are such anchors, and no others
+abbrev pub StateHasAnchors : Type 0
+StateHasAnchors = (mark time : ℕ) (reading : Reading) → IsOrdered mark reading → mark ≤ time → time < 2 ^ 63 → HasAnchors time reading (size_at time reading)
+
+-- All states from the mark on keep a bound of extents where all numbers do, and only there.
+abbrev pub BoundsAreSame : Type 0
+BoundsAreSame = (mark bound : ℕ) (reading : Reading) → IsOrdered mark reading
+    → ((time : ℕ) (olds : List OldRecord) → mark ≤ time → AreAnchorsAt time reading olds → count_of (anchors_len olds) ≤ bound)
+    ↔ AllByRecursion (λ n. count_of n ≤ bound) (sizes reading)
+
+-- what a group more has: the numbers go on from the last one
+pub record GrowsBy (reading : Reading) (group : List Member) : Type 0 where
+  pub sizes_are : sizes (with_group reading group) ≡ sizes reading ++ lens_behind (size_now reading) (values_now reading) group
+  pub last_is : size_now (with_group reading group) ≡ len_from (size_now reading) (values_now reading) group
+
+abbrev pub GroupGrows : Type 0
+GroupGrows = (mark : ℕ) (reading : Reading) (group : List Member) → IsOrdered mark reading → GrowsBy reading group
+
+-- the number before each write has the bytes of the key's old anchor in it
+abbrev pub SizesAreCounted : Type 0
+SizesAreCounted = (mark : ℕ) (reading : Reading) → IsOrdered mark reading
+    → AreAllCounted (anchors_len reading.anchors) (values_at_mark reading) reading.members
+
+-- so it is in a group behind the others
+abbrev pub GroupIsCounted : Type 0
+GroupIsCounted = (mark : ℕ) (reading : Reading) (group : List Member) → IsOrdered mark reading → IsOrdered mark (with_group reading group)
+    → AreAllCounted (size_now reading) (values_now reading) group
+
+-- an image that stands for a history keeps its order
+abbrev pub StandingIsOrdered : Type 0
+StandingIsOrdered = (reading : Reading) (h : History Value) (floors : ℕ → ℕ) → StandsFor reading h floors → IsOrdered (reclaimed_upto reading) reading
+
+-- and so does one with a group of later commits
+abbrev pub GroupIsOrdered : Type 0
+GroupIsOrdered = (mark : ℕ) (reading : Reading) (group : List Member) → IsOrdered mark reading
+    → AreRisingAfter (last_time_after mark (map (λ (m : Member). m.head) reading.members)) (map (λ (m : Member). m.head) group)
+    → AllByRecursion HasRisingKeys group → IsOrdered mark (with_group reading group)
