@@ -101,11 +101,11 @@ put_all-len time (w ∷ ws) before olds sorted rising had =
 
 -- ---- one list at most
 
-own-first : (o : OldRecord) (olds : List OldRecord) (key : Key) → same_key o.key key ≡ true → old_writes (o ∷ olds) key
+pub own-first : (o : OldRecord) (olds : List OldRecord) (key : Key) → same_key o.key key ≡ true → old_writes (o ∷ olds) key
     ≡ record { time = o.from; write = Some o.value } ∷ old_writes olds key
 own-first o olds key same = rw same refl
 
-same-itself : (key : Key) → same_key key key ≡ true
+pub same-itself : (key : Key) → same_key key key ≡ true
 same-itself key = grind (arith, nat_tests)
 
 equal-same : (a b : Key) → key_cmp a b ≡ Equal → same_key a b ≡ true

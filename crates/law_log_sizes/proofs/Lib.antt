@@ -6,3 +6,4 @@ pub mod Sizes
 pub mod Bytes
 pub mod Orders
 pub mod Told
+pub mod Bases

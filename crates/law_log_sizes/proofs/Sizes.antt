@@ -39,16 +39,16 @@ module _ (mark : ℕ) (reading : Reading) (ordered : IsOrdered mark reading) whe
   pub rises : HasRisingTimes mark (heap_commits reading)
   rises = commits-rise mark (values_at_mark reading) reading.members ordered.times
 
-  start-values : (key : Key) → first_value (old_writes reading.anchors key) ≡ values_at_mark reading key
+  pub start-values : (key : Key) → first_value (old_writes reading.anchors key) ≡ values_at_mark reading key
   start-values key = latest-anchors mark reading.anchors key ordered.range ordered.anchors ordered.anchor_times
 
-  facts-rise : (key : Key) → IsRisingAfter 0 (heap_facts reading key)
+  pub facts-rise : (key : Key) → IsRisingAfter 0 (heap_facts reading key)
   facts-rise key =
       old_writes-rising mark reading.anchors key (writes_of (heap_commits reading) key) ordered.range ordered.anchors ordered.anchor_times
       (writes_of-rising mark (heap_commits reading) key rises)
 
   -- what stands at a time is found from the anchors
-  stands : (time : ℕ) (key : Key) → mark ≤ time → time < 2 ^ 63
+  pub stands : (time : ℕ) (key : Key) → mark ≤ time → time < 2 ^ 63
       → standing time (heap_facts reading key) ≡ standing_from time (old_writes reading.anchors key) (writes_of (heap_commits reading) key)
   stands time key le lt =
       standing-is 0 time (heap_facts reading key) lt (facts-rise key)

@@ -10,10 +10,10 @@ use Rattle.history.specs.declared.key.Key.{Key}
 use Rattle.history.specs.declared.time.TimedWrite.{TimedWrite}
 use Rattle.history.specs.declared.time.Version.{Version}
 use Rattle.history.specs.Key.{same_key}
-use Rattle.history.specs.Time.{IsRisingAfter}
+use Rattle.history.specs.Time.{IsRisingAfter, value_after, writes_after}
 use Rattle.history.specs.Versions.{first_time, version_of, versions, stands_at, as_write, FollowOneAnotherFrom}
 use Rattle.history.proofs.Orders.{is_lt, not_lt, is_le, not_le}
-use Rattle.history.proofs.Values.{first_time-later, versions-apart, filter-standing, rising_earlier, rising-first}
+use Rattle.history.proofs.Values.{first_time-later, versions-apart, filter-standing, rising_earlier, rising-first, writes_after-all}
 use Rattle.law_image.specs.Values.{Value}
 use Rattle.law_image.specs.Reading.{OldRecord}
 use Rattle.law_image.specs.Facts.{old_writes, latest}
@@ -135,3 +135,62 @@ latest-anchors mark (o ∷ olds) key lt sorted within =
       | false ↦ λ e. rest
     ] in
     all (same_key o.key key) refl
+
+-- ---- later marks
+
+-- what stands at a mark, and the writes later than it, tell what stands later
+pub standing-since : (s mark time : ℕ) (before ws : List (TimedWrite Value)) → mark ≤ time → IsRisingAfter s ws
+    → standing_from time (standing_from mark before ws) (writes_after mark ws) ≡ standing_from time before ws
+standing-since s mark time before [] le up = refl
+standing-since s mark time before (w ∷ ws) le up =
+    ⊎_elim
+    (λ (later : mark < w.time).
+    let rising : IsRisingAfter mark (w ∷ ws) = (later, up.1, up.2) in
+    ap (λ l. standing_from time l (writes_after mark (w ∷ ws))) (standing-later mark before (w ∷ ws) rising)
+    ∙ ap (standing_from time before) (writes_after-all mark (w ∷ ws) rising))
+    (λ (early : w.time ≤ mark).
+    let yes : nat_le w.time mark ≡ true = is_le early in
+    let also : nat_le w.time time ≡ true = is_le (omega (arith, early, le)) in
+    let gone : nat_lt mark w.time ≡ false = not_lt early in
+    let rest = standing-since w.time mark time (kept_write w.time w.write) ws le up.2 in
+    rw (yes, also, gone) rest)
+    (cases_lt mark w.time)
+
+kept-value : (time : ℕ) (write : Option Value) → first_value (kept_write time write) ≡ write
+kept-value time None = refl
+kept-value time (Some value) = refl
+
+-- what stands has the value of the time
+pub standing-value : (time : ℕ) (before ws : List (TimedWrite Value)) → first_value (standing_from time before ws) ≡ value_after (first_value before) ws time
+standing-value time before [] = refl
+standing-value time before (w ∷ ws) =
+    let Goal : Bool → Type 0 =
+    λ b. first_value (standing_from time (cond b (kept_write w.time w.write) before) ws) ≡ value_after (cond b w.write (first_value before)) ws time in
+    elim (nat_le w.time time) as Goal [
+      | true ↦
+          standing-value time (kept_write w.time w.write) ws ∙ ap (λ v. value_after v ws time) (kept-value w.time w.write)
+      | false ↦ standing-value time before ws
+    ]
+
+-- a write of a time from 1 to a mark
+abbrev pub IsUpto : ℕ → TimedWrite Value → Type 0
+IsUpto mark w = (0 < w.time) × (w.time ≤ mark)
+
+kept-upto : (mark time : ℕ) (write : Option Value) → 0 < time → time ≤ mark → AllByRecursion (IsUpto mark) (kept_write time write)
+kept-upto mark time None some le = tt
+kept-upto mark time (Some value) some le = ((some, le), tt)
+
+-- what stands at a mark is no later
+pub standing-upto : (s mark : ℕ) (before ws : List (TimedWrite Value)) → AllByRecursion (IsUpto mark) before → IsRisingAfter s ws
+    → AllByRecursion (IsUpto mark) (standing_from mark before ws)
+standing-upto s mark before [] within up = within
+standing-upto s mark before (w ∷ ws) within up =
+    let Goal : Bool → Type 0 =
+    λ b. nat_le w.time mark ≡ b → AllByRecursion (IsUpto mark) (standing_from mark (cond b (kept_write w.time w.write) before) ws) in
+    let all : (b : Bool) → Goal b = λ b. elim b as Goal [
+      | true ↦ λ e.
+          let le : w.time ≤ mark = grind (arith, nat_tests, e) in
+          standing-upto w.time mark (kept_write w.time w.write) ws (kept-upto mark w.time w.write (omega (arith, up.0)) le) up.2
+      | false ↦ λ e. standing-upto w.time mark before ws within up.2
+    ] in
+    all (nat_le w.time mark) refl

@@ -4,11 +4,12 @@ use Rattle.std.specs.List.{AllByRecursion}
 use Rattle.history.specs.declared.key.Key.{Key}
 use Rattle.history.specs.Histories.{History}
 use Rattle.law_image.specs.Values.{Value}
-use Rattle.law_image.specs.Reading.{Member, OldRecord, Reading}
+use Rattle.law_image.specs.Reading.{Member, OldRecord, Slot, Reading}
 use Rattle.law_image.specs.Log.{last_time_after, AreRisingAfter}
 use Rattle.law_image.specs.Facts.{values_at_mark, values_now}
-use Rattle.law_image.specs.StandsFor.{StandsFor, reclaimed_upto}
+use Rattle.law_image.specs.StandsFor.{StandsFor, archived_upto, reclaimed_upto}
 use Rattle.law_image.specs.Plans.{with_group}
+use Rattle.law_image.specs.HeapPlans.{with_base}
 use Rattle.law_layout.specs.Records.{old_bytes}
 use Rattle.log_extents.specs.Chains.{count_of}
 use Rattle.law_log_layout.specs.HeapLog.{AreAnchorsAt}
@@ -61,3 +62,18 @@ abbrev pub GroupIsOrdered : Type 0
 GroupIsOrdered = (mark : ℕ) (reading : Reading) (group : List Member) → IsOrdered mark reading
     → AreRisingAfter (last_time_after mark (map (λ (m : Member). m.head) reading.members)) (map (λ (m : Member). m.head) group)
     → AllByRecursion HasRisingKeys group → IsOrdered mark (with_group reading group)
+
+-- ---- a reclaim
+
+-- What a base leaves of the states: the image with it keeps its order from the new mark on, each state from that mark on has the anchors that it had, and the
+-- last number is what it was.
+pub record KeepsStates (mark : ℕ) (before based : Reading) : Type 0 where
+  pub ordered : IsOrdered mark based
+  pub states : (time : ℕ) (olds : List OldRecord) → mark ≤ time → AreAnchorsAt time based olds ↔ AreAnchorsAt time before olds
+  pub last_is : size_now based ≡ size_now before
+
+-- so it is of a base whose anchors are those of the state at the archive mark
+abbrev pub BaseKeepsStates : Type 0
+BaseKeepsStates = (mark : ℕ) (reading : Reading) (olds : List OldRecord) (after : List Slot) → IsOrdered mark reading
+    → mark ≤ archived_upto reading → archived_upto reading < 2 ^ 63 → AreAnchorsAt (archived_upto reading) reading olds
+    → KeepsStates (archived_upto reading) reading (with_base reading olds after)

@@ -1,5 +1,5 @@
 //! Laws of the bytes that the anchors of a state take.
-ghost use Rattle.law_log_sizes.specs.Laws.{BoundsAreSame, GroupGrows, GroupIsCounted, GroupIsOrdered, OldLenIs, SizesAreCounted};
+ghost use Rattle.law_log_sizes.specs.Laws.{BaseKeepsStates, BoundsAreSame, GroupGrows, GroupIsCounted, GroupIsOrdered, OldLenIs, SizesAreCounted};
 ghost use Rattle.law_log_sizes.specs.Laws.{StandingIsOrdered, StateHasAnchors, StateHasSize};
 
 /// The anchors of the state at a time have as many bytes as the number behind the last member up to the
@@ -30,4 +30,10 @@ pub fn sizes_are_counted()
 pub fn standing_is_ordered()
     ensures standing { StandingIsOrdered }
     ensures group { GroupIsOrdered }
+{}
+
+/// A base in the place of the log's front changes no state from its mark on, and the last number is what
+/// it was.
+pub fn base_keeps_states()
+    ensures { BaseKeepsStates }
 {}
