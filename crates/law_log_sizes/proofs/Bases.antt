@@ -67,7 +67,7 @@ within-later mark later (o ∷ olds) le within = ((within.0.0, omega (arith, wit
 max-is : (mark later : ℕ) → mark ≤ later → max later mark ≡ later
 max-is mark later le = grind (arith, nat_tests)
 
-later-times : (mark later : ℕ) (ms : List Member) → mark ≤ later → AreRisingAfter mark (map (λ (m : Member). m.head) ms)
+pub later-times : (mark later : ℕ) (ms : List Member) → mark ≤ later → AreRisingAfter mark (map (λ (m : Member). m.head) ms)
     → AreRisingAfter later (map (λ (m : Member). m.head) (filter (λ (m : Member). nat_lt later m.head.time) ms))
 later-times mark later ms le up =
     let heads = map (λ (m : Member). m.head) ms in

@@ -7,3 +7,5 @@ pub mod Bytes
 pub mod Orders
 pub mod Told
 pub mod Bases
+pub mod Chains
+pub mod WorkedRow

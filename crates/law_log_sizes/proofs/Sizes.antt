@@ -22,6 +22,7 @@ use Rattle.law_image.specs.Plans.{with_group}
 use Rattle.law_image.proofs.FactsOf.{old_writes-rising}
 use Rattle.law_log_sizes.specs.Sizes.{len_after, len_from, len_upto, lens_behind, AreAllCounted, IsOrdered}
 use Rattle.law_log_layout.specs.HeapLog.{AreAnchorsAt}
+use Rattle.law_log_sizes.specs.Laws.{GoesOn}
 use Rattle.law_log_sizes.proofs.Putting.{AreSorted, olds_len, first_value}
 use Rattle.law_log_sizes.proofs.Commits.{same-olds}
 use Rattle.law_log_sizes.proofs.Standing.{standing, standing_from, standing-append, standing-is, none-standing, standing-anchors, latest-anchors}
@@ -152,3 +153,10 @@ counted-append s len f (m ∷ ms) ns up all =
 pub left-now : (reading : Reading) → values_left (values_at_mark reading) reading.members ≡ values_now reading
 left-now reading =
     fun_ext (λ key. sym (value_after-append None (old_writes reading.anchors key) (writes_of (heap_commits reading) key) (2 ^ 63)))
+
+-- wherever members are cut in two
+pub goes-on : (len : ℕ) (before : Key → Option Value) (front back : List Member) → GoesOn len before front back
+goes-on len before [] back = record { lens_are = refl; last_is = refl }
+goes-on len before (m ∷ front) back =
+    let rest = goes-on (len_after len before m) (values_after before (commit_read before m)) front back in
+    record { lens_are = ap (λ l. len_after len before m ∷ l) rest.lens_are; last_is = rest.last_is }

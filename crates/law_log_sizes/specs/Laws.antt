@@ -1,24 +1,31 @@
 -- Laws of the bytes that the anchors of a state take.
-use Rattle.std.specs.Prelude.{ℕ, ◌≡◌, ◌<◌, ◌≤◌, ◌^◌, List, ◌++◌, length, map, Some, ◌↔◌}
+use Rattle.std.specs.Prelude.{ℕ, ◌≡◌, ◌<◌, ◌≤◌, ◌^◌, nat_lt, List, [], ◌++◌, length, map, filter, flat_map, Option, Some, ◌↔◌}
 use Rattle.std.specs.List.{AllByRecursion}
+use Rattle.std.specs.List.Sorted.{IsStrictlySortedBy}
 use Rattle.history.specs.declared.key.Key.{Key}
+use Rattle.history.specs.Key.{key_cmp}
 use Rattle.history.specs.Histories.{History}
-use Rattle.law_image.specs.Values.{Value}
-use Rattle.law_image.specs.Reading.{Member, OldRecord, Slot, Reading}
-use Rattle.law_image.specs.Log.{last_time_after, AreRisingAfter}
+use Rattle.law_image.specs.Values.{Value, IsValue}
+use Rattle.law_image.specs.Reading.{Head, Member, OldRecord, ArchiveRecord, Slot, Reading}
+use Rattle.law_image.specs.Log.{last_time_after, reclaim_mark, AreRisingAfter}
 use Rattle.law_image.specs.Facts.{values_at_mark, values_now}
-use Rattle.law_image.specs.StandsFor.{StandsFor, archived_upto, reclaimed_upto}
+use Rattle.law_image.specs.StandsFor.{StandsFor, IsAnchorUpto, archived_upto, reclaimed_upto}
 use Rattle.law_image.specs.Plans.{with_group}
 use Rattle.law_image.specs.HeapPlans.{with_base}
 use Rattle.law_layout.specs.Records.{old_bytes}
+use Rattle.law_log.specs.Chains.{LogChain, MayAllFollow, members_in, reading_of, reclaimed_by, told}
 use Rattle.log_extents.specs.Chains.{count_of}
-use Rattle.law_log_layout.specs.HeapLog.{AreAnchorsAt}
-use Rattle.law_log_sizes.specs.Sizes.{old_len, lens_behind, len_from, AreAllCounted, HasRisingKeys, IsOrdered}
+use Rattle.law_log_layout.specs.HeapLog.{AreAnchorsAt, IsPlaced, PlacedChain, chains_told}
+use Rattle.law_log_sizes.specs.Sizes.{old_len, lens_behind, len_from, values_behind, AreAllCounted, HasRisingKeys, IsOrdered}
 use Rattle.law_log_sizes.specs.Sizes.{anchors_len, sizes, size_at, size_now, HasAnchors}
 
 -- the bytes of an anchor are told by its value alone
 abbrev pub OldLenIs : Type 0
 OldLenIs = (key : Key) (from : ℕ) (value : Value) → length (old_bytes (record { key = key; from = from; value = value })) ≡ old_len (Some value)
+
+-- and so many they are at the most
+abbrev pub OldLenFits : Type 0
+OldLenFits = (value : Value) → IsValue value → old_len (Some value) ≤ 4116
 
 -- the anchors of the state at a time, from the mark on, have as many bytes as the number behind the last member up to the time
 abbrev pub StateHasSize : Type 0
@@ -34,6 +41,16 @@ abbrev pub BoundsAreSame : Type 0
 BoundsAreSame = (mark bound : ℕ) (reading : Reading) → IsOrdered mark reading
     → ((time : ℕ) (olds : List OldRecord) → mark ≤ time → AreAnchorsAt time reading olds → count_of (anchors_len olds) ≤ bound)
     ↔ AllByRecursion (λ n. count_of n ≤ bound) (sizes reading)
+
+-- The numbers behind some members and others are those behind the first ones, and then those behind the others, from the last of them on.
+pub record GoesOn (len : ℕ) (before : Key → Option Value) (front back : List Member) : Type 0 where
+  pub lens_are : lens_behind len before (front ++ back)
+      ≡ lens_behind len before front ++ lens_behind (len_from len before front) (values_behind before front) back
+  pub last_is : len_from len before (front ++ back) ≡ len_from (len_from len before front) (values_behind before front) back
+
+-- so it is wherever members are cut in two, whatever their times
+abbrev pub MembersGoOn : Type 0
+MembersGoOn = (len : ℕ) (before : Key → Option Value) (front back : List Member) → GoesOn len before front back
 
 -- what a group more has: the numbers go on from the last one
 pub record GrowsBy (reading : Reading) (group : List Member) : Type 0 where
@@ -62,6 +79,21 @@ abbrev pub GroupIsOrdered : Type 0
 GroupIsOrdered = (mark : ℕ) (reading : Reading) (group : List Member) → IsOrdered mark reading
     → AreRisingAfter (last_time_after mark (map (λ (m : Member). m.head) reading.members)) (map (λ (m : Member). m.head) group)
     → AllByRecursion HasRisingKeys group → IsOrdered mark (with_group reading group)
+
+-- the reading of chains that follow each other keeps its order, where that of its anchors is right
+abbrev pub ChainsAreOrdered : Type 0
+ChainsAreOrdered = (most : ℕ) (names : List Head) (chains : List PlacedChain) (olds : List OldRecord) (runs : List (List ArchiveRecord))
+    → AllByRecursion (IsPlaced most) chains
+    → MayAllFollow (reclaimed_by (chains_told names chains)) 0 [] (chains_told names chains)
+    → IsStrictlySortedBy key_cmp (map (λ (old : OldRecord). old.key) olds)
+    → AllByRecursion (IsAnchorUpto (reclaimed_by (chains_told names chains))) olds
+    → (reclaim_mark (told (chains_told names chains)) ≡ reclaimed_by (chains_told names chains))
+    × IsOrdered (reclaimed_by (chains_told names chains)) (reading_of most (chains_told names chains) olds runs)
+
+-- and its members are those of the chains, chain by chain
+abbrev pub MembersByChain : Type 0
+MembersByChain = (mark : ℕ) (chains : List LogChain) → filter (λ (m : Member). nat_lt mark m.head.time) (flat_map members_in chains)
+    ≡ flat_map (λ (c : LogChain). filter (λ (m : Member). nat_lt mark m.head.time) (members_in c)) chains
 
 -- ---- a reclaim
 

@@ -40,6 +40,11 @@ abbrev pub len_from : ℕ → (Key → Option Value) → List Member → ℕ
 len_from len before [] = len
 len_from len before (m ∷ ms) = len_from (len_after len before m) (values_after before (commit_read before m)) ms
 
+-- the values that they leave
+abbrev pub values_behind : (Key → Option Value) → List Member → Key → Option Value
+values_behind before [] = before
+values_behind before (m ∷ ms) = values_behind (values_after before (commit_read before m)) ms
+
 -- behind the last of them whose time is at most this
 abbrev pub len_upto : ℕ → ℕ → (Key → Option Value) → List Member → ℕ
 len_upto time len before members = len_from len before (filter (λ m. nat_le m.head.time time) members)

@@ -1,11 +1,17 @@
 //! Laws of the bytes that the anchors of a state take.
-ghost use Rattle.law_log_sizes.specs.Laws.{BaseKeepsStates, BoundsAreSame, GroupGrows, GroupIsCounted, GroupIsOrdered, OldLenIs, SizesAreCounted};
+ghost use Rattle.law_log_sizes.specs.Laws.{BaseKeepsStates, BoundsAreSame, ChainsAreOrdered, GroupGrows, GroupIsCounted, GroupIsOrdered};
+ghost use Rattle.law_log_sizes.specs.Laws.{MembersByChain, MembersGoOn, OldLenFits, OldLenIs, SizesAreCounted};
 ghost use Rattle.law_log_sizes.specs.Laws.{StandingIsOrdered, StateHasAnchors, StateHasSize};
+
+/// The bytes of an anchor are told by its value alone, and there are 4,116 at the most.
+pub fn old_len_is()
+    ensures len { OldLenIs }
+    ensures fits { OldLenFits }
+{}
 
 /// The anchors of the state at a time have as many bytes as the number behind the last member up to the
 /// time says. Each state has one list of anchors.
 pub fn state_has_size()
-    ensures len { OldLenIs }
     ensures size { StateHasSize }
     ensures anchors { StateHasAnchors }
 {}
@@ -15,9 +21,10 @@ pub fn bounds_are_same()
     ensures { BoundsAreSame }
 {}
 
-/// With a group more the numbers go on from the last one.
-pub fn group_grows()
-    ensures { GroupGrows }
+/// Behind more members the numbers go on from the last one; and so they do with a group more.
+pub fn numbers_go_on()
+    ensures members { MembersGoOn }
+    ensures group { GroupGrows }
 {}
 
 /// No subtraction goes below zero: the number before a write has the key's old anchor in it.
@@ -26,10 +33,13 @@ pub fn sizes_are_counted()
     ensures group { GroupIsCounted }
 {}
 
-/// Where the laws hold: of an image that stands for a history, and of it with a group more.
-pub fn standing_is_ordered()
+/// Where the laws hold: of an image that stands for a history, of it with a group more, and of what
+/// chains tell that follow each other.
+pub fn readings_are_ordered()
     ensures standing { StandingIsOrdered }
     ensures group { GroupIsOrdered }
+    ensures chains { ChainsAreOrdered }
+    ensures members { MembersByChain }
 {}
 
 /// A base in the place of the log's front changes no state from its mark on, and the last number is what

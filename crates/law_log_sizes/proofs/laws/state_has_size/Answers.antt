@@ -1,9 +1,5 @@
-use Rattle.law_log_sizes.proofs.Bytes.{old-len}
 use Rattle.law_log_sizes.proofs.Told.{state-size, state-anchors}
 use Rattle.law_log_sizes.proofs.laws.state_has_size.Goals as goal
-
-pub returns-clause-len : goal.returns-clause-len
-returns-clause-len c = λ key from value. old-len key from value
 
 pub returns-clause-size : goal.returns-clause-size
 returns-clause-size c = λ mark time reading olds ordered le lt are. state-size mark reading ordered time olds le lt are
