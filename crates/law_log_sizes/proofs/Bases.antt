@@ -1,5 +1,5 @@
 -- A base in the place of the log's front changes no state from its mark on.
-use Rattle.std.proofs.Common.{◌≡◌, ℕ, ◌<◌, ◌≤◌, ◌-◌, ◌^◌, max, nat_le, nat_lt, Bool, true, false, cond, List, [], ◌∷◌, map, Option, Some, None, refl, ap, sym, subst}
+use Rattle.std.proofs.Common.{◌≡◌, ℕ, ◌<◌, ◌≤◌, ◌-◌, ◌^◌, max, nat_le, nat_lt, Bool, true, false, cond, List, [], ◌∷◌, map, Some, None, refl, ap, sym, subst}
 use Rattle.std.proofs.Common.{◌∙◌, arith, ⊎_elim, ◌↔◌}
 use Rattle.std.specs.Prelude.{filter}
 use Rattle.std.specs.List.{AllByRecursion, cons_option}
@@ -9,7 +9,7 @@ use Rattle.history.specs.declared.key.Key.{Key}
 use Rattle.history.specs.declared.time.TimedWrite.{TimedWrite}
 use Rattle.history.specs.Key.{same_key}
 use Rattle.history.specs.Time.{value_after, writes_after}
-use Rattle.history.specs.Histories.{writes_of, commits_after}
+use Rattle.history.specs.Histories.{writes_of}
 use Rattle.history.proofs.Orders.{is_le}
 use Rattle.history.proofs.Filters.{filter-map, AllByRecursion-filter}
 use Rattle.history.proofs.Histories.{writes_of-rising, writes_of-commits_after}
@@ -23,12 +23,12 @@ use Rattle.law_image.proofs.FactsOf.{commits_from-after}
 use Rattle.law_log.specs.Chains.{later_heads}
 use Rattle.law_log.proofs.Telling.{later-rising}
 use Rattle.law_log_layout.specs.HeapLog.{AreAnchorsAt}
-use Rattle.law_log_sizes.specs.Sizes.{len_from, HasRisingKeys, IsOrdered, anchors_len, size_at, size_now, HasAnchors}
+use Rattle.law_log_sizes.specs.Sizes.{len_from, HasRisingKeys, IsOrdered, anchors_len, size_at, size_now}
 use Rattle.law_log_sizes.specs.Laws.{KeepsStates}
-use Rattle.law_log_sizes.proofs.Putting.{first_value}
-use Rattle.law_log_sizes.proofs.Commits.{own-first, same-itself}
-use Rattle.law_log_sizes.proofs.Standing.{standing, standing_from, standing-is, none-standing, standing-since, standing-value, standing-upto, IsUpto, latest-anchors}
-use Rattle.law_log_sizes.proofs.Sizes.{rises, start-values, facts-rise, stands}
+use Rattle.law_log_sizes.proofs.Putting.{first_value, same-itself}
+use Rattle.law_log_sizes.proofs.Commits.{own-first}
+use Rattle.law_log_sizes.proofs.Standing.{standing, standing_from, none-standing, standing-since, standing-value, standing-upto, IsUpto, latest-anchors}
+use Rattle.law_log_sizes.proofs.Sizes.{within-later, rises, start-values, facts-rise, stands}
 use Rattle.law_log_sizes.proofs.Told.{state-size, state-anchors}
 
 -- ---- the times of anchors
@@ -57,10 +57,6 @@ writes-upto mark (o ∷ olds) key within =
     λ b. cons_option (cond b (Some (record { time = o.from; write = Some o.value })) None) (old_writes olds key) in
     let Goal : Bool → Type 0 = λ b. AllByRecursion (IsUpto mark) (list b) in
     elim (same_key o.key key) as Goal [ true ↦ (within.0, rest) | false ↦ rest ]
-
-within-later : (mark later : ℕ) (olds : List OldRecord) → mark ≤ later → AllByRecursion (IsAnchorUpto mark) olds → AllByRecursion (IsAnchorUpto later) olds
-within-later mark later [] le within = tt
-within-later mark later (o ∷ olds) le within = ((within.0.0, omega (arith, within.0.1)), within-later mark later olds le within.1)
 
 -- ---- the members that stay
 
@@ -132,7 +128,8 @@ module _ (mark : ℕ) (reading : Reading) (olds : List OldRecord) (after : List 
   based-writes key =
       let a = archived_upto reading in
       ap (λ c. writes_of c key)
-      (commits_from-after mark a (values_at_mark reading) (values_at_mark (with_base reading olds after)) reading.members (rises mark reading ordered) based-values)
+      (commits_from-after mark a (values_at_mark reading) (values_at_mark (with_base reading olds after)) reading.members
+      (rises mark reading ordered) based-values)
       ∙ writes_of-commits_after a (heap_commits reading) key
 
   -- so what stands later is the same

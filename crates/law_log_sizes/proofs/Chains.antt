@@ -1,11 +1,10 @@
 -- What chains tell that follow each other keeps its order.
-use Rattle.std.proofs.Common.{◌≡◌, ℕ, ◌+◌, ◌<◌, ◌≤◌, ◌^◌, nat_lt, Bool, List, [], ◌∷◌, ◌++◌, map, length, refl, ap, sym, subst, ◌∙◌, arith}
+use Rattle.std.proofs.Common.{◌≡◌, ℕ, ◌<◌, ◌^◌, nat_lt, Bool, List, [], ◌∷◌, ◌++◌, map, refl, ap, sym, subst, ◌∙◌, arith}
 use Rattle.std.specs.Prelude.{filter, flat_map}
 use Rattle.std.specs.List.{AllByRecursion}
 use Rattle.std.specs.List.Sorted.{IsStrictlySortedBy}
 use Rattle.std.proofs.lemmas.List.{map-append}
 use Rattle.std.proofs.lemmas.List.Elements.{filter-append}
-use Rattle.history.specs.declared.key.Key.{Key}
 use Rattle.history.specs.Key.{key_cmp}
 use Rattle.history.proofs.Filters.{AllByRecursion-append, AllByRecursion-filter}
 use Rattle.law_image.specs.Reading.{Head, Slot, OldRecord, ArchiveRecord}
@@ -19,7 +18,7 @@ use Rattle.log_entries.specs.declared.entry.Entry.{Entry}
 use Rattle.log_entries.specs.declared.entry.Entry.TheVariants.{Group, Archived, Floor}
 use Rattle.log_entries.specs.declared.entry.Entry.TheVariants as entries
 use Rattle.log_entries.specs.Ranges.{IsMember, IsEntry}
-use Rattle.law_log.specs.Chains.{LogChain, OfBase, OfGroup, OfRun, OfFloor, MayAllFollow, commits_in, heads_in, members_in, reading_of, reclaimed_by, told, told_behind}
+use Rattle.law_log.specs.Chains.{LogChain, OfBase, OfGroup, OfRun, OfFloor, MayAllFollow, heads_in, members_in, reading_of, reclaimed_by, told, told_behind}
 use Rattle.law_log.proofs.Telling.{tells-all}
 use Rattle.law_log_layout.specs.HeapLog.{IsPlaced, PlacedChain, chain_told, chains_told, member_told}
 use Rattle.law_log_sizes.specs.Sizes.{HasRisingKeys, IsOrdered}

@@ -1,6 +1,6 @@
 -- A commit's writes put into a list of anchors, one after another; and that keys have one list of anchors at most.
 use Rattle.std.proofs.Common.{◌≡◌, ℕ, ◌+◌, ◌-◌, ◌≤◌, Bool, true, false, cond, List, [], ◌∷◌, map, Option, Some, None, refl, ap, sym, subst, ◌∙◌, arith}
-use Rattle.std.specs.List.{AllByRecursion, cons_option}
+use Rattle.std.specs.List.{AllByRecursion}
 use Rattle.std.specs.List.Sorted.{IsStrictlySortedBy}
 use Rattle.std.specs.declared.cmp.Ordering.{Ordering}
 use Rattle.std.specs.declared.cmp.Ordering.TheVariants.{Less, Equal, Greater}
@@ -11,10 +11,10 @@ use Rattle.history.specs.declared.time.TimedWrite.{TimedWrite}
 use Rattle.history.specs.Key.{key_cmp, same_key, write_in}
 use Rattle.law_image.specs.Values.{Value}
 use Rattle.law_image.specs.Reading.{OldRecord}
-use Rattle.law_image.specs.Facts.{old_write, old_writes}
+use Rattle.law_image.specs.Facts.{old_writes}
 use Rattle.law_log_sizes.specs.Sizes.{old_len, len_behind, AreCounted}
 use Rattle.law_log_sizes.proofs.Putting.{AreSorted, AreAbove, keys_of, olds_len, first_value, kept_write, put, put-sorted, put-others, put-own, put-len}
-use Rattle.law_log_sizes.proofs.Putting.{value-len, none-above, other_key, other_less, above-less}
+use Rattle.law_log_sizes.proofs.Putting.{value-len, greater, same-itself, none-above, other_key, above-less}
 
 -- the keys of writes
 abbrev pub keys_written : List (KeyWrite Value) → List Key
@@ -93,8 +93,7 @@ put_all-len time [] before olds sorted rising had = (refl, tt)
 put_all-len time (w ∷ ws) before olds sorted rising had =
     let one = write-len time w before olds sorted had.0 in
     let rest =
-    put_all-len time ws before (put time w olds) (put-sorted time w olds sorted) rising.1 (still-values time w before olds ws rising.0 had.1) in
-    (
+    put_all-len time ws before (put time w olds) (put-sorted time w olds sorted) rising.1 (still-values time w before olds ws rising.0 had.1) in (
       rest.0 ∙ ap (λ (n : ℕ). len_behind n before ws) one.1,
       (one.0, subst (λ (n : ℕ). AreCounted n before ws) one.1 rest.1),
     )
@@ -105,17 +104,8 @@ pub own-first : (o : OldRecord) (olds : List OldRecord) (key : Key) → same_key
     ≡ record { time = o.from; write = Some o.value } ∷ old_writes olds key
 own-first o olds key same = rw same refl
 
-pub same-itself : (key : Key) → same_key key key ≡ true
-same-itself key = grind (arith, nat_tests)
-
-equal-same : (a b : Key) → key_cmp a b ≡ Equal → same_key a b ≡ true
-equal-same a b h = grind (arith, nat_tests)
-
 equal-keys : (a b : Key) → key_cmp a b ≡ Equal → b ≡ a
 equal-keys a b h = grind (arith, nat_tests)
-
-greater-less : (a b : Key) → key_cmp a b ≡ Greater → key_cmp b a ≡ Less
-greater-less a b h = grind (arith, nat_tests)
 
 -- of one write the next is not none
 abbrev first_of_writes : TimedWrite Value → List (TimedWrite Value) → TimedWrite Value
@@ -187,6 +177,6 @@ same-olds (o ∷ olds) (p ∷ others) sorted also same =
           let one = first-same o p olds others key (same o.key) in
           let rest = same-olds olds others sorted.1 also.1 (λ k. rest-same o p olds others k key sorted.0 also.0 (same k)) in
           λ i. one i ∷ rest i
-      | Greater ↦ λ e. absurd (not-below p o others olds sorted.0 (sym (same p.key)) (greater-less o.key p.key e))
+      | Greater ↦ λ e. absurd (not-below p o others olds sorted.0 (sym (same p.key)) (greater o.key p.key e))
     ] in
     all (key_cmp o.key p.key) refl

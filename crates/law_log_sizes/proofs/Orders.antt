@@ -1,5 +1,5 @@
 -- Which readings keep their order.
-use Rattle.std.proofs.Common.{◌≡◌, ℕ, ◌<◌, ◌≤◌, ◌^◌, List, [], ◌∷◌, ◌++◌, map, sym, subst, arith}
+use Rattle.std.proofs.Common.{ℕ, List, [], ◌∷◌, ◌++◌, map, sym, subst, arith}
 use Rattle.std.specs.List.{AllByRecursion}
 use Rattle.std.proofs.lemmas.List.{map-append}
 use Rattle.history.specs.Histories.{History}
@@ -8,7 +8,7 @@ use Rattle.law_image.specs.Values.{Value}
 use Rattle.law_image.specs.Reading.{Head, Member, Reading}
 use Rattle.law_image.specs.Log.{last_time_after, AreRisingAfter}
 use Rattle.law_image.specs.Facts.{heap_commits, values_at_mark}
-use Rattle.law_image.specs.StandsFor.{StandsFor, IsChain, head_of, reclaimed_upto}
+use Rattle.law_image.specs.StandsFor.{StandsFor, IsChain, reclaimed_upto}
 use Rattle.law_image.specs.Plans.{with_group}
 use Rattle.law_image.proofs.FactsOf.{heads-commits_from}
 use Rattle.law_image.proofs.Standing.{archived-range, last-range, recent-rise, heads-rising}

@@ -1,5 +1,5 @@
 -- One write put into a list of anchors: it stays in order, the key's anchor is that of the write, and so many bytes are more or less.
-use Rattle.std.proofs.Common.{◌≡◌, ℕ, ◌+◌, ◌≤◌, Bool, true, false, cond, List, [], ◌∷◌, map, Option, Some, None, refl, ap, sym, ◌∙◌, arith}
+use Rattle.std.proofs.Common.{◌≡◌, ℕ, ◌+◌, ◌≤◌, Bool, true, false, cond, List, [], ◌∷◌, map, Option, Some, None, refl, ap, ◌∙◌, arith}
 use Rattle.std.specs.List.{AllByRecursion, cons_option}
 use Rattle.std.specs.List.Sorted.{IsStrictlySortedBy}
 use Rattle.std.specs.declared.cmp.Ordering.{Ordering}
@@ -61,7 +61,7 @@ put time w (old ∷ olds) = put_at (key_cmp w.key old.key) time w old olds (put 
 
 -- ---- keys
 
-greater : (a b : Key) → key_cmp a b ≡ Greater → key_cmp b a ≡ Less
+pub greater : (a b : Key) → key_cmp a b ≡ Greater → key_cmp b a ≡ Less
 greater a b h = grind (arith, nat_tests)
 
 less_trans : (a b c : Key) → key_cmp a b ≡ Less → key_cmp b c ≡ Less → key_cmp a c ≡ Less
@@ -70,20 +70,11 @@ less_trans a b c h k = grind (arith, nat_tests)
 less-by_equal : (a b c : Key) → key_cmp a b ≡ Equal → key_cmp b c ≡ Less → key_cmp a c ≡ Less
 less-by_equal a b c h k = grind (arith, nat_tests)
 
-low-by_equal : (low a b : Key) → key_cmp a b ≡ Equal → key_cmp low b ≡ Less → key_cmp low a ≡ Less
-low-by_equal low a b h k = grind (arith, nat_tests)
-
 pub other_key : (a b key : Key) → key_cmp a b ≡ Less → same_key a key ≡ true → same_key b key ≡ false
 other_key a b key less same = grind (arith, nat_tests)
 
-pub other_less : (a b key : Key) → key_cmp a b ≡ Less → same_key b key ≡ true → same_key a key ≡ false
-other_less a b key less same = grind (arith, nat_tests)
-
 same_own : (a b : Key) → key_cmp a b ≡ Equal → same_key b a ≡ true
 same_own a b h = grind (arith, nat_tests)
-
-less_other : (a b : Key) → key_cmp a b ≡ Less → same_key b a ≡ false
-less_other a b h = grind (arith, nat_tests)
 
 greater_other : (a b : Key) → key_cmp a b ≡ Greater → same_key b a ≡ false
 greater_other a b h = grind (arith, nat_tests)
@@ -109,7 +100,7 @@ none-above low key (o ∷ olds) same above =
     let other : same_key o.key key ≡ false = other_key low o.key key above.0 same in
     rw other (none-above low key olds same above.1)
 
-same-itself : (key : Key) → same_key key key ≡ true
+pub same-itself : (key : Key) → same_key key key ≡ true
 same-itself key = grind (arith, nat_tests)
 
 -- ---- order

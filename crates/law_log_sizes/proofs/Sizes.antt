@@ -1,12 +1,11 @@
 -- The numbers are those of the states: each state has its own, and each number is that of a state.
-use Rattle.std.proofs.Common.{◌≡◌, ℕ, ◌<◌, ◌≤◌, ◌^◌, nat_le, true, cond, List, [], ◌∷◌, ◌++◌, map, Option, Some, None, refl, ap, sym, subst, ◌∙◌, arith, ⊎_elim, ◌↔◌}
+use Rattle.std.proofs.Common.{◌≡◌, ℕ, ◌<◌, ◌≤◌, ◌^◌, nat_le, true, cond, List, [], ◌∷◌, ◌++◌, Option, Some, None, refl, ap, sym, subst, ◌∙◌, arith, ⊎_elim, ◌↔◌}
 use Rattle.std.specs.Prelude.{unwrap_or, option_map}
 use Rattle.std.specs.List.{AllByRecursion, cons_option}
 use Rattle.std.specs.List.Sorted.{IsStrictlySortedBy}
 use Rattle.std.proofs.lemmas.Bool.{cases_lt}
 use mathlib.Core.Path.{fun_ext}
 use Rattle.history.specs.declared.key.Key.{Key}
-use Rattle.history.specs.declared.time.TimedWrite.{TimedWrite}
 use Rattle.history.specs.Key.{write_in}
 use Rattle.history.specs.Time.{IsRisingAfter, value_after}
 use Rattle.history.specs.Queries.{values_after}
@@ -18,7 +17,6 @@ use Rattle.law_image.specs.Values.{Value}
 use Rattle.law_image.specs.Reading.{Member, OldRecord, Reading}
 use Rattle.law_image.specs.Facts.{commit_read, commits_from, old_writes, heap_commits, heap_facts, values_at_mark, values_now}
 use Rattle.law_image.specs.StandsFor.{IsAnchorUpto}
-use Rattle.law_image.specs.Plans.{with_group}
 use Rattle.law_image.proofs.FactsOf.{old_writes-rising}
 use Rattle.law_log_sizes.specs.Sizes.{len_after, len_from, len_upto, lens_behind, AreAllCounted, IsOrdered}
 use Rattle.law_log_layout.specs.HeapLog.{AreAnchorsAt}
@@ -28,7 +26,7 @@ use Rattle.law_log_sizes.proofs.Commits.{same-olds}
 use Rattle.law_log_sizes.proofs.Standing.{standing, standing_from, standing-append, standing-is, none-standing, standing-anchors, latest-anchors}
 use Rattle.law_log_sizes.proofs.Walking.{Found, found, all-counted, commits-rise, all-lens, one-of_lens}
 
-within-later : (mark time : ℕ) (olds : List OldRecord) → mark ≤ time → AllByRecursion (IsAnchorUpto mark) olds → AllByRecursion (IsAnchorUpto time) olds
+pub within-later : (mark time : ℕ) (olds : List OldRecord) → mark ≤ time → AllByRecursion (IsAnchorUpto mark) olds → AllByRecursion (IsAnchorUpto time) olds
 within-later mark time [] le within = tt
 within-later mark time (o ∷ olds) le within = ((within.0.0, omega (arith, within.0.1)), within-later mark time olds le within.1)
 
@@ -84,8 +82,7 @@ module _ (mark : ℕ) (reading : Reading) (ordered : IsOrdered mark reading) whe
       ↔ AllByRecursion P (olds_len reading.anchors ∷ lens_behind (olds_len reading.anchors) (values_at_mark reading) reading.members)
   all-states P none =
       let len = olds_len reading.anchors in
-      let f = values_at_mark reading in
-      (
+      let f = values_at_mark reading in (
         λ each. all-lens P mark len f reading.members ordered.range rises (λ time le lt.
             subst P (walked time).len (each time (walked time).list le (some-anchors time le lt))),
         λ all time olds le are.

@@ -69,7 +69,9 @@ standing-is s time (w ∷ ws) lt up =
     let nothing : filter (stands_at time) (versions ws) ≡ [] = filter-standing (first_time ws) time (versions ws) before apart in
     elim w.write as Goal [
       | None ↦ rw (yes, nothing) (sym (standing-later time [] ws (rising-first w.time time ws before up.2)))
-      | Some v ↦ rw (yes, inside, nothing) (sym (standing-later time (record { time = w.time; write = Some v } ∷ []) ws (rising-first w.time time ws before up.2)))
+      | Some v ↦
+          rw (yes, inside, nothing)
+          (sym (standing-later time (record { time = w.time; write = Some v } ∷ []) ws (rising-first w.time time ws before up.2)))
     ])
     (λ (past : first_time ws ≤ time).
     let outside : nat_lt time (first_time ws) ≡ false = not_lt past in

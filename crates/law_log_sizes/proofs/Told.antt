@@ -11,8 +11,7 @@ use Rattle.law_log_layout.specs.HeapLog.{AreAnchorsAt}
 use Rattle.law_log_sizes.specs.Sizes.{len_from, len_upto, lens_behind, AreAllCounted, IsOrdered, anchors_len, sizes, size_at, size_now, HasAnchors}
 use Rattle.law_log_sizes.specs.Laws.{GrowsBy}
 use Rattle.law_log_sizes.proofs.Putting.{olds_len}
-use Rattle.law_log_sizes.proofs.Walking.{Found, found}
-use Rattle.law_log_sizes.proofs.Sizes.{rises, walked, some-anchors, only-anchors, one-len, all-states, counted, values_left, lens-append, from-append}
+use Rattle.law_log_sizes.proofs.Sizes.{rises, walked, some-anchors, only-anchors, one-len, all-states, counted, lens-append, from-append}
 use Rattle.law_log_sizes.proofs.Sizes.{counted-append, left-now}
 use Rattle.law_log_sizes.proofs.Bytes.{bytes-len}
 
@@ -39,8 +38,7 @@ module _ (mark : ℕ) (reading : Reading) (ordered : IsOrdered mark reading) whe
       let P : ℕ → Type 0 = λ n. count_of n ≤ bound in
       let both = all-states mark reading ordered P (omega arith) in
       let start : anchors_len reading.anchors ≡ olds_len reading.anchors = bytes-len reading.anchors in
-      let numbers : ℕ → List ℕ = λ n. n ∷ lens_behind n (values_at_mark reading) reading.members in
-      (
+      let numbers : ℕ → List ℕ = λ n. n ∷ lens_behind n (values_at_mark reading) reading.members in (
         λ each. subst (λ (n : ℕ). AllByRecursion P (numbers n)) (sym start)
             (both.0 (λ time olds le are. subst P (bytes-len olds) (each time olds le are))),
         λ all time olds le are. subst P (sym (bytes-len olds)) (both.1 (subst (λ (n : ℕ). AllByRecursion P (numbers n)) start all) time olds le are),
@@ -53,8 +51,8 @@ module _ (mark : ℕ) (reading : Reading) (ordered : IsOrdered mark reading) whe
       let up = rises mark reading ordered in
       record {
         sizes_are = ap (λ l. n ∷ l) (
-        lens-append mark n f reading.members group up
-        ∙ ap (λ (v : Key → Option Value). lens_behind n f reading.members ++ lens_behind (size_now reading) v group) (left-now reading));
+            lens-append mark n f reading.members group up
+            ∙ ap (λ (v : Key → Option Value). lens_behind n f reading.members ++ lens_behind (size_now reading) v group) (left-now reading));
         last_is =
             from-append mark n f reading.members group up ∙ ap (λ (v : Key → Option Value). len_from (size_now reading) v group) (left-now reading);
       }

@@ -1,5 +1,5 @@
 -- The anchors of the state at a time are found member by member, and their bytes with them.
-use Rattle.std.proofs.Common.{◌≡◌, ℕ, ◌<◌, ◌≤◌, ◌^◌, nat_le, Bool, true, false, cond, List, [], ◌∷◌, map, Option, Some, None, refl, ap, sym, subst, ◌∙◌, arith}
+use Rattle.std.proofs.Common.{◌≡◌, ℕ, ◌<◌, ◌≤◌, ◌^◌, nat_le, Bool, true, false, List, [], ◌∷◌, map, Option, Some, None, refl, ap, sym, subst, ◌∙◌, arith}
 use Rattle.std.proofs.Common.{⊎_elim}
 use Rattle.std.specs.Prelude.{filter, unwrap_or, option_map}
 use Rattle.std.specs.List.{AllByRecursion, cons_option}
@@ -10,15 +10,15 @@ use Rattle.history.specs.declared.key.KeyWrite.{KeyWrite}
 use Rattle.history.specs.declared.time.TimedWrite.{TimedWrite}
 use Rattle.history.specs.Key.{key_cmp, write_in}
 use Rattle.history.specs.Queries.{values_after}
-use Rattle.history.specs.Histories.{Commit, History, writes_of, HasRisingTimes}
+use Rattle.history.specs.Histories.{writes_of, HasRisingTimes}
 use Rattle.history.proofs.Orders.{is_le, not_le}
 use Rattle.history.proofs.Histories.{writes_of-rising, times-earlier}
 use Rattle.law_image.specs.Values.{Value}
 use Rattle.law_image.specs.Reading.{HeapRecord, Member, OldRecord}
 use Rattle.law_image.specs.Log.{AreRisingAfter}
 use Rattle.law_image.specs.Facts.{commit_read, commits_from, write_of, old_writes}
-use Rattle.law_log_sizes.specs.Sizes.{len_after, len_behind, len_from, len_upto, lens_behind, AreCounted, AreAllCounted, HasRisingKeys}
-use Rattle.law_log_sizes.proofs.Putting.{AreSorted, olds_len, first_value, kept_write}
+use Rattle.law_log_sizes.specs.Sizes.{len_after, len_from, len_upto, lens_behind, AreCounted, AreAllCounted, HasRisingKeys}
+use Rattle.law_log_sizes.proofs.Putting.{AreSorted, olds_len, first_value}
 use Rattle.law_log_sizes.proofs.Commits.{keys_written, put_all, left_by, HadValues, put_all-sorted, put_all-writes, put_all-len}
 use Rattle.law_log_sizes.proofs.Standing.{standing_from, standing-later}
 
@@ -148,8 +148,7 @@ all-counted f [] olds sorted values rising = tt
 all-counted f (m ∷ ms) olds sorted values rising =
     let g = values_after f (commit_read f m) in
     let rest =
-    all-counted g ms (olds_after f m olds) (one-sorted f m olds sorted values rising.0) (one-values f m olds sorted values rising.0) rising.1 in
-    (
+    all-counted g ms (olds_after f m olds) (one-sorted f m olds sorted values rising.0) (one-values f m olds sorted values rising.0) rising.1 in (
       one-counted f m olds sorted values rising.0,
       subst (λ (n : ℕ). AreAllCounted n g ms) (one-len f m olds sorted values rising.0) rest,
     )

@@ -1,5 +1,5 @@
 -- An example: an anchor of 22 bytes, and a commit that ends its value and writes one whose anchor has 25.
-use Rattle.std.proofs.Common.{◌≡◌, ℕ, List, [], ◌∷◌, refl}
+use Rattle.std.proofs.Common.{◌≡◌, [], ◌∷◌, refl}
 use Rattle.history.specs.Key.{key_of}
 use Rattle.law_image.specs.Reading.{Anchor, Gone, Member, OldRecord, Reading, Reclaimed, Archived}
 use Rattle.law_image.specs.Reading as readings

@@ -66,7 +66,8 @@ AreAllCounted len before (m ∷ ms) =
 abbrev pub HasRisingKeys : Member → Type 0
 HasRisingKeys m = IsStrictlySortedBy key_cmp (map (λ r. r.key) m.records)
 
--- A reading keeps its order: the anchors are by rising key and none is later than the mark; the members' times rise after it, and their records are by rising key.
+-- A reading keeps its order: the anchors are by rising key and none is later than the mark; the members' times rise after it, and their records are by
+-- rising key.
 pub record IsOrdered (mark : ℕ) (reading : Reading) : Type 0 where
   pub range : mark < 2 ^ 63
   pub anchors : IsStrictlySortedBy key_cmp (map (λ (old : OldRecord). old.key) reading.anchors)
