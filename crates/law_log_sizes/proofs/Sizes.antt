@@ -1,5 +1,5 @@
 -- The numbers are those of the states: each state has its own, and each number is that of a state.
-use Rattle.std.proofs.Common.{◌≡◌, ℕ, ◌<◌, ◌≤◌, ◌^◌, nat_le, true, cond, List, [], ◌∷◌, ◌++◌, Option, Some, None, refl, ap, sym, subst, ◌∙◌, arith, ⊎_elim, ◌↔◌}
+use Rattle.std.proofs.Common.{◌≡◌, ℕ, ◌<◌, ◌≤◌, ◌^◌, max, nat_le, true, cond, List, [], ◌∷◌, ◌++◌, Option, Some, None, refl, ap, sym, subst, ◌∙◌, arith, ⊎_elim, ◌↔◌}
 use Rattle.std.specs.Prelude.{unwrap_or, option_map}
 use Rattle.std.specs.List.{AllByRecursion, cons_option}
 use Rattle.std.specs.List.Sorted.{IsStrictlySortedBy}
@@ -18,7 +18,8 @@ use Rattle.law_image.specs.Reading.{Member, OldRecord, Reading}
 use Rattle.law_image.specs.Facts.{commit_read, commits_from, old_writes, heap_commits, heap_facts, values_at_mark, values_now}
 use Rattle.law_image.specs.StandsFor.{IsAnchorUpto}
 use Rattle.law_image.proofs.FactsOf.{old_writes-rising}
-use Rattle.law_log_sizes.specs.Sizes.{len_after, len_from, len_upto, lens_behind, AreAllCounted, IsOrdered}
+use Rattle.law_log_sizes.specs.Sizes.{len_after, len_from, len_upto, lens_behind, values_behind, greatest, AreAllCounted, IsOrdered}
+use Rattle.log_extents.specs.Chains.{count_of}
 use Rattle.law_log_layout.specs.HeapLog.{AreAnchorsAt}
 use Rattle.law_log_sizes.specs.Laws.{GoesOn}
 use Rattle.law_log_sizes.proofs.Putting.{AreSorted, olds_len, first_value}
@@ -151,9 +152,49 @@ pub left-now : (reading : Reading) → values_left (values_at_mark reading) read
 left-now reading =
     fun_ext (λ key. sym (value_after-append None (old_writes reading.anchors key) (writes_of (heap_commits reading) key) (2 ^ 63)))
 
+pub greatest-append : (most : ℕ) (ms ns : List ℕ) → greatest most (ms ++ ns) ≡ greatest (greatest most ms) ns
+greatest-append most [] ns = refl
+greatest-append most (m ∷ ms) ns = greatest-append (max most m) ms ns
+
 -- wherever members are cut in two
+lens-go_on : (len : ℕ) (before : Key → Option Value) (front back : List Member)
+    → lens_behind len before (front ++ back) ≡ lens_behind len before front ++ lens_behind (len_from len before front) (values_behind before front) back
+lens-go_on len before [] back = refl
+lens-go_on len before (m ∷ front) back =
+    ap (λ l. len_after len before m ∷ l) (lens-go_on (len_after len before m) (values_after before (commit_read before m)) front back)
+
+last-goes_on : (len : ℕ) (before : Key → Option Value) (front back : List Member)
+    → len_from len before (front ++ back) ≡ len_from (len_from len before front) (values_behind before front) back
+last-goes_on len before [] back = refl
+last-goes_on len before (m ∷ front) back = last-goes_on (len_after len before m) (values_after before (commit_read before m)) front back
+
 pub goes-on : (len : ℕ) (before : Key → Option Value) (front back : List Member) → GoesOn len before front back
-goes-on len before [] back = record { lens_are = refl; last_is = refl }
-goes-on len before (m ∷ front) back =
-    let rest = goes-on (len_after len before m) (values_after before (commit_read before m)) front back in
-    record { lens_are = ap (λ l. len_after len before m ∷ l) rest.lens_are; last_is = rest.last_is }
+goes-on len before front back =
+    let lens = lens-go_on len before front back in
+    record {
+      lens_are = lens;
+      last_is = last-goes_on len before front back;
+      most_is = λ most.
+          ap (greatest most) lens
+          ∙ greatest-append most (lens_behind len before front) (lens_behind (len_from len before front) (values_behind before front) back);
+    }
+
+-- the greatest number keeps a bound of extents where all do
+both-within : (bound m n : ℕ) → count_of m ≤ bound → count_of n ≤ bound → count_of (max m n) ≤ bound
+both-within bound m n a b = omega arith
+
+left-within : (bound m n : ℕ) → count_of (max m n) ≤ bound → count_of m ≤ bound
+left-within bound m n a = omega arith
+
+right-within : (bound m n : ℕ) → count_of (max m n) ≤ bound → count_of n ≤ bound
+right-within bound m n a = omega arith
+
+pub greatest-within : (bound most : ℕ) (ns : List ℕ) → AllByRecursion (λ n. count_of n ≤ bound) (most ∷ ns) → count_of (greatest most ns) ≤ bound
+greatest-within bound most [] all = all.0
+greatest-within bound most (n ∷ ns) all = greatest-within bound (max most n) ns (both-within bound most n all.0 all.1.0, all.1.1)
+
+pub all-within : (bound most : ℕ) (ns : List ℕ) → count_of (greatest most ns) ≤ bound → AllByRecursion (λ n. count_of n ≤ bound) (most ∷ ns)
+all-within bound most [] within = (within, tt)
+all-within bound most (n ∷ ns) within =
+    let rest = all-within bound (max most n) ns within in
+    (left-within bound most n rest.0, (right-within bound most n rest.0, rest.1))

@@ -8,11 +8,11 @@ use Rattle.law_image.specs.Facts.{values_at_mark, values_now}
 use Rattle.law_image.specs.Plans.{with_group}
 use Rattle.log_extents.specs.Chains.{count_of}
 use Rattle.law_log_layout.specs.HeapLog.{AreAnchorsAt}
-use Rattle.law_log_sizes.specs.Sizes.{len_from, len_upto, lens_behind, AreAllCounted, IsOrdered, anchors_len, sizes, size_at, size_now, HasAnchors}
+use Rattle.law_log_sizes.specs.Sizes.{len_from, len_upto, lens_behind, greatest, AreAllCounted, IsOrdered, anchors_len, sizes, size_at, size_most, size_now, HasAnchors}
 use Rattle.law_log_sizes.specs.Laws.{GrowsBy}
 use Rattle.law_log_sizes.proofs.Putting.{olds_len}
 use Rattle.law_log_sizes.proofs.Sizes.{rises, walked, some-anchors, only-anchors, one-len, all-states, counted, lens-append, from-append}
-use Rattle.law_log_sizes.proofs.Sizes.{counted-append, left-now}
+use Rattle.law_log_sizes.proofs.Sizes.{greatest-append, greatest-within, all-within, counted-append, left-now}
 use Rattle.law_log_sizes.proofs.Bytes.{bytes-len}
 
 module _ (mark : ℕ) (reading : Reading) (ordered : IsOrdered mark reading) where
@@ -44,17 +44,29 @@ module _ (mark : ℕ) (reading : Reading) (ordered : IsOrdered mark reading) whe
         λ all time olds le are. subst P (sym (bytes-len olds)) (both.1 (subst (λ (n : ℕ). AllByRecursion P (numbers n)) start all) time olds le are),
       )
 
+  pub most-bound : (bound : ℕ) → ((time : ℕ) (olds : List OldRecord) → mark ≤ time → AreAnchorsAt time reading olds → count_of (anchors_len olds) ≤ bound)
+      ↔ (count_of (size_most reading) ≤ bound)
+  most-bound bound =
+      let n = anchors_len reading.anchors in
+      let ns = lens_behind n (values_at_mark reading) reading.members in
+      let both = bounds-same bound in (
+        λ each. greatest-within bound n ns (both.0 each),
+        λ within. both.1 (all-within bound n ns within),
+      )
+
   pub group-grows : (group : List Member) → GrowsBy reading group
   group-grows group =
       let n = anchors_len reading.anchors in
       let f = values_at_mark reading in
       let up = rises mark reading ordered in
+      let lens : lens_behind n f (reading.members ++ group) ≡ lens_behind n f reading.members ++ lens_behind (size_now reading) (values_now reading) group =
+      lens-append mark n f reading.members group up
+      ∙ ap (λ (v : Key → Option Value). lens_behind n f reading.members ++ lens_behind (size_now reading) v group) (left-now reading) in
       record {
-        sizes_are = ap (λ l. n ∷ l) (
-            lens-append mark n f reading.members group up
-            ∙ ap (λ (v : Key → Option Value). lens_behind n f reading.members ++ lens_behind (size_now reading) v group) (left-now reading));
+        sizes_are = ap (λ l. n ∷ l) lens;
         last_is =
             from-append mark n f reading.members group up ∙ ap (λ (v : Key → Option Value). len_from (size_now reading) v group) (left-now reading);
+        most_is = ap (greatest n) lens ∙ greatest-append n (lens_behind n f reading.members) (lens_behind (size_now reading) (values_now reading) group);
       }
 
   pub sizes-counted : AreAllCounted (anchors_len reading.anchors) (values_at_mark reading) reading.members

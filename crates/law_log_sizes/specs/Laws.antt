@@ -16,8 +16,8 @@ use Rattle.law_layout.specs.Records.{old_bytes}
 use Rattle.law_log.specs.Chains.{LogChain, MayAllFollow, members_in, reading_of, reclaimed_by, told}
 use Rattle.log_extents.specs.Chains.{count_of}
 use Rattle.law_log_layout.specs.HeapLog.{AreAnchorsAt, IsPlaced, PlacedChain, chains_told}
-use Rattle.law_log_sizes.specs.Sizes.{old_len, lens_behind, len_from, values_behind, AreAllCounted, HasRisingKeys, IsOrdered}
-use Rattle.law_log_sizes.specs.Sizes.{anchors_len, sizes, size_at, size_now, HasAnchors}
+use Rattle.law_log_sizes.specs.Sizes.{old_len, lens_behind, len_from, values_behind, greatest, AreAllCounted, HasRisingKeys, IsOrdered}
+use Rattle.law_log_sizes.specs.Sizes.{anchors_len, sizes, size_at, size_most, size_now, HasAnchors}
 
 -- the bytes of an anchor are told by its value alone
 abbrev pub OldLenIs : Type 0
@@ -42,11 +42,19 @@ BoundsAreSame = (mark bound : ℕ) (reading : Reading) → IsOrdered mark readin
     → ((time : ℕ) (olds : List OldRecord) → mark ≤ time → AreAnchorsAt time reading olds → count_of (anchors_len olds) ≤ bound)
     ↔ AllByRecursion (λ n. count_of n ≤ bound) (sizes reading)
 
+-- so do they where the greatest number does
+abbrev pub MostIsBound : Type 0
+MostIsBound = (mark bound : ℕ) (reading : Reading) → IsOrdered mark reading
+    → ((time : ℕ) (olds : List OldRecord) → mark ≤ time → AreAnchorsAt time reading olds → count_of (anchors_len olds) ≤ bound)
+    ↔ (count_of (size_most reading) ≤ bound)
+
 -- The numbers behind some members and others are those behind the first ones, and then those behind the others, from the last of them on.
 pub record GoesOn (len : ℕ) (before : Key → Option Value) (front back : List Member) : Type 0 where
   pub lens_are : lens_behind len before (front ++ back)
       ≡ lens_behind len before front ++ lens_behind (len_from len before front) (values_behind before front) back
   pub last_is : len_from len before (front ++ back) ≡ len_from (len_from len before front) (values_behind before front) back
+  pub most_is : (most : ℕ) → greatest most (lens_behind len before (front ++ back))
+      ≡ greatest (greatest most (lens_behind len before front)) (lens_behind (len_from len before front) (values_behind before front) back)
 
 -- so it is wherever members are cut in two, whatever their times
 abbrev pub MembersGoOn : Type 0
@@ -56,6 +64,7 @@ MembersGoOn = (len : ℕ) (before : Key → Option Value) (front back : List Mem
 pub record GrowsBy (reading : Reading) (group : List Member) : Type 0 where
   pub sizes_are : sizes (with_group reading group) ≡ sizes reading ++ lens_behind (size_now reading) (values_now reading) group
   pub last_is : size_now (with_group reading group) ≡ len_from (size_now reading) (values_now reading) group
+  pub most_is : size_most (with_group reading group) ≡ greatest (size_most reading) (lens_behind (size_now reading) (values_now reading) group)
 
 abbrev pub GroupGrows : Type 0
 GroupGrows = (mark : ℕ) (reading : Reading) (group : List Member) → IsOrdered mark reading → GrowsBy reading group

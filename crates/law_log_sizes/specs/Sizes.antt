@@ -1,5 +1,5 @@
 -- How many bytes the anchors of a state take, told commit by commit.
-use Rattle.std.specs.Prelude.{ℕ, ◌≡◌, ◌+◌, ◌-◌, ◌<◌, ◌≤◌, ◌^◌, nat_le, List, [], ◌∷◌, length, map, filter, flat_map, Option, None, Some}
+use Rattle.std.specs.Prelude.{ℕ, ◌≡◌, ◌+◌, ◌-◌, ◌<◌, ◌≤◌, ◌^◌, max, nat_le, List, [], ◌∷◌, length, map, filter, flat_map, Option, None, Some}
 use Rattle.std.specs.List.{AllByRecursion}
 use Rattle.std.specs.List.Sorted.{IsStrictlySortedBy}
 use Rattle.history.specs.declared.key.Key.{Key}
@@ -49,6 +49,11 @@ values_behind before (m ∷ ms) = values_behind (values_after before (commit_rea
 abbrev pub len_upto : ℕ → ℕ → (Key → Option Value) → List Member → ℕ
 len_upto time len before members = len_from len before (filter (λ m. nat_le m.head.time time) members)
 
+-- the greatest of these numbers and this one
+abbrev pub greatest : ℕ → List ℕ → ℕ
+greatest most [] = most
+greatest most (n ∷ ns) = greatest (max most n) ns
+
 -- the anchor of each old value is among so many bytes: no subtraction goes below zero
 abbrev pub AreCounted : ℕ → (Key → Option Value) → List (KeyWrite Value) → Type 0
 AreCounted len before [] = Unit {0}
@@ -89,6 +94,11 @@ sizes reading =
 -- the number behind the last member whose time is at most this
 abbrev pub size_at : ℕ → Reading → ℕ
 size_at time reading = len_upto time (anchors_len reading.anchors) (values_at_mark reading) reading.members
+
+-- the greatest of its numbers
+abbrev pub size_most : Reading → ℕ
+size_most reading =
+    greatest (anchors_len reading.anchors) (lens_behind (anchors_len reading.anchors) (values_at_mark reading) reading.members)
 
 -- the number behind the last member
 abbrev pub size_now : Reading → ℕ

@@ -1,6 +1,6 @@
 //! Laws of the bytes that the anchors of a state take.
 ghost use Rattle.law_log_sizes.specs.Laws.{BaseKeepsStates, BoundsAreSame, ChainsAreOrdered, GroupGrows, GroupIsCounted, GroupIsOrdered};
-ghost use Rattle.law_log_sizes.specs.Laws.{MembersByChain, MembersGoOn, OldLenFits, OldLenIs, SizesAreCounted};
+ghost use Rattle.law_log_sizes.specs.Laws.{MembersByChain, MembersGoOn, MostIsBound, OldLenFits, OldLenIs, SizesAreCounted};
 ghost use Rattle.law_log_sizes.specs.Laws.{StandingIsOrdered, StateHasAnchors, StateHasSize};
 
 /// The bytes of an anchor are told by its value alone, and there are 4,116 at the most.
@@ -16,9 +16,11 @@ pub fn state_has_size()
     ensures anchors { StateHasAnchors }
 {}
 
-/// All states from the reclaim mark on keep a bound of extents exactly where all numbers do.
+/// All states from the reclaim mark on keep a bound of extents exactly where all numbers do, and so where
+/// the greatest does.
 pub fn bounds_are_same()
-    ensures { BoundsAreSame }
+    ensures all { BoundsAreSame }
+    ensures most { MostIsBound }
 {}
 
 /// Behind more members the numbers go on from the last one; and so they do with a group more.
