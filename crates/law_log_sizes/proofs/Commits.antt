@@ -64,7 +64,7 @@ put_all-writes time (w ∷ ws) olds key sorted rising =
 abbrev pub HadValues : (Key → Option Value) → List OldRecord → List (KeyWrite Value) → Type 0
 HadValues before olds ws = AllByRecursion (λ (w : KeyWrite Value). first_value (old_writes olds w.key) ≡ before w.key) ws
 
-less-differs : (a b : Key) → key_cmp a b ≡ Less → same_key a b ≡ false
+pub less-differs : (a b : Key) → key_cmp a b ≡ Less → same_key a b ≡ false
 less-differs a b h = grind (arith, nat_tests)
 
 -- a write of another key changes none of them

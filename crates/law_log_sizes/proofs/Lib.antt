@@ -9,3 +9,4 @@ pub mod Told
 pub mod Bases
 pub mod Chains
 pub mod WorkedRow
+pub mod Moved

@@ -168,6 +168,12 @@ last-goes_on : (len : ℕ) (before : Key → Option Value) (front back : List Me
 last-goes_on len before [] back = refl
 last-goes_on len before (m ∷ front) back = last-goes_on (len_after len before m) (values_after before (commit_read before m)) front back
 
+counted-goes_on : (len : ℕ) (before : Key → Option Value) (front back : List Member) → AreAllCounted len before (front ++ back)
+    → AreAllCounted (len_from len before front) (values_behind before front) back
+counted-goes_on len before [] back all = all
+counted-goes_on len before (m ∷ front) back all =
+    counted-goes_on (len_after len before m) (values_after before (commit_read before m)) front back all.1
+
 pub goes-on : (len : ℕ) (before : Key → Option Value) (front back : List Member) → GoesOn len before front back
 goes-on len before front back =
     let lens = lens-go_on len before front back in
@@ -177,6 +183,7 @@ goes-on len before front back =
       most_is = λ most.
           ap (greatest most) lens
           ∙ greatest-append most (lens_behind len before front) (lens_behind (len_from len before front) (values_behind before front) back);
+      counted = counted-goes_on len before front back;
     }
 
 -- the greatest number keeps a bound of extents where all do

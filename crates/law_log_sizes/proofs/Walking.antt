@@ -40,11 +40,11 @@ none-upto time f (m ∷ ms) up =
     rw late (none-upto time g ms (times-earlier time m.head.time (commits_from g ms) (omega (arith, up.0)) up.2))
 
 -- the keys of a member's writes are those of its records
-written-keys : (f : Key → Option Value) (rs : List HeapRecord) → keys_written (map (write_of f) rs) ≡ map (λ (r : HeapRecord). r.key) rs
+pub written-keys : (f : Key → Option Value) (rs : List HeapRecord) → keys_written (map (write_of f) rs) ≡ map (λ (r : HeapRecord). r.key) rs
 written-keys f [] = refl
 written-keys f (r ∷ rs) = ap (λ l. r.key ∷ l) (written-keys f rs)
 
-rising-written : (f : Key → Option Value) (m : Member) → HasRisingKeys m → IsStrictlySortedBy key_cmp (keys_written (commit_read f m).writes)
+pub rising-written : (f : Key → Option Value) (m : Member) → HasRisingKeys m → IsStrictlySortedBy key_cmp (keys_written (commit_read f m).writes)
 rising-written f m rising = subst (IsStrictlySortedBy key_cmp) (sym (written-keys f m.records)) rising
 
 had-all : (f : Key → Option Value) (olds : List OldRecord) (ws : List (KeyWrite Value)) → ((key : Key) → first_value (old_writes olds key) ≡ f key)

@@ -6,9 +6,10 @@ use Rattle.history.specs.declared.key.Key.{Key}
 use Rattle.history.specs.Key.{key_cmp}
 use Rattle.history.specs.Histories.{History}
 use Rattle.law_image.specs.Values.{Value, IsValue}
-use Rattle.law_image.specs.Reading.{Head, Member, OldRecord, ArchiveRecord, Slot, Reading}
+use Rattle.history.specs.Queries.{values_after}
+use Rattle.law_image.specs.Reading.{Head, HeapRecord, Member, OldRecord, ArchiveRecord, Slot, Reading}
 use Rattle.law_image.specs.Log.{last_time_after, reclaim_mark, AreRisingAfter}
-use Rattle.law_image.specs.Facts.{values_at_mark, values_now}
+use Rattle.law_image.specs.Facts.{commit_read, values_at_mark, values_now}
 use Rattle.law_image.specs.StandsFor.{StandsFor, IsAnchorUpto, archived_upto, reclaimed_upto}
 use Rattle.law_image.specs.Plans.{with_group}
 use Rattle.law_image.specs.HeapPlans.{with_base}
@@ -16,7 +17,8 @@ use Rattle.law_layout.specs.Records.{old_bytes}
 use Rattle.law_log.specs.Chains.{LogChain, MayAllFollow, members_in, reading_of, reclaimed_by, told}
 use Rattle.log_extents.specs.Chains.{count_of}
 use Rattle.law_log_layout.specs.HeapLog.{AreAnchorsAt, IsPlaced, PlacedChain, chains_told}
-use Rattle.law_log_sizes.specs.Sizes.{old_len, lens_behind, len_from, values_behind, greatest, AreAllCounted, HasRisingKeys, IsOrdered}
+use Rattle.law_log_sizes.specs.Sizes.{old_len, len_after, lens_behind, len_from, len_moved, values_behind, greatest, AreCounted, AreAllCounted, AreMovable}
+use Rattle.law_log_sizes.specs.Sizes.{HasRisingKeys, IsOrdered}
 use Rattle.law_log_sizes.specs.Sizes.{anchors_len, sizes, size_at, size_most, size_now, HasAnchors}
 
 -- the bytes of an anchor are told by its value alone
@@ -55,10 +57,19 @@ pub record GoesOn (len : ℕ) (before : Key → Option Value) (front back : List
   pub last_is : len_from len before (front ++ back) ≡ len_from (len_from len before front) (values_behind before front) back
   pub most_is : (most : ℕ) → greatest most (lens_behind len before (front ++ back))
       ≡ greatest (greatest most (lens_behind len before front)) (lens_behind (len_from len before front) (values_behind before front) back)
+  pub counted : AreAllCounted len before (front ++ back) → AreAllCounted (len_from len before front) (values_behind before front) back
 
 -- so it is wherever members are cut in two, whatever their times
 abbrev pub MembersGoOn : Type 0
 MembersGoOn = (len : ℕ) (before : Key → Option Value) (front back : List Member) → GoesOn len before front back
+
+-- the number behind a member follows from the values of its keys before and behind it
+pub record IsMoved (len : ℕ) (before after : Key → Option Value) (m : Member) : Type 0 where
+  pub len_is : len_after len before m ≡ len_moved len before after (map (λ (r : HeapRecord). r.key) m.records)
+  pub counted : AreCounted len before (commit_read before m).writes → AreMovable len before after (map (λ (r : HeapRecord). r.key) m.records)
+
+abbrev pub MemberIsMoved : Type 0
+MemberIsMoved = (len : ℕ) (before : Key → Option Value) (m : Member) → HasRisingKeys m → IsMoved len before (values_after before (commit_read before m)) m
 
 -- what a group more has: the numbers go on from the last one
 pub record GrowsBy (reading : Reading) (group : List Member) : Type 0 where

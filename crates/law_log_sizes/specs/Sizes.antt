@@ -65,6 +65,18 @@ AreAllCounted len before [] = Unit {0}
 AreAllCounted len before (m ∷ ms) =
     AreCounted len before (commit_read before m).writes × AreAllCounted (len_after len before m) (values_after before (commit_read before m)) ms
 
+-- ---- the same, told by keys
+
+-- the bytes where each of these keys had a value before, and has one after
+abbrev pub len_moved : ℕ → (Key → Option Value) → (Key → Option Value) → List Key → ℕ
+len_moved len before after [] = len
+len_moved len before after (key ∷ keys) = len_moved ((len - old_len (before key)) + old_len (after key)) before after keys
+
+-- no subtraction goes below zero
+abbrev pub AreMovable : ℕ → (Key → Option Value) → (Key → Option Value) → List Key → Type 0
+AreMovable len before after [] = Unit {0}
+AreMovable len before after (key ∷ keys) = (old_len (before key) ≤ len) × AreMovable ((len - old_len (before key)) + old_len (after key)) before after keys
+
 -- ---- what a reading has to keep
 
 -- the records of a member are by rising key

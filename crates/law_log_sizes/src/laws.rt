@@ -1,6 +1,6 @@
 //! Laws of the bytes that the anchors of a state take.
 ghost use Rattle.law_log_sizes.specs.Laws.{BaseKeepsStates, BoundsAreSame, ChainsAreOrdered, GroupGrows, GroupIsCounted, GroupIsOrdered};
-ghost use Rattle.law_log_sizes.specs.Laws.{MembersByChain, MembersGoOn, MostIsBound, OldLenFits, OldLenIs, SizesAreCounted};
+ghost use Rattle.law_log_sizes.specs.Laws.{MemberIsMoved, MembersByChain, MembersGoOn, MostIsBound, OldLenFits, OldLenIs, SizesAreCounted};
 ghost use Rattle.law_log_sizes.specs.Laws.{StandingIsOrdered, StateHasAnchors, StateHasSize};
 
 /// The bytes of an anchor are told by its value alone, and there are 4,116 at the most.
@@ -27,6 +27,11 @@ pub fn bounds_are_same()
 pub fn numbers_go_on()
     ensures members { MembersGoOn }
     ensures group { GroupGrows }
+{}
+
+/// The number behind a member follows from the values of its keys before and behind it.
+pub fn member_is_moved()
+    ensures { MemberIsMoved }
 {}
 
 /// No subtraction goes below zero: the number before a write has the key's old anchor in it.
