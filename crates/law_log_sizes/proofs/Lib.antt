@@ -10,3 +10,4 @@ pub mod Bases
 pub mod Chains
 pub mod WorkedRow
 pub mod Moved
+pub mod Next

@@ -1,5 +1,5 @@
 -- The number behind a member, told by the values of its keys before and behind it.
-use Rattle.std.proofs.Common.{◌≡◌, ℕ, ◌+◌, ◌-◌, true, false, List, [], ◌∷◌, map, Option, Some, refl, ap, sym, subst, ◌∙◌, arith}
+use Rattle.std.proofs.Common.{◌≡◌, ℕ, ◌+◌, ◌-◌, true, false, List, [], ◌∷◌, Option, Some, refl, ap, sym, subst, ◌∙◌}
 use Rattle.std.specs.Prelude.{unwrap_or}
 use Rattle.std.specs.List.{AllByRecursion}
 use Rattle.std.specs.List.Sorted.{IsStrictlySortedBy}
@@ -9,7 +9,7 @@ use Rattle.history.specs.Key.{key_cmp, same_key, write_in}
 use Rattle.history.specs.Queries.{values_after}
 use Rattle.history.specs.Histories.{Commit}
 use Rattle.law_image.specs.Values.{Value}
-use Rattle.law_image.specs.Reading.{HeapRecord, Member}
+use Rattle.law_image.specs.Reading.{Member}
 use Rattle.law_image.specs.Facts.{commit_read}
 use Rattle.law_log_sizes.specs.Sizes.{old_len, len_behind, len_moved, AreCounted, AreMovable, HasRisingKeys}
 use Rattle.law_log_sizes.specs.Laws.{IsMoved}
@@ -52,7 +52,7 @@ module _ (before : Key → Option Value) (c : Commit Value) where
   moved-counted len (w ∷ ws) own counted = (
     counted.0,
     moved-counted ((len - old_len (before w.key)) + old_len (values_after before c w.key)) ws own.1
-    (subst (λ (n : ℕ). AreCounted ((len - old_len (before w.key)) + n) before ws) (left w own.0) counted.1),
+        (subst (λ (n : ℕ). AreCounted ((len - old_len (before w.key)) + n) before ws) (left w own.0) counted.1),
   )
 
 pub member-moved : (len : ℕ) (before : Key → Option Value) (m : Member) → HasRisingKeys m

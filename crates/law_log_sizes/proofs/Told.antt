@@ -8,7 +8,8 @@ use Rattle.law_image.specs.Facts.{values_at_mark, values_now}
 use Rattle.law_image.specs.Plans.{with_group}
 use Rattle.log_extents.specs.Chains.{count_of}
 use Rattle.law_log_layout.specs.HeapLog.{AreAnchorsAt}
-use Rattle.law_log_sizes.specs.Sizes.{len_from, len_upto, lens_behind, greatest, AreAllCounted, IsOrdered, anchors_len, sizes, size_at, size_most, size_now, HasAnchors}
+use Rattle.law_log_sizes.specs.Sizes.{len_from, len_upto, lens_behind, greatest, AreAllCounted, IsOrdered, anchors_len, sizes, size_at}
+use Rattle.law_log_sizes.specs.Sizes.{size_most, size_now, HasAnchors}
 use Rattle.law_log_sizes.specs.Laws.{GrowsBy}
 use Rattle.law_log_sizes.proofs.Putting.{olds_len}
 use Rattle.law_log_sizes.proofs.Sizes.{rises, walked, some-anchors, only-anchors, one-len, all-states, counted, lens-append, from-append}

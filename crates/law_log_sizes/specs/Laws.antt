@@ -1,5 +1,5 @@
 -- Laws of the bytes that the anchors of a state take.
-use Rattle.std.specs.Prelude.{ℕ, ◌≡◌, ◌<◌, ◌≤◌, ◌^◌, nat_lt, List, [], ◌++◌, length, map, filter, flat_map, Option, Some, ◌↔◌}
+use Rattle.std.specs.Prelude.{ℕ, ◌≡◌, ◌<◌, ◌≤◌, ◌^◌, max, nat_lt, List, [], ◌∷◌, ◌++◌, length, map, filter, flat_map, Option, Some, ◌↔◌}
 use Rattle.std.specs.List.{AllByRecursion}
 use Rattle.std.specs.List.Sorted.{IsStrictlySortedBy}
 use Rattle.history.specs.declared.key.Key.{Key}
@@ -9,7 +9,7 @@ use Rattle.law_image.specs.Values.{Value, IsValue}
 use Rattle.history.specs.Queries.{values_after}
 use Rattle.law_image.specs.Reading.{Head, HeapRecord, Member, OldRecord, ArchiveRecord, Slot, Reading}
 use Rattle.law_image.specs.Log.{last_time_after, reclaim_mark, AreRisingAfter}
-use Rattle.law_image.specs.Facts.{commit_read, values_at_mark, values_now}
+use Rattle.law_image.specs.Facts.{commit_read, latest, old_writes, values_at_mark, values_now}
 use Rattle.law_image.specs.StandsFor.{StandsFor, IsAnchorUpto, archived_upto, reclaimed_upto}
 use Rattle.law_image.specs.Plans.{with_group}
 use Rattle.law_image.specs.HeapPlans.{with_base}
@@ -19,7 +19,7 @@ use Rattle.log_extents.specs.Chains.{count_of}
 use Rattle.law_log_layout.specs.HeapLog.{AreAnchorsAt, IsPlaced, PlacedChain, chains_told}
 use Rattle.law_log_sizes.specs.Sizes.{old_len, len_after, lens_behind, len_from, len_moved, values_behind, greatest, AreCounted, AreAllCounted, AreMovable}
 use Rattle.law_log_sizes.specs.Sizes.{HasRisingKeys, IsOrdered}
-use Rattle.law_log_sizes.specs.Sizes.{anchors_len, sizes, size_at, size_most, size_now, HasAnchors}
+use Rattle.law_log_sizes.specs.Sizes.{anchors_len, only_members, sizes, size_at, size_most, size_now, HasAnchors}
 
 -- the bytes of an anchor are told by its value alone
 abbrev pub OldLenIs : Type 0
@@ -70,6 +70,21 @@ pub record IsMoved (len : ℕ) (before after : Key → Option Value) (m : Member
 
 abbrev pub MemberIsMoved : Type 0
 MemberIsMoved = (len : ℕ) (before : Key → Option Value) (m : Member) → HasRisingKeys m → IsMoved len before (values_after before (commit_read before m)) m
+
+-- What is known of a member that comes behind others, where these are the anchors: its number by that before it and by the values of its keys, the greatest
+-- number with it, and that no subtraction goes below zero.
+pub record ComesNext (olds : List OldRecord) (front : List Member) (m : Member) (values : Key → Option Value) : Type 0 where
+  pub len_is : len_from (anchors_len olds) values (front ++ m ∷ [])
+      ≡ len_moved (len_from (anchors_len olds) values front) (values_behind values front) (values_behind values (front ++ m ∷ []))
+      (map (λ (r : HeapRecord). r.key) m.records)
+  pub most_is : greatest (anchors_len olds) (lens_behind (anchors_len olds) values (front ++ m ∷ []))
+      ≡ max (greatest (anchors_len olds) (lens_behind (anchors_len olds) values front)) (len_from (anchors_len olds) values (front ++ m ∷ []))
+  pub movable : AreMovable (len_from (anchors_len olds) values front) (values_behind values front) (values_behind values (front ++ m ∷ []))
+      (map (λ (r : HeapRecord). r.key) m.records)
+
+abbrev pub MemberComesNext : Type 0
+MemberComesNext = (mark : ℕ) (olds : List OldRecord) (front : List Member) (m : Member) → IsOrdered mark (only_members olds (front ++ m ∷ []))
+    → ComesNext olds front m (λ key. latest (old_writes olds key))
 
 -- what a group more has: the numbers go on from the last one
 pub record GrowsBy (reading : Reading) (group : List Member) : Type 0 where

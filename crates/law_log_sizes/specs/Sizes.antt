@@ -92,6 +92,10 @@ pub record IsOrdered (mark : ℕ) (reading : Reading) : Type 0 where
   pub times : AreRisingAfter mark (map (λ (m : Member). m.head) reading.members)
   pub keys : AllByRecursion HasRisingKeys reading.members
 
+-- a reading of these anchors and members, whatever its log
+abbrev pub only_members : List OldRecord → List Member → Reading
+only_members olds members = record { profile = 4; slots = 0; pieces = 0; log = []; members = members; anchors = olds; runs = [] }
+
 -- ---- the numbers of a reading
 
 -- the bytes of anchors

@@ -1,6 +1,6 @@
 //! Laws of the bytes that the anchors of a state take.
 ghost use Rattle.law_log_sizes.specs.Laws.{BaseKeepsStates, BoundsAreSame, ChainsAreOrdered, GroupGrows, GroupIsCounted, GroupIsOrdered};
-ghost use Rattle.law_log_sizes.specs.Laws.{MemberIsMoved, MembersByChain, MembersGoOn, MostIsBound, OldLenFits, OldLenIs, SizesAreCounted};
+ghost use Rattle.law_log_sizes.specs.Laws.{MemberComesNext, MemberIsMoved, MembersByChain, MembersGoOn, MostIsBound, OldLenFits, OldLenIs, SizesAreCounted};
 ghost use Rattle.law_log_sizes.specs.Laws.{StandingIsOrdered, StateHasAnchors, StateHasSize};
 
 /// The bytes of an anchor are told by its value alone, and there are 4,116 at the most.
@@ -29,9 +29,11 @@ pub fn numbers_go_on()
     ensures group { GroupGrows }
 {}
 
-/// The number behind a member follows from the values of its keys before and behind it.
+/// The number behind a member follows from the values of its keys before and behind it; so does that of a
+/// member that comes behind others.
 pub fn member_is_moved()
-    ensures { MemberIsMoved }
+    ensures moved { MemberIsMoved }
+    ensures next { MemberComesNext }
 {}
 
 /// No subtraction goes below zero: the number before a write has the key's old anchor in it.
