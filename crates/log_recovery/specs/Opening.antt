@@ -1,13 +1,23 @@
 -- What opening reads of the heap, and the first of its checks that fails.
-use Rattle.std.specs.Prelude.{ℕ, ◌≡◌, ◌⊎◌, ◌+◌, ◌<◌, ◌≤◌, List, [], ◌∷◌, ◌++◌, length, map}
+use Rattle.std.specs.Prelude.{ℕ, ◌≡◌, ◌⊎◌, ◌+◌, ◌<◌, ◌≤◌, List, [], ◌∷◌, ◌++◌, length, map, take}
 use Rattle.std.specs.List.{AllByRecursion}
+use Rattle.disk.specs.Areas.{Image}
+use Rattle.disk.specs.declared.area.Area.TheVariants.{Status, Heap, Archive}
+use Rattle.recovery.specs.declared.fault.OpenFault.{OpenFault}
+use Rattle.recovery.specs.declared.fault.OpenFault.TheVariants.{NotAStore, Damaged, Device, NoMemory}
+use Rattle.log_roots.specs.declared.roots.Roots.{Roots}
+use Rattle.log_roots.specs.Roots.{root_of, HasRoots}
 use Rattle.law_log_layout.specs.HeapLog.{PlacedChain, PlacedAnchors, Span, run_span}
-use Rattle.log_extents.specs.Chains.{first_or}
 use Rattle.log_recovery.specs.Chains.{numbers_of, HoldsChains, FailsChain}
 use Rattle.log_recovery.specs.Rules.{roll_part, mark_of, no_log, MayAllComeBehind, FailsRule}
 use Rattle.log_recovery.specs.Anchored.{AreRightAnchors, anchor_names, FailsAnchors}
 use Rattle.log_recovery.specs.Members.{values_of, AreAllStored, FailsMembers}
 use Rattle.log_recovery.specs.Ends.{runs_left, rolls_named, EndsRight}
+
+-- a status area begins with the header of these roots
+pub record ReadsRoots (status : List ℕ) (roots : Roots) : Type 0 where
+  pub long : 512 ≤ length status
+  pub has : HasRoots (take 512 status) roots
 
 -- ---- the checks of the heap, in their order
 
@@ -70,3 +80,40 @@ pub record FailsArchive (most root : ℕ) (heap : List ℕ) (archive_len place :
   pub anchors : PlacedAnchors
   pub heap_is : HoldsHeap most root heap chains next anchors
   pub fails : FailsSpans archive_len (archive_parts chains) place
+
+-- ---- why it is not read
+
+-- why the chains are not read
+abbrev pub IsChainFault : ℕ → ℕ → List ℕ → OpenFault → Type 0
+IsChainFault most root heap NotAStore = ⊥
+IsChainFault most root heap (Damaged Status n) = ⊥
+IsChainFault most root heap (Damaged Heap n) = FailsChain most root heap n
+IsChainFault most root heap (Damaged Archive n) = ⊥
+IsChainFault most root heap Device = Unit {0}
+IsChainFault most root heap NoMemory = Unit {0}
+
+-- why the heap is not read
+abbrev pub IsHeapFault : ℕ → ℕ → List ℕ → OpenFault → Type 0
+IsHeapFault most root heap NotAStore = ⊥
+IsHeapFault most root heap (Damaged Status n) = ⊥
+IsHeapFault most root heap (Damaged Heap n) = FailsHeap most root heap n
+IsHeapFault most root heap (Damaged Archive n) = ⊥
+IsHeapFault most root heap Device = Unit {0}
+IsHeapFault most root heap NoMemory = Unit {0}
+
+-- why the image is not opened
+abbrev pub IsImageFault : Image → OpenFault → Type 0
+IsImageFault image NotAStore = (roots : Roots) → ¬ ReadsRoots image.status roots
+IsImageFault image (Damaged Status n) = ⊥
+IsImageFault image (Damaged Heap n) = (roots : Roots) × ReadsRoots image.status roots × FailsHeap roots.extents (root_of roots) image.heap n
+IsImageFault image (Damaged Archive n) =
+    (roots : Roots) × ReadsRoots image.status roots × FailsArchive roots.extents (root_of roots) image.heap (length image.archive) n
+IsImageFault image Device = Unit {0}
+IsImageFault image NoMemory = Unit {0}
+
+-- why no roots are read
+abbrev pub IsRootsFault : List ℕ → OpenFault → Type 0
+IsRootsFault status NotAStore = (roots : Roots) → ¬ ReadsRoots status roots
+IsRootsFault status (Damaged area n) = ⊥
+IsRootsFault status Device = Unit {0}
+IsRootsFault status NoMemory = ⊥

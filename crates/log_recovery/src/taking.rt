@@ -14,7 +14,8 @@ use log_space::Space;
 use recovery::OpenFault;
 use std::alloc::Global;
 
-const EXTENT_BYTES: u64 = EXTENT_LEN as u64;
+/// How many bytes an extent has.
+pub(crate) const EXTENT_BYTES: u64 = EXTENT_LEN as u64;
 
 /// How large a heap is: how many extents it may have, and how many bytes there are.
 #[derive(Clone, Copy, Debug)]
