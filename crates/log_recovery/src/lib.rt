@@ -5,8 +5,10 @@ mod anchors;
 mod chain;
 mod chains;
 mod roots;
+mod rules;
 mod taking;
 
 pub use anchors::AnchorsRead;
 pub use chain::LogChain;
 pub use chains::ChainsRead;
+pub use rules::{LogEnd, RuleCheck, check_rules};
