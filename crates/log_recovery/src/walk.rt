@@ -29,7 +29,7 @@ pub struct ChainsRead {
 fn has_open_gate<D: Disk>(disk: &mut D, heap_len: u64, number: u32) -> Result<bool, OpenFault>
     requires low { 0 < number }
     requires len { IsTrue D.tells → heap_len ≡ length (D.state disk.old).areas.heap.bytes }
-    ensures open { IsTrue D.tells → IfOk result (λ open. IsTrue open ↔ HasOpenGate (D.state disk.old).areas.heap.bytes number) }
+    ensures gate { IsTrue D.tells → IfOk result (λ b. IsTrue b ↔ HasOpenGate (D.state disk.old).areas.heap.bytes number) }
     ensures fault { IfErr result IsReadFault }
     ensures reads { D.state disk.new ≡ after_reads result (D.state disk.old) }
 {
@@ -54,6 +54,7 @@ fn read_log_chain<D: Disk>(
     number: u32,
 ) -> Result<Option<LogChain>, OpenFault>
     requires len { IsTrue D.tells → heap.len ≡ length (D.state disk.old).areas.heap.bytes }
+    requires most { heap.most < 2 ^ 32 }
     ensures found { IsTrue D.tells → IfOk result (λ o. MatchOption o (HasNoLogChain heap.most (D.state disk.old).areas.heap.bytes number space.old) (TakesChain heap.most (D.state disk.old).areas.heap.bytes number space.old space.new)) }
     ensures fault { IfErr result IsReadFault }
     ensures reads { D.state disk.new ≡ after_reads result (D.state disk.old) }
@@ -84,6 +85,7 @@ pub(crate) fn read_chains<D: Disk>(
     root: u32,
 ) -> Result<ChainsRead, OpenFault>
     requires len { IsTrue D.tells → heap.len ≡ length (D.state disk.old).areas.heap.bytes }
+    requires most { heap.most < 2 ^ 32 }
     requires root { IsNumberOf heap.most root }
     ensures chains { IsTrue D.tells → IfOk result (λ read. HoldsChains heap.most root (D.state disk.old).areas.heap.bytes read.chains.items read.next) }
     ensures space { IsTrue D.tells → IfOk result (λ read. read.space ≡ uses_of heap.most read.chains.items) }
