@@ -20,7 +20,7 @@ use Rattle.log_extents.specs.Chains.{count_of, first_or, chain_of}
 use Rattle.log_extents.specs.declared.chain_reader.ChainKind.TheVariants.{Anchors}
 use Rattle.log_extents.specs.declared.chain_reader.ChainParts.{ChainParts}
 use Rattle.log_entries.specs.declared.entry.AnchorName.{AnchorName}
-use Rattle.log_entries.specs.Ranges.{AreSome}
+use Rattle.log_entries.specs.Ranges.{AreNone, AreSome}
 use Rattle.log_writer.specs.Turns.{extent_part}
 use Rattle.law_log_layout.specs.Turns.{HoldsAll}
 use Rattle.law_log_layout.specs.HeapLog.{PlacedAnchors}
@@ -129,3 +129,27 @@ anchors_read most mark heap old new name parts rs read low taken long are number
       writes = λ key. ap (λ (v : List KeyWrites). writes_of v key) versions ∙ anchored_writes rs key are.are.rising;
       latest_is = least;
     }
+
+none_rising : IsStrictlySortedBy key_cmp []
+unfolding IsStrictlySortedBy
+none_rising = tt
+
+-- a name of zeros names no anchors
+pub none_read : (most mark : ℕ) (heap : List ℕ) (flags : List Bool) (name : AnchorName) (read : AnchorsRead) → AreNone name → read.numbers.items ≡ []
+    → read.len ≡ 0 → read.versions ≡ [] → TakesAnchors most mark heap flags flags (name ∷ []) read
+none_read most mark heap flags name read none numbers len versions = record {
+  records = [];
+  are = rw numbers (record {
+    named = (sym none.first, sym none.extents, sym none.records);
+    placed = record { count = refl; in_range = tt; each = tt };
+    distinct = tt;
+    held = tt;
+    rising = none_rising;
+    times = tt;
+  });
+  free = subst (AreClaimable flags) (sym numbers) tt;
+  taken = ap (Rattle.log_space.specs.Uses.all_used flags) (sym numbers);
+  len_is = len;
+  writes = λ key. ap (λ (v : List KeyWrites). writes_of v key) versions;
+  latest_is = subst (λ (v : List KeyWrites). latest v ≤ mark) (sym versions) (omega arith);
+}

@@ -62,7 +62,10 @@ fn decode_anchors(
     let Some((records, rest)) = take_records(alloc, mark, count, bytes)? else {
         return Ok(None);
     };
-    if !rest.is_empty() || !are_rising(records.as_slice()) {
+    if !rest.is_empty() {
+        return Ok(None);
+    }
+    if !are_rising(records.as_slice()) {
         return Ok(None);
     }
     Ok(Some(records))

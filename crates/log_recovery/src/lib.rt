@@ -7,6 +7,7 @@ mod chain;
 mod members;
 mod members_read;
 mod roots;
+mod shares;
 mod taking;
 mod walk;
 

@@ -20,6 +20,20 @@ use recovery::{LiveChain, OpenFault, with_records};
 use std::alloc::{AllocError, Global};
 
 impl MembersRead {
+    // No member yet, behind the anchors whose versions are these.
+    fn behind(alloc: Global, mark: u64, anchors: Frozen) -> MembersRead
+        requires { latest anchors ≤ mark }
+        ensures versions { result.versions ≡ anchors }
+        ensures commits { result.commits.items ≡ [] }
+        ensures last { result.last ≡ mark }
+    {
+        MembersRead {
+            versions: anchors,
+            commits: Vec::new(alloc),
+            last: mark,
+        }
+    }
+
     // One member more. None where a record of it is not the one that its write is stored as.
     fn with_member(self, alloc: Global, member: Member) -> Result<Option<MembersRead>, AllocError>
         requires is { IsMember member }
@@ -155,17 +169,14 @@ pub(crate) fn read_members(
     ensures live { IfOk result (λ log. map live_told log.live.items ≡ lives_of chains.items) }
     ensures fault { (olds : List OldRecord) → AreWritesOf olds anchors → IfErr result (IsMembersFault mark (values_of olds) chains.items) }
 {
-    let mut read = MembersRead {
-        versions: anchors,
-        commits: Vec::new(alloc),
-        last: mark,
-    };
+    let mut read = MembersRead::behind(alloc, mark, anchors);
     let mut live = Vec::new(alloc);
     for chain in chains {
         let LogChain {
             numbers,
             link: _,
             entry,
+            len: _,
         } = chain;
         let time = last_commit(&entry);
         let Some(next) = read.with_entry(alloc, mark, entry)? else {

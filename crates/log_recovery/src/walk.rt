@@ -1,10 +1,11 @@
 //! The chains of the log, read one behind the other from the root on.
 
-ghost use Rattle.std.specs.Prelude.{◌≡◌, ◌↔◌, ◌≤◌, ◌<◌, ◌^◌, IsTrue, IfOk, IfErr, MatchOption, length};
+ghost use Rattle.std.specs.Prelude.{◌≡◌, ◌↔◌, ◌≤◌, ◌<◌, ◌^◌, IsTrue, IfOk, IfErr, IfSome, MatchOption, length};
 ghost use Rattle.disk.specs.declared.area.Area.TheVariants.{Heap};
 ghost use Rattle.log_extents.specs.Chains.{IsNumberOf};
 ghost use Rattle.recovery.specs.Answers.{after_reads};
 ghost use Rattle.recovery.specs.Faults.{IsReadFault};
+ghost use Rattle.log_recovery.specs.Taking.{free_left};
 ghost use Rattle.log_recovery.specs.Chains.{HasOpenGate, HasNoLogChain, TakesChain, HoldsChains, uses_of};
 ghost use Rattle.log_recovery.specs.Opening.{IsChainFault};
 
@@ -56,6 +57,8 @@ fn read_log_chain<D: Disk>(
     requires len { IsTrue D.tells → heap.len ≡ length (D.state disk.old).areas.heap.bytes }
     requires most { heap.most < 2 ^ 32 }
     ensures found { IsTrue D.tells → IfOk result (λ o. MatchOption o (HasNoLogChain heap.most (D.state disk.old).areas.heap.bytes number space.old) (TakesChain heap.most (D.state disk.old).areas.heap.bytes number space.old space.new)) }
+    ensures fewer { IfOk result (λ o. IfSome o (λ chain. free_left space.new < free_left space.old)) }
+    ensures link { IfOk result (λ o. IfSome o (λ chain. IsNumberOf heap.most chain.link)) }
     ensures fault { IfErr result IsReadFault }
     ensures reads { D.state disk.new ≡ after_reads result (D.state disk.old) }
 {
@@ -69,6 +72,7 @@ fn read_log_chain<D: Disk>(
         numbers: parts.numbers,
         link: parts.link,
         entry,
+        len: parts.content.len(),
     }))
 }
 

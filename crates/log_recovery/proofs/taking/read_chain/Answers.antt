@@ -1,10 +1,11 @@
-use Rattle.std.proofs.Common.{◌≡◌, ℕ, ◌+◌, ◌-◌, ◌<◌, Bool, List, length, refl, sym, ◌∙◌, ap, subst, arith}
+use Rattle.std.proofs.Common.{◌≡◌, ℕ, ◌+◌, ◌-◌, ◌<◌, ◌≤◌, Bool, List, length, refl, sym, ◌∙◌, ap, subst, arith}
 use Rattle.std.specs.Prelude.{slice_range}
 use Rattle.disk.specs.Calls.{DiskState}
 use Rattle.deltas.specs.Extents.{extent_start}
-use Rattle.log_extents.specs.Taking.{ChainState}
+use Rattle.log_extents.specs.Taking.{ChainState, IsLinkOf}
+use Rattle.log_extents.specs.declared.chain_reader.ChainKind.{ChainKind}
 use Rattle.log_space.specs.Uses.{used_count}
-use Rattle.log_recovery.specs.Taking.{IsTakenChain}
+use Rattle.log_recovery.specs.Taking.{IsTakenChain, free_left}
 use Rattle.log_recovery.proofs.Images.{IsReading, reading_starts, reading_ends, reading_fails, reading_goes_on, reading_is_whole, fewer_free}
 use Rattle.log_recovery.proofs.taking.read_chain.Goals as goal
 
@@ -15,6 +16,9 @@ loop-heap-init g c = (
       let heap = (g.D.Disk.state c.args.disk.now).areas.heap.bytes in
       subst (λ (s : ChainState). IsReading c.args.kind c.args.heap.most c.args.number heap c.args.space.now c.args.space.now s c.args.number)
       (sym c.new-reader.ensures) (reading_starts c.args.kind c.args.heap.most c.args.number heap c.args.space.now),
+  omega arith,
+  ap (λ (s : ChainState). s.kind) c.new-reader.ensures,
+  ap (λ (s : ChainState). s.most) c.new-reader.ensures,
 )
 
 pub loop-heap-smaller : goal.loop-heap-smaller
@@ -37,6 +41,13 @@ loop-heap-preserved g c = (
       (sym c.loop-heap-test.ensures.used)
       (reading_goes_on c.args.kind c.args.heap.most c.args.number heap c.args.space.now c.loop-heap.space c.loop-heap.reader c.take.new.self c.loop-heap.next
       c.in-More.another c.read_into.new.image (c.loop-heap.invariant.1 told) c.read_into.array_long (omega (arith, there.0, len)) there.1 read more),
+  (
+    let there = c.loop-heap-test.ensures.claimed.0 refl in
+    subst (λ (u : List Bool). free_left u ≤ free_left c.args.space.now) (sym c.loop-heap-test.ensures.used)
+    (omega (arith, fewer_free c.loop-heap.space c.loop-heap.next there.1, c.loop-heap.invariant.2))
+  ),
+  (let more = rw c.in-More.is at c.in_ok-another.ensures.taken in more.same.kind ∙ c.loop-heap.invariant.3),
+  (let more = rw c.in-More.is at c.in_ok-another.ensures.taken in more.same.most ∙ c.loop-heap.invariant.4),
 )
 
 pub returns-in-Whole-clause-found : goal.returns-in-Whole-clause-found
@@ -67,3 +78,16 @@ returns-clause-found g c = λ told.
     reading_ends c.args.kind c.args.heap.most c.args.number (g.D.Disk.state c.args.disk.now).areas.heap.bytes c.args.space.now c.loop-heap.space
     c.loop-heap.reader c.loop-heap.next c.args.heap.len (c.loop-heap.invariant.1 told) (c.requires.len told)
     (λ both. let absurdity = c.loop-heap-test.ensures.claimed.1 both in cc)
+
+pub returns-in-Whole-clause-fewer : goal.returns-in-Whole-clause-fewer
+returns-in-Whole-clause-fewer g c =
+    let there = c.loop-heap-test.ensures.claimed.0 refl in
+    subst (λ (u : List Bool). free_left u < free_left c.args.space.now) (sym c.loop-heap-test.ensures.used)
+    (omega (arith, fewer_free c.loop-heap.space c.loop-heap.next there.1, c.loop-heap.invariant.2))
+
+pub returns-in-Whole-clause-link : goal.returns-in-Whole-clause-link
+returns-in-Whole-clause-link g c =
+    let whole = rw c.in-Whole.is at c.in_ok-another.ensures.taken in
+    subst (IsLinkOf c.args.kind c.args.heap.most) (sym c.into_parts.ensures.link)
+    (subst (λ (k : ChainKind). IsLinkOf k c.args.heap.most c.take.new.self.link) c.loop-heap.invariant.3
+    (subst (λ (m : ℕ). IsLinkOf c.loop-heap.reader.kind m c.take.new.self.link) c.loop-heap.invariant.4 whole.is_chain.link_is))

@@ -1,6 +1,6 @@
-use Rattle.std.proofs.Common.{◌≡◌, IsTrue, length, ◌-◌}
+use Rattle.std.proofs.Common.{◌≡◌, IsTrue}
 use Rattle.log_extents.specs.Chains.{IsNumberOf}
-use Rattle.log_space.specs.Uses.{used_count}
+use Rattle.log_recovery.specs.Taking.{free_left}
 use Rattle.log_recovery.proofs.Walking.{IsWalking}
 use Rattle.log_recovery.proofs.walk.read_chains.Given as goal
 
@@ -12,4 +12,4 @@ invariant-loop-chains g l =
     → IsWalking l.heap.most l.root (g.D.Disk.state l.initial.disk).areas.heap.bytes l.chains.items l.next l.space)
 
 abbrev pub decreases-loop-chains : goal.decreases-loop-chains
-decreases-loop-chains g l = length l.space - used_count l.space
+decreases-loop-chains g l = free_left l.space
