@@ -7,3 +7,5 @@ pub mod Spans
 pub mod AnchorBytes
 pub mod OneChain
 pub mod AnchorChains
+pub mod Following
+pub mod Sized

@@ -4,4 +4,5 @@ pub mod Rules
 pub mod Anchored
 pub mod Members
 pub mod Ends
+pub mod Following
 pub mod Opening
