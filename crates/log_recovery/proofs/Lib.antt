@@ -1,3 +1,11 @@
-pub mod Taking
-pub mod Chains
+pub mod Images
+pub mod Walking
+pub mod Facts
+pub mod Later
+pub mod Groups
+pub mod Spans
+pub mod AnchorBytes
+pub mod OneChain
+pub mod AnchorChains
 pub mod Following
+pub mod Sized

@@ -1,5 +1,5 @@
 -- Where the log ends, and its shares of the heap.
-use Rattle.std.specs.Prelude.{ℕ, ◌≡◌, ◌+◌, ◌<◌, ◌≤◌, List, [], ◌∷◌, ◌++◌, length, map, flat_map}
+use Rattle.std.specs.Prelude.{ℕ, ◌≡◌, ◌+◌, ◌<◌, ◌≤◌, ◌^◌, List, [], ◌∷◌, ◌++◌, length, map, flat_map}
 use Rattle.std.specs.List.{AllByRecursion}
 use Rattle.wire.specs.declared.slot.Run.{Run}
 use Rattle.law_image.specs.Reading.{Reading}
@@ -8,7 +8,7 @@ use Rattle.law_log.specs.Chains.{reading_of}
 use Rattle.deltas.specs.Extents.{extent_start}
 use Rattle.log_extents.specs.Chains.{IsNumberOf, IsNew}
 use Rattle.log_entries.specs.declared.entry.Roll.{Roll}
-use Rattle.law_log_layout.specs.HeapLog.{PlacedChain, PlacedAnchors, HeapLog, run_span, chains_told, runs_from, rolls_in, AreSpansApart, KeepsShares}
+use Rattle.law_log_layout.specs.HeapLog.{PlacedChain, PlacedAnchors, HeapLog, Span, run_span, chains_told, runs_from, rolls_in, AreSpansApart, KeepsShares, counted_of, IsBaseSmall}
 use Rattle.log_recovery.specs.Chains.{numbers_of}
 use Rattle.log_recovery.specs.Rules.{roll_part, mark_of, no_log, state_from}
 
@@ -36,3 +36,15 @@ pub record EndsRight (most : ℕ) (heap : List ℕ) (chains : List PlacedChain) 
   pub archived : mark_of chains ≤ archive_mark (state_from (mark_of chains) no_log chains).told
   pub spans : AreSpansApart (map run_span (runs_left chains) ++ map roll_part (rolls_named chains))
   pub shares : KeepsShares most (unread_log chains next a) (unread_reading most chains a)
+
+-- a part of the archive ends at a place that a disk has
+abbrev pub EndsEarly : Span → Type 0
+EndsEarly s = s.start + s.len < 2 ^ 63
+
+-- the extents of chains that count as the log's
+abbrev pub counted_in : List PlacedChain → List ℕ
+counted_in chains = flat_map (λ (c : PlacedChain). counted_of c.numbers c.entry) chains
+
+-- each base has room for one roll more
+abbrev pub AreBasesSmall : ℕ → List PlacedChain → Type 0
+AreBasesSmall most chains = AllByRecursion (λ (c : PlacedChain). IsBaseSmall most c.entry) chains

@@ -23,7 +23,7 @@ pub record ReadsRoots (status : List ℕ) (roots : Roots) : Type 0 where
 
 -- the chains are right, and keep the rules between them
 pub record KeepsRules (most root : ℕ) (heap : List ℕ) (chains : List PlacedChain) (next : ℕ) : Type 0 where
-  pub chains : HoldsChains most root heap chains next
+  pub chains_hold : HoldsChains most root heap chains next
   pub rules : MayAllComeBehind (mark_of chains) no_log chains
 
 -- so are the anchors
@@ -43,14 +43,14 @@ pub record HoldsHeap (most root : ℕ) (heap : List ℕ) (chains : List PlacedCh
 
 -- the first check of the heap that fails, and the extent that it is told with
 pub data FailsHeap (most root : ℕ) (heap : List ℕ) (place : ℕ) : Type 0 where
-  AtChain : FailsChain most root heap place → FailsHeap
-  AtRule : (chains : List PlacedChain) (next : ℕ) → HoldsChains most root heap chains next → FailsRule (mark_of chains) chains place → FailsHeap
+  AtChain : FailsChain most root heap place → FailsHeap most root heap place
+  AtRule : (chains : List PlacedChain) (next : ℕ) → HoldsChains most root heap chains next → FailsRule (mark_of chains) chains place → FailsHeap most root heap place
   AtAnchors : (chains : List PlacedChain) (next : ℕ) → KeepsRules most root heap chains next
-      → FailsAnchors most (mark_of chains) heap (numbers_of chains) (anchor_names chains) place → FailsHeap
+      → FailsAnchors most (mark_of chains) heap (numbers_of chains) (anchor_names chains) place → FailsHeap most root heap place
   AtMembers : (chains : List PlacedChain) (next : ℕ) (a : PlacedAnchors) → HoldsAnchors most root heap chains next a
-      → FailsMembers (mark_of chains) (values_of a.records) chains place → FailsHeap
+      → FailsMembers (mark_of chains) (values_of a.records) chains place → FailsHeap most root heap place
   AtEnd : (chains : List PlacedChain) (next : ℕ) (a : PlacedAnchors) → HoldsMembers most root heap chains next a → ¬ EndsRight most heap chains next a
-      → place ≡ root → FailsHeap
+      → place ≡ root → FailsHeap most root heap place
 
 -- ---- the archive
 

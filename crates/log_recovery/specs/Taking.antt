@@ -1,5 +1,5 @@
 -- A chain as it stands in the heap, and which of its extents are taken.
-use Rattle.std.specs.Prelude.{ℕ, ◌≡◌, ◌++◌, Bool, true, List, [], ◌∷◌, map}
+use Rattle.std.specs.Prelude.{ℕ, ◌≡◌, ◌-◌, ◌++◌, Bool, true, List, [], ◌∷◌, length, map}
 use Rattle.disk.specs.Parts.{HoldsPart}
 use Rattle.deltas.specs.Extents.{extent_start}
 use Rattle.log_extents.specs.Extents.{linked_bytes}
@@ -7,7 +7,7 @@ use Rattle.log_extents.specs.Chains.{chain_of}
 use Rattle.log_extents.specs.Taking.{ChainState, gate_of, IsChainFrom}
 use Rattle.log_extents.specs.declared.chain_reader.ChainKind.{ChainKind}
 use Rattle.log_extents.specs.declared.chain_reader.ChainParts.{ChainParts}
-use Rattle.log_space.specs.Uses.{IsFree, with_use, all_used}
+use Rattle.log_space.specs.Uses.{IsFree, with_use, all_used, used_count}
 
 -- the images that a chain of this kind has
 abbrev pub images_of_chain : ChainKind → List ℕ → ℕ → List ℕ → List (List ℕ)
@@ -29,6 +29,10 @@ pub record IsHeldChain (kind : ChainKind) (most number : ℕ) (heap : List ℕ) 
 abbrev pub AreClaimable : List Bool → List ℕ → Type 0
 AreClaimable flags [] = Unit {0}
 AreClaimable flags (n ∷ ns) = IsFree flags n × AreClaimable (with_use flags n true) ns
+
+-- how many extents are free
+abbrev pub free_left : List Bool → ℕ
+free_left flags = length flags - used_count flags
 
 -- a chain of this kind begins at this extent, its extents were free, and they are taken now
 pub record IsTakenChain (kind : ChainKind) (most number : ℕ) (heap : List ℕ) (old new : List Bool) (parts : ChainParts) : Type 0 where

@@ -62,7 +62,10 @@ fn decode_anchors(
     let Some((records, rest)) = take_records(alloc, mark, count, bytes)? else {
         return Ok(None);
     };
-    if !rest.is_empty() || !are_rising(records.as_slice()) {
+    if !rest.is_empty() {
+        return Ok(None);
+    }
+    if !are_rising(records.as_slice()) {
         return Ok(None);
     }
     Ok(Some(records))
@@ -91,6 +94,7 @@ fn read_named<D: Disk>(
     name: &AnchorName,
 ) -> Result<Option<AnchorsRead>, OpenFault>
     requires len { IsTrue D.tells → heap.len ≡ length (D.state disk.old).areas.heap.bytes }
+    requires most { heap.most < 2 ^ 32 }
     requires mark { mark < 2 ^ 63 }
     requires some { AreSome heap.most name.now }
     ensures found { IsTrue D.tells → IfOk result (λ o. MatchOption o (HasNoAnchors heap.most mark (D.state disk.old).areas.heap.bytes space.old (name.now ∷ [])) (TakesAnchors heap.most mark (D.state disk.old).areas.heap.bytes space.old space.new (name.now ∷ []))) }
@@ -125,6 +129,7 @@ pub(crate) fn read_anchors<D: Disk>(
     name: &AnchorName,
 ) -> Result<Option<AnchorsRead>, OpenFault>
     requires len { IsTrue D.tells → heap.len ≡ length (D.state disk.old).areas.heap.bytes }
+    requires most { heap.most < 2 ^ 32 }
     requires mark { mark < 2 ^ 63 }
     requires name { AreNone name.now ⊎ AreSome heap.most name.now }
     ensures found { IsTrue D.tells → IfOk result (λ o. MatchOption o (HasNoAnchors heap.most mark (D.state disk.old).areas.heap.bytes space.old (name.now ∷ [])) (TakesAnchors heap.most mark (D.state disk.old).areas.heap.bytes space.old space.new (name.now ∷ []))) }

@@ -2,13 +2,18 @@
 #![tactic(auto)]
 
 mod anchors;
+mod apart;
 mod chain;
-mod chains;
+mod members;
+mod members_read;
 mod roots;
 mod rules;
+mod shares;
 mod taking;
+mod walk;
 
 pub use anchors::AnchorsRead;
 pub use chain::LogChain;
-pub use chains::ChainsRead;
+pub use members_read::{CommitName, MembersRead};
 pub use rules::{LogEnd, RuleCheck, check_rules};
+pub use walk::ChainsRead;

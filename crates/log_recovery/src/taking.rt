@@ -1,11 +1,12 @@
 //! A chain of extents, read from the heap.
 
-ghost use Rattle.std.specs.Prelude.{◌≡◌, ◌↔◌, ◌≤◌, ◌<◌, ◌*◌, ◌+◌, ◌^◌, Bool, true, IsTrue, IfOk, IfErr, OnOk, MatchOption, length, slice_range, if◌then◌else◌};
+ghost use Rattle.std.specs.Prelude.{◌≡◌, ◌↔◌, ◌≤◌, ◌<◌, ◌*◌, ◌+◌, ◌^◌, Bool, true, IsTrue, IfOk, IfErr, OnOk, IfSome, MatchOption, length, slice_range, if◌then◌else◌};
 ghost use Rattle.deltas.specs.Extents.{extent_start};
+ghost use Rattle.log_extents.specs.Taking.{IsLinkOf};
 ghost use Rattle.log_space.specs.Uses.{IsFree, with_use};
 ghost use Rattle.recovery.specs.Answers.{after_reads};
 ghost use Rattle.recovery.specs.Faults.{IsReadFault};
-ghost use Rattle.log_recovery.specs.Taking.{IsTakenChain, HasNoChain};
+ghost use Rattle.log_recovery.specs.Taking.{IsTakenChain, HasNoChain, free_left};
 
 use deltas::EXTENT_LEN;
 use disk::{Area, Disk};
@@ -63,6 +64,8 @@ pub(crate) fn read_chain<D: Disk>(
     requires len { IsTrue D.tells → heap.len ≡ length (D.state disk.old).areas.heap.bytes }
     requires most { heap.most < 2 ^ 32 }
     ensures found { IsTrue D.tells → IfOk result (λ o. MatchOption o (HasNoChain kind heap.most number (D.state disk.old).areas.heap.bytes space.old) (IsTakenChain kind heap.most number (D.state disk.old).areas.heap.bytes space.old space.new)) }
+    ensures fewer { IfOk result (λ o. IfSome o (λ parts. free_left space.new < free_left space.old)) }
+    ensures link { IfOk result (λ o. IfSome o (λ parts. IsLinkOf kind heap.most parts.link)) }
     ensures fault { IfErr result IsReadFault }
     ensures reads { D.state disk.new ≡ after_reads result (D.state disk.old) }
 {

@@ -1,10 +1,11 @@
 //! The chains of the log, read one behind the other from the root on.
 
-ghost use Rattle.std.specs.Prelude.{◌≡◌, ◌↔◌, ◌≤◌, ◌<◌, ◌^◌, IsTrue, IfOk, IfErr, MatchOption, length};
+ghost use Rattle.std.specs.Prelude.{◌≡◌, ◌↔◌, ◌≤◌, ◌<◌, ◌^◌, IsTrue, IfOk, IfErr, IfSome, MatchOption, length};
 ghost use Rattle.disk.specs.declared.area.Area.TheVariants.{Heap};
 ghost use Rattle.log_extents.specs.Chains.{IsNumberOf};
 ghost use Rattle.recovery.specs.Answers.{after_reads};
 ghost use Rattle.recovery.specs.Faults.{IsReadFault};
+ghost use Rattle.log_recovery.specs.Taking.{free_left};
 ghost use Rattle.log_recovery.specs.Chains.{HasOpenGate, HasNoLogChain, TakesChain, HoldsChains, uses_of};
 ghost use Rattle.log_recovery.specs.Opening.{IsChainFault};
 
@@ -29,7 +30,7 @@ pub struct ChainsRead {
 fn has_open_gate<D: Disk>(disk: &mut D, heap_len: u64, number: u32) -> Result<bool, OpenFault>
     requires low { 0 < number }
     requires len { IsTrue D.tells → heap_len ≡ length (D.state disk.old).areas.heap.bytes }
-    ensures open { IsTrue D.tells → IfOk result (λ open. IsTrue open ↔ HasOpenGate (D.state disk.old).areas.heap.bytes number) }
+    ensures gate { IsTrue D.tells → IfOk result (λ b. IsTrue b ↔ HasOpenGate (D.state disk.old).areas.heap.bytes number) }
     ensures fault { IfErr result IsReadFault }
     ensures reads { D.state disk.new ≡ after_reads result (D.state disk.old) }
 {
@@ -54,7 +55,10 @@ fn read_log_chain<D: Disk>(
     number: u32,
 ) -> Result<Option<LogChain>, OpenFault>
     requires len { IsTrue D.tells → heap.len ≡ length (D.state disk.old).areas.heap.bytes }
+    requires most { heap.most < 2 ^ 32 }
     ensures found { IsTrue D.tells → IfOk result (λ o. MatchOption o (HasNoLogChain heap.most (D.state disk.old).areas.heap.bytes number space.old) (TakesChain heap.most (D.state disk.old).areas.heap.bytes number space.old space.new)) }
+    ensures fewer { IfOk result (λ o. IfSome o (λ chain. free_left space.new < free_left space.old)) }
+    ensures link { IfOk result (λ o. IfSome o (λ chain. IsNumberOf heap.most chain.link)) }
     ensures fault { IfErr result IsReadFault }
     ensures reads { D.state disk.new ≡ after_reads result (D.state disk.old) }
 {
@@ -68,6 +72,7 @@ fn read_log_chain<D: Disk>(
         numbers: parts.numbers,
         link: parts.link,
         entry,
+        len: parts.content.len(),
     }))
 }
 
@@ -84,6 +89,7 @@ pub(crate) fn read_chains<D: Disk>(
     root: u32,
 ) -> Result<ChainsRead, OpenFault>
     requires len { IsTrue D.tells → heap.len ≡ length (D.state disk.old).areas.heap.bytes }
+    requires most { heap.most < 2 ^ 32 }
     requires root { IsNumberOf heap.most root }
     ensures chains { IsTrue D.tells → IfOk result (λ read. HoldsChains heap.most root (D.state disk.old).areas.heap.bytes read.chains.items read.next) }
     ensures space { IsTrue D.tells → IfOk result (λ read. read.space ≡ uses_of heap.most read.chains.items) }

@@ -67,13 +67,12 @@ new_to_front (x ∷ xs) n ys are =
 pub apart_is_claimable : (most : ℕ) (taken ns : List ℕ) → AllByRecursion (IsNumberOf most) taken → AllByRecursion (IsNumberOf most) ns
     → AreDistinct (taken ++ ns) → AreClaimable (all_used (replicate most false) taken) ns
 apart_is_claimable most taken [] range ranges apart = tt
-apart_is_claimable most taken (n ∷ ns) range ranges apart =
-    (
-      (others_are_free most taken n range).1 (ranges.0, new_to_front taken n ns apart),
-      subst (λ (u : List Bool). AreClaimable u ns) (used_in_turn (replicate most false) taken (n ∷ []))
+apart_is_claimable most taken (n ∷ ns) range ranges apart = (
+  (others_are_free most taken n range).1 (ranges.0, new_to_front taken n ns apart),
+  subst (λ (u : List Bool). AreClaimable u ns) (used_in_turn (replicate most false) taken (n ∷ []))
       (apart_is_claimable most (taken ++ n ∷ []) ns (all_joined (IsNumberOf most) taken (n ∷ []) range (ranges.0, tt)) ranges.1
       (subst AreDistinct (sym (append_assoc taken (n ∷ []) ns)) apart)),
-    )
+)
 
 -- ---- one chain
 
@@ -141,17 +140,15 @@ numbers_more front c =
 pub walked_more : (most : ℕ) (heap taken : List ℕ) (number : ℕ) (front : List PlacedChain) (end : ℕ) (c : PlacedChain)
     → AreWalked most heap taken number front end → IsRightChain most heap (taken ++ numbers_of front) end c
     → AreWalked most heap taken number (front ++ c ∷ []) c.link
-walked_more most heap taken number [] end c walked is =
-    (
-      subst (λ (n : ℕ). IsRightChain most heap taken n c) (sym walked) (subst (λ (l : List ℕ). IsRightChain most heap l end c) (append-nil taken) is),
-      refl,
-    )
-walked_more most heap taken number (d ∷ front) end c walked is =
-    (
-      walked.0,
-      walked_more most heap (taken ++ d.numbers) d.link front end c walked.1
+walked_more most heap taken number [] end c walked is = (
+  subst (λ (n : ℕ). IsRightChain most heap taken n c) (sym walked) (subst (λ (l : List ℕ). IsRightChain most heap l end c) (append-nil taken) is),
+  refl,
+)
+walked_more most heap taken number (d ∷ front) end c walked is = (
+  walked.0,
+  walked_more most heap (taken ++ d.numbers) d.link front end c walked.1
       (subst (λ (l : List ℕ). IsRightChain most heap l end c) (sym (append_assoc taken d.numbers (numbers_of front))) is),
-    )
+)
 
 -- their extents are of the heap, and each is there once
 pub record AreApart (most : ℕ) (numbers : List ℕ) : Type 0 where

@@ -11,7 +11,8 @@ use Rattle.log_extents.specs.Taking.{ChainState, head_of, images_of, gate_of, Is
 use Rattle.log_extents.specs.declared.chain_reader.ChainKind.{ChainKind}
 use Rattle.log_extents.specs.declared.chain_reader.ChainParts.{ChainParts}
 use Rattle.law_log_layout.proofs.Places.{linked-length}
-use Rattle.log_space.specs.Uses.{IsFree, with_use, all_used}
+use Rattle.log_space.specs.Uses.{IsFree, with_use, all_used, used_count}
+use Rattle.log_space.proofs.Uses.{is_one_more, used_at_most}
 use Rattle.log_recovery.specs.Taking.{images_of_chain, HoldsImages, IsHeldChain, AreClaimable, IsTakenChain, HasNoChain}
 
 -- ---- lists
@@ -43,16 +44,15 @@ fits : (content : List ℕ) → length (take 8168 content) ≤ 8168
 fits content = omega (arith, length-take 8168 content)
 
 -- each has 8,192 bytes
-AreWhole : List (List ℕ) → Type 0
+abbrev AreWhole : List (List ℕ) → Type 0
 AreWhole images = AllByRecursion (λ (image : List ℕ). length image ≡ 8192) images
 
 whole_images : (end gate link : ℕ) (numbers content : List ℕ) → AreWhole (map linked_bytes (chain_to end gate link numbers content))
 whole_images end gate link [] content = tt
-whole_images end gate link (n ∷ ns) content =
-    (
-      linked-length (record { gate = gate; number = n; next = first_or end ns; link = link; body = take 8168 content }) (fits content),
-      whole_images end 0 0 ns (drop 8168 content),
-    )
+whole_images end gate link (n ∷ ns) content = (
+  linked-length (record { gate = gate; number = n; next = first_or end ns; link = link; body = take 8168 content }) (fits content),
+  whole_images end 0 0 ns (drop 8168 content),
+)
 
 -- the image behind others, which has 8,192 bytes
 pub record HasNext (heap : List ℕ) (n : ℕ) (rest : List (List ℕ)) : Type 0 where
@@ -93,7 +93,7 @@ pub record IsReading (kind : ChainKind) (most number : ℕ) (heap : List ℕ) (o
       → BeginsAs s numbers (images_of_chain kind numbers link content)
 
 -- the state before the first extent
-pub none_read : ChainKind → ℕ → ℕ → ChainState
+abbrev pub none_read : ChainKind → ℕ → ℕ → ChainState
 none_read kind most number = record { kind = kind; most = most; numbers = []; next = number; link = 0; content = [] }
 
 front_is : (numbers : List ℕ) (number : ℕ) → 0 < length numbers → first_or 0 numbers ≡ number → numbers ≡ number ∷ drop 1 numbers
@@ -204,8 +204,10 @@ reading_goes_on kind most number heap old now s t next another image is whole in
   most_is = more.same.most ∙ is.most_is;
   head_is = more.same.head ∙ is.head_is;
   next_is = more.next;
-  images = rw (more.numbers, more.images, is.next_is)
-      (images_more heap s.numbers (images_of s) next image is.images (part_read heap image next whole free.low inside read));
+  images = subst (λ (ns : List ℕ). HoldsImages heap ns (images_of t)) (sym more.numbers)
+      (subst (HoldsImages heap (s.numbers ++ s.next ∷ [])) (sym more.images)
+      (subst (λ (n : ℕ). HoldsImages heap (s.numbers ++ n ∷ []) (images_of s ++ image ∷ [])) (sym is.next_is)
+      (images_more heap s.numbers (images_of s) next image is.images (part_read heap image next whole free.low inside read))));
   free = rw (more.numbers, is.next_is) (claimable_more old s.numbers next is.free (subst (λ (u : List Bool). IsFree u next) is.taken free));
   taken = rw (more.numbers, is.next_is) (ap (λ (u : List Bool). with_use u next true) is.taken ∙ sym (used_behind old s.numbers (next ∷ [])));
   each = λ numbers link content held.
@@ -240,8 +242,10 @@ reading_is_whole kind most number heap old now s t next image parts numbers_are 
     (subst (λ (n : ℕ). IsChainFrom s.kind s.most n t.numbers t.link t.content (images_of_chain kind t.numbers t.link t.content)) is.head_is
     (subst (IsChainFrom s.kind s.most (head_of s) t.numbers t.link t.content) (sym last.images ∙ images) chain))) in
     let held : HoldsImages heap t.numbers (images_of_chain kind t.numbers t.link t.content) =
-    subst (HoldsImages heap t.numbers) images (rw (last.numbers, last.images, is.next_is)
-    (images_more heap s.numbers (images_of s) next image is.images (part_read heap image next whole free.low inside read))) in
+    subst (HoldsImages heap t.numbers) images (subst (λ (ns : List ℕ). HoldsImages heap ns (images_of t)) (sym last.numbers)
+    (subst (HoldsImages heap (s.numbers ++ s.next ∷ [])) (sym last.images)
+    (subst (λ (n : ℕ). HoldsImages heap (s.numbers ++ n ∷ []) (images_of s ++ image ∷ [])) (sym is.next_is)
+    (images_more heap s.numbers (images_of s) next image is.images (part_read heap image next whole free.low inside read))))) in
     record {
       held = rw (numbers_are, link_is, content_is) (record { chain = from; held = held });
       free = rw (numbers_are, last.numbers, is.next_is)
@@ -249,3 +253,10 @@ reading_is_whole kind most number heap old now s t next image parts numbers_are 
       taken = rw (numbers_are, last.numbers, is.next_is)
           (ap (λ (u : List Bool). with_use u next true) is.taken ∙ sym (used_behind old s.numbers (next ∷ [])));
     }
+
+-- one extent more is taken, and one fewer is free
+pub fewer_free : (flags : List Bool) (n : ℕ) → IsFree flags n
+    → length (with_use flags n true) - used_count (with_use flags n true) < length flags - used_count flags
+fewer_free flags n free =
+    let more = is_one_more flags n free in
+    omega (arith, more.count, more.len, used_at_most (with_use flags n true))
