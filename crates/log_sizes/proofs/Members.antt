@@ -1,5 +1,5 @@
 -- The numbers behind members, one after the other.
-use Rattle.std.proofs.Common.{◌≡◌, ℕ, max, List, [], ◌∷◌, ◌++◌, Option, refl, ap, sym, subst, ◌∙◌}
+use Rattle.std.proofs.Common.{◌≡◌, ℕ, max, List, [], ◌∷◌, ◌++◌, Option, sym, subst}
 use Rattle.history.specs.declared.key.Key.{Key}
 use Rattle.law_image.specs.Values.{Value}
 use Rattle.law_image.specs.Reading.{Member, OldRecord}

@@ -1,6 +1,6 @@
 //! The bytes of anchors, write by write.
 
-ghost use Rattle.std.specs.Prelude.{◌≡◌, ◌+◌, ◌-◌, ◌*◌, ◌≤◌, ◌^◌, length};
+ghost use Rattle.std.specs.Prelude.{◌≡◌, ◌+◌, ◌-◌, ◌≤◌, ◌<◌, ◌^◌, length};
 ghost use Rattle.std.specs.Option.{option_copied};
 ghost use Rattle.law_log_sizes.specs.Sizes.{old_len, len_behind};
 ghost use Rattle.log_sizes.specs.Counted.{values_in};
@@ -49,7 +49,7 @@ fn len_before(before: &Frozen, key: Key) -> u64
 
 // The bytes of the anchors behind one write, where they were so many before.
 fn len_with(len: u64, before: &Frozen, write: &KeyWrite<SharedValue>) -> u64
-    requires counted { len ≤ 2 ^ 62 }
+    requires { len < 2 ^ 63 }
     ensures is { result ≡ (len - old_len (values_in before.now write.now.key)) + old_len write.now.write }
     ensures few { result ≤ len + 4116 }
 {
@@ -60,7 +60,7 @@ fn len_with(len: u64, before: &Frozen, write: &KeyWrite<SharedValue>) -> u64
 /// The bytes of the anchors behind a commit's writes, where they were so many before, and these are the versions
 /// before it.
 pub(crate) fn len_with_all(len: u64, before: &Frozen, writes: &[KeyWrite<SharedValue>]) -> u64
-    requires counted { len ≤ 2 ^ 40 }
+    requires counted { len ≤ 2 ^ 62 }
     requires few { length writes.now ≤ 1024 }
     ensures { result ≡ len_behind len (values_in before.now) writes.now }
 {
