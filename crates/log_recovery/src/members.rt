@@ -9,6 +9,8 @@ ghost use Rattle.law_image.specs.Facts.{AreStored};
 ghost use Rattle.law_log_layout.specs.HeapLog.{member_told, IsPlaced};
 ghost use Rattle.log_entries.specs.Ranges.{IsMember, IsEntry};
 ghost use Rattle.log_extents.specs.Chains.{first_or};
+ghost use Rattle.law_log_sizes.specs.Sizes.{anchors_len};
+ghost use Rattle.log_sizes.specs.Counted.{AreSizes, AreSizesBehind};
 ghost use Rattle.log_recovery.specs.Members.{later_of, later_in, heads_told, HasFacts, values_behind, values_of, members_of_all, AreAllStored, IsMembersFault, live_told, lives_of, last_in, AreWritesOf};
 
 use crate::chain::LogChain;
@@ -16,21 +18,24 @@ use crate::members_read::{CommitName, MembersRead};
 use chains::Frozen;
 use disk::Area;
 use log_entries::{Entry, Member};
-use recovery::{LiveChain, OpenFault, with_records};
+use log_sizes::AnchorSizes;
+use recovery::{LiveChain, OpenFault, resolve};
 use std::alloc::{AllocError, Global};
 
 impl MembersRead {
-    // No member yet, behind the anchors whose versions are these.
-    fn behind(alloc: Global, mark: u64, anchors: Frozen) -> MembersRead
+    // No member yet, behind the anchors whose versions are these, and which take so many bytes.
+    fn behind(alloc: Global, mark: u64, anchors: Frozen, len: u64) -> MembersRead
         requires { latest anchors ≤ mark }
         ensures versions { result.versions ≡ anchors }
         ensures commits { result.commits.items ≡ [] }
         ensures last { result.last ≡ mark }
+        ensures sizes { AreSizes len len result.sizes }
     {
         MembersRead {
             versions: anchors,
             commits: Vec::new(alloc),
             last: mark,
+            sizes: AnchorSizes::of(len),
         }
     }
 
@@ -40,11 +45,13 @@ impl MembersRead {
         requires later { self.last < member.time }
         ensures last { IfOk result (λ o. IfSome o (λ next. next.last ≡ member.time)) }
         ensures read { (mark : ℕ) (olds : List OldRecord) (before : List MemberTold) → HasFacts mark olds before self → IfOk result (λ o. MatchOption o (¬ AreStored (values_behind (values_of olds) before) (member_told member ∷ [])) (λ next. AreStored (values_behind (values_of olds) before) (member_told member ∷ []) × HasFacts mark olds (before ++ member_told member ∷ []) next)) }
+        ensures sizes { (mark : ℕ) (olds : List OldRecord) (before : List MemberTold) → HasFacts mark olds before self → AreSizesBehind olds before self.sizes → IfOk result (λ o. IfSome o (λ next. AreSizesBehind olds (before ++ member_told member ∷ []) next.sizes)) }
     {
         let MembersRead {
             versions,
             mut commits,
             last: _,
+            sizes,
         } = self;
         let time = member.time;
         commits.push(CommitName {
@@ -52,13 +59,16 @@ impl MembersRead {
             label: member.label,
         })?;
         let records = member.records.into_vec();
-        let Some(versions) = with_records(alloc, versions, time, records)? else {
+        let Some(writes) = resolve(alloc, &versions, records)? else {
             return Ok(None);
         };
+        let sizes = sizes.with_writes(&versions, &writes);
+        let versions = versions.into_commit(alloc, time, &writes)?;
         Ok(Some(MembersRead {
             versions,
             commits,
             last: time,
+            sizes,
         }))
     }
 
@@ -73,6 +83,7 @@ impl MembersRead {
         requires rising { AreRisingAfter self.last (heads_told (later_of mark members.items)) }
         ensures last { IfOk result (λ o. IfSome o (λ next. next.last ≡ last_time_after self.last (heads_told (later_of mark members.items)))) }
         ensures read { (olds : List OldRecord) (before : List MemberTold) → HasFacts mark olds before self → IfOk result (λ o. MatchOption o (¬ AreStored (values_behind (values_of olds) before) (later_of mark members.items)) (λ next. AreStored (values_behind (values_of olds) before) (later_of mark members.items) × HasFacts mark olds (before ++ later_of mark members.items) next)) }
+        ensures sizes { (olds : List OldRecord) (before : List MemberTold) → HasFacts mark olds before self → AreSizesBehind olds before self.sizes → IfOk result (λ o. IfSome o (λ next. AreSizesBehind olds (before ++ later_of mark members.items) next.sizes)) }
     {
         let mut read = self;
         for member in members {
@@ -97,6 +108,7 @@ impl MembersRead {
         requires rising { AreRisingAfter self.last (heads_told (later_in mark entry)) }
         ensures last { IfOk result (λ o. IfSome o (λ next. next.last ≡ last_time_after self.last (heads_told (later_in mark entry)))) }
         ensures read { (olds : List OldRecord) (before : List MemberTold) → HasFacts mark olds before self → IfOk result (λ o. MatchOption o (¬ AreStored (values_behind (values_of olds) before) (later_in mark entry)) (λ next. AreStored (values_behind (values_of olds) before) (later_in mark entry) × HasFacts mark olds (before ++ later_in mark entry) next)) }
+        ensures sizes { (olds : List OldRecord) (before : List MemberTold) → HasFacts mark olds before self → AreSizesBehind olds before self.sizes → IfOk result (λ o. IfSome o (λ next. AreSizesBehind olds (before ++ later_in mark entry) next.sizes)) }
     {
         match entry {
             Entry::Group(members) => self.with_group(alloc, mark, members.into_vec()),
@@ -150,7 +162,7 @@ pub struct LogMembers {
     pub live: Vec<LiveChain>,
 }
 
-/// The members of these chains, behind the anchors whose versions are these.
+/// The members of these chains, behind the anchors whose versions are these, and which take so many bytes.
 ///
 /// # Errors
 ///
@@ -160,16 +172,18 @@ pub(crate) fn read_members(
     alloc: Global,
     mark: u64,
     anchors: Frozen,
+    len: u64,
     chains: Vec<LogChain>,
 ) -> Result<LogMembers, OpenFault>
     requires placed { (most : ℕ) × AllByRecursion (IsPlaced most) chains.items }
     requires rising { AreRisingAfter mark (heads_told (members_of_all mark chains.items)) }
     requires anchors { latest anchors ≤ mark }
     ensures read { (olds : List OldRecord) → AreWritesOf olds anchors → IfOk result (λ log. AreAllStored mark (values_of olds) chains.items × HasFacts mark olds (members_of_all mark chains.items) log.read) }
+    ensures sizes { (olds : List OldRecord) → AreWritesOf olds anchors → anchors_len olds ≡ len → IfOk result (λ log. AreSizesBehind olds (members_of_all mark chains.items) log.read.sizes) }
     ensures live { IfOk result (λ log. map live_told log.live.items ≡ lives_of chains.items) }
     ensures fault { (olds : List OldRecord) → AreWritesOf olds anchors → IfErr result (IsMembersFault mark (values_of olds) chains.items) }
 {
-    let mut read = MembersRead::behind(alloc, mark, anchors);
+    let mut read = MembersRead::behind(alloc, mark, anchors, len);
     let mut live = Vec::new(alloc);
     for chain in chains {
         let LogChain {

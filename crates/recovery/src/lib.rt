@@ -20,3 +20,4 @@ pub use formatting::format;
 pub use members::with_records;
 pub use opening::read_image;
 pub use recovered::{LiveChain, Recovered};
+pub use resolving::resolve;
