@@ -9,3 +9,4 @@ pub mod OneChain
 pub mod AnchorChains
 pub mod Following
 pub mod Sized
+pub mod Named
