@@ -153,3 +153,23 @@ none_read most mark heap flags name read none numbers len versions = record {
   writes = λ key. ap (λ (v : List KeyWrites). writes_of v key) versions;
   latest_is = subst (λ (v : List KeyWrites). latest v ≤ mark) (sym versions) (omega arith);
 }
+
+-- nor is there any where no name is
+pub none_named : (most mark : ℕ) (heap : List ℕ) (flags : List Bool) (read : AnchorsRead) → read.numbers.items ≡ [] → read.len ≡ 0 → read.versions ≡ []
+    → TakesAnchors most mark heap flags flags [] read
+none_named most mark heap flags read numbers len versions = record {
+  records = [];
+  are = rw numbers (record {
+    named = (refl, refl);
+    placed = record { count = refl; in_range = tt; each = tt };
+    distinct = tt;
+    held = tt;
+    rising = none_rising;
+    times = tt;
+  });
+  free = subst (AreClaimable flags) (sym numbers) tt;
+  taken = ap (Rattle.log_space.specs.Uses.all_used flags) (sym numbers);
+  len_is = len;
+  writes = λ key. ap (λ (v : List KeyWrites). writes_of v key) versions;
+  latest_is = subst (λ (v : List KeyWrites). latest v ≤ mark) (sym versions) (omega arith);
+}

@@ -15,7 +15,7 @@ use Rattle.log_entries.specs.declared.entry.Member.{Member as MemberEntry}
 use Rattle.law_log_layout.specs.HeapLog.{PlacedChain, member_told}
 use Rattle.log_recovery.specs.declared.members_read.MembersRead.{MembersRead}
 use Rattle.log_recovery.specs.Members.{values_of, heads_told, values_behind, HasFacts, later_of, later_than, members_later, members_of_all, AreAllStored, FailsMembers, AreWritesOf}
-use Rattle.log_recovery.proofs.Facts.{values_more, stored_more, stored_front, stored_back}
+use Rattle.log_recovery.proofs.Facts.{values_more, stored_more, stored_front, stored_back, rising_front, rising_back}
 
 -- ---- a group
 
@@ -131,3 +131,17 @@ chains_end mark olds all left read w none =
     let same : members_of_all mark all ≡ w.done =
     w.members_are ∙ ap (λ (l : List PlacedChain). w.done ++ members_of_all mark l) none ∙ append-nil w.done in
     record { stored = w.finish gone; facts = subst (λ (l : List Member). HasFacts mark olds l read) (sym same) w.facts }
+
+-- the members of the first chain rise, and those of the others behind them
+pub record RiseInTurn (mark last : ℕ) (c : PlacedChain) (left : List PlacedChain) : Type 0 where
+  pub first : AreRisingAfter last (heads_told (members_later mark c))
+  pub others : AreRisingAfter (last_time_after last (heads_told (members_later mark c))) (heads_told (members_of_all mark left))
+
+pub rise_in_turn : (mark last : ℕ) (c : PlacedChain) (left : List PlacedChain) → AreRisingAfter last (heads_told (members_of_all mark (c ∷ left)))
+    → RiseInTurn mark last c left
+rise_in_turn mark last c left rising =
+    let all = subst (AreRisingAfter last) (map-append (λ (m : Member). m.head) (members_later mark c) (members_of_all mark left)) rising in
+    record {
+      first = rising_front last (heads_told (members_later mark c)) (heads_told (members_of_all mark left)) all;
+      others = rising_back last (heads_told (members_later mark c)) (heads_told (members_of_all mark left)) all;
+    }

@@ -9,4 +9,5 @@ pub mod OneChain
 pub mod AnchorChains
 pub mod Following
 pub mod Sized
+pub mod Named
 pub mod Counting

@@ -18,6 +18,9 @@ use Rattle.log_entries.specs.declared.entry.AnchorName.{AnchorName}
 use Rattle.log_writer.specs.Turns.{extent_part}
 use Rattle.law_log_layout.specs.Turns.{HoldsAll}
 use Rattle.law_log_layout.specs.HeapLog.{PlacedChain, PlacedAnchors, anchor_extents, ArePlaced, AreNamed, anchors_in}
+use Rattle.disk.specs.declared.area.Area.TheVariants.{Status, Heap, Archive}
+use Rattle.recovery.specs.declared.fault.OpenFault.{OpenFault}
+use Rattle.recovery.specs.declared.fault.OpenFault.TheVariants.{NotAStore, Damaged, Device, NoMemory}
 use Rattle.log_space.specs.Uses.{all_used}
 use Rattle.log_recovery.specs.Taking.{AreClaimable}
 use Rattle.log_recovery.specs.declared.anchors.AnchorsRead.{AnchorsRead}
@@ -80,3 +83,22 @@ pub record TakesAnchors (most mark : ℕ) (heap : List ℕ) (old new : List Bool
 -- no such chain has free extents alone
 abbrev pub HasNoAnchors : ℕ → ℕ → List ℕ → List Bool → List AnchorName → Type 0
 HasNoAnchors most mark heap flags names = (a : PlacedAnchors) → AreAnchorsAt most mark heap names a → ¬ AreClaimable flags a.numbers
+
+-- those that the first chain names: no other one is a base
+abbrev pub first_names : List PlacedChain → List AnchorName
+first_names [] = []
+first_names (c ∷ chains) = anchors_in c.entry
+
+-- the first of these names has this extent
+abbrev pub IsFirstOf : ℕ → List AnchorName → Type 0
+IsFirstOf place [] = ⊥
+IsFirstOf place (name ∷ names) = place ≡ name.first
+
+-- why no anchors of these names are read
+abbrev pub IsAnchorsFault : ℕ → ℕ → List ℕ → List Bool → List AnchorName → OpenFault → Type 0
+IsAnchorsFault most mark heap flags names NotAStore = ⊥
+IsAnchorsFault most mark heap flags names (Damaged Status n) = ⊥
+IsAnchorsFault most mark heap flags names (Damaged Heap n) = HasNoAnchors most mark heap flags names × IsFirstOf n names
+IsAnchorsFault most mark heap flags names (Damaged Archive n) = ⊥
+IsAnchorsFault most mark heap flags names Device = Unit {0}
+IsAnchorsFault most mark heap flags names NoMemory = Unit {0}

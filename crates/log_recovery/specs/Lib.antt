@@ -6,3 +6,4 @@ pub mod Members
 pub mod Ends
 pub mod Following
 pub mod Opening
+pub mod Read

@@ -1,7 +1,8 @@
 //! The chain of anchors that a base names.
 
-ghost use Rattle.std.specs.Prelude.{◌≡◌, ◌⊎◌, ◌≤◌, ◌<◌, ◌++◌, ◌^◌, ℕ, List, length, IsTrue, IfOk, IfErr, MatchOption, [], ◌∷◌};
+ghost use Rattle.std.specs.Prelude.{◌≡◌, ◌⊎◌, ◌≤◌, ◌<◌, ◌++◌, ◌^◌, ℕ, List, length, IsTrue, IfOk, IfErr, IfSome, MatchOption, [], ◌∷◌};
 ghost use Rattle.std.specs.List.{flat_map, AllByRecursion};
+ghost use Rattle.chains.specs.KeyWrites.{latest};
 ghost use Rattle.deltas.specs.Records.{spelling};
 ghost use Rattle.deltas.specs.declared.chain.Kinds.TheVariants.{OfAnchors};
 ghost use Rattle.log_entries.specs.Items.{HasFewer};
@@ -71,8 +72,8 @@ fn decode_anchors(
     Ok(Some(records))
 }
 
-// No anchors at all.
-fn no_anchors(alloc: Global) -> AnchorsRead
+/// No anchors at all.
+pub(crate) fn no_anchors(alloc: Global) -> AnchorsRead
     ensures numbers { result.numbers.items ≡ [] }
     ensures len { result.len ≡ 0 }
     ensures versions { result.versions ≡ [] }
@@ -98,6 +99,7 @@ fn read_named<D: Disk>(
     requires mark { mark < 2 ^ 63 }
     requires some { AreSome heap.most name.now }
     ensures found { IsTrue D.tells → IfOk result (λ o. MatchOption o (HasNoAnchors heap.most mark (D.state disk.old).areas.heap.bytes space.old (name.now ∷ [])) (TakesAnchors heap.most mark (D.state disk.old).areas.heap.bytes space.old space.new (name.now ∷ []))) }
+    ensures latest { IfOk result (λ o. IfSome o (λ read. latest read.versions ≤ mark)) }
     ensures fault { IfErr result IsReadFault }
     ensures reads { D.state disk.new ≡ after_reads result (D.state disk.old) }
 {
@@ -133,6 +135,7 @@ pub(crate) fn read_anchors<D: Disk>(
     requires mark { mark < 2 ^ 63 }
     requires name { AreNone name.now ⊎ AreSome heap.most name.now }
     ensures found { IsTrue D.tells → IfOk result (λ o. MatchOption o (HasNoAnchors heap.most mark (D.state disk.old).areas.heap.bytes space.old (name.now ∷ [])) (TakesAnchors heap.most mark (D.state disk.old).areas.heap.bytes space.old space.new (name.now ∷ []))) }
+    ensures latest { IfOk result (λ o. IfSome o (λ read. latest read.versions ≤ mark)) }
     ensures fault { IfErr result IsReadFault }
     ensures reads { D.state disk.new ≡ after_reads result (D.state disk.old) }
 {

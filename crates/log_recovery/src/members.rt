@@ -6,7 +6,7 @@ ghost use Rattle.chains.specs.KeyWrites.{latest};
 ghost use Rattle.law_image.specs.Reading.{Member as MemberTold, OldRecord};
 ghost use Rattle.law_image.specs.Log.{AreRisingAfter, last_time_after};
 ghost use Rattle.law_image.specs.Facts.{AreStored};
-ghost use Rattle.law_log_layout.specs.HeapLog.{member_told, IsPlaced};
+ghost use Rattle.law_log_layout.specs.HeapLog.{member_told, PlacedChain};
 ghost use Rattle.log_entries.specs.Ranges.{IsMember, IsEntry};
 ghost use Rattle.log_extents.specs.Chains.{first_or};
 ghost use Rattle.law_log_sizes.specs.Sizes.{anchors_len};
@@ -175,7 +175,7 @@ pub(crate) fn read_members(
     len: u64,
     chains: Vec<LogChain>,
 ) -> Result<LogMembers, OpenFault>
-    requires placed { (most : ℕ) × AllByRecursion (IsPlaced most) chains.items }
+    requires entries { (most : ℕ) × AllByRecursion (λ (c : PlacedChain). IsEntry most c.entry) chains.items }
     requires rising { AreRisingAfter mark (heads_told (members_of_all mark chains.items)) }
     requires anchors { latest anchors ≤ mark }
     ensures read { (olds : List OldRecord) → AreWritesOf olds anchors → IfOk result (λ log. AreAllStored mark (values_of olds) chains.items × HasFacts mark olds (members_of_all mark chains.items) log.read) }

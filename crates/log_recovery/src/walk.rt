@@ -3,6 +3,9 @@
 ghost use Rattle.std.specs.Prelude.{◌≡◌, ◌↔◌, ◌≤◌, ◌<◌, ◌^◌, IsTrue, IfOk, IfErr, IfSome, MatchOption, length};
 ghost use Rattle.disk.specs.declared.area.Area.TheVariants.{Heap};
 ghost use Rattle.log_extents.specs.Chains.{IsNumberOf};
+ghost use Rattle.std.specs.List.{AllByRecursion};
+ghost use Rattle.log_entries.specs.Ranges.{IsEntry};
+ghost use Rattle.law_log_layout.specs.HeapLog.{PlacedChain};
 ghost use Rattle.recovery.specs.Answers.{after_reads};
 ghost use Rattle.recovery.specs.Faults.{IsReadFault};
 ghost use Rattle.log_recovery.specs.Taking.{free_left};
@@ -59,6 +62,7 @@ fn read_log_chain<D: Disk>(
     ensures found { IsTrue D.tells → IfOk result (λ o. MatchOption o (HasNoLogChain heap.most (D.state disk.old).areas.heap.bytes number space.old) (TakesChain heap.most (D.state disk.old).areas.heap.bytes number space.old space.new)) }
     ensures fewer { IfOk result (λ o. IfSome o (λ chain. free_left space.new < free_left space.old)) }
     ensures link { IfOk result (λ o. IfSome o (λ chain. IsNumberOf heap.most chain.link)) }
+    ensures entry { IfOk result (λ o. IfSome o (λ chain. IsEntry heap.most chain.entry)) }
     ensures fault { IfErr result IsReadFault }
     ensures reads { D.state disk.new ≡ after_reads result (D.state disk.old) }
 {
@@ -93,6 +97,8 @@ pub(crate) fn read_chains<D: Disk>(
     requires root { IsNumberOf heap.most root }
     ensures chains { IsTrue D.tells → IfOk result (λ read. HoldsChains heap.most root (D.state disk.old).areas.heap.bytes read.chains.items read.next) }
     ensures space { IsTrue D.tells → IfOk result (λ read. read.space ≡ uses_of heap.most read.chains.items) }
+    ensures entries { IfOk result (λ read. AllByRecursion (λ (c : PlacedChain). IsEntry heap.most c.entry) read.chains.items) }
+    ensures next { IfOk result (λ read. IsNumberOf heap.most read.next) }
     ensures fault { IsTrue D.tells → IfErr result (IsChainFault heap.most root (D.state disk.old).areas.heap.bytes) }
     ensures reads { D.state disk.new ≡ after_reads result (D.state disk.old) }
 {

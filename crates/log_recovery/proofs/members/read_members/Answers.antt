@@ -1,0 +1,78 @@
+use Rattle.std.proofs.Common.{◌≡◌, ℕ, ◌++◌, ◌∷◌, [], List, map, refl, sym, ◌∙◌, ap, subst}
+use Rattle.std.specs.List.{AllByRecursion}
+use Rattle.std.proofs.lemmas.List.{append_assoc, map-append}
+use Rattle.law_image.specs.Log.{AreRisingAfter, last_time_after}
+use Rattle.law_image.specs.Facts.{AreStored}
+use Rattle.recovery.proofs.AnchorChains.{none_left}
+use Rattle.log_extents.specs.Chains.{first_or}
+use Rattle.log_entries.specs.declared.entry.Entry.{Entry}
+use Rattle.log_entries.specs.Ranges.{IsEntry}
+use Rattle.law_log_layout.specs.HeapLog.{PlacedChain}
+use Rattle.log_recovery.specs.Members.{later_in, heads_told, members_of_all, values_behind, values_of, HasFacts, FailsMembers, live_told, lives_of, last_in}
+use Rattle.log_recovery.proofs.Groups.{AreUnderWay, chain_more, chain_fails, chains_end, rise_in_turn}
+use Rattle.log_recovery.proofs.members.read_members.Goals as goal
+
+pub with_entry-requires-clause-rising : goal.with_entry-requires-clause-rising
+with_entry-requires-clause-rising c =
+    let last = c.loop-chain.read.last in
+    let entry_is : c.in-Some.chain.entry ≡ c.chain.inside.entry = sym (ap (λ (x : PlacedChain). x.entry) c.chain.view_is) in
+    let rising = subst (λ (l : List PlacedChain). AreRisingAfter last (heads_told (members_of_all c.args.mark l))) c.in-Some.ensures.steps.0
+    c.loop-chain.invariant.1 in
+    subst (λ (e : Entry). AreRisingAfter last (heads_told (later_in c.args.mark e))) entry_is
+    (rise_in_turn c.args.mark last c.in-Some.chain c.next.new.self.rest.items rising).first
+
+pub returns-in_default-clause-fault : goal.returns-in_default-clause-fault
+returns-in_default-clause-fault c = λ olds writes.
+    let mark = c.args.mark in
+    let all = c.args.chains.items in
+    let left = c.next.new.self.rest.items in
+    let entry_is : c.in-Some.chain.entry ≡ c.chain.inside.entry = sym (ap (λ (x : PlacedChain). x.entry) c.chain.view_is) in
+    let numbers_are : c.in-Some.chain.numbers ≡ c.chain.inside.numbers.items = sym (ap (λ (x : PlacedChain). x.numbers) c.chain.view_is) in
+    let w = subst (λ (l : List PlacedChain). AreUnderWay mark olds all l c.loop-chain.read) c.in-Some.ensures.steps.0 (c.loop-chain.invariant.3 olds writes) in
+    let none = rw c.in_default.is at c.in_ok-next.ensures.read olds w.done w.facts in
+    let fails = chain_fails mark olds all left c.in-Some.chain c.loop-chain.read w
+    (subst (λ (e : Entry). ¬ AreStored (values_behind (values_of olds) w.done) (later_in mark e)) (sym entry_is) none) in
+    subst (FailsMembers mark (values_of olds) all)
+    (sym (c.from.ensures ∙ c.head_of.ensures ∙ ap (first_or 0) (c.deref.ensures.value ∙ sym numbers_are))) fails
+
+pub loop-chain-preserved : goal.loop-chain-preserved
+loop-chain-preserved c =
+    let mark = c.args.mark in
+    let all = c.args.chains.items in
+    let left = c.next.new.self.rest.items in
+    let last = c.loop-chain.read.last in
+    let first = c.in-Some.ensures.steps.0 in
+    let entry_is : c.in-Some.chain.entry ≡ c.chain.inside.entry = sym (ap (λ (x : PlacedChain). x.entry) c.chain.view_is) in
+    let numbers_are : c.in-Some.chain.numbers ≡ c.chain.inside.numbers.items = sym (ap (λ (x : PlacedChain). x.numbers) c.chain.view_is) in
+    let placed = subst (AllByRecursion (λ (d : PlacedChain). IsEntry c.loop-chain.invariant.0.0 d.entry)) first c.loop-chain.invariant.0.1 in
+    let rising = subst (λ (l : List PlacedChain). AreRisingAfter last (heads_told (members_of_all mark l))) first c.loop-chain.invariant.1 in
+    let turn = rise_in_turn mark last c.in-Some.chain left rising in
+    let next_last : c.in-Some-2.next.last ≡ last_time_after last (heads_told (later_in mark c.chain.inside.entry)) =
+    rw c.in-Some-2.is at c.in_ok-next.ensures.last in
+    let last_is : c.in-Some-2.next.last ≡ last_time_after last (heads_told (later_in mark c.in-Some.chain.entry)) =
+    next_last ∙ ap (λ (e : Entry). last_time_after last (heads_told (later_in mark e))) (sym entry_is) in
+    let one : (c.last_commit-time.result, c.chain.inside.numbers.items) ≡ (last_in c.in-Some.chain.entry, c.in-Some.chain.numbers) =
+    λ i. ((c.last_commit-time.ensures ∙ ap last_in (sym entry_is)) i, sym numbers_are i) in
+    (
+      (c.loop-chain.invariant.0.0, placed.1),
+      subst (λ (n : ℕ). AreRisingAfter n (heads_told (members_of_all mark left))) (sym last_is) turn.others,
+      ap (λ l. map live_told l ++ lives_of left) c.in_ok-push.ensures.items
+      ∙ ap (λ l. l ++ lives_of left) (map-append live_told c.loop-chain.live.items _)
+      ∙ append_assoc (map live_told c.loop-chain.live.items) _ (lives_of left)
+      ∙ ap (λ (p : ℕ × List ℕ). map live_told c.loop-chain.live.items ++ p ∷ lives_of left) one
+      ∙ ap (λ (l : List PlacedChain). map live_told c.loop-chain.live.items ++ lives_of l) (sym first)
+      ∙ c.loop-chain.invariant.2,
+      λ olds writes.
+          let w = subst (λ (l : List PlacedChain). AreUnderWay mark olds all l c.loop-chain.read) first (c.loop-chain.invariant.3 olds writes) in
+          let found = rw c.in-Some-2.is at c.in_ok-next.ensures.read olds w.done w.facts in
+          let same = subst (λ (e : Entry). AreStored (values_behind (values_of olds) w.done) (later_in mark e)
+              × HasFacts mark olds (w.done ++ later_in mark e) c.in-Some-2.next) (sym entry_is) found in
+          chain_more mark olds all left c.in-Some.chain c.loop-chain.read c.in-Some-2.next w same.0 same.1,
+    )
+
+pub returns-clause-read : goal.returns-clause-read
+returns-clause-read c = λ olds writes.
+    let nothing = none_left c.loop-chain.chain-iterator.rest.items (sym c.loop-chain.chain-iterator.rest.ok.0 ∙ c.in-None.ensures.steps.0) in
+    let read = chains_end c.args.mark olds c.args.chains.items c.loop-chain.chain-iterator.rest.items c.loop-chain.read
+    (c.loop-chain.invariant.3 olds writes) nothing in
+    (read.stored, read.facts)
