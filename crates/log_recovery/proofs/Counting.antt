@@ -6,18 +6,18 @@ use Rattle.history.specs.declared.key.KeyWrite.{KeyWrite}
 use Rattle.history.specs.Queries.{values_after}
 use Rattle.law_image.specs.Values.{Value}
 use Rattle.law_image.specs.Reading.{Member, OldRecord}
-use Rattle.law_image.specs.Facts.{commit_read, write_of}
+use Rattle.law_image.specs.Facts.{commit_read, old_writes, write_of}
 use Rattle.deltas.specs.Records.{heap_record}
 use Rattle.recovery.specs.Resolving.{before_of}
 use Rattle.log_entries.specs.declared.entry.Member.{Member as MemberEntry}
-use Rattle.law_log_layout.specs.HeapLog.{member_told}
+use Rattle.law_log_layout.specs.HeapLog.{PlacedChain, member_told}
 use Rattle.law_log_sizes.specs.Sizes as laws
-use Rattle.law_log_sizes.specs.Sizes.{len_behind}
+use Rattle.law_log_sizes.specs.Sizes.{anchors_len, len_behind}
 use Rattle.log_sizes.specs.declared.anchor_sizes.AnchorSizes.{AnchorSizes}
 use Rattle.log_sizes.specs.Counted.{AreSizes, AreSizesBehind}
 use Rattle.log_sizes.proofs.Members.{sizes-next}
 use Rattle.log_recovery.specs.declared.members_read.MembersRead.{MembersRead}
-use Rattle.log_recovery.specs.Members.{values_of, values_behind, HasFacts}
+use Rattle.log_recovery.specs.Members.{values_of, values_behind, members_of_all, name_told, HasFacts, AreWritesOf}
 use Rattle.log_recovery.proofs.Facts.{facts_before}
 
 values_same : (before : Key → Option Value) (ms : List Member) → values_behind before ms ≡ laws.values_behind before ms
@@ -68,3 +68,19 @@ pub count_ends : (mark : ℕ) (olds : List OldRecord) (before all left : List Me
 count_ends mark olds before all left read w none =
     let same : all ≡ w.done = w.all_is ∙ ap (λ (l : List Member). w.done ++ l) none ∙ append-nil w.done in
     subst (λ (l : List Member). AreSizesBehind olds (before ++ l) read.sizes) (sym same) w.sizes
+
+-- no member is counted yet
+pub counts_start : (mark len : ℕ) (olds : List OldRecord) (all : List PlacedChain) (read : MembersRead) → AreWritesOf olds read.versions
+    → read.commits.items ≡ [] → read.last ≡ mark → anchors_len olds ≡ len → AreSizes len len read.sizes
+    → IsCountedUpto mark olds [] (members_of_all mark all) (members_of_all mark all) read
+counts_start mark len olds all read writes none last same are = record {
+  done = [];
+  facts = record {
+    writes = λ key. writes key ∙ sym (append-nil (old_writes olds key));
+    commits = ap (map name_told) none;
+    rising = tt;
+    last_is = last;
+  };
+  sizes = subst (λ (n : ℕ). AreSizes n n read.sizes) (sym same) are;
+  all_is = refl;
+}

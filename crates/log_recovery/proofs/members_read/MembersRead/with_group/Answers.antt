@@ -8,6 +8,7 @@ use Rattle.log_entries.specs.Ranges.{IsMember}
 use Rattle.law_log_layout.specs.HeapLog.{member_told}
 use Rattle.log_recovery.specs.Members.{later_of, heads_told}
 use Rattle.log_recovery.proofs.Groups.{IsUnderWay, way_goes_on, way_fails, way_ends, later_kept}
+use Rattle.log_recovery.proofs.Counting.{IsCountedUpto, count_goes_on, count_ends}
 use Rattle.log_recovery.proofs.members_read.MembersRead.with_group.Goals as goal
 
 pub returns-in_default-clause-read : goal.returns-in_default-clause-read
@@ -42,6 +43,11 @@ loop-member-preserved-then-mark-member c =
           let w = subst (λ (l : List MemberTold). IsUnderWay mark olds before all l c.loop-member.read) same (c.loop-member.invariant.3 olds before has) in
           let found = rw c.in-Some-2.is at c.in_ok-next.ensures.read mark olds (before ++ w.done) w.facts in
           way_goes_on mark olds before all (later_of mark rest) (member_told c.in-Some.member) c.loop-member.read c.in-Some-2.next w found.0 found.1,
+      λ olds before has are.
+          let w = subst (λ (l : List MemberTold). IsCountedUpto mark olds before all l c.loop-member.read) same (c.loop-member.invariant.4 olds before has are) in
+          let found = rw c.in-Some-2.is at c.in_ok-next.ensures.read mark olds (before ++ w.done) w.facts in
+          let sizes = rw c.in-Some-2.is at c.in_ok-next.ensures.sizes mark olds (before ++ w.done) w.facts w.sizes in
+          count_goes_on mark olds before all (member_told c.in-Some.member ∷ []) (later_of mark rest) c.loop-member.read c.in-Some-2.next w found.1 sizes,
     )
 
 pub returns-clause-read : goal.returns-clause-read
@@ -52,3 +58,10 @@ returns-clause-read c = λ olds before has.
     way_ends mark olds before (later_of mark c.args.members.items) (later_of mark c.loop-member.member-iterator.rest.items) c.loop-member.read
     (c.loop-member.invariant.3 olds before has) (ap (later_of mark) nothing) in
     (read.stored, read.facts)
+
+pub returns-clause-sizes : goal.returns-clause-sizes
+returns-clause-sizes c = λ olds before has are.
+    let mark = c.args.mark in
+    let nothing = none_left c.loop-member.member-iterator.rest.items (sym c.loop-member.member-iterator.rest.ok.0 ∙ c.in-None.ensures.steps.0) in
+    count_ends mark olds before (later_of mark c.args.members.items) (later_of mark c.loop-member.member-iterator.rest.items) c.loop-member.read
+    (c.loop-member.invariant.4 olds before has are) (ap (later_of mark) nothing)
