@@ -10,3 +10,4 @@ pub mod AnchorChains
 pub mod Following
 pub mod Sized
 pub mod Named
+pub mod Rows

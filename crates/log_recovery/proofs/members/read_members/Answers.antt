@@ -76,3 +76,9 @@ returns-clause-read c = λ olds writes.
     let read = chains_end c.args.mark olds c.args.chains.items c.loop-chain.chain-iterator.rest.items c.loop-chain.read
     (c.loop-chain.invariant.3 olds writes) nothing in
     (read.stored, read.facts)
+
+pub with_entry-requires-clause-is : goal.with_entry-requires-clause-is
+with_entry-requires-clause-is c =
+    let entry_is : c.in-Some.chain.entry ≡ c.chain.inside.entry = sym (ap (λ (x : PlacedChain). x.entry) c.chain.view_is) in
+    let each = subst (AllByRecursion (λ (d : PlacedChain). IsEntry c.loop-chain.invariant.0.0 d.entry)) c.in-Some.ensures.steps.0 c.loop-chain.invariant.0.1 in
+    (c.loop-chain.invariant.0.0, subst (IsEntry c.loop-chain.invariant.0.0) entry_is each.0)
