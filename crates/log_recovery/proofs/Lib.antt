@@ -11,3 +11,4 @@ pub mod Following
 pub mod Sized
 pub mod Named
 pub mod Rows
+pub mod Deciding

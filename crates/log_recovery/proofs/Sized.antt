@@ -22,7 +22,7 @@ placed-all most heap taken number end [] walked = tt
 placed-all most heap taken number end (c ∷ chains) walked =
     (walked.0.placed, placed-all most heap (taken ++ c.numbers) c.link end chains walked.1)
 
-follow-all : (mark : ℕ) (s : LogState) (chains : List PlacedChain) → MayAllComeBehind mark s chains
+pub follow-all : (mark : ℕ) (s : LogState) (chains : List PlacedChain) → MayAllComeBehind mark s chains
     → MayAllFollow mark s.last s.told (chains_told [] chains)
 follow-all mark s [] may = tt
 follow-all mark s (c ∷ chains) may = (may.0.rule, follow-all mark (state_behind mark s c.entry) chains may.1)

@@ -55,12 +55,16 @@ AreBasesSmall most chains = AllByRecursion (λ (c : PlacedChain). IsBaseSmall mo
 abbrev pub open_of : ℕ → ℕ → ℕ
 open_of archived told = if nat_lt archived told then 1 else 0
 
--- what is looked at of the end that was read: the flags of the extents, the end of the log, and the greatest number of bytes of a state's anchors
-pub record IsEnd (most heap_len next : ℕ) (flags : List Bool) (end : LogEnd) (chains : List PlacedChain) (greatest_len : ℕ) : Type 0 where
+-- what is looked at of the end that was read, its shares aside: the flags of the extents, and the end of the log
+pub record IsEndSeen (heap_len next : ℕ) (flags : List Bool) (end : LogEnd) : Type 0 where
   pub within : extent_start next + 1 ≤ heap_len
   pub free : IsFree flags next
   pub archived : end.mark ≤ end.archived
   pub spans : AreSpansApart (map run_span end.runs.items ++ map roll_part end.rolls.items)
+
+-- all of it, with the greatest number of bytes of a state's anchors
+pub record IsEnd (most heap_len next : ℕ) (flags : List Bool) (end : LogEnd) (chains : List PlacedChain) (greatest_len : ℕ) : Type 0 where
+  pub seen : IsEndSeen heap_len next flags end
   pub log : length (counted_in chains) + (1 + open_of end.archived (max end.mark end.last)) ≤ most / 2
   pub anchors : count_of greatest_len ≤ (3 * most) / 16
   pub base : AreBasesSmall most chains

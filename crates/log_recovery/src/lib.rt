@@ -4,6 +4,7 @@
 mod anchors;
 mod apart;
 mod chain;
+mod ending;
 mod members;
 mod members_read;
 mod opening;

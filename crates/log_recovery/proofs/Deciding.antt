@@ -80,10 +80,10 @@ end_decides most root heap chains next a end flags greatest_len holds number ran
     (
       λ ends. record {
         number = number;
-        within = ends.within;
-        apart = free.0 (subst (λ (u : List Bool). IsFree u next) flags_are ends.free);
-        archived = subst (λ (m : ℕ). mark ≤ m) is.says.archived_is (subst (λ (m : ℕ). m ≤ end.archived) is.says.mark_is ends.archived);
-        spans = rw (sym is.runs_are, sym is.rolls_are) ends.spans;
+        within = ends.seen.within;
+        apart = free.0 (subst (λ (u : List Bool). IsFree u next) flags_are ends.seen.free);
+        archived = subst (λ (m : ℕ). mark ≤ m) is.says.archived_is (subst (λ (m : ℕ). m ≤ end.archived) is.says.mark_is ends.seen.archived);
+        spans = rw (sym is.runs_are, sym is.rolls_are) ends.seen.spans;
         shares = record {
           log = omega (arith, ends.log, open_same);
           anchors = share.1 (subst (λ (n : ℕ). count_of n ≤ (3 * most) / 16) len_is ends.anchors);
@@ -91,10 +91,12 @@ end_decides most root heap chains next a end flags greatest_len holds number ran
         };
       },
       λ right. record {
-        within = right.within;
-        free = subst (λ (u : List Bool). IsFree u next) (sym flags_are) (free.1 right.apart);
-        archived = subst (λ (m : ℕ). m ≤ end.archived) (sym is.says.mark_is) (subst (λ (m : ℕ). mark ≤ m) (sym is.says.archived_is) right.archived);
-        spans = rw (is.runs_are, is.rolls_are) right.spans;
+        seen = record {
+          within = right.within;
+          free = subst (λ (u : List Bool). IsFree u next) (sym flags_are) (free.1 right.apart);
+          archived = subst (λ (m : ℕ). m ≤ end.archived) (sym is.says.mark_is) (subst (λ (m : ℕ). mark ≤ m) (sym is.says.archived_is) right.archived);
+          spans = rw (is.runs_are, is.rolls_are) right.spans;
+        };
         log = (let log = right.shares.log in omega (arith, log, open_same));
         anchors = subst (λ (n : ℕ). count_of n ≤ (3 * most) / 16) (sym len_is) (share.0 right.shares.anchors);
         base = right.shares.base;
