@@ -12,3 +12,4 @@ pub mod Sized
 pub mod Named
 pub mod Rows
 pub mod Deciding
+pub mod HeapRead

@@ -5,6 +5,8 @@ ghost use Rattle.std.specs.List.{AllByRecursion};
 ghost use Rattle.chains.specs.KeyWrites.{latest};
 ghost use Rattle.log_entries.specs.Ranges.{AreNone, AreSome};
 ghost use Rattle.log_recovery.specs.Chains.{HasEntry};
+ghost use Rattle.log_recovery.specs.Rules.{mark_of};
+ghost use Rattle.log_recovery.specs.Following.{IsEndOf};
 ghost use Rattle.log_recovery.specs.Anchored.{first_names, TakesAnchors, IsAnchorsFault};
 ghost use Rattle.log_extents.specs.Chains.{IsNumberOf};
 ghost use Rattle.recovery.specs.Answers.{after_reads};
@@ -43,6 +45,9 @@ fn read_rules<D: Disk>(
     requires len { IsTrue D.tells → heap.len ≡ length (D.state disk.old).areas.heap.bytes }
     requires most { heap.most < 2 ^ 32 }
     requires root { IsNumberOf heap.most root }
+    ensures entries { IfOk result (λ read. AllByRecursion (HasEntry heap.most) read.chains.items) }
+    ensures end { IfOk result (λ read. IsEndOf (mark_of read.chains.items) read.chains.items read.end) }
+    ensures next { IfOk result (λ read. IsNumberOf heap.most read.next) }
     ensures found { IsTrue D.tells → IfOk result (IsLogRead heap.most root (D.state disk.old).areas.heap.bytes) }
     ensures fault { IsTrue D.tells → IfErr result (IsHeapFault heap.most root (D.state disk.old).areas.heap.bytes) }
     ensures reads { D.state disk.new ≡ after_reads result (D.state disk.old) }
