@@ -58,8 +58,7 @@ free_is_new : (most next : ℕ) (chains : List PlacedChain) (a : PlacedAnchors) 
     → IsFree (all_used (uses_of most chains) a.numbers) next ↔ IsNew next (a.numbers ++ numbers_of chains)
 free_is_new most next chains a number range =
     let all = used_in_turn (replicate most false) (numbers_of chains) a.numbers in
-    let both = others_are_free most (numbers_of chains ++ a.numbers) next range in
-    (
+    let both = others_are_free most (numbers_of chains ++ a.numbers) next range in (
       λ free. new_turned next (numbers_of chains) a.numbers (both.0 (subst (λ (u : List Bool). IsFree u next) (sym all) free)).1,
       λ new. subst (λ (u : List Bool). IsFree u next) all (both.1 (number, new_turned next a.numbers (numbers_of chains) new)),
     )
@@ -76,8 +75,7 @@ end_decides most root heap chains next a end flags greatest_len holds number ran
     let told_same = told_is mark no_log chains in
     let free = free_is_new most next chains a number range in
     let share = unread-share most root heap chains next a holds ((3 * most) / 16) in
-    let open_same = open_is chains end is in
-    (
+    let open_same = open_is chains end is in (
       λ ends. record {
         number = number;
         within = ends.seen.within;

@@ -13,3 +13,4 @@ pub mod Named
 pub mod Rows
 pub mod Deciding
 pub mod HeapRead
+pub mod Past

@@ -120,8 +120,7 @@ rolls_all : (mark most : ℕ) (s : LogState) (chains : List PlacedChain) → All
 rolls_all mark most s [] each may = (tt, tt)
 rolls_all mark most s (c ∷ chains) each may =
     let rest = rolls_all mark most (state_behind mark s c.entry) chains each.1 may.1 in
-    let joined = map-append roll_part (rolls_in c.entry) (rolls_named chains) in
-    (
+    let joined = map-append roll_part (rolls_in c.entry) (rolls_named chains) in (
       rw joined (row_joined s.rolls_end (map roll_part (rolls_in c.entry)) (map roll_part (rolls_named chains)) may.0.rolls rest.0),
       rw joined (all_joined EndsEarly (map roll_part (rolls_in c.entry)) (map roll_part (rolls_named chains)) (early_in c.entry each.0) rest.1),
     )

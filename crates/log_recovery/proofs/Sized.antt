@@ -52,8 +52,7 @@ module _ (most root : ℕ) (heap : List ℕ) (chains : List PlacedChain) (next :
       let members : reading.members ≡ members_of_all (mark_of chains) chains = members-are (mark_of chains) chains in
       let is = most-bound (mark_of chains) reading unread-ordered bound in
       let n = anchors_len a.records in
-      let P : List Member → Type 0 = λ ms. count_of (greatest n (lens_behind n (values_of a.records) ms)) ≤ bound in
-      (
+      let P : List Member → Type 0 = λ ms. count_of (greatest n (lens_behind n (values_of a.records) ms)) ≤ bound in (
         λ each. subst P members (is.0 (λ time olds le are. each time olds (subst (λ (m : ℕ). m ≤ time) (sym unread-mark) le) are)),
         λ within time olds le are. is.1 (subst P (sym members) within) time olds (subst (λ (m : ℕ). m ≤ time) unread-mark le) are,
       )

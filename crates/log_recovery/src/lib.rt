@@ -3,6 +3,7 @@
 
 mod anchors;
 mod apart;
+mod archive_parts;
 mod chain;
 mod ending;
 mod members;

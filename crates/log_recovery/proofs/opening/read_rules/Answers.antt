@@ -7,11 +7,10 @@ use Rattle.log_recovery.specs.Opening.{FailsHeap, AtRule}
 use Rattle.log_recovery.proofs.opening.read_rules.Goals as goal
 
 pub check_rules-requires : goal.check_rules-requires
-check_rules-requires g c =
-    (
-      c.args.heap.most,
-      subst (AllByRecursion (λ (d : PlacedChain). IsEntry c.args.heap.most d.entry)) (sym c.deref.ensures.value) c.in-Ok.ensures.entries,
-    )
+check_rules-requires g c = (
+  c.args.heap.most,
+  subst (AllByRecursion (λ (d : PlacedChain). IsEntry c.args.heap.most d.entry)) (sym c.deref.ensures.value) c.in-Ok.ensures.entries,
+)
 
 pub returns-in-Breaks-clause-fault : goal.returns-in-Breaks-clause-fault
 returns-in-Breaks-clause-fault g c = λ told.

@@ -17,9 +17,8 @@ returns-in_default-clause-read c = λ mark olds before has.
 pub returns-clause-read : goal.returns-clause-read
 returns-clause-read c = λ mark olds before has.
     let found = rw c.in-Some.is at c.in_ok-versions.ensures.found in
-    let both = rw c.into_vec-records.ensures at found in
-    (
+    let both = rw c.into_vec-records.ensures at found in (
       member_stored mark olds before c.args.self c.args.member has both.0,
       facts_more mark olds before c.args.self _ c.args.member has c.requires.later c.requires.is.time_high refl
-      (ap (map name_told) c.in_ok-push.ensures.items ∙ map-append name_told c.args.self.commits.items _) both.1,
+          (ap (map name_told) c.in_ok-push.ensures.items ∙ map-append name_told c.args.self.commits.items _) both.1,
     )
