@@ -88,9 +88,9 @@ facts_before mark olds ms read has =
     let commits : History Value = commits_from (values_of olds) ms in
     let rising : HasRisingTimes mark commits = rising_commits mark (values_of olds) ms has.rising in
     fun_ext (λ key.
-        ap latest (has.writes key)
-        ∙ value_after-append None (old_writes olds key) (writes_of commits key) (2 ^ 63)
-        ∙ value_applied mark (values_of olds) commits key rising)
+    ap latest (has.writes key)
+    ∙ value_after-append None (old_writes olds key) (writes_of commits key) (2 ^ 63)
+    ∙ value_applied mark (values_of olds) commits key rising)
     ∙ applied_is (values_of olds) ms
 
 -- one member more

@@ -11,3 +11,7 @@ pub mod Following
 pub mod Sized
 pub mod Named
 pub mod Counting
+pub mod Rows
+pub mod Deciding
+pub mod HeapRead
+pub mod Past

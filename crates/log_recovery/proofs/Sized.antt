@@ -22,7 +22,7 @@ placed-all most heap taken number end [] walked = tt
 placed-all most heap taken number end (c ∷ chains) walked =
     (walked.0.placed, placed-all most heap (taken ++ c.numbers) c.link end chains walked.1)
 
-follow-all : (mark : ℕ) (s : LogState) (chains : List PlacedChain) → MayAllComeBehind mark s chains
+pub follow-all : (mark : ℕ) (s : LogState) (chains : List PlacedChain) → MayAllComeBehind mark s chains
     → MayAllFollow mark s.last s.told (chains_told [] chains)
 follow-all mark s [] may = tt
 follow-all mark s (c ∷ chains) may = (may.0.rule, follow-all mark (state_behind mark s c.entry) chains may.1)
@@ -52,8 +52,7 @@ module _ (most root : ℕ) (heap : List ℕ) (chains : List PlacedChain) (next :
       let members : reading.members ≡ members_of_all (mark_of chains) chains = members-are (mark_of chains) chains in
       let is = most-bound (mark_of chains) reading unread-ordered bound in
       let n = anchors_len a.records in
-      let P : List Member → Type 0 = λ ms. count_of (greatest n (lens_behind n (values_of a.records) ms)) ≤ bound in
-      (
+      let P : List Member → Type 0 = λ ms. count_of (greatest n (lens_behind n (values_of a.records) ms)) ≤ bound in (
         λ each. subst P members (is.0 (λ time olds le are. each time olds (subst (λ (m : ℕ). m ≤ time) (sym unread-mark) le) are)),
         λ within time olds le are. is.1 (subst P (sym members) within) time olds (subst (λ (m : ℕ). m ≤ time) unread-mark le) are,
       )

@@ -20,12 +20,11 @@ behind_place place low (s ∷ spans) le row =
 -- so they are apart
 pub row_is_apart : (place : ℕ) (spans : List Span) → AreSpansInRow place spans → AreSpansApart spans
 row_is_apart place [] row = tt
-row_is_apart place (s ∷ spans) row =
-    (
-      weaker (λ (t : Span). s.start + s.len ≤ t.start) (ShareNoByte s) spans (λ t le. inr (inr (inl le)))
+row_is_apart place (s ∷ spans) row = (
+  weaker (λ (t : Span). s.start + s.len ≤ t.start) (ShareNoByte s) spans (λ t le. inr (inr (inl le)))
       (behind_place (s.start + s.len) (s.start + s.len) spans (omega arith) row.1),
-      row_is_apart (s.start + s.len) spans row.1,
-    )
+  row_is_apart (s.start + s.len) spans row.1,
+)
 
 -- one after the other, and the first ones with the others
 pub joined_apart : (spans others : List Span) → AreSpansApart spans → AreSpansApart others → AreCross spans others → AreSpansApart (spans ++ others)

@@ -4,6 +4,7 @@ use Rattle.std.specs.List.{AllByRecursion}
 use Rattle.disk.specs.Parts.{HoldsPart}
 use Rattle.deltas.specs.Extents.{extent_start}
 use Rattle.log_extents.specs.Chains.{first_or, AreDistinct}
+use Rattle.log_entries.specs.Ranges.{IsEntry}
 use Rattle.log_writer.specs.Turns.{open_gate, extent_part}
 use Rattle.log_space.specs.Uses.{all_used}
 use Rattle.law_log_layout.specs.Turns.{HoldsAll}
@@ -41,6 +42,10 @@ pub record FailsChain (most root : ℕ) (heap : List ℕ) (place : ℕ) : Type 0
   pub walked : AreWalked most heap [] root front place
   pub opened : HasOpenGate heap place
   pub none : (c : PlacedChain) → ¬ IsRightChain most heap (numbers_of front) place c
+
+-- what the chain says is in its ranges
+abbrev pub HasEntry : ℕ → PlacedChain → Type 0
+HasEntry most c = IsEntry most c.entry
 
 -- ---- one chain
 

@@ -1,14 +1,16 @@
 -- Where the log ends, and its shares of the heap.
-use Rattle.std.specs.Prelude.{ℕ, ◌≡◌, ◌+◌, ◌<◌, ◌≤◌, ◌^◌, List, [], ◌∷◌, ◌++◌, length, map, flat_map}
+use Rattle.std.specs.Prelude.{ℕ, ◌≡◌, ◌+◌, ◌<◌, ◌≤◌, ◌^◌, ◌*◌, ◌/◌, max, nat_lt, if◌then◌else◌, Bool, List, [], ◌∷◌, ◌++◌, length, map, flat_map}
 use Rattle.std.specs.List.{AllByRecursion}
 use Rattle.wire.specs.declared.slot.Run.{Run}
 use Rattle.law_image.specs.Reading.{Reading}
 use Rattle.law_image.specs.Log.{archive_mark}
 use Rattle.law_log.specs.Chains.{reading_of}
 use Rattle.deltas.specs.Extents.{extent_start}
-use Rattle.log_extents.specs.Chains.{IsNumberOf, IsNew}
+use Rattle.log_extents.specs.Chains.{count_of, IsNumberOf, IsNew}
 use Rattle.log_entries.specs.declared.entry.Roll.{Roll}
 use Rattle.law_log_layout.specs.HeapLog.{PlacedChain, PlacedAnchors, HeapLog, Span, run_span, chains_told, runs_from, rolls_in, AreSpansApart, KeepsShares, counted_of, IsBaseSmall}
+use Rattle.log_space.specs.Uses.{IsFree}
+use Rattle.log_recovery.specs.declared.rules.LogEnd.{LogEnd}
 use Rattle.log_recovery.specs.Chains.{numbers_of}
 use Rattle.log_recovery.specs.Rules.{roll_part, mark_of, no_log, state_from}
 
@@ -48,3 +50,21 @@ counted_in chains = flat_map (λ (c : PlacedChain). counted_of c.numbers c.entry
 -- each base has room for one roll more
 abbrev pub AreBasesSmall : ℕ → List PlacedChain → Type 0
 AreBasesSmall most chains = AllByRecursion (λ (c : PlacedChain). IsBaseSmall most c.entry) chains
+
+-- 1 where not all that is told is archived
+abbrev pub open_of : ℕ → ℕ → ℕ
+open_of archived told = if nat_lt archived told then 1 else 0
+
+-- what is looked at of the end that was read, its shares aside: the flags of the extents, and the end of the log
+pub record IsEndSeen (heap_len next : ℕ) (flags : List Bool) (end : LogEnd) : Type 0 where
+  pub within : extent_start next + 1 ≤ heap_len
+  pub free : IsFree flags next
+  pub archived : end.mark ≤ end.archived
+  pub spans : AreSpansApart (map run_span end.runs.items ++ map roll_part end.rolls.items)
+
+-- all of it, with the greatest number of bytes of a state's anchors
+pub record IsEnd (most heap_len next : ℕ) (flags : List Bool) (end : LogEnd) (chains : List PlacedChain) (greatest_len : ℕ) : Type 0 where
+  pub seen : IsEndSeen heap_len next flags end
+  pub log : length (counted_in chains) + (1 + open_of end.archived (max end.mark end.last)) ≤ most / 2
+  pub anchors : count_of greatest_len ≤ (3 * most) / 16
+  pub base : AreBasesSmall most chains

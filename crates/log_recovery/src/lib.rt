@@ -3,7 +3,9 @@
 
 mod anchors;
 mod apart;
+mod archive_parts;
 mod chain;
+mod ending;
 mod members;
 mod members_read;
 mod opening;

@@ -6,11 +6,12 @@ ghost use Rattle.chains.specs.KeyWrites.{latest};
 ghost use Rattle.law_image.specs.Reading.{Member as MemberTold, OldRecord};
 ghost use Rattle.law_image.specs.Log.{AreRisingAfter, last_time_after};
 ghost use Rattle.law_image.specs.Facts.{AreStored};
-ghost use Rattle.law_log_layout.specs.HeapLog.{member_told, PlacedChain};
+ghost use Rattle.law_log_layout.specs.HeapLog.{member_told};
 ghost use Rattle.log_entries.specs.Ranges.{IsMember, IsEntry};
 ghost use Rattle.log_extents.specs.Chains.{first_or};
 ghost use Rattle.law_log_sizes.specs.Sizes.{anchors_len};
 ghost use Rattle.log_sizes.specs.Counted.{AreSizes, AreSizesBehind};
+ghost use Rattle.log_recovery.specs.Chains.{HasEntry};
 ghost use Rattle.log_recovery.specs.Members.{later_of, later_in, heads_told, HasFacts, values_behind, values_of, members_of_all, AreAllStored, IsMembersFault, live_told, lives_of, last_in, AreWritesOf};
 
 use crate::chain::LogChain;
@@ -175,7 +176,7 @@ pub(crate) fn read_members(
     len: u64,
     chains: Vec<LogChain>,
 ) -> Result<LogMembers, OpenFault>
-    requires entries { (most : ℕ) × AllByRecursion (λ (c : PlacedChain). IsEntry most c.entry) chains.items }
+    requires entries { (most : ℕ) × AllByRecursion (HasEntry most) chains.items }
     requires rising { AreRisingAfter mark (heads_told (members_of_all mark chains.items)) }
     requires anchors { latest anchors ≤ mark }
     ensures read { (olds : List OldRecord) → AreWritesOf olds anchors → IfOk result (λ log. AreAllStored mark (values_of olds) chains.items × HasFacts mark olds (members_of_all mark chains.items) log.read) }

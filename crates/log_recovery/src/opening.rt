@@ -3,8 +3,10 @@
 ghost use Rattle.std.specs.Prelude.{◌≡◌, ◌⊎◌, ◌<◌, ◌≤◌, ◌^◌, IsTrue, IfOk, IfErr, IfSome, length, option_to_list};
 ghost use Rattle.std.specs.List.{AllByRecursion};
 ghost use Rattle.chains.specs.KeyWrites.{latest};
-ghost use Rattle.log_entries.specs.Ranges.{AreNone, AreSome, IsEntry};
-ghost use Rattle.law_log_layout.specs.HeapLog.{PlacedChain};
+ghost use Rattle.log_entries.specs.Ranges.{AreNone, AreSome};
+ghost use Rattle.log_recovery.specs.Chains.{HasEntry};
+ghost use Rattle.log_recovery.specs.Rules.{mark_of};
+ghost use Rattle.log_recovery.specs.Following.{IsEndOf};
 ghost use Rattle.log_recovery.specs.Anchored.{first_names, TakesAnchors, IsAnchorsFault};
 ghost use Rattle.log_extents.specs.Chains.{IsNumberOf};
 ghost use Rattle.recovery.specs.Answers.{after_reads};
@@ -43,6 +45,9 @@ fn read_rules<D: Disk>(
     requires len { IsTrue D.tells → heap.len ≡ length (D.state disk.old).areas.heap.bytes }
     requires most { heap.most < 2 ^ 32 }
     requires root { IsNumberOf heap.most root }
+    ensures entries { IfOk result (λ read. AllByRecursion (HasEntry heap.most) read.chains.items) }
+    ensures end { IfOk result (λ read. IsEndOf (mark_of read.chains.items) read.chains.items read.end) }
+    ensures next { IfOk result (λ read. IsNumberOf heap.most read.next) }
     ensures found { IsTrue D.tells → IfOk result (IsLogRead heap.most root (D.state disk.old).areas.heap.bytes) }
     ensures fault { IsTrue D.tells → IfErr result (IsHeapFault heap.most root (D.state disk.old).areas.heap.bytes) }
     ensures reads { D.state disk.new ≡ after_reads result (D.state disk.old) }
@@ -64,7 +69,7 @@ fn read_rules<D: Disk>(
 
 // The anchors that the first chain names, if it is a base.
 fn anchors_name(most: u32, chains: &[LogChain]) -> Option<AnchorName>
-    requires { AllByRecursion (λ (c : PlacedChain). IsEntry most c.entry) chains.now }
+    requires { AllByRecursion (HasEntry most) chains.now }
     ensures is { option_to_list result ≡ first_names chains.now }
     ensures in_range { IfSome result (λ name. AreNone name ⊎ AreSome most name) }
 {
@@ -91,7 +96,7 @@ fn read_base<D: Disk>(
     requires len { IsTrue D.tells → heap.len ≡ length (D.state disk.old).areas.heap.bytes }
     requires most { heap.most < 2 ^ 32 }
     requires mark { mark < 2 ^ 63 }
-    requires entries { AllByRecursion (λ (c : PlacedChain). IsEntry heap.most c.entry) chains.now }
+    requires entries { AllByRecursion (HasEntry heap.most) chains.now }
     ensures found { IsTrue D.tells → IfOk result (TakesAnchors heap.most mark (D.state disk.old).areas.heap.bytes space.old space.new (first_names chains.now)) }
     ensures latest { IfOk result (λ read. latest read.versions ≤ mark) }
     ensures fault { IsTrue D.tells → IfErr result (IsAnchorsFault heap.most mark (D.state disk.old).areas.heap.bytes space.old (first_names chains.now)) }

@@ -209,8 +209,8 @@ impl LogEnd {
         }
     }
 
-    // The last time that was told of.
-    fn told_time(&self) -> u64
+    /// The last time that was told of: that of the last commit, or the reclaim mark if that is later.
+    pub fn told_time(&self) -> u64
         ensures { result ≡ max self.now.mark self.now.last }
     {
         self.mark.max(self.last)

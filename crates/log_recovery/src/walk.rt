@@ -5,11 +5,10 @@ ghost use Rattle.disk.specs.declared.area.Area.TheVariants.{Heap};
 ghost use Rattle.log_extents.specs.Chains.{IsNumberOf};
 ghost use Rattle.std.specs.List.{AllByRecursion};
 ghost use Rattle.log_entries.specs.Ranges.{IsEntry};
-ghost use Rattle.law_log_layout.specs.HeapLog.{PlacedChain};
 ghost use Rattle.recovery.specs.Answers.{after_reads};
 ghost use Rattle.recovery.specs.Faults.{IsReadFault};
 ghost use Rattle.log_recovery.specs.Taking.{free_left};
-ghost use Rattle.log_recovery.specs.Chains.{HasOpenGate, HasNoLogChain, TakesChain, HoldsChains, uses_of};
+ghost use Rattle.log_recovery.specs.Chains.{HasOpenGate, HasNoLogChain, TakesChain, HoldsChains, uses_of, HasEntry};
 ghost use Rattle.log_recovery.specs.Opening.{IsChainFault};
 
 use crate::chain::LogChain;
@@ -97,7 +96,7 @@ pub(crate) fn read_chains<D: Disk>(
     requires root { IsNumberOf heap.most root }
     ensures chains { IsTrue D.tells → IfOk result (λ read. HoldsChains heap.most root (D.state disk.old).areas.heap.bytes read.chains.items read.next) }
     ensures space { IsTrue D.tells → IfOk result (λ read. read.space ≡ uses_of heap.most read.chains.items) }
-    ensures entries { IfOk result (λ read. AllByRecursion (λ (c : PlacedChain). IsEntry heap.most c.entry) read.chains.items) }
+    ensures entries { IfOk result (λ read. AllByRecursion (HasEntry heap.most) read.chains.items) }
     ensures next { IfOk result (λ read. IsNumberOf heap.most read.next) }
     ensures fault { IsTrue D.tells → IfErr result (IsChainFault heap.most root (D.state disk.old).areas.heap.bytes) }
     ensures reads { D.state disk.new ≡ after_reads result (D.state disk.old) }

@@ -9,8 +9,7 @@ use Rattle.log_recovery.proofs.apart.are_apart.Goals as goal
 
 pub returns-in_default-split_first : goal.returns-in_default-split_first
 returns-in_default-split_first c =
-    let none = ap (map roll_part) (none_left c.loop-run.rolls_left.now c.in_default-split_first.ensures.cases) in
-    (
+    let none = ap (map roll_part) (none_left c.loop-run.rolls_left.now c.in_default-split_first.ensures.cases) in (
       λ yes. left_ends (map run_span c.args.runs.now) (map roll_part c.args.rolls.now) (map run_span c.loop-run.runs_left.now)
           (map roll_part c.loop-run.rolls_left.now) c.requires.runs c.requires.rolls c.loop-run.invariant (inr none),
       λ apart. refl,
@@ -47,8 +46,7 @@ returns-else-ends_by-2 c =
     let first = c.in-Some.ensures.cases.0 in
     let second = c.in-Some-split_first.ensures.cases.0 in
     let left = subst (λ (l : List Run). AreLeft runs rolls (map run_span l) (map roll_part c.loop-run.rolls_left.now)) first c.loop-run.invariant in
-    let both = subst (λ (l : List Roll). AreLeft runs rolls (map run_span (c.in-Some.run'.now ∷ c.in-Some.after_run.now)) (map roll_part l)) second left in
-    (
+    let both = subst (λ (l : List Roll). AreLeft runs rolls (map run_span (c.in-Some.run'.now ∷ c.in-Some.after_run.now)) (map roll_part l)) second left in (
       λ no. (let absurdity = no in cc),
       λ apart. absurd (left_fails runs rolls (run_span c.in-Some.run'.now) (map run_span c.in-Some.after_run.now) (roll_part c.in-Some-split_first.roll.now)
           (map roll_part c.in-Some-split_first.after_roll.now) both (λ is. (let absurdity = c.if-ends_by.ensures.1 is in cc))
@@ -57,8 +55,7 @@ returns-else-ends_by-2 c =
 
 pub returns : goal.returns
 returns c =
-    let none = ap (map run_span) (none_left c.loop-run.runs_left.now c.in_default.ensures.cases) in
-    (
+    let none = ap (map run_span) (none_left c.loop-run.runs_left.now c.in_default.ensures.cases) in (
       λ yes. left_ends (map run_span c.args.runs.now) (map roll_part c.args.rolls.now) (map run_span c.loop-run.runs_left.now)
           (map roll_part c.loop-run.rolls_left.now) c.requires.runs c.requires.rolls c.loop-run.invariant (inl none),
       λ apart. refl,

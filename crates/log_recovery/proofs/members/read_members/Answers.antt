@@ -32,13 +32,6 @@ loop-chain-init c =
       c.behind-read.ensures.commits c.behind-read.ensures.last len_is c.behind-read.ensures.sizes),
     )
 
-pub with_entry-requires-clause-is : goal.with_entry-requires-clause-is
-with_entry-requires-clause-is c =
-    let entry_is : c.in-Some.chain.entry ≡ c.chain.inside.entry = sym (ap (λ (x : PlacedChain). x.entry) c.chain.view_is) in
-    let most = c.loop-chain.invariant.0.0 in
-    let each = subst (AllByRecursion (λ (d : PlacedChain). IsEntry most d.entry)) c.in-Some.ensures.steps.0 c.loop-chain.invariant.0.1 in
-    (most, subst (IsEntry most) entry_is each.0)
-
 pub with_entry-requires-clause-rising : goal.with_entry-requires-clause-rising
 with_entry-requires-clause-rising c =
     let last = c.loop-chain.read.last in
@@ -79,21 +72,20 @@ loop-chain-preserved c =
     let last_is : c.in-Some-2.next.last ≡ last_time_after last (heads_told (later_in mark c.in-Some.chain.entry)) =
     next_last ∙ ap (λ (e : Entry). last_time_after last (heads_told (later_in mark e))) (sym entry_is) in
     let one : (c.last_commit-time.result, c.chain.inside.numbers.items) ≡ (last_in c.in-Some.chain.entry, c.in-Some.chain.numbers) =
-    λ i. ((c.last_commit-time.ensures ∙ ap last_in (sym entry_is)) i, sym numbers_are i) in
-    (
+    λ i. ((c.last_commit-time.ensures ∙ ap last_in (sym entry_is)) i, sym numbers_are i) in (
       (c.loop-chain.invariant.0.0, placed.1),
       subst (λ (n : ℕ). AreRisingAfter n (heads_told (members_of_all mark left))) (sym last_is) turn.others,
       ap (λ l. map live_told l ++ lives_of left) c.in_ok-push.ensures.items
-      ∙ ap (λ l. l ++ lives_of left) (map-append live_told c.loop-chain.live.items _)
-      ∙ append_assoc (map live_told c.loop-chain.live.items) _ (lives_of left)
-      ∙ ap (λ (p : ℕ × List ℕ). map live_told c.loop-chain.live.items ++ p ∷ lives_of left) one
-      ∙ ap (λ (l : List PlacedChain). map live_told c.loop-chain.live.items ++ lives_of l) (sym first)
-      ∙ c.loop-chain.invariant.2,
+          ∙ ap (λ l. l ++ lives_of left) (map-append live_told c.loop-chain.live.items _)
+          ∙ append_assoc (map live_told c.loop-chain.live.items) _ (lives_of left)
+          ∙ ap (λ (p : ℕ × List ℕ). map live_told c.loop-chain.live.items ++ p ∷ lives_of left) one
+          ∙ ap (λ (l : List PlacedChain). map live_told c.loop-chain.live.items ++ lives_of l) (sym first)
+          ∙ c.loop-chain.invariant.2,
       λ olds writes.
           let w = subst (λ (l : List PlacedChain). AreUnderWay mark olds all l c.loop-chain.read) first (c.loop-chain.invariant.3 olds writes) in
           let found = rw c.in-Some-2.is at c.in_ok-next.ensures.read olds w.done w.facts in
           let same = subst (λ (e : Entry). AreStored (values_behind (values_of olds) w.done) (later_in mark e)
-              × HasFacts mark olds (w.done ++ later_in mark e) c.in-Some-2.next) (sym entry_is) found in
+          × HasFacts mark olds (w.done ++ later_in mark e) c.in-Some-2.next) (sym entry_is) found in
           chain_more mark olds all left c.in-Some.chain c.loop-chain.read c.in-Some-2.next w same.0 same.1,
       λ olds writes len_is.
           let w = subst (λ (l : List PlacedChain). IsCountedUpto mark olds [] (members_of_all mark all) (members_of_all mark l) c.loop-chain.read) first
@@ -118,3 +110,9 @@ returns-clause-sizes c = λ olds writes len_is.
     let nothing = none_left c.loop-chain.chain-iterator.rest.items (sym c.loop-chain.chain-iterator.rest.ok.0 ∙ c.in-None.ensures.steps.0) in
     count_ends mark olds [] (members_of_all mark c.args.chains.items) (members_of_all mark c.loop-chain.chain-iterator.rest.items) c.loop-chain.read
     (c.loop-chain.invariant.4 olds writes len_is) (ap (members_of_all mark) nothing)
+
+pub with_entry-requires-clause-is : goal.with_entry-requires-clause-is
+with_entry-requires-clause-is c =
+    let entry_is : c.in-Some.chain.entry ≡ c.chain.inside.entry = sym (ap (λ (x : PlacedChain). x.entry) c.chain.view_is) in
+    let each = subst (AllByRecursion (λ (d : PlacedChain). IsEntry c.loop-chain.invariant.0.0 d.entry)) c.in-Some.ensures.steps.0 c.loop-chain.invariant.0.1 in
+    (c.loop-chain.invariant.0.0, subst (IsEntry c.loop-chain.invariant.0.0) entry_is each.0)

@@ -42,10 +42,10 @@ loop-heap-preserved g c = (
       (reading_goes_on c.args.kind c.args.heap.most c.args.number heap c.args.space.now c.loop-heap.space c.loop-heap.reader c.take.new.self c.loop-heap.next
       c.in-More.another c.read_into.new.image (c.loop-heap.invariant.1 told) c.read_into.array_long (omega (arith, there.0, len)) there.1 read more),
   (
-    let there = c.loop-heap-test.ensures.claimed.0 refl in
-    subst (λ (u : List Bool). free_left u ≤ free_left c.args.space.now) (sym c.loop-heap-test.ensures.used)
-    (omega (arith, fewer_free c.loop-heap.space c.loop-heap.next there.1, c.loop-heap.invariant.2))
-  ),
+      let there = c.loop-heap-test.ensures.claimed.0 refl in
+      subst (λ (u : List Bool). free_left u ≤ free_left c.args.space.now) (sym c.loop-heap-test.ensures.used)
+      (omega (arith, fewer_free c.loop-heap.space c.loop-heap.next there.1, c.loop-heap.invariant.2))
+      ),
   (let more = rw c.in-More.is at c.in_ok-another.ensures.taken in more.same.kind ∙ c.loop-heap.invariant.3),
   (let more = rw c.in-More.is at c.in_ok-another.ensures.taken in more.same.most ∙ c.loop-heap.invariant.4),
 )

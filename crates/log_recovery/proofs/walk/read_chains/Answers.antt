@@ -30,13 +30,12 @@ loop-chains-preserved g c =
     let link_is : c.in-Some.chain.link ≡ c.chain.inside.link = sym (ap (λ (x : PlacedChain). x.link) c.chain.view_is) in
     let link : IsNumberOf c.args.heap.most c.in-Some.chain.link = rw c.in-Some.is at c.in_ok-chain.ensures.link in
     let looked : g.D.Disk.state c.has_open_gate.new.disk ≡ g.D.Disk.state c.args.disk.now =
-    c.in_ok-has_open_gate.ensures.reads ∙ c.loop-chains.invariant.0 in
-    (
+    c.in_ok-has_open_gate.ensures.reads ∙ c.loop-chains.invariant.0 in (
       c.in_ok-chain.ensures.reads ∙ looked,
       subst (IsNumberOf c.args.heap.most) link_is link,
       subst (AllByRecursion (λ (d : PlacedChain). IsEntry c.args.heap.most d.entry)) (sym c.in_ok-push.ensures.items)
-      (all_joined (λ (d : PlacedChain). IsEntry c.args.heap.most d.entry) c.loop-chains.chains.items (c.in-Some.chain ∷ []) c.loop-chains.invariant.2
-      (rw c.in-Some.is at c.in_ok-chain.ensures.entry, tt)),
+          (all_joined (λ (d : PlacedChain). IsEntry c.args.heap.most d.entry) c.loop-chains.chains.items (c.in-Some.chain ∷ []) c.loop-chains.invariant.2
+          (rw c.in-Some.is at c.in_ok-chain.ensures.entry, tt)),
       λ told.
           let heap = (g.D.Disk.state c.args.disk.now).areas.heap.bytes in
           let takes : TakesChain c.args.heap.most heap c.loop-chains.next c.loop-chains.space c.read_log_chain.new.space c.in-Some.chain =

@@ -9,9 +9,9 @@ use Rattle.log_recovery.proofs.members_read.MembersRead.with_entry.Goals as goal
 pub returns-in-Group-clause-read : goal.returns-in-Group-clause-read
 returns-in-Group-clause-read c = λ olds before has.
     rw c.in-Group.is (
-      subst (λ (l : List Member). IfOk c.with_group.result (λ o. MatchOption o (¬ AreStored (values_behind (values_of olds) before) (later_of c.args.mark l))
-          (λ next. AreStored (values_behind (values_of olds) before) (later_of c.args.mark l) × HasFacts c.args.mark olds (before ++ later_of c.args.mark l) next)))
-      c.into_vec.ensures (c.with_group.ensures.read olds before has))
+    subst (λ (l : List Member). IfOk c.with_group.result (λ o. MatchOption o (¬ AreStored (values_behind (values_of olds) before) (later_of c.args.mark l))
+    (λ next. AreStored (values_behind (values_of olds) before) (later_of c.args.mark l) × HasFacts c.args.mark olds (before ++ later_of c.args.mark l) next)))
+    c.into_vec.ensures (c.with_group.ensures.read olds before has))
 
 pub returns-in-Group-clause-sizes : goal.returns-in-Group-clause-sizes
 returns-in-Group-clause-sizes c = λ olds before has are.

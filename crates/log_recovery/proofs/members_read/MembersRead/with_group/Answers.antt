@@ -33,12 +33,11 @@ loop-member-preserved-then-mark-member c =
     ap (later_of mark) c.in-Some.ensures.steps.0 ∙ later_kept mark c.in-Some.member rest late in
     let last_is : c.in-Some-2.next.last ≡ c.in-Some.member.time = rw c.in-Some-2.is at c.in_ok-next.ensures.last in
     let each = subst (AllByRecursion IsMember) c.in-Some.ensures.steps.0 c.loop-member.invariant.0 in
-    let rising = subst (λ (l : List MemberTold). AreRisingAfter c.loop-member.read.last (heads_told l)) same c.loop-member.invariant.1 in
-    (
+    let rising = subst (λ (l : List MemberTold). AreRisingAfter c.loop-member.read.last (heads_told l)) same c.loop-member.invariant.1 in (
       each.1,
       subst (λ (n : ℕ). AreRisingAfter n (heads_told (later_of mark rest))) (sym last_is) rising.2,
       ap (λ (n : ℕ). last_time_after n (heads_told (later_of mark rest))) last_is
-      ∙ sym (ap (λ (l : List MemberTold). last_time_after c.loop-member.read.last (heads_told l)) same) ∙ c.loop-member.invariant.2,
+          ∙ sym (ap (λ (l : List MemberTold). last_time_after c.loop-member.read.last (heads_told l)) same) ∙ c.loop-member.invariant.2,
       λ olds before has.
           let w = subst (λ (l : List MemberTold). IsUnderWay mark olds before all l c.loop-member.read) same (c.loop-member.invariant.3 olds before has) in
           let found = rw c.in-Some-2.is at c.in_ok-next.ensures.read mark olds (before ++ w.done) w.facts in
