@@ -40,6 +40,14 @@
 extern "C" {
 #endif
 
+/* The version of these headers, and of the library that is loaded. The first number, which is that of the shared
+   library's name, rises where a function, a type, a code or what one means is changed or taken away, the second where
+   something is added, the third where neither is. Which files a version reads is another matter: all that earlier ones
+   wrote. */
+#define TIMESTORE_VERSION "1.0.0"
+#define TIMESTORE_VERSION_NUMBER 10000 /* 10,000 times the first number, 100 times the second, and the third */
+const char *timestore_version(void);
+
 /* A handle: an open store, or none. */
 typedef struct ts {
     void *at;

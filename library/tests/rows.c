@@ -1,6 +1,8 @@
 /* What the calls answer, on a store in files: rows FOLDER, an empty one. */
 #define _GNU_SOURCE
 #include "check.h"
+#include "faults.h"
+#include <errno.h>
 #include <fcntl.h>
 #include <sys/stat.h>
 #include <unistd.h>
@@ -369,7 +371,7 @@ static void test_two_stores(ts_file *file, const char *folder) {
     CHECK(TS_UNKNOWN, ts_give_up(h, ticket));
     CHECK(TS_OK, ts_give_up(h2, ticket));
     /* The view of what was published before a refused call is of its own store too. */
-    ts_file_refuse(other, 1);
+    faults_refuse(1, EIO);
     CHECK(TS_FAILED, ts_file_flush(other));
     CHECK(TS_OK, ts_view(h2, &view));
     CHECK(TS_NOT_YET, ts_recent(h2, view.a, 1, 7, 2, out, sizeof out, &info));

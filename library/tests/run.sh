@@ -34,11 +34,15 @@ passes() {
     fi
 }
 
+# Stands between what is tested and the system.
+gcc -std=c11 -Wall -Wextra -g -O1 -fPIC -c "$here/faults.c" -o "$work/faults.o"
+gcc -shared "$work/faults.o" -o "$work/faults.so"
+
 build() { # NAME FLAGS..
     local name=$1
     shift
     # shellcheck disable=SC2086
-    gcc $warnings "$@" "$top/src/timestore_file.c" "$top/src/timestore_text.c" -o "$work/$name" "$out/libtimestore.a"
+    gcc $warnings "$@" "$top"/src/*.c "$work/faults.o" -o "$work/$name" "$out/libtimestore.a"
 }
 
 sanitized="-fsanitize=address,undefined -fno-sanitize-recover=all"
@@ -47,7 +51,7 @@ if ! { echo 'int main(void){return 0;}' | gcc -x c - $sanitized -o "$work/probe"
     echo "gcc's sanitizers do not run here: the tests run without"
     sanitized=""
 fi
-for test in rows worked refused memory; do
+for test in rows worked refused memory lost reads forks; do
     say "C, $test${sanitized:+ (address, undefined, leak)}"
     wrapped=
     [ "$test" != memory ] || wrapped="-Wl,--wrap=malloc,--wrap=calloc,--wrap=realloc"
@@ -61,6 +65,17 @@ for test in rows worked refused memory; do
         exit 1
     fi
 done
+
+say "C, causes${sanitized:+ (address, undefined, leak)}"
+# shellcheck disable=SC2086
+build causes $sanitized "$here/causes.c"
+mkdir "$work/causes-folder" "$work/small"
+if mount -t tmpfs -o size=40k none "$work/small" 2> /dev/null; then
+    passes "$work/causes" "$work/causes-folder" "$work/small"
+    umount "$work/small"
+else
+    "$work/causes" "$work/causes-folder" && echo "ok, but for a full disk: no file system can be mounted here"
+fi
 
 if command -v valgrind > /dev/null; then
     say "C, rows (valgrind, which sees the proved part too)"
