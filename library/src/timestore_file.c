@@ -1,4 +1,5 @@
 /* A host of timestore for three files of a folder. */
+#define _GNU_SOURCE
 #include "files.h"
 #include <pthread.h>
 #include <stdatomic.h>
@@ -326,7 +327,7 @@ int32_t ts_file_delete(ts_file *file, uint16_t relation, uint64_t record, uint64
 
 /* A view of what is published now, and the time of its last commit. */
 static int32_t view_now(ts_file *file, uint64_t *view, uint64_t *last) {
-    ts_info info;
+    ts_info info = {0, 0};
     int32_t code = ts_last(&file->store, &info);
     *last = info.a;
     if (code == TS_OK) code = ts_view(&file->store, &info);

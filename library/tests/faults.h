@@ -11,6 +11,10 @@ void faults_refuse(uint64_t call, int number);
 /* All reads of this thread from now on are refused with this errno; 0 for none. */
 void faults_refuse_reads(int number);
 
+/* Of the growths of memory of this thread from now on the one of this number, from 1, is refused; 0 for none. Only
+   what is preloaded has it. */
+void faults_refuse_memory(uint64_t growth);
+
 /* A device that loses what a refused sync was to keep: until faults_stop the system has it in memory, as clean pages.
    What is not on the disk is noted from now on. */
 void faults_lose(void);
