@@ -12,8 +12,10 @@
  *
  * What the host must uphold, which nothing checks:
  *   1. Three areas of bytes that nobody else writes: status, heap and archive. Each is synced before ts_open
- *      is given its bytes, which stay as they are until ts_open returns, and are not used after it. So do those
- *      of the archive that a query is lent: all that was written to that area so far, from its first byte on.
+ *      is given its bytes, as the device has them: after a sync that failed a system may have more of them in
+ *      memory. They stay as they are until ts_open returns, and are not used after it. Of the archive ts_open asks
+ *      the length alone. The bytes of the archive that a query is lent stay as long as it: all that was written to
+ *      that area so far, from its first byte on.
  *   2. A write goes to that area and place whole, and a gap before it reads as zeros. A sync returns once
  *      what was written to that area outlasts a stop (fdatasync). They are made in the order told, each
  *      before ts_called says that it was. Of a write that was refused any part may have been made.

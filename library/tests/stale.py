@@ -23,7 +23,7 @@ class Disk:
         self.place.mkdir()
         with self.image.open("wb") as image:
             image.truncate(1 << 24)
-        subprocess.run(["mkfs.ext4", "-q", "-F", "-O", "^has_journal", self.image], check=True)
+        subprocess.run(["mkfs.ext4", "-q", "-F", "-b", str(PAGE), "-O", "^has_journal", self.image], check=True)
 
     def __enter__(self) -> "Disk":
         subprocess.run(["mount", "-o", "loop", self.image, self.place], check=True, capture_output=True)

@@ -1,6 +1,9 @@
 """What calls are refused with, each by its code."""
 
-from typing import Any
+from typing import TYPE_CHECKING
+
+if TYPE_CHECKING:
+    from . import Ticket
 
 
 class Refused(Exception):
@@ -32,12 +35,10 @@ FAULTS: dict[int, type[Refused]] = {}
 
 
 class Waiting(Refused, code=2):
-    """Memory was refused amid a commit, which waits: a later flush publishes it.
+    """Memory was refused amid a commit, which waits: a later flush publishes it. `ticket` is the
+    commit's."""
 
-    Where `Transaction.commit` raised it, `ticket` is the commit's `Ticket`.
-    """
-
-    ticket: Any = None
+    ticket: "Ticket"
 
 
 class InDoubt(Refused, code=4):
