@@ -128,7 +128,7 @@ if command -v pkg-config > /dev/null; then # what Python takes too
     versions() {
         env LD_LIBRARY_PATH="$work/installed/lib" "$work/version"
         pkg-config --modversion timestore
-        grep -o "timestore [0-9.]*" "$work/installed/share/man/man1/timestore.1"
+        grep -oE "timestore [0-9.]+[0-9]" "$work/installed/share/man/man1/timestore.1"
         readelf -d "$work/version" | grep -o 'libtimestore.so.[0-9]*'
     }
     compare versions <<END
@@ -269,7 +269,7 @@ passes documented
 say "Python, one thread that owns the store"
 mkdir "$work/owner-python"
 compare python3 "$top/examples/owner.py" "$work/owner-python" <<'END'
-4 threads, 100 commits, the last one at 100
+4 threads, 100 commits
 END
 if command -v mypy > /dev/null; then
     say "Python, types"
