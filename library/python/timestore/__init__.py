@@ -45,6 +45,8 @@ from ._native import Info as _Info
 from ._native import RawRow as _RawRow
 from ._native import ask as _answer
 from ._native import library as _library
+from ._native import note_cause as _note_cause
+from ._refused import FAULTS as _FAULTS
 from ._refused import (
     AlreadyOpen,
     ArchiveFull,
@@ -143,6 +145,8 @@ _EPOCH = datetime(1970, 1, 1, tzinfo=timezone.utc)
 _VALUE_MOST = 4097
 # How often a transaction is tried that others were ahead of.
 _ATTEMPTS = 10
+# How many words of a call are the room for a value, or for rows, and what it tells.
+_VALUE_WORDS, _ROWS_WORDS = 3, 5
 # What is lent for an archive of no bytes.
 _NOTHING = ctypes.create_string_buffer(1)
 # How many pairs of buffers a store keeps for its next queries.
@@ -256,16 +260,26 @@ class _Room:
 class Store:
     """An open store. As a context it is closed at its end."""
 
+    _has_files = False
+    _file: ctypes.c_void_p | None
+    _let_go: deque[tuple[Callable[..., int], int]]
+    _rooms: list[_Room]
+
+    def __new__(cls, *_: Any, **__: Any) -> Self:
+        """What the store of each host has."""
+        store = super().__new__(cls)
+        store._let_go, store._rooms = deque(), []
+        return store
+
     def __init__(self, folder: str | os.PathLike[str]) -> None:
         self._info = _Info()
         self._value = ctypes.create_string_buffer(_VALUE_MOST)
         self._owner = threading.get_ident()
-        self._let_go: deque[tuple[Callable[..., int], int]] = deque()
-        self._rooms: list[_Room] = []
-        self._file: ctypes.c_void_p | None = None
+        self._file = None
         file = ctypes.c_void_p()
         _answer(_library.ts_file_open(os.fsencode(folder), file, self._info), self._info)
         self._file = file
+        self._has_files = True
         self._at = _library.ts_file_store(file)
         _opened.add(self)
 
@@ -314,7 +328,12 @@ class Store:
             self._end()
 
     def _ask(self, function: Callable[..., int], *args: Any) -> int:
-        return _answer(function(self._handle, *args, self._info), self._info, self._file)
+        return _answer(function(self._handle, *args, self._info), self._info, self._note_failure)
+
+    def _note_failure(self, refusal: Refused) -> None:
+        """Notes why the store failed, where files are its host."""
+        if self._has_files:
+            _note_cause(refusal, self._file)
 
     def _of_file(self) -> ctypes.c_void_p:
         if self._file is None:
@@ -324,7 +343,7 @@ class Store:
 
     def _ask_file(self, function: Callable[..., int], *args: Any) -> int:
         info = self._info if self._info in args else None
-        return _answer(function(self._of_file(), *args), info, self._file)
+        return _answer(function(self._of_file(), *args), info, self._note_failure)
 
     @property
     def last(self) -> int:
@@ -389,17 +408,13 @@ class Store:
 
     def get(self, relation: int, record: int) -> Fields | None:
         """The value that stands now, after the last commit; None where there is none."""
-        key = _key(relation, record)
-        code = self._ask_file(_library.ts_file_get, *key, self._value, _VALUE_MOST, self._info)
-        return self._told_value(code)
+        with self.view() as view:
+            return view.get(relation, record)
 
     def scan(self, relation: int) -> Iterator[tuple[int, Fields]]:
         """The records of a relation with the values that stand now, in rising order."""
-        number = _number(relation, 16)
-        rows = self._rows(
-            lambda *room: _library.ts_file_scan(self._of_file(), number, *room, self._info)
-        )
-        return ((row.record, row.fields) for row in rows)
+        with self.view() as view:
+            return view.scan(relation)
 
     def flush(self) -> None:
         """Publishes what waits."""
@@ -508,37 +523,41 @@ class Store:
         self._ask_file(_library.ts_file_archive, at, size)
         return at, size
 
-    def _over_archive(self, function: Callable[..., int], args: tuple[int, ...], *room: Any) -> int:
-        """The code of a query, which is lent the archive only where it needs it."""
-        code = function(self._handle, *args, _NOTHING, 0, *room, self._info)
-        if code == _NEEDS_ARCHIVE:
-            code = function(self._handle, *args, *self._archive(), *room, self._info)
-        return code
+    def _lending(self, function: Callable[..., int], room_words: int) -> Callable[..., int]:
+        """The call of a query, whose last words are its room, with the archive before them.
 
-    def _told_value(self, code: int) -> Fields | None:
-        if code == _NONE:
-            return None
-        return _fields(ctypes.string_at(self._value, self._info.a))
+        The archive is lent only where the query needs it.
+        """
+
+        def call(*words: Any) -> int:
+            query, room = words[:-room_words], words[-room_words:]
+            code = function(*query, _NOTHING, 0, *room)
+            if code == _NEEDS_ARCHIVE:
+                code = function(*query, *self._archive(), *room)
+            return code
+
+        return call
 
     def _read(self, function: Callable[..., int], *args: Any) -> Fields | None:
-        return self._told_value(self._ask(function, *args, self._value, _VALUE_MOST))
+        code = self._ask(function, *args, self._value, _VALUE_MOST)
+        return None if code == _NONE else _fields(ctypes.string_at(self._value, self._info.a))
 
-    def _read_over_archive(self, function: Callable[..., int], *args: int) -> Fields | None:
-        code = self._over_archive(function, args, self._value, _VALUE_MOST)
-        return self._told_value(_answer(code, self._info, self._file))
-
-    def _rows(self, query: Callable[..., int]) -> Iterator[Row]:
-        """What a query finds: it is asked at once, and each row made as it is taken.
+    def _rows(
+        self, function: Callable[..., int], *args: int, lends: bool = False
+    ) -> Iterator[Row]:
+        """What a call finds: it is asked at once, and each row made as it is taken.
 
         The memory for it grows with the most that was found, and the next query has it again.
         """
+        if lends:
+            function = self._lending(function, _ROWS_WORDS)
         room = self._rooms.pop() if self._rooms else _Room(64, 4096)
-        code = query(*room.args)
+        code = function(self._handle, *args, *room.args, self._info)
         while code == _SMALL:
             count, size = max(self._info.a, len(room.rows)), max(self._info.b, len(room.out))
             room = _Room(count, size)
-            code = query(*room.args)
-        _answer(code, self._info, self._file)
+            code = function(self._handle, *args, *room.args, self._info)
+        _answer(code, self._info, self._note_failure)
         return self._taken_rows(room, self._info.a)
 
     def _taken_rows(self, room: _Room, count: int) -> Iterator[Row]:
@@ -575,7 +594,7 @@ class Ticket:
         handle = self._store._handle
         number, self._number = self._number, None
         info = self._store._info
-        code = _answer(_library.ts_redeem(handle, number, info), info, self._store._file)
+        code = _answer(_library.ts_redeem(handle, number, info), info, self._store._note_failure)
         if code == Waiting.code:
             self._number = info.a
             return None
@@ -631,10 +650,7 @@ class Transaction:
 
     def scan(self, relation: int) -> Iterator[tuple[int, Fields]]:
         """The records of a relation with their values, in rising order."""
-        store, args = self._store, (self._open(), _number(relation, 16))
-        rows = store._rows(
-            lambda *room: _library.ts_scan(store._handle, *args, *room, store._info)
-        )
+        rows = self._store._rows(_library.ts_scan, self._open(), _number(relation, 16))
         return ((row.record, row.fields) for row in rows)
 
     def submit(self, label: int | None = None, now: Time | None = None) -> Ticket | None:
@@ -645,8 +661,8 @@ class Transaction:
         handle = self._store._handle
         number, self._number = self._open(), None
         info = self._store._info
-        code = _answer(_library.ts_submit(handle, number, label, time, info), info, self._store._file)
-        if code == _READ_ONLY:
+        code = _library.ts_submit(handle, number, label, time, info)
+        if _answer(code, info, self._store._note_failure) == _READ_ONLY:
             return None
         return Ticket(self._store, info.a)
 
@@ -728,7 +744,8 @@ class View:
     def at(self, relation: int, record: int, time: Time) -> Fields | None:
         """The value of a record at a time, None where it had none."""
         key, at = _key(relation, record), micros(time)
-        return self._store._read_over_archive(_library.ts_at, self._open(), *key, at)
+        call = self._store._lending(_library.ts_at, _VALUE_WORDS)
+        return self._store._read(call, self._open(), *key, at)
 
     def recent(self, relation: int, record: int, time: Time) -> Fields | None:
         """The same from memory alone: `NeedsArchive` at a time before the view's last reclaim."""
@@ -736,8 +753,7 @@ class View:
         return self._store._read(_library.ts_recent, self._open(), *key, at)
 
     def _rows(self, function: Callable[..., int], *args: int) -> Iterator[Row]:
-        store, words = self._store, (self._open(), *args)
-        return store._rows(lambda *room: store._over_archive(function, words, *room))
+        return self._store._rows(function, self._open(), *args, lends=True)
 
     def scan_at(self, relation: int, time: Time) -> Iterator[tuple[int, Fields]]:
         """The records of a relation that have a value at a time, in rising order."""

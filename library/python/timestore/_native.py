@@ -2,6 +2,7 @@
 
 import ctypes
 import os
+from collections.abc import Callable
 from pathlib import Path
 from typing import Any
 
@@ -77,8 +78,6 @@ def _prototypes() -> dict[str, list[Any]]:
         "ts_file_job_pump": [buf, info],
         "ts_file_flush": [buf],
         "ts_file_job": [buf],
-        "ts_file_get": [buf, u16, u64, *out],
-        "ts_file_scan": [buf, u16, *rows],
     }
 
 
@@ -107,7 +106,7 @@ def _load() -> ctypes.CDLL:
 library = _load()
 
 
-def _caused(refusal: Refused, file: ctypes.c_void_p | None) -> None:
+def note_cause(refusal: Refused, file: ctypes.c_void_p | None) -> None:
     """Notes of a refusal what the system refused: to a file, or for None the last call of this thread."""
     cause = _Cause()
     if library.ts_file_error(file, cause) != 0:
@@ -118,14 +117,16 @@ def _caused(refusal: Refused, file: ctypes.c_void_p | None) -> None:
         refusal.args = (os.strerror(cause.number),)
 
 
-def ask(code: int, info: Info | None = None, file: ctypes.c_void_p | None = None) -> int:
-    """The code of an answer; raises what a refusal is named, with why the file's store failed."""
+def ask(
+    code: int, info: Info | None = None, failed: Callable[[Refused], None] | None = None
+) -> int:
+    """The code of an answer; raises what a refusal is named. `failed` notes why a store failed."""
     if code >= 0 and code != InDoubt.code:
         return code
     first, second = (info.a, info.b) if info else (0, 0)
     refusal = FAULTS.get(code, Refused)(library.ts_text(code).decode(), first, second)
     if isinstance(refusal, (System, Cached)):
-        _caused(refusal, None)
-    elif file is not None and isinstance(refusal, (Failed, InDoubt)):
-        _caused(refusal, file)
+        note_cause(refusal, None)
+    elif failed and isinstance(refusal, (Failed, InDoubt)):
+        failed(refusal)
     raise refusal
