@@ -110,7 +110,10 @@ compare "$work/tour" "$work/tour-c" < "$work/wanted-tour"
 
 if command -v pkg-config > /dev/null; then # what Python takes too
     say "C, the tour over what is installed"
-    make -s -C "$top" install PREFIX="$work/installed"
+    mkdir "$work/built"
+    printf '#!/bin/sh\necho the program\n' > "$work/built/timestore"
+    chmod +x "$work/built/timestore"
+    make -s -C "$top" install PREFIX="$work/installed" PROGRAM="$work/built/timestore"
     export PKG_CONFIG_PATH="$work/installed/lib/pkgconfig"
     # shellcheck disable=SC2046
     gcc "$work/installed/share/doc/timestore/examples/tour.c" $(pkg-config --cflags --libs timestore) -o "$work/toured"
@@ -121,6 +124,9 @@ if command -v pkg-config > /dev/null; then # what Python takes too
     gcc -static "$top/examples/tour.c" $(pkg-config --static --cflags --libs timestore) -o "$work/toured-static"
     mkdir "$work/tour-static"
     compare "$work/toured-static" "$work/tour-static" < "$work/wanted-tour"
+    say "the program, where it was built, and the completions are installed"
+    compare "$work/installed/bin/timestore" <<< "the program"
+    [ -f "$work/installed/share/bash-completion/completions/timestore" ]
     say "one version: headers, library, pkg-config, man page"
     printf '#include <stdio.h>\n#include <timestore.h>\nint main(void) { return printf("%%s %%d\\n", timestore_version(), TIMESTORE_VERSION_NUMBER) < 0; }\n' > "$work/version.c"
     # shellcheck disable=SC2046
@@ -139,6 +145,10 @@ libtimestore.so.${version%%.*}
 END
 fi
 
+if command -v groff > /dev/null; then
+    say "the man page, without warnings"
+    compare groff -man -ww -z -Tutf8 "$top/man/timestore.1" < /dev/null
+fi
 say "the words that bash completes"
 completed() { # WORDS.., the last of which is completed
     # shellcheck source=/dev/null

@@ -62,7 +62,7 @@ fn refuse_memory(growth: u64) -> bool {
 fn new_store(name: &str) -> (PathBuf, Store) {
     let path = std::env::temp_dir().join(format!("timestore-{}-{name}", std::process::id()));
     std::fs::create_dir(&path).unwrap();
-    timestore::format(&path, 64).unwrap();
+    timestore::format(&path, 1024).unwrap();
     let store = Store::open(&path).unwrap();
     store
         .transact(1, 10, 1, |txn| txn.put(1, 7, &[b"kept"]))
