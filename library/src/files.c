@@ -71,9 +71,7 @@ int32_t tsi_files_open(const char *folder, bool make, store_files *files) {
     if (dir < 0) return refused("open", "");
     for (int area = 0; area < AREAS && code == TS_OK; area++) code = open_one(dir, area, make, &files->fd[area]);
     if (code == TS_OK && make) code = keep_names(dir, files);
-    int why = errno;
     close(dir);
-    errno = why;
     return code;
 }
 

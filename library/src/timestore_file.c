@@ -1,6 +1,7 @@
 /* A host of timestore for three files of a folder. */
 #define _GNU_SOURCE
 #include "files.h"
+#include <errno.h>
 #include <pthread.h>
 #include <stdatomic.h>
 #include <stdlib.h>
@@ -72,6 +73,12 @@ static bool is_open_here(dev_t device, ino_t number) {
     return found;
 }
 
+/* A code that is given out; where the system refused a call, with the errno of that, whatever was called since. */
+static int32_t told(int32_t code) {
+    if (code == TS_SYSTEM || code == TS_CACHED) errno = tsi_last_cause()->number;
+    return code;
+}
+
 /* The files of a folder; says of a lock who has it. */
 static int32_t open_files(const char *folder, bool make, store_files *files) {
     dev_t device;
@@ -124,7 +131,7 @@ int32_t ts_file_format(const char *folder, uint32_t slots) {
         tsi_files_close(&files);
     }
     free(bytes);
-    return code;
+    return told(code);
 }
 
 /* ---- opening and closing */
@@ -182,7 +189,7 @@ int32_t ts_file_open(const char *folder, ts_file **out, ts_info *info) {
     }
     if (code != TS_OK) {
         free(file);
-        return code;
+        return told(code);
     }
     add_open(file);
     *out = file;

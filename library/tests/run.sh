@@ -147,7 +147,8 @@ fi
 
 if command -v groff > /dev/null; then
     say "the man page, without warnings"
-    compare groff -man -ww -z -Tutf8 "$top/man/timestore.1" < /dev/null
+    warned() { groff -man -ww -z -Tutf8 "$top/man/timestore.1" 2>&1; }
+    compare warned < /dev/null
 fi
 say "the words that bash completes"
 completed() { # WORDS.., the last of which is completed
