@@ -242,7 +242,7 @@ def test_let_go_elsewhere(folder: Path) -> None:
 
 
 def test_exceptions_stay(folder: Path) -> None:
-    """What ends a transaction's context is raised, whatever became of the store and on any thread."""
+    """What ends a context is raised, whatever became of the store and on any thread."""
 
     def closes(store: timestore.Store) -> None:
         with store.begin() as txn:
@@ -250,15 +250,16 @@ def test_exceptions_stay(folder: Path) -> None:
             store.close()
             raise KeyError("mine")
 
-    def goes_on(txn: timestore.Transaction) -> None:
-        with txn:
+    def goes_on(taken: timestore.Transaction | timestore.View) -> None:
+        with taken:
             raise KeyError("mine")
 
     with timestore.Store(folder) as store:
         refuses(KeyError, closes, store)
     with timestore.Store(folder) as store:
         with ThreadPoolExecutor(1) as other:
-            assert isinstance(other.submit(goes_on, store.begin()).exception(), KeyError)
+            for taken in (store.begin(), store.view()):
+                assert isinstance(other.submit(goes_on, taken).exception(), KeyError)
         store.put(2, 5, b"then")
         last = store.last
         store.archive(last)

@@ -4,6 +4,8 @@ The store lies in a file system within a file, and the test takes a gate away fr
 the system, which goes on to have the gate in memory. It needs to mount such a file; where it may not, it says so.
 """
 
+import errno
+import mmap
 import os
 import subprocess
 import sys
@@ -47,6 +49,16 @@ class Disk:
             os.fsync(image.fileno())
 
 
+def is_refused_while_mapped(reg: Path) -> None:
+    """The system drops no page that is mapped, and so what differs from the disk is not opened."""
+    with (reg / "status").open("rb") as file, mmap.mmap(file.fileno(), PAGE, prot=mmap.PROT_READ) as mapped:
+        assert mapped[0] != 0
+        try:
+            raise AssertionError(timestore.Store(reg))
+        except timestore.Cached as why:
+            assert (why.call, why.file, why.errno) == ("posix_fadvise", "status", errno.EBUSY)
+
+
 def trial(folder: Path) -> None:
     disk = Disk(folder)
     with disk:
@@ -61,6 +73,7 @@ def trial(folder: Path) -> None:
         gate = FRONT + (COMMITS - 1) * SLOT
         disk.take(disk.find(page) + gate)
         assert (reg / "status").read_bytes()[gate] == page[gate] != 0
+        is_refused_while_mapped(reg)
         with timestore.Store(reg) as store:
             assert store.last == 100 * (COMMITS - 1), store.last
             later = store.put(1, COMMITS, b"later", now=100 * COMMITS + 50)

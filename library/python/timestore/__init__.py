@@ -776,12 +776,25 @@ class View:
             _answer(_library.ts_end(self._store._handle, self._number))
         self._number = None
 
+    def _drop(self) -> None:
+        """Gives the view back, on any thread and whatever became of its store."""
+        number, self._number = self._number, None
+        if number is not None:
+            self._store._give_back(_library.ts_end, number)
+
     def __del__(self) -> None:
-        if self._number is not None:
-            self._store._give_back(_library.ts_end, self._number)
+        self._drop()
 
     def __enter__(self) -> Self:
         return self
 
-    def __exit__(self, *_: object) -> None:
-        self.end()
+    def __exit__(
+        self,
+        kind: type[BaseException] | None,
+        why: BaseException | None,
+        trace: TracebackType | None,
+    ) -> None:
+        if kind is not None:
+            self._drop()
+        else:
+            self.end()
