@@ -73,10 +73,12 @@ static inline int now_has(ts *h, uint64_t record, uint64_t time, const char *tex
 
 /* Commits one record; its time. */
 static inline uint64_t commit_text(ts_file *file, uint64_t record, const char *text, uint64_t label, uint64_t now) {
+    ts *h = ts_file_store(file);
     ts_info info;
-    uint64_t ticket = submit_text(ts_file_store(file), record, text, label, now);
-    CHECK(TS_OK, ts_file_flush(file));
-    CHECK(TS_OK, ts_redeem(ts_file_store(file), ticket, &info));
+    CHECK(TS_OK, ts_begin(h, &info));
+    uint64_t txn = info.a;
+    put_text(h, txn, record, text);
+    CHECK(TS_OK, ts_file_commit(file, txn, label, now, &info));
     return info.a;
 }
 

@@ -13,15 +13,6 @@ static uint64_t begun(ts *h) {
     return info.a;
 }
 
-static uint64_t commit_text(ts_file *file, uint64_t record, const char *text, uint64_t label, uint64_t now) {
-    ts *h = ts_file_store(file);
-    ts_info info;
-    uint64_t txn = begun(h);
-    put_text(h, txn, record, text);
-    CHECK(TS_OK, ts_file_commit(file, txn, label, now, &info));
-    return info.a;
-}
-
 /* A handle with no store answers that alone. */
 static void test_closed(void) {
     ts h = TS_EMPTY;
@@ -474,7 +465,7 @@ int main(int argc, char **argv) {
     CHECK(TS_OK, ts_file_format(argv[1], 1024));
     CHECK(TS_OCCUPIED, ts_file_format(argv[1], 1024));
     CHECK(TS_OK, ts_file_open(argv[1], &file, &info));
-    CHECK(TS_LOCKED, ts_file_open(argv[1], &second, &info));
+    CHECK(TS_ALREADY_OPEN, ts_file_open(argv[1], &second, &info));
     test_tour(file);
     test_pending(file);
     test_two_stores(file, argv[1]);

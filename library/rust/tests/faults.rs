@@ -4,7 +4,7 @@ use std::error::Error as _;
 use std::ffi::{CStr, c_char, c_int, c_void};
 use std::io;
 use std::path::PathBuf;
-use timestore::{Area, Cause, Error, Store};
+use timestore::{Area, Cause, Error, Step, Store};
 
 const EIO: c_int = 5;
 const ENOSPC: c_int = 28;
@@ -114,6 +114,15 @@ fn a_refused_call_is_told_with_its_cause() {
     }
 }
 
+// A reclaim whose slot is in the writing: a commit then waits for its end, and has memory to build.
+fn begin_reclaim(store: &Store) {
+    store.put(1, 7, &[b"ends"], 0).unwrap();
+    let last = store.put(1, 7, &[b"stands"], 0).unwrap();
+    store.archive(last).unwrap();
+    store.reclaim_start().unwrap();
+    while store.job_pump().unwrap() != Step::BodyWritten {}
+}
+
 // A commit whose growth of memory of this number is refused; how often it waited. None once so many are not made.
 fn commit_in_need(store: &Store, growth: u64) -> Option<u32> {
     let mut txn = store.begin().unwrap();
@@ -148,6 +157,7 @@ fn a_commit_that_waits_gives_its_ticket_back() {
     let mut waited = 0;
     for growth in 1.. {
         let store = Store::open(&path).unwrap();
+        begin_reclaim(&store);
         match commit_in_need(&store, growth) {
             Some(times) => waited += times,
             None => break,
