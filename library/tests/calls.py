@@ -358,7 +358,7 @@ def test_rooms(folder: Path) -> None:
 
 def test_causes(folder: Path) -> None:
     """Why the system refused a call."""
-    small, reads = folder.with_name("small"), folder.with_name("reads")
+    small, reads = folder.with_name("calls-small"), folder.with_name("calls-reads")
     for path in (small, reads):
         path.mkdir()
         timestore.make(path, 64)
