@@ -166,7 +166,7 @@ static int32_t open_on(ts_file *file, uint8_t *const *bytes, const uint64_t *len
 static int32_t open_read(ts_file *file, ts_info *info) {
     uint8_t *bytes[AREAS] = {NULL, NULL, NULL};
     uint64_t len[AREAS] = {0, 0, 0};
-    int32_t code = tsi_files_identity(&file->files, &file->device, &file->number);
+    int32_t code = TS_OK;
     for (int area = 0; area < AREAS && code == TS_OK; area++) {
         code = tsi_settle(&file->files, area);
         if (code == TS_OK) code = tsi_length(&file->files, area, &len[area]);
@@ -183,17 +183,19 @@ int32_t ts_file_open(const char *folder, ts_file **out, ts_info *info) {
     if (!file) return TS_NO_MEMORY;
     file->files = (store_files)NO_FILES;
     int32_t code = open_files(folder, false, &file->files);
+    if (code == TS_OK) code = tsi_files_identity(&file->files, &file->device, &file->number);
     if (code == TS_OK) {
+        add_open(file);
         code = open_read(file, info);
-        if (code != TS_OK) tsi_files_close(&file->files);
+        if (code != TS_OK) remove_open(file);
     }
-    if (code != TS_OK) {
-        free(file);
-        return told(code);
+    if (code == TS_OK) {
+        *out = file;
+        return TS_OK;
     }
-    add_open(file);
-    *out = file;
-    return TS_OK;
+    tsi_files_close(&file->files);
+    free(file);
+    return told(code);
 }
 
 void ts_file_close(ts_file *file) {
