@@ -92,18 +92,32 @@ static int32_t open_files(const char *folder, bool make, store_files *files) {
 
 /* ---- a new store */
 
+/* From now on the files read as the disk has them; their lengths. */
+static int32_t settle(const store_files *files, uint64_t *len) {
+    int32_t code = TS_OK;
+    for (int area = 0; area < AREAS && code == TS_OK; area++) {
+        code = tsi_settle(files, area);
+        if (code == TS_OK) code = tsi_length(files, area, &len[area]);
+    }
+    return code;
+}
+
+static bool are_zeros(const uint8_t *bytes, size_t len) {
+    for (size_t i = 0; i < len; i++)
+        if (bytes[i] != 0) return false;
+    return true;
+}
+
 /* Whether nothing stands in the files: no header, and no byte of the heap and of the archive. */
 static int32_t is_free(const store_files *files) {
     uint8_t front[FRONT];
     uint64_t len[AREAS];
-    int32_t code = TS_OK;
-    for (int area = 0; area < AREAS && code == TS_OK; area++) code = tsi_length(files, area, &len[area]);
-    size_t count = code == TS_OK && len[TS_STATUS] < FRONT ? (size_t)len[TS_STATUS] : FRONT;
-    if (code == TS_OK) code = tsi_read(files, TS_STATUS, front, count, 0);
-    for (size_t i = 0; i < count && code == TS_OK; i++)
-        if (front[i] != 0) code = TS_OCCUPIED;
+    int32_t code = settle(files, len);
     if (code != TS_OK) return code;
-    return len[TS_HEAP] == 0 && len[TS_ARCHIVE] == 0 ? TS_OK : TS_OCCUPIED;
+    size_t count = len[TS_STATUS] < FRONT ? (size_t)len[TS_STATUS] : FRONT;
+    code = tsi_read(files, TS_STATUS, front, count, 0);
+    if (code != TS_OK) return code;
+    return are_zeros(front, count) && len[TS_HEAP] == 0 && len[TS_ARCHIVE] == 0 ? TS_OK : TS_OCCUPIED;
 }
 
 /* Writes the status area, its front last. */
@@ -125,8 +139,7 @@ int32_t ts_file_format(const char *folder, uint32_t slots) {
     code = ts_format(slots, bytes, info.a, &info);
     if (code == TS_OK) code = open_files(folder, true, &files);
     if (code == TS_OK) {
-        for (int area = 0; area < AREAS && code == TS_OK; area++) code = tsi_settle(&files, area);
-        if (code == TS_OK) code = is_free(&files);
+        code = is_free(&files);
         if (code == TS_OK) code = write_status(&files, bytes, info.a);
         tsi_files_close(&files);
     }
@@ -166,14 +179,12 @@ static int32_t open_on(ts_file *file, uint8_t *const *bytes, const uint64_t *len
 static int32_t open_read(ts_file *file, ts_info *info) {
     uint8_t *bytes[AREAS] = {NULL, NULL, NULL};
     uint64_t len[AREAS] = {0, 0, 0};
-    int32_t code = TS_OK;
-    for (int area = 0; area < AREAS && code == TS_OK; area++) {
-        code = tsi_settle(&file->files, area);
-        if (code == TS_OK) code = tsi_length(&file->files, area, &len[area]);
-        if (code == TS_OK && area != TS_ARCHIVE) code = read_area(&file->files, area, len[area], &bytes[area]);
-    }
+    int32_t code = settle(&file->files, len);
+    if (code == TS_OK) code = read_area(&file->files, TS_STATUS, len[TS_STATUS], &bytes[TS_STATUS]);
+    if (code == TS_OK) code = read_area(&file->files, TS_HEAP, len[TS_HEAP], &bytes[TS_HEAP]);
     if (code == TS_OK) code = open_on(file, bytes, len, info);
-    for (int area = 0; area < AREAS; area++) free(bytes[area]);
+    free(bytes[TS_STATUS]);
+    free(bytes[TS_HEAP]);
     file->archive_len = len[TS_ARCHIVE];
     return code;
 }

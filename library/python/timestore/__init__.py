@@ -266,7 +266,11 @@ class Store:
     _rooms: list[_Room]
 
     def __new__(cls, *_: Any, **__: Any) -> Self:
-        """What the store of each host has."""
+        """What the store of each host has.
+
+        That of another host than files derives from this class. It makes `_info`, `_value`, `_owner`,
+        `_file` and `_at`, and has an `_end`, an `_archive`, a `flush`, `pump`, `job` and `job_pump`.
+        """
         store = super().__new__(cls)
         store._let_go, store._rooms = deque(), []
         return store
