@@ -266,6 +266,15 @@ def test_exceptions_stay(folder: Path) -> None:
         store.reclaim()
 
 
+def test_names() -> None:
+    """A refusal has the name by which it is caught, and that of a user its own."""
+
+    class Mine(timestore.Refused):
+        pass
+
+    assert (timestore.NotYet.__module__, Mine.__module__) == ("timestore", __name__)
+
+
 def test_now(folder: Path) -> None:
     """What stands now is one call, and a commit has the time of the clock."""
     with timestore.Store(folder) as store:
@@ -411,6 +420,7 @@ def main() -> None:
     test_left_to_a_child(folder)
     test_let_go_elsewhere(folder)
     test_exceptions_stay(folder)
+    test_names()
     test_now(folder)
     test_transact(folder)
     test_rooms(folder)

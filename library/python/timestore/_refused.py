@@ -20,7 +20,8 @@ class Refused(Exception):
     file: str | None = None
 
     def __init_subclass__(cls, code: int | None = None) -> None:
-        cls.__module__ = "timestore"
+        if cls.__module__ == __name__:
+            cls.__module__ = "timestore"
         if code is not None:
             cls.code = code
             FAULTS[code] = cls
