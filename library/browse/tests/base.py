@@ -11,7 +11,7 @@ from typing import NamedTuple
 
 import timestore
 
-from timestore_browse.server import Server, served
+from timestore_browse.server import Server, Source, served
 
 MOST_RECORD = 2**64 - 1
 STRANGE = (b"<script>alert('x')</script>&\"", b"\xff\x00", b'say "hi",\nok', b"0x41", b"")
@@ -89,9 +89,9 @@ class BrowseTest(unittest.TestCase):
         with timestore.Store(self.folder) as store:
             fill(store)
 
-    def serve(self, is_locked: bool = True) -> Server:
+    def serve(self, is_locked: bool = True, names_in: int | None = None) -> Server:
         """A server over the store, until the test ends."""
-        server = self.enterContext(served(self.folder, is_locked=is_locked, wait_seconds=0.1))
+        server = self.enterContext(served(Source(self.folder, is_locked, 0.1, names_in)))
         thread = threading.Thread(target=server.serve_forever, kwargs={"poll_interval": 0.01})
         thread.start()
         self.addCleanup(thread.join)

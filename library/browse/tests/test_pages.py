@@ -101,7 +101,8 @@ class Pages(BrowseTest):
 
     def test_commits(self) -> None:
         found = rows(self.page(self.server, "/commits"))
-        self.assertEqual(found, [[f"{DAY}.000{time}", str(label), str(records)] for time, label, records in ((150, 6, 1), (140, 5, 1), (130, 4, 1), (120, 3, 1), (110, 2, 2), (100, 1, 1))])
+        wanted = ((150, 6, 1), (140, 5, 1), (130, 4, 1), (120, 3, 1), (110, 2, 2), (100, 1, 1))
+        self.assertEqual(found, [[f"{DAY}.000{time}", str(label), str(records)] for time, label, records in wanted])
         page = self.page(self.server, "/commits/110")
         self.assertEqual(rows(page), [["7", "changed", "1", "a", "b"], ["8", "added", "1", "no value", "x|y"]])
         self.assertIn("Its label is <strong>2</strong>", page)
@@ -144,7 +145,8 @@ class Downloads(BrowseTest):
     def test_quotes(self) -> None:
         """Quotes are doubled, and fields with a comma, a quote or a line end stand in quotes."""
         body, _ = self.csv("/relations/2.csv")
-        self.assertEqual(body, 'record,fields,field1,field2,field3,field4,field5\r\n1,5,"<script>alert(\'x\')</script>&""",0xff00,"say ""hi"",\nok",0x30783431,\r\n')
+        head = "record,fields,field1,field2,field3,field4,field5\r\n"
+        self.assertEqual(body, head + '1,5,"<script>alert(\'x\')</script>&""",0xff00,"say ""hi"",\nok",0x30783431,\r\n')
         read = list(csv.reader(io.StringIO(body, newline=""), strict=True))[1][2:]
         self.assertEqual([bytes.fromhex(text[2:]) if text.startswith("0x") else text.encode() for text in read], list(STRANGE))
 
@@ -180,6 +182,21 @@ class Vacuumed(BrowseTest):
         self.assertEqual(rows(self.page(server, "/relations/1?at=115")), [["7", "b"], ["8", "x|y"]])
         self.assertEqual(rows(self.page(server, "/relations/1/records/7"))[-1], ["1", f"{DAY}.000115", f"{DAY}.000120", "5 µs", "", "b"])
         self.assertEqual(rows(self.page(server, "/commits/110")), [])
+
+
+class Named(BrowseTest):
+    def test_names_of_a_relation(self) -> None:
+        """Names are those of the last commit, escaped as all else."""
+        with timestore.Store(self.folder) as store, store.begin(now=160) as txn:
+            txn.put(9, 1, b"let<ters", b"fir&st:text")
+        server = self.serve(names_in=9)
+        self.assertEqual(rows(self.page(server, "/"))[0][0], "1 let<ters")
+        page = self.page(server, "/relations/1")
+        self.assertIn("<h1>Relation 1, let&lt;ters</h1>", page)
+        self.assertEqual(rows(page), [["7", "fir&stc"], ["8", "fir&stx|y"]])
+        self.assertIn('<span class="name">fir&amp;st</span><span class="text">c</span>', page)
+        self.assertIn("<h1>Record 7 of relation 1, let&lt;ters</h1>", self.page(server, "/relations/1/records/7"))
+        self.assertIn("<h1>Relation 2</h1>", self.page(server, "/relations/2"))
 
 
 class Empty(BrowseTest):
@@ -226,4 +243,5 @@ class Values(unittest.TestCase):
 
     def test_gaps(self) -> None:
         rows_of = [timestore.Row(7, 100, 110, (b"a",)), timestore.Row(7, 110, 120, (b"a", b"b"))]
-        self.assertEqual([(it.start, it.end, it.version, it.news) for it in chart.spans(rows_of, 130)], [(100, 110, 1, (b"a",)), (110, 120, 2, (b"b",)), (120, 131, 0, ())])
+        found = [(it.start, it.end, it.version, it.news) for it in chart.spans(rows_of, 130)]
+        self.assertEqual(found, [(100, 110, 1, (b"a",)), (110, 120, 2, (b"b",)), (120, 131, 0, ())])

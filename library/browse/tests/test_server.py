@@ -25,11 +25,12 @@ class Addresses(BrowseTest):
         self.assertEqual(self.server.server_address[0], "127.0.0.1")
 
     def test_hosts(self) -> None:
-        """A name that leads here is refused where it is not this server's: no page of another site may read the answers."""
+        """A name that leads here is refused where it is not this server's, so that no page of another site reads the answers."""
         port = self.server.server_port
         for host in (f"127.0.0.1:{port}", f"localhost:{port}", f"LOCALHOST:{port}"):
             self.assertEqual(self.ask(self.server, "/", headers={"Host": host}).status, 200, host)
-        for host in ("", "127.0.0.1", "localhost", "evil.example", f"evil.example:{port}", f"localhost.evil.example:{port}", f"127.0.0.1:{port + 1}", f"127.0.0.2:{port}", f"[::1]:{port}"):
+        strange = "", "127.0.0.1", "localhost", "evil.example", f"evil.example:{port}", f"localhost.evil.example:{port}"
+        for host in (*strange, f"127.0.0.1:{port + 1}", f"127.0.0.2:{port}", f"[::1]:{port}"):
             for path in ("/", "/style.css", "/relations/1.csv", "/copy"):
                 reply = self.ask(self.server, path, headers={"Host": host})
                 self.assertEqual((reply.status, reply.body), (403, "403 Forbidden\n"), (host, path))
@@ -48,12 +49,11 @@ class Addresses(BrowseTest):
         tricks = (
             "//", "//evil.example/", "/..", "/../", "/../../etc/passwd", "/%2e%2e/%2e%2e/etc/passwd", "/style.css/../server.py", "/server.py", "/style.js",
             "/slider.css", "/status", "/heap", "/style.css%00", "/./style.css", "/Style.css", "/relations", "/relations/", "/relations/01", "/relations/65536",
-            "/relations/-1", "/relations/1/", "/relations/1%2F..", "/relations/1/records/18446744073709551616", "/relations/1/records/007", "/relations/٣",
+            "/relations/-1", "/relations/1/", "/relations/1%2F..", "/relations/1/records/18446744073709551616", "/relations/1/records/007", "/relations/%D9%A3",
             "/relations/1.csv/../..", "/relations/1/../2", "/relations/1\\..\\2", "/commits/0", "/commits/9223372036854775808", "/copy",
         )  # fmt: skip
         for path in tricks:
-            reply = self.ask(self.server, path.encode().decode("latin-1") if path.isascii() else "/relations/%D9%A3")
-            self.assertEqual(reply.status, 404, path)
+            self.assertEqual(self.ask(self.server, path).status, 404, path)
         self.assertEqual(self.ask(self.server, f"http://127.0.0.1:{self.server.server_port}/").status, 404)
         self.assertEqual(self.ask(self.server, "/relations/1?" + "&".join(f"a{number}=1" for number in range(9))).status, 404)
 
@@ -75,7 +75,7 @@ class Addresses(BrowseTest):
             self.assertEqual((reply.headers["X-Content-Type-Options"], reply.headers["Referrer-Policy"]), ("nosniff", "no-referrer"))
             self.assertNotIn("://", reply.body)
             self.assertNotIn(" style=", reply.body)
-            self.assertNotIn(" on", reply.body.replace(" one", "").replace(" once", ""))
+            self.assertNotRegex(reply.body, r" on[a-z]+=")
         self.assertEqual(self.ask(self.server, "/style.css").headers["Content-Type"], "text/css; charset=utf-8")
         self.assertEqual(self.ask(self.server, "/slider.js").headers["Content-Type"], "text/javascript; charset=utf-8")
 

@@ -75,7 +75,7 @@ def _kind(span: Span) -> str:
 def _segment(span: Span, scale: _Scale) -> Markup:
     left = scale.x(span.start)
     width = max(1, scale.x(span.end) - left)
-    return element("rect", class_=_kind(span), x=left, y=LANE_TOP, width=width, height=LANE_HEIGHT)
+    return element("rect", class_=f"lane {_kind(span)}", x=left, y=LANE_TOP, width=width, height=LANE_HEIGHT)
 
 
 def _box(place: int, span: Span, scale: _Scale) -> Markup:

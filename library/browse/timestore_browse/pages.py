@@ -7,7 +7,7 @@ import timestore
 from . import chart
 from .copying import Commit
 from .markup import Markup, element, join
-from .reading import Difference, Past, Summary
+from .reading import Difference, Names, Past, Summary
 from .values import instant, is_text, lasting, spelled
 
 ROWS_MOST = 500
@@ -59,13 +59,22 @@ def _field(field: bytes, is_marked: bool = False) -> Markup:
     return element("mark", shown) if is_marked else shown
 
 
-def _value(fields: timestore.Fields | None, other: timestore.Fields | None = None, is_compared: bool = False) -> Markup:
-    """A value as a list of its fields, of which those are marked that another value has not."""
+def _value(names: Names, fields: timestore.Fields | None, other: timestore.Fields | None = None) -> Markup:
+    """A value as a list of its fields. Where another value is named, those are marked that it has not."""
     if fields is None:
         return element("span", "no value", class_="empty")
-    others = other or ()
-    marks = [is_compared and other is not None and others[place : place + 1] != (field,) for place, field in enumerate(fields)]
-    return element("ol", [element("li", _field(field, mark)) for field, mark in zip(fields, marks)], class_="fields")
+    items = []
+    for place, field in enumerate(fields):
+        is_marked = other is not None and other[place : place + 1] != (field,)
+        name = element("span", names.field(place), class_="name") if names.field(place) else None
+        items.append(element("li", name, _field(field, is_marked)))
+    return element("ol", items, class_="fields")
+
+
+def _called(past: Past, number: int, word: str = "Relation") -> str:
+    """A relation by its number, and its name where it has one."""
+    name = past.names(number).relation
+    return f"{word} {number}, {name}" if name else f"{word} {number}"
 
 
 def _table(caption: str, columns: tuple[str, ...], rows: list[Markup]) -> Markup:
@@ -89,60 +98,70 @@ def home(frame: Frame, past: Past) -> str:
     if not past.last:
         intro = element("p", "Nothing was committed yet.")
     columns = ("Relation", "Records now", "Records ever", "Versions", "First change", "Last change")
-    rows = [_summary_row(summary) for summary in past.relations.values()]
+    rows = [_summary_row(past, summary) for summary in past.relations.values()]
     return frame.page("Relations", intro, _table("The relations that have records", columns, rows) if rows else None)
 
 
-def _summary_row(summary: Summary) -> Markup:
-    link = element("a", summary.relation, href=f"/relations/{summary.relation}")
+def _summary_row(past: Past, summary: Summary) -> Markup:
+    name = past.names(summary.relation).relation
+    link = join(element("a", summary.relation, href=f"/relations/{summary.relation}"), " " if name else None, name)
     floor = element("span", " or earlier: history before was let go", class_="empty") if summary.floor else None
     counts = (f"{count:,}" for count in (summary.standing, summary.records, summary.versions))
     return _row(link, *counts, join(_moment(summary.first), floor), _moment(summary.last), class_="numbers")
 
 
-def relation(frame: Frame, past: Past, number: int, time: int, first: int) -> str:
+class Moment(NamedTuple):
+    """A relation at a time, from the row of a number on."""
+
+    relation: int
+    time: int
+    first: int = 0
+
+
+def relation(frame: Frame, past: Past, moment: Moment) -> str:
     """The records of a relation at a time, with a slider over the times at which they changed."""
+    number = moment.relation
     moments = past.moments(number)
+    title = _called(past, number)
     if not moments:
-        return frame.page(f"Relation {number}", element("p", "It has no records, and had none."))
-    step = past.step(number, time)
-    slider = element("input", type="range", id="step", name="step", min=0, max=len(moments) - 1, value=step, data_rows=f"/relations/{number}/rows", aria_describedby="moment")
+        return frame.page(title, element("p", "It has no records, and had none."))
+    step = past.step(number, moment.time)
+    most, rows = len(moments) - 1, f"/relations/{number}/rows"
+    slider = element("input", type="range", id="step", name="step", min=0, max=most, value=step, data_rows=rows, aria_describedby="moment")
     steps = element("form", element("label", "Change", for_="step"), slider, element("button", "Show", id="show"), class_="slider")
-    field = element("input", name="at", id="at", value=instant(time), size=27)
+    field = element("input", name="at", id="at", value=instant(moment.time), size=27)
     jump = element("form", element("label", "Or at the time", for_="at"), field, element("button", "Show"), class_="jump")
-    content = element("div", records(past, number, time, first), id="rows", aria_live="polite")
-    return frame.page(f"Relation {number}", steps, jump, content)
+    return frame.page(title, steps, jump, element("div", records(past, moment), id="rows", aria_live="polite"))
 
 
-def records(past: Past, number: int, time: int, first: int) -> Markup:
+def records(past: Past, moment: Moment) -> Markup:
     """The part of a relation's page that the slider changes."""
-    moments = past.moments(number)
+    number, time, first = moment
+    moments, names = past.moments(number), past.names(number)
     step = past.step(number, time)
     rows = past.records(number, time)
     shown = rows[first : first + ROWS_MOST]
-    columns = ("Record", "Value")
-    lines = [_row(element("a", record, href=f"/relations/{number}/records/{record}"), _value(fields)) for record, fields in shown]
+    lines = [_row(element("a", record, href=f"/relations/{number}/records/{record}"), _value(names, fields)) for record, fields in shown]
     return join(
         element("p", f"Change {step + 1:,} of {len(moments):,}: what stood at ", _moment(time), " UTC", id="moment"),
         element("p", _steps(number, moments, step), class_="links"),
-        element("p", _relation_links(past, number, time, moments, step), class_="links"),
-        _table(_counted(len(rows), "record"), columns, lines) if rows else element("p", "No record had a value then."),
+        element("p", _relation_links(past, number, time, step), class_="links"),
+        _table(_counted(len(rows), "record"), ("Record", "Value"), lines) if rows else element("p", "No record had a value then."),
         _pages(f"/relations/{number}?at={time}", first, len(rows)),
     )
 
 
 def _steps(number: int, moments: list[int], step: int) -> list[Markup]:
     names = (("First", 0), ("Previous", step - 1), ("Next", step + 1), ("Last", len(moments) - 1))
-    found = []
-    for name, there in names:
-        if 0 <= there < len(moments) and there != step:
-            found.append(element("a", name, href=f"/relations/{number}?step={there}", rel=name.lower()[:4] if name in ("Previous", "Next") else None))
-        else:
-            found.append(element("span", name, class_="empty"))
-    return found
+    there = [(name, to) if 0 <= to < len(moments) and to != step else (name, None) for name, to in names]
+    return [
+        element("span", name, class_="empty") if to is None else element("a", name, href=f"/relations/{number}?step={to}")
+        for name, to in there
+    ]
 
 
-def _relation_links(past: Past, number: int, time: int, moments: list[int], step: int) -> list[Markup]:
+def _relation_links(past: Past, number: int, time: int, step: int) -> list[Markup]:
+    moments = past.moments(number)
     before = moments[step - 1] if step else max(moments[0] - 1, past.floor(number))
     return [
         element("a", "What this change did", href=f"/relations/{number}/changes?from={before}&to={moments[step]}"),
@@ -164,8 +183,8 @@ def _pages(path: str, first: int, count: int) -> Markup | None:
 def record(frame: Frame, past: Past, number: int, name: int) -> str:
     """The history of a record."""
     rows = past.versions(number, name)
-    title = f"Record {name} of relation {number}"
-    back = element("a", f"Relation {number}", href=f"/relations/{number}")
+    title = f"Record {name} of {_called(past, number, 'relation')}"
+    back = element("a", _called(past, number), href=f"/relations/{number}")
     if not rows:
         return frame.page(title, element("p", "It has no value, and had none."), element("p", back, class_="links"))
     found = chart.spans(rows, past.last)
@@ -174,16 +193,17 @@ def record(frame: Frame, past: Past, number: int, name: int) -> str:
     links = element("p", back, element("a", "These versions as CSV", href=f"/relations/{number}/records/{name}.csv", download=True), class_="links")
     columns = ("Version", "From", "Up to", "Stood for", "Label", "Value")
     before = {span.version: span.fields for span in found if span.version}
-    lines = [_span_row(past, span, before.get(span.version - 1)) for span in reversed(found)]
+    lines = [_span_row(past, number, span, before.get(span.version - 1)) for span in reversed(found)]
     return frame.page(title, links, picture, cut, _table(f"{_counted(len(rows), 'version')}, the last one first", columns, lines))
 
 
-def _span_row(past: Past, span: chart.Span, before: timestore.Fields | None) -> Markup:
+def _span_row(past: Past, number: int, span: chart.Span, before: timestore.Fields | None) -> Markup:
     is_last = span.end > past.last
     upto = element("span", "still", class_="empty") if is_last else _moment(span.end)
     lasted = "" if is_last else lasting(span.end - span.start)
-    number = span.version or element("span", "–", class_="empty")
-    return _row(number, _moment(span.start), upto, lasted, _label(past, span.start), _value(span.fields, before, True), id=f"v{span.version}" if span.version else None)
+    version = span.version or element("span", "–", class_="empty")
+    value = _value(past.names(number), span.fields, before)
+    return _row(version, _moment(span.start), upto, lasted, _label(past, span.start), value, id=f"v{span.version}" if span.version else None)
 
 
 def _label(past: Past, time: int) -> Markup | None:
@@ -192,44 +212,44 @@ def _label(past: Past, time: int) -> Markup | None:
 
 
 class Interval(NamedTuple):
-    """Two moments that are compared."""
+    """A relation between two moments, from the row of a number on."""
 
+    relation: int
     start: int
     end: int
+    first: int = 0
 
 
-def changes(frame: Frame, past: Past, number: int, interval: Interval, first: int) -> str:
+def changes(frame: Frame, past: Past, interval: Interval) -> str:
     """What changed in a relation between two moments."""
-    found = past.differences(number, *interval)
-    fields = [_time_field("from", "After", interval.start), _time_field("to", "Up to", interval.end)]
+    number, start, end, first = interval
+    found = past.differences(number, start, end)
+    fields = [_time_field("from", "After", start), _time_field("to", "Up to", end)]
     form = element("form", fields, element("button", "Compare"), class_="jump")
-    query = f"from={interval.start}&to={interval.end}"
+    query = f"from={start}&to={end}"
     links = (
-        element("a", f"Relation {number}", href=f"/relations/{number}"),
+        element("a", _called(past, number), href=f"/relations/{number}"),
         element("a", "These changes as CSV", href=f"/relations/{number}/changes.csv?{query}", download=True),
     )
-    table = _differences(number, found[first : first + ROWS_MOST], _counted(len(found), "record"))
-    none = element("p", "Nothing changed between these two moments." if interval.start < interval.end else "The second moment is not after the first one.")
+    none = "Nothing changed between these two moments." if start < end else "The second moment is not after the first one."
+    table = _differences(past, number, found[first : first + ROWS_MOST], _counted(len(found), "record")) if found else element("p", none)
     pages = _pages(f"/relations/{number}/changes?{query}", first, len(found))
-    return frame.page(f"Changes of relation {number}", form, element("p", links, class_="links"), table if found else none, pages)
+    return frame.page(f"Changes of {_called(past, number, 'relation')}", form, element("p", links, class_="links"), table, pages)
 
 
 def _time_field(name: str, label: str, time: int) -> Markup:
     return join(element("label", label, for_=name), element("input", name=name, id=name, value=instant(time), size=27))
 
 
-def _differences(number: int, found: list[Difference], caption: str) -> Markup:
-    lines = [
-        _row(
-            element("a", it.record, href=f"/relations/{number}/records/{it.record}"),
-            element("span", it.kind, class_=f"kind {it.kind.split(',')[0]}"),
-            f"{it.changes:,}",
-            _value(it.before, it.after, True),
-            _value(it.after, it.before, True),
-        )
-        for it in found
-    ]
+def _differences(past: Past, number: int, found: list[Difference], caption: str) -> Markup:
+    lines = [_difference_row(past.names(number), number, it) for it in found]
     return _table(caption, ("Record", "What became of it", "Changes", "Before", "After"), lines)
+
+
+def _difference_row(names: Names, number: int, it: Difference) -> Markup:
+    link = element("a", it.record, href=f"/relations/{number}/records/{it.record}")
+    kind = element("span", it.kind, class_="kind")
+    return _row(link, kind, f"{it.changes:,}", _value(names, it.before, it.after), _value(names, it.after, it.before))
 
 
 def commits(frame: Frame, past: Past, first: int) -> str:
@@ -249,7 +269,8 @@ def commit(frame: Frame, past: Past, time: int) -> str:
     parts = []
     for number in past.relations:
         if past.floor(number) < time and (found := past.differences(number, time - 1, time)):
-            parts += [element("h2", element("a", f"Relation {number}", href=f"/relations/{number}?at={time}")), _differences(number, found, _counted(len(found), "record"))]
+            title = element("h2", element("a", _called(past, number), href=f"/relations/{number}?at={time}"))
+            parts += [title, _differences(past, number, found, _counted(len(found), "record"))]
     label = past.label(time)
     intro = element("p", "Its label is ", element("strong", label), f", in hexadecimal {label:x}. It is of ", _moment(time), " UTC.")
     return frame.page("A commit", intro, parts or element("p", "What it changed was let go, or the values were the same before."))

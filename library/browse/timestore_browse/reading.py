@@ -8,6 +8,7 @@ from typing import NamedTuple
 import timestore
 
 from .copying import Commit, read_log
+from .values import spelled
 
 RELATIONS = 65_536
 
@@ -42,16 +43,35 @@ class Difference(NamedTuple):
         return "deleted" if self.after is None else "changed"
 
 
+class Names(NamedTuple):
+    """What a relation is called, and its fields."""
+
+    relation: str = ""
+    fields: tuple[str, ...] = ()
+
+    def field(self, place: int) -> str:
+        """The name of a field, empty where it has none."""
+        return self.fields[place] if place < len(self.fields) else ""
+
+
+def _names(fields: timestore.Fields) -> Names:
+    relation, *names = (spelled(field) for field in fields)
+    return Names(relation, tuple(name.split(":")[0] for name in names))
+
+
 class Past:
     """A copy of a store. It stays on the thread that opened it."""
 
-    def __init__(self, folder: Path) -> None:
+    def __init__(self, folder: Path, names_in: int | None = None) -> None:
+        """Names are in a relation of the store, where one is told: its record N has the name of relation N, then those
+        of its fields, each up to a colon."""
         self._store = timestore.Store(folder)
         self.commits: list[Commit] = read_log((folder / "status").read_bytes()).commits
         self._labels = {commit.time: commit.label for commit in self.commits}
         self.last = self._store.last
         self._moments: dict[int, list[int]] = {}
         self.relations = self._summaries()
+        self._names = {} if names_in is None else {relation: _names(fields) for relation, fields in self.records(names_in, self.last)}
 
     def close(self) -> None:
         """Ends the copy's store."""
@@ -60,6 +80,10 @@ class Past:
     def label(self, time: int) -> int | None:
         """The label of the commit of a time."""
         return self._labels.get(time)
+
+    def names(self, relation: int) -> Names:
+        """What a relation and its fields are called."""
+        return self._names.get(relation, Names())
 
     def floor(self, relation: int) -> int:
         """The time before which the relation answers nothing."""

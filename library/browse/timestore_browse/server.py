@@ -1,7 +1,6 @@
 """The server: its addresses, and whom it answers."""
 
 import argparse
-import os
 import re
 import signal
 import sys
@@ -21,7 +20,7 @@ import timestore
 
 from . import copying, pages, tables
 from .reading import RELATIONS, Past
-from .values import BadTime, time_of
+from .values import BadTime, instant, time_of
 
 ADDRESS = "127.0.0.1"
 WAIT_SECONDS = 2.0
@@ -29,14 +28,18 @@ IDLE_SECONDS = 10
 PARAMETERS_MOST = 4
 TYPES = {"css": "text/css; charset=utf-8", "js": "text/javascript; charset=utf-8"}
 HEADERS = {
-    "Content-Security-Policy": "default-src 'none'; style-src 'self'; script-src 'self'; connect-src 'self'; form-action 'self'; frame-ancestors 'none'; base-uri 'none'",
+    "Content-Security-Policy": "default-src 'none'; style-src 'self'; script-src 'self'; connect-src 'self'; form-action 'self'; "
+    "frame-ancestors 'none'; base-uri 'none'",
     "X-Content-Type-Options": "nosniff",
     "Referrer-Policy": "no-referrer",
     "Cross-Origin-Resource-Policy": "same-origin",
     "Cross-Origin-Opener-Policy": "same-origin",
     "Cache-Control": "no-store",
 }
-IN_USE = "Another process has the store open, so it can't be copied now. It is not waited for. Close the other process and try again, or start timestore-browse with --unlocked, which copies the files beside it."
+IN_USE = (
+    "Another process has the store open, so it can't be copied now. It is not waited for. Close the other process and try again, "
+    "or start timestore-browse with --unlocked, which copies the files beside it."
+)
 
 
 class Answer(NamedTuple):
@@ -55,13 +58,20 @@ class Missing(Exception):
 Query = dict[str, str]
 
 
+class Source(NamedTuple):
+    """A store, and how it is copied."""
+
+    folder: Path
+    is_locked: bool = True
+    wait_seconds: float = WAIT_SECONDS
+    names_in: int | None = None  # the relation that has the names of relations and fields
+
+
 class Browser:
     """The copy that is shown. Its methods are called on one thread, which owns the store."""
 
-    def __init__(self, folder: Path, is_locked: bool, wait_seconds: float = WAIT_SECONDS) -> None:
-        self._folder = folder
-        self._is_locked = is_locked
-        self._wait_seconds = wait_seconds
+    def __init__(self, source: Source) -> None:
+        self._source = source
         self._files: tempfile.TemporaryDirectory[str] | None = None
         self._stamp = (0, 0)
         self._copied = ""
@@ -72,9 +82,9 @@ class Browser:
         """Takes a new copy. Where the store is in use the one before stays."""
         files = tempfile.TemporaryDirectory(prefix="timestore-browse-")
         try:
-            stamp = copying.stamp(self._folder)
-            copying.copy(self._folder, Path(files.name), self._wait_seconds, self._is_locked)
-            past = Past(Path(files.name))
+            stamp = copying.stamp(self._source.folder)
+            copying.copy(self._source.folder, Path(files.name), self._source.wait_seconds, self._source.is_locked)
+            past = Past(Path(files.name), self._source.names_in)
         except copying.InUse:
             files.cleanup()
             self._is_in_use = True
@@ -100,11 +110,11 @@ class Browser:
             notice = f"Another process has the store open: this is still the copy of {self._copied}."
         elif self.past is not None and self._is_changed():
             notice = "The store has changed since this copy was made."
-        return pages.Frame(str(self._folder), self._copied, notice)
+        return pages.Frame(str(self._source.folder), self._copied, notice)
 
     def _is_changed(self) -> bool:
         try:
-            return copying.stamp(self._folder) != self._stamp
+            return copying.stamp(self._source.folder) != self._stamp
         except OSError:
             return True
 
@@ -114,100 +124,113 @@ class Browser:
             if found := re.fullmatch(pattern, path, re.ASCII):
                 if self.past is None:
                     return Answer(pages.message(self.frame(), "The store is in use", IN_USE), HTTPStatus.SERVICE_UNAVAILABLE)
-                return page(self, self.past, _numbers(found), query)
+                return page(Asked(self.frame(), self.past, query, **_numbers(found)))
         raise Missing
 
 
-def _numbers(found: re.Match[str]) -> list[int]:
-    """The numbers of an address."""
+class Asked(NamedTuple):
+    """An address that was asked for, with its numbers."""
+
+    frame: pages.Frame
+    past: Past
+    query: Query
+    relation: int = 0
+    record: int = 0
+    commit: int = 0
+
+    def time(self, name: str, otherwise: int) -> int:
+        """A time of the query, which the last commit bounds."""
+        return min(time_of(self.query[name]), self.past.last) if self.query.get(name) else otherwise
+
+    def whole(self, name: str, most: int = (1 << 63) - 1) -> int:
+        """A number of the query, 0 where there is none."""
+        text = self.query.get(name) or "0"
+        if not (text.isascii() and text.isdigit() and len(text) < 20):
+            raise Missing
+        return min(int(text), most)
+
+    def moment(self) -> pages.Moment:
+        """What the query asks of a relation's records: at a change by its number, at a time, or at the last commit."""
+        moments = self.past.moments(self.relation)
+        if "step" in self.query and moments:
+            time = moments[self.whole("step", len(moments) - 1)]
+        else:
+            time = self.time("at", self.past.last)
+        return pages.Moment(self.relation, time, self.whole("first"))
+
+    def interval(self) -> pages.Interval:
+        """The two moments that the query compares."""
+        start = self.time("from", max(0, self.past.last - 1))
+        return pages.Interval(self.relation, start, self.time("to", self.past.last), self.whole("first"))
+
+
+def _numbers(found: re.Match[str]) -> dict[str, int]:
+    """The numbers of an address by their names."""
     numbers = {name: int(text) for name, text in found.groupdict().items()}
     if any(number >= LIMITS[name] for name, number in numbers.items()):
         raise Missing
-    return list(numbers.values())
-
-
-def _time(past: Past, query: Query, name: str, otherwise: int) -> int:
-    """A time of a query, which the last commit bounds."""
-    return min(time_of(query[name]), past.last) if query.get(name) else otherwise
-
-
-def _whole(query: Query, name: str, most: int) -> int:
-    text = query.get(name) or "0"
-    if not (text.isascii() and text.isdigit() and len(text) < 20):
-        raise Missing
-    return min(int(text), most)
-
-
-def _moment(past: Past, relation: int, query: Query) -> int:
-    """The time of a query for a relation's records: of a change by its number, or a time, or the last commit."""
-    moments = past.moments(relation)
-    if "step" in query and moments:
-        return moments[_whole(query, "step", len(moments) - 1)]
-    return _time(past, query, "at", past.last)
-
-
-def _interval(past: Past, query: Query) -> pages.Interval:
-    return pages.Interval(_time(past, query, "from", past.last - 1), _time(past, query, "to", past.last))
+    return numbers
 
 
 def _csv(body: str, name: str) -> Answer:
     return Answer(body, kind="text/csv; charset=utf-8; header=present", name=name)
 
 
-def _home(browser: Browser, past: Past, numbers: list[int], query: Query) -> Answer:
-    return Answer(pages.home(browser.frame(), past))
+def _home(asked: Asked) -> Answer:
+    return Answer(pages.home(asked.frame, asked.past))
 
 
-def _relation(browser: Browser, past: Past, numbers: list[int], query: Query) -> Answer:
-    time = _moment(past, *numbers, query)
-    return Answer(pages.relation(browser.frame(), past, *numbers, time, _whole(query, "first", 1 << 63)))
+def _relation(asked: Asked) -> Answer:
+    return Answer(pages.relation(asked.frame, asked.past, asked.moment()))
 
 
-def _rows(browser: Browser, past: Past, numbers: list[int], query: Query) -> Answer:
-    return Answer(pages.records(past, *numbers, _moment(past, *numbers, query), 0)) if past.moments(*numbers) else Answer("")
+def _rows(asked: Asked) -> Answer:
+    return Answer(pages.records(asked.past, asked.moment()) if asked.past.moments(asked.relation) else "")
 
 
-def _changes(browser: Browser, past: Past, numbers: list[int], query: Query) -> Answer:
-    return Answer(pages.changes(browser.frame(), past, *numbers, _interval(past, query), _whole(query, "first", 1 << 63)))
+def _changes(asked: Asked) -> Answer:
+    return Answer(pages.changes(asked.frame, asked.past, asked.interval()))
 
 
-def _record(browser: Browser, past: Past, numbers: list[int], query: Query) -> Answer:
-    return Answer(pages.record(browser.frame(), past, *numbers))
+def _record(asked: Asked) -> Answer:
+    return Answer(pages.record(asked.frame, asked.past, asked.relation, asked.record))
 
 
-def _commits(browser: Browser, past: Past, numbers: list[int], query: Query) -> Answer:
-    return Answer(pages.commits(browser.frame(), past, _whole(query, "first", 1 << 63)))
+def _commits(asked: Asked) -> Answer:
+    return Answer(pages.commits(asked.frame, asked.past, asked.whole("first")))
 
 
-def _commit(browser: Browser, past: Past, numbers: list[int], query: Query) -> Answer:
-    if past.label(*numbers) is None:
+def _commit(asked: Asked) -> Answer:
+    if asked.past.label(asked.commit) is None:
         raise Missing
-    return Answer(pages.commit(browser.frame(), past, *numbers))
+    return Answer(pages.commit(asked.frame, asked.past, asked.commit))
 
 
-def _records_csv(browser: Browser, past: Past, numbers: list[int], query: Query) -> Answer:
-    time = _moment(past, *numbers, query)
-    return _csv(tables.records_csv(past, *numbers, time), f"relation-{numbers[0]}-at-{time}.csv")
+def _records_csv(asked: Asked) -> Answer:
+    relation, time, _ = asked.moment()
+    return _csv(tables.records_csv(asked.past, relation, time), f"relation-{relation}-at-{time}.csv")
 
 
-def _history_csv(browser: Browser, past: Past, numbers: list[int], query: Query) -> Answer:
-    return _csv(tables.versions_csv(past, past.all_versions(*numbers)), f"relation-{numbers[0]}-history.csv")
+def _history_csv(asked: Asked) -> Answer:
+    rows = asked.past.all_versions(asked.relation)
+    return _csv(tables.versions_csv(asked.past, rows), f"relation-{asked.relation}-history.csv")
 
 
-def _changes_csv(browser: Browser, past: Past, numbers: list[int], query: Query) -> Answer:
-    interval = _interval(past, query)
-    return _csv(tables.differences_csv(past, *numbers, *interval), f"relation-{numbers[0]}-changes-{interval.start}-{interval.end}.csv")
+def _changes_csv(asked: Asked) -> Answer:
+    relation, start, end, _ = asked.interval()
+    return _csv(tables.differences_csv(asked.past, relation, start, end), f"relation-{relation}-changes-{start}-{end}.csv")
 
 
-def _record_csv(browser: Browser, past: Past, numbers: list[int], query: Query) -> Answer:
-    return _csv(tables.versions_csv(past, past.versions(*numbers)), f"relation-{numbers[0]}-record-{numbers[1]}.csv")
+def _record_csv(asked: Asked) -> Answer:
+    rows = asked.past.versions(asked.relation, asked.record)
+    return _csv(tables.versions_csv(asked.past, rows), f"relation-{asked.relation}-record-{asked.record}.csv")
 
 
-LIMITS = {"relation": RELATIONS, "record": 1 << 64, "time": 1 << 63}
+LIMITS = {"relation": RELATIONS, "record": 1 << 64, "commit": 1 << 63}
 RELATION = "/relations/(?P<relation>0|[1-9][0-9]{0,4})"
 RECORD = "/records/(?P<record>0|[1-9][0-9]{0,19})"
-TIME = "/(?P<time>[1-9][0-9]{0,18})"
-ROUTES: dict[str, Callable[[Browser, Past, list[int], Query], Answer]] = {
+COMMIT = "/commits/(?P<commit>[1-9][0-9]{0,18})"
+ROUTES: dict[str, Callable[[Asked], Answer]] = {
     "/": _home,
     RELATION: _relation,
     f"{RELATION}/rows": _rows,
@@ -218,7 +241,7 @@ ROUTES: dict[str, Callable[[Browser, Past, list[int], Query], Answer]] = {
     rf"{RELATION}/changes\.csv": _changes_csv,
     rf"{RELATION}{RECORD}\.csv": _record_csv,
     "/commits": _commits,
-    f"/commits{TIME}": _commit,
+    COMMIT: _commit,
 }
 
 
@@ -299,7 +322,7 @@ class _Handler(BaseHTTPRequestHandler):
         frame = self._server.ask(self._server.browser.frame)
         match why:
             case timestore.BeforeKept():
-                return Answer(pages.message(frame, "Let go", f"History before {pages.instant(why.floor)} UTC was let go."), HTTPStatus.GONE)
+                return Answer(pages.message(frame, "Let go", f"History before {instant(why.floor)} UTC was let go."), HTTPStatus.GONE)
             case BadTime():
                 return Answer(pages.message(frame, "No such time", str(why)), HTTPStatus.BAD_REQUEST)
             case timestore.Refused():
@@ -332,9 +355,9 @@ class _Handler(BaseHTTPRequestHandler):
 
 
 @contextmanager
-def served(folder: Path, port: int = 0, is_locked: bool = True, wait_seconds: float = WAIT_SECONDS) -> Iterator[Server]:
+def served(source: Source, port: int = 0) -> Iterator[Server]:
     """A server over a copy of a store, which is removed at the end. It answers once `serve_forever` is called."""
-    browser = Browser(folder, is_locked, wait_seconds)
+    browser = Browser(source)
     with ThreadPoolExecutor(1) as owner:
         try:
             owner.submit(browser.copy).result()
@@ -348,11 +371,21 @@ def _interrupt(*_: object) -> NoReturn:
     raise KeyboardInterrupt
 
 
+def _sixteen_bits(text: str) -> int:
+    if not (text.isascii() and text.isdigit() and int(text) < 1 << 16):
+        raise argparse.ArgumentTypeError(f"{text!r} is not from 0 to 65535")
+    return int(text)
+
+
 def _arguments() -> argparse.Namespace:
-    parser = argparse.ArgumentParser(prog="timestore-browse", description="Shows the past of a store in a web browser, on this machine alone. It only reads.")
+    about = "Shows the past of a store in a web browser, on this machine alone. It only reads."
+    parser = argparse.ArgumentParser(prog="timestore-browse", description=about)
     parser.add_argument("folder", metavar="DIR", type=Path, help="the folder of the store")
-    parser.add_argument("--port", type=int, default=0, help="the port to listen on; else a free one")
-    parser.add_argument("--unlocked", action="store_true", help="copy the files beside a process that has the store open; the last commits may then be some that a power cut undoes")
+    parser.add_argument("--port", metavar="N", type=_sixteen_bits, default=0, help="the port to listen on; else a free one")
+    names = "the relation whose record N has the name of relation N, then those of its fields, each up to a colon"
+    parser.add_argument("--names", metavar="REL", type=_sixteen_bits, help=names)
+    unlocked = "copy the files beside a process that has the store open; a power cut may undo the last commits that are shown"
+    parser.add_argument("--unlocked", action="store_true", help=unlocked)
     return parser.parse_args()
 
 
@@ -361,7 +394,8 @@ def main() -> int:
     args = _arguments()
     signal.signal(signal.SIGTERM, _interrupt)
     try:
-        with served(args.folder.absolute(), args.port, not args.unlocked) as server:
+        source = Source(args.folder.absolute(), is_locked=not args.unlocked, names_in=args.names)
+        with served(source, args.port) as server:
             if server.browser.past is None:
                 print("the store is in use: its page says so until it can be copied", file=sys.stderr)
             print(f"http://{ADDRESS}:{server.server_port}/", flush=True)
@@ -371,6 +405,6 @@ def main() -> int:
     except timestore.Refused as why:
         print(f"timestore-browse: {args.folder}: {why}", file=sys.stderr)
     except OSError as why:
-        is_missing = isinstance(why, FileNotFoundError) and os.path.isdir(args.folder)
-        print(f"timestore-browse: {args.folder}: {'not a store' if is_missing else why.strerror or why}", file=sys.stderr)
+        is_missing = isinstance(why, FileNotFoundError) and args.folder.is_dir()
+        print(f"timestore-browse: {args.folder}: {'not a store' if is_missing else why.strerror}", file=sys.stderr)
     return 1

@@ -37,12 +37,15 @@ def records_csv(past: Past, relation: int, time: int) -> str:
 def versions_csv(past: Past, rows: list[timestore.Row]) -> str:
     """Versions with the times from and up to which they stood; `to` is empty where one still stands."""
     columns = _columns(row.fields for row in rows)
-    lines = []
-    for row in rows:
-        label = past.label(row.start)
-        ends = ["", ""] if row.end > past.last else [row.end, instant(row.end)]
-        lines.append([row.record, row.start, instant(row.start), *ends, "" if label is None else label, len(row.fields), *_padded(row.fields, len(columns))])
+    lines = (_version_cells(past, row, len(columns)) for row in rows)
     return _csv([["record", "from", "from_utc", "to", "to_utc", "label", "fields", *columns], *lines])
+
+
+def _version_cells(past: Past, row: timestore.Row, count: int) -> list[object]:
+    label = past.label(row.start)
+    ends = ("", "") if row.end > past.last else (row.end, instant(row.end))
+    known = "" if label is None else label
+    return [row.record, row.start, instant(row.start), *ends, known, len(row.fields), *_padded(row.fields, count)]
 
 
 def differences_csv(past: Past, relation: int, start: int, end: int) -> str:

@@ -6,6 +6,7 @@ import signal
 import sys
 from collections.abc import Generator
 from contextlib import closing
+from io import TextIOWrapper
 from typing import NoReturn
 
 import timestore
@@ -135,7 +136,8 @@ def main() -> int:
     """The exit status: 0, 1 where the command was refused, 2 where it is no command."""
     args = parser().parse_args()
     signal.signal(signal.SIGTERM, _interrupt)
-    sys.stdout.reconfigure(encoding="utf-8", newline="\n")  # type: ignore[union-attr]
+    assert isinstance(sys.stdout, TextIOWrapper)  # nothing stands in for it
+    sys.stdout.reconfigure(encoding="utf-8", newline="\n")
     try:
         with closing(_lines(args)) as lines:
             for line in lines:

@@ -95,14 +95,15 @@ def _assigned(assignments: Iterable[str]) -> tuple[dict[str, Any], dict[str, Any
 def add_company(office: Office, author: Author, assignments: list[str]) -> tuple[int, Entry]:
     """Enters a new company under the next free number, which it tells."""
     company, address = _assigned(assignments)
-    missing = [name for name in (*COMPANY_FIELDS, *Address._fields) if name not in {"state": "", **company, **address}]
+    company.setdefault("state", "active")
+    missing = [name for name in (*COMPANY_FIELDS, *Address._fields) if name not in company | address]
     if missing:
         raise Refusal(f"a new company needs {', '.join(missing)} too")
     numbers = []
 
     def change(desk: Desk) -> None:
         numbers.append(1 + max((number for number, _ in desk.scan(Relation.COMPANIES)), default=0))
-        desk.put(Relation.COMPANIES, numbers[-1], Company(**{"state": "active", **company}, seats=0))
+        desk.put(Relation.COMPANIES, numbers[-1], Company(**company, seats=0))
         desk.put(Relation.ADDRESSES, numbers[-1], Address(**address))
 
     entry = office.enter(author, change)

@@ -9,8 +9,8 @@ import json
 import os
 import socket
 import socketserver
-from collections.abc import Iterator
-from typing import IO, cast
+from collections.abc import Iterable, Iterator
+from typing import cast
 
 import timestore
 
@@ -88,7 +88,7 @@ def _connected(path: str) -> socket.socket | None:
     return line
 
 
-def _answers(file: IO[bytes]) -> Iterator[str]:
+def _answers(file: Iterable[bytes]) -> Iterator[str]:
     for text in file:
         kind, *rest = json.loads(text)
         if kind == "refused":

@@ -25,7 +25,8 @@ class Entries(RegisterTest):
         self.said("import", "reg", "new.csv", "--case", "2")
 
     def test_change(self) -> None:
-        self.assertEqual(self.said("change", "reg", "1", "town=Paris", "capital=2000", "--case", "3", clock="2026-05-02T00:00:00Z"), "entered 2026-05-02T00:00:00Z\n")
+        said = self.said("change", "reg", "1", "town=Paris", "capital=2000", "--case", "3", clock="2026-05-02T00:00:00Z")
+        self.assertEqual(said, "entered 2026-05-02T00:00:00Z\n")
         with timestore.Store(self.folder) as store:
             self.assertEqual(store.at(4, 1, store.last), (b"Quai 7", b"69002", b"Paris", b"FR"))
             self.assertEqual(store.at(3, 1, store.last), (b"Acme", b"Ltd", b"2000.00", b"2020-01-01", b"active", b"1"))

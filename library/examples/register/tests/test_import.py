@@ -92,7 +92,8 @@ class Import(RegisterTest):
 class Killed(RegisterTest):
     def import_until(self, parts: int) -> int:
         """Kills an import once so many parts were told; how many were told by then."""
-        with subprocess.Popen(command("import", "reg", "large.csv", "--case", "2", "--clerk", "ada"), cwd=self.base, env=environment(FIRST_MAY), stdout=subprocess.PIPE) as process:
+        words = command("import", "reg", "large.csv", "--case", "2", "--clerk", "ada")
+        with subprocess.Popen(words, cwd=self.base, env=environment(FIRST_MAY), stdout=subprocess.PIPE) as process:
             assert process.stdout is not None  # it is a pipe
             told = [process.stdout.readline() for _ in range(parts)]
             os.kill(process.pid, signal.SIGKILL)

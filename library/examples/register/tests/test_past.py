@@ -51,7 +51,8 @@ class Past(RegisterTest):
         self.assertEqual({time: self.at(time) for time in wanted}, wanted)
 
     def test_before_the_first_entry(self) -> None:
-        self.assertEqual(self.refused("show", "reg", "1", "--at", "2026-05-01T09:00:00.000001Z", clock=LATER), "no company 1 stood at 2026-05-01T09:00:00.000001Z")
+        why = self.refused("show", "reg", "1", "--at", "2026-05-01T09:00:00.000001Z", clock=LATER)
+        self.assertEqual(why, "no company 1 stood at 2026-05-01T09:00:00.000001Z")
         self.assertEqual(self.said("list", "reg", "--at", "2026-05-01T09:00:00.000001Z", clock=LATER), "0 companies, capital 0.00\n")
 
     def test_after_the_last_entry(self) -> None:
@@ -85,7 +86,8 @@ class Past(RegisterTest):
     def test_journal(self) -> None:
         self.assertEqual(self.said("journal", "reg", "--by", "bo"), "2026-05-03T23:59:59.999999Z  bo, case 3, change\n")
         times = [line.split()[0] for line in self.said("journal", "reg").splitlines()]
-        self.assertEqual(times, [FIRST_MAY, "2026-05-01T09:00:00.000001Z", "2026-05-01T09:00:00.000002Z", "2026-05-03T23:59:59.999999Z", "2026-05-04T00:00:00Z"])
+        first = [FIRST_MAY, "2026-05-01T09:00:00.000001Z", "2026-05-01T09:00:00.000002Z"]
+        self.assertEqual(times, [*first, "2026-05-03T23:59:59.999999Z", "2026-05-04T00:00:00Z"])
 
     def test_export_is_what_was_imported(self) -> None:
         status, out, _ = self.run_command("export", "reg", "--at", "2026-05-02", clock=LATER)
@@ -111,7 +113,8 @@ class Past(RegisterTest):
     def test_extract(self) -> None:
         self.said("dismiss", "reg", "1", "2", "--case", "5", clock="2026-05-05T00:00:00Z")
         said = self.said("extract", "reg", "1")
-        self.assertTrue(said.startswith("EXTRACT FROM THE REGISTER OF COMPANIES\nCompany 1, as entered up to 2026-05-05T00:00:00Z\n\nWHAT STANDS\n\nname      Loom\n"))
+        head = "EXTRACT FROM THE REGISTER OF COMPANIES\nCompany 1, as entered up to 2026-05-05T00:00:00Z\n\nWHAT STANDS\n\n"
+        self.assertTrue(said.startswith(f"{head}name      Loom\n"))
         self.assertTrue(said.endswith(
             "2026-05-03T23:59:59.999999Z  bo, case 3, change\n    town: Basel -> Bern\n"
             "2026-05-04T00:00:00Z  ada, case 4, change\n    name: Loom & Sons -> Loom\n"
