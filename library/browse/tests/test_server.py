@@ -9,7 +9,7 @@ from pathlib import Path
 
 import timestore
 
-from timestore_browse import copying
+from timestore_browse import copying, files
 
 from .base import BrowseTest, rows
 
@@ -136,11 +136,31 @@ class Copies(BrowseTest):
             store.grow()
             with store.begin(label=2**64 - 1, now=2**63 - 1) as txn:
                 txn.put(1, 7, b"e")
-        log = copying.read_log((self.folder / "status").read_bytes())
-        self.assertEqual(log.reclaims, 1)
-        self.assertEqual(log.commits, [
+        log = files.read_log((self.folder / "status").read_bytes())
+        self.assertEqual((log.reclaims, log.reclaimed, len(log.runs)), (1, 120, 1))
+        self.assertEqual([commit[:3] for commit in log.commits], [
             (100, 1, 1), (110, 2, 2), (120, 3, 1), (130, 4, 1), (140, 5, 1), (150, 6, 1), (2**63 - 1, 2**64 - 1, 1),
         ])  # fmt: skip
+
+    def test_relations(self) -> None:
+        """Those of the heap and of the archive, in records of each kind and chains of many extents."""
+        with timestore.Store(self.folder) as store:
+            with store.begin() as txn:
+                for record in range(200):
+                    txn.put(3, record, b"x" * 255)
+                txn.put(4, 1, b"y" * 255, b"a")
+            with store.begin() as txn:  # a delta, then an anchor
+                txn.put(4, 1, b"y" * 255, b"b")
+                txn.put(5, 1, *[b"", b"z"] * 8)
+            with store.begin() as txn:
+                txn.delete(2, 1)
+                txn.put(6, 1, b"a")
+            self.assertEqual(files.relations(self.folder), [1, 2, 3, 4, 5, 6, 65_535])
+            store.archive(store.last)
+            store.reclaim()
+            with store.begin() as txn:
+                txn.put(7, 1, b"a")
+        self.assertEqual(files.relations(self.folder), [1, 2, 3, 4, 5, 6, 7, 65_535])
 
     def test_reclaim_amid_the_copy(self) -> None:
         """Without the lock a copy is taken again where a reclaim came in between; in the end it is refused."""

@@ -2,62 +2,18 @@
 
 import fcntl
 import shutil
-import struct
 import time
 from pathlib import Path
-from typing import IO, NamedTuple
+from typing import IO
 
-# The format of the status area: a header and slots of 512 bytes.
-HEADER_BYTES = SLOT_BYTES = 512
-PIECE_SLOTS = 256
-OPEN = 0xC7
-PIECE_GATES = slice(16, 271)
-COMMIT, RECLAIMED = 1, 3
-MEMBER = struct.Struct("<QQIII")  # label, time, first extent, extents, records
+from .files import read_log
+
 LOCK_PAUSE_SECONDS = 0.02
 TRIES = 3
 
 
 class InUse(Exception):
     """Another process has the store open, or went on changing it."""
-
-
-class Commit(NamedTuple):
-    """A commit, as the log has it."""
-
-    time: int
-    label: int
-    records: int
-
-
-class Log(NamedTuple):
-    """What the status area says: the commits by time, and how many reclaims there were."""
-
-    commits: list[Commit]
-    reclaims: int
-
-
-def read_log(status: bytes) -> Log:
-    """The log of a status area that the library has opened."""
-    pieces = status[PIECE_GATES]
-    open_pieces = next((piece for piece, gate in enumerate(pieces) if gate != OPEN), len(pieces))
-    slots = struct.unpack_from("<I", status, 12)[0] + PIECE_SLOTS * open_pieces
-    commits: list[Commit] = []
-    reclaims = 0
-    for slot in range(slots):
-        at = HEADER_BYTES + SLOT_BYTES * slot
-        if status[at : at + 1] != bytes([OPEN]):
-            break
-        kind, members = status[at + 1], status[at + 2]
-        reclaims += kind == RECLAIMED
-        if kind == COMMIT:
-            commits += _members(status, at + 8, members)
-    return Log(commits, reclaims)
-
-
-def _members(status: bytes, at: int, count: int) -> list[Commit]:
-    rows = [MEMBER.unpack_from(status, at + MEMBER.size * member) for member in range(count)]
-    return [Commit(time, label, records) for label, time, _, _, records in rows]
 
 
 def stamp(folder: Path) -> tuple[int, int]:

@@ -5,7 +5,7 @@ from typing import NamedTuple
 import timestore
 
 from . import chart
-from .copying import Commit
+from .files import Commit
 from .markup import Markup, element, join
 from .reading import Difference, Names, Past, Summary
 from .values import instant, is_text, lasting, spelled

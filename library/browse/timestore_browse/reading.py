@@ -7,10 +7,8 @@ from typing import NamedTuple
 
 import timestore
 
-from .copying import Commit, read_log
+from .files import Commit, read_log, relations
 from .values import spelled
-
-RELATIONS = 65_536
 
 
 class Summary(NamedTuple):
@@ -70,7 +68,7 @@ class Past:
         self._labels = {commit.time: commit.label for commit in self.commits}
         self.last = self._store.last
         self._moments: dict[int, list[int]] = {}
-        self.relations = self._summaries()
+        self.relations = self._summaries(relations(folder))
         self._names = {} if names_in is None else {relation: _names(fields) for relation, fields in self.records(names_in, self.last)}
 
     def close(self) -> None:
@@ -93,8 +91,8 @@ class Past:
             return why.floor
         return 0
 
-    def _summaries(self) -> dict[int, Summary]:
-        found = (self._summary(relation) for relation in range(RELATIONS)) if self.last else ()
+    def _summaries(self, relations: list[int]) -> dict[int, Summary]:
+        found = (self._summary(relation) for relation in relations)
         return {summary.relation: summary for summary in found if summary}
 
     def _summary(self, relation: int) -> Summary | None:

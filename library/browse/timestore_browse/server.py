@@ -19,7 +19,7 @@ from urllib.parse import parse_qsl, urlsplit
 import timestore
 
 from . import copying, pages, tables
-from .reading import RELATIONS, Past
+from .reading import Past
 from .values import BadTime, instant, time_of
 
 ADDRESS = "127.0.0.1"
@@ -226,7 +226,7 @@ def _record_csv(asked: Asked) -> Answer:
     return _csv(tables.versions_csv(asked.past, rows), f"relation-{asked.relation}-record-{asked.record}.csv")
 
 
-LIMITS = {"relation": RELATIONS, "record": 1 << 64, "commit": 1 << 63}
+LIMITS = {"relation": 1 << 16, "record": 1 << 64, "commit": 1 << 63}
 RELATION = "/relations/(?P<relation>0|[1-9][0-9]{0,4})"
 RECORD = "/records/(?P<record>0|[1-9][0-9]{0,19})"
 COMMIT = "/commits/(?P<commit>[1-9][0-9]{0,18})"

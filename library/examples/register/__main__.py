@@ -4,7 +4,7 @@ import argparse
 import os
 import signal
 import sys
-from collections.abc import Generator
+from collections.abc import Callable, Generator
 from contextlib import closing
 from io import TextIOWrapper
 from typing import NoReturn
@@ -14,23 +14,26 @@ import timestore
 from . import serve
 from .commands import COMMANDS, new, read_file, reason
 from .office import Office
-from .schema import Refusal
+from .schema import COMPANY_MOST, LABEL_BITS, SEAT_MOST, Refusal
 
 ABOUT = "A register of companies that keeps what stood, since when, and who entered it."
 SLOTS = 8_192
 
 
-def _whole(text: str) -> int:
-    if not (text.isascii() and text.isdigit() and int(text) > 0):
-        raise argparse.ArgumentTypeError(f"{text!r} is no number from 1 on")
-    return int(text)
+def _number_to(most: int) -> Callable[[str], int]:
+    """The parser of a number from 1 to another one."""
+
+    def parse(text: str) -> int:
+        if not (text.isascii() and text.isdigit() and 1 <= int(text) <= most):
+            raise argparse.ArgumentTypeError(f"{text!r} is not from 1 to {most}")
+        return int(text)
+
+    return parse
 
 
-def _case(text: str) -> int:
-    case = _whole(text)
-    if case >= 1 << 32:
-        raise argparse.ArgumentTypeError(f"{text} is larger than 4294967295")
-    return case
+CASE = _number_to((1 << LABEL_BITS["case"]) - 1)
+COMPANY = _number_to(COMPANY_MOST)
+SEAT = _number_to(SEAT_MOST)
 
 
 class _Commands:
@@ -50,7 +53,7 @@ class _Commands:
         parser = self.command(name, about)
         clerk = os.environ.get("REGISTER_CLERK")
         parser.add_argument("--clerk", metavar="LOGIN", default=clerk, required=not clerk, help="who makes the entry; else $REGISTER_CLERK")
-        parser.add_argument("--case", metavar="N", type=_case, required=True, help="the number of the case")
+        parser.add_argument("--case", metavar="N", type=CASE, required=True, help="the number of the case")
         parser.add_argument("--remark", metavar="TEXT", help="why")
         return parser
 
@@ -64,7 +67,7 @@ class _Commands:
 def _entries(commands: _Commands) -> None:
     parser = commands.entry("new", "make a register with its first clerk")
     parser.add_argument("--name", required=True, help="the first clerk's name")
-    parser.add_argument("--slots", metavar="N", type=_whole, default=SLOTS, help=f"room for so many entries, {SLOTS} if not given")
+    parser.add_argument("--slots", metavar="N", type=int, default=SLOTS, help=f"room for so many entries, {SLOTS} if not given")
     parser = commands.entry("clerk", "add a clerk")
     parser.add_argument("login", metavar="LOGIN")
     parser.add_argument("name", metavar="NAME")
@@ -78,14 +81,14 @@ def _entries(commands: _Commands) -> None:
     parser = commands.entry("correct", "correct what a case entered: the error stays in the history")
     _number(parser)
     parser.add_argument("fields", metavar="FIELD=VALUE", nargs="+")
-    parser.add_argument("--corrects", metavar="N", type=_case, required=True, help="the case that had the error")
+    parser.add_argument("--corrects", metavar="N", type=CASE, required=True, help="the case that had the error")
     parser = commands.entry("appoint", "appoint an officer of a company")
     _number(parser)
     parser.add_argument("name", metavar="NAME")
     parser.add_argument("role", metavar="ROLE")
     parser = commands.entry("dismiss", "end the office of who has a seat")
     _number(parser)
-    parser.add_argument("seat", metavar="SEAT", type=_whole)
+    parser.add_argument("seat", metavar="SEAT", type=SEAT)
 
 
 def _questions(commands: _Commands) -> None:
@@ -94,7 +97,7 @@ def _questions(commands: _Commands) -> None:
     _number(commands.command("history", "show every change of a company, and who made it"))
     parser = commands.command("journal", "list the entries")
     parser.add_argument("--by", metavar="LOGIN", help="those of a clerk")
-    parser.add_argument("--of", metavar="N", type=_case, help="those of a case")
+    parser.add_argument("--of", metavar="N", type=CASE, help="those of a case")
     parser = commands.command("extract", "write the whole history of a company for a court")
     _number(parser)
     parser.add_argument("--csv", action="store_true", help="as CSV, a row for each field that changed")
@@ -103,7 +106,7 @@ def _questions(commands: _Commands) -> None:
 
 
 def _number(parser: argparse.ArgumentParser) -> None:
-    parser.add_argument("number", metavar="NUMBER", type=_whole, help="the number of the company")
+    parser.add_argument("number", metavar="NUMBER", type=COMPANY, help="the number of the company")
 
 
 def parser() -> argparse.ArgumentParser:
@@ -132,9 +135,10 @@ def _lines(args: argparse.Namespace) -> Generator[str, None, None]:
         yield from COMMANDS[args.command](office, args)
 
 
-def main() -> int:
-    """The exit status: 0, 1 where the command was refused, 2 where it is no command."""
-    args = parser().parse_args()
+def main(words: list[str] | None = None) -> int:
+    """The exit status of a command line, else of the process's own: 0, or 1 where it was refused. `SystemExit` with 2
+    where it is no command."""
+    args = parser().parse_args(words)
     signal.signal(signal.SIGTERM, _interrupt)
     assert isinstance(sys.stdout, TextIOWrapper)  # nothing stands in for it
     sys.stdout.reconfigure(encoding="utf-8", newline="\n")

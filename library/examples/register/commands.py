@@ -8,13 +8,14 @@ import timestore
 
 from . import entries, output, past, times
 from .office import Author, Entry, Office, make
-from .schema import Clerk, Officer, Refusal, read_field
+from .schema import Case, Clerk, Officer, Refusal, read_field
 
 Args = argparse.Namespace
 
 
 def _author(office: Office, args: Args, kind: str, corrects: int = 0) -> Author:
-    return Author(entries.clerk_number(office, args.clerk), args.case, kind, corrects, args.remark or "")
+    remark = read_field(Case, "remark", args.remark or "")
+    return Author(entries.clerk_number(office, args.clerk), args.case, kind, corrects, remark)
 
 
 def _entered(entry: Entry) -> str:

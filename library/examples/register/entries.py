@@ -10,7 +10,7 @@ from typing import Any, NamedTuple
 import timestore
 
 from .office import Author, Desk, Entry, Office
-from .schema import COMPANY_MOST, Address, Case, Clerk, Company, Label, Officer, Refusal, Relation, read_field, seat_record
+from .schema import COMPANY_MOST, SEAT_MOST, Address, Case, Clerk, Company, Label, Officer, Refusal, Relation, read_field, seat_record
 
 COLUMNS = ("number", "name", "form", "capital", "founded", "state", "street", "postcode", "town", "country", "officers")
 COMPANY_FIELDS = ("name", "form", "capital", "founded", "state")
@@ -63,7 +63,8 @@ def add_clerk(office: Office, author: Author, login: str, name: str) -> Entry:
 def company_number(text: str) -> int:
     """The number of a company from a text."""
     text = text.strip()
-    if not (text.isascii() and text.isdigit() and 1 <= int(text) <= COMPANY_MOST):
+    is_number = text.isascii() and text.isdigit() and len(text) <= len(str(COMPANY_MOST))
+    if not (is_number and 1 <= int(text) <= COMPANY_MOST):
         raise Refusal(f"number: {text!r} is not from 1 to {COMPANY_MOST}")
     return int(text)
 
@@ -135,6 +136,8 @@ def appoint(office: Office, author: Author, number: int, officer: Officer) -> tu
 
     def change(desk: Desk) -> None:
         company, _ = found_of(desk, number)
+        if company.seats == SEAT_MOST:
+            raise Refusal(f"company {number} has had all its {SEAT_MOST} seats")
         seats.append(company.seats + 1)
         desk.put(Relation.COMPANIES, number, company._replace(seats=seats[-1]))
         desk.put(Relation.OFFICERS, seat_record(number, seats[-1]), officer)
@@ -226,7 +229,7 @@ def import_parts(office: Office, clerk: int, case: int, name: str, text: str) ->
     """
     parts = parts_of(lines_of(text))
     digest = hashlib.sha256(text.encode()).hexdigest()[:16]
-    remark = f"{name} sha256 {digest}"
+    remark = read_field(Case, "remark", f"{name} sha256 {digest}")
     made = _parts_made(office, clerk, case, remark)
     with office.desk() as desk:
         there = {number for number, _ in desk.scan(Relation.COMPANIES)}

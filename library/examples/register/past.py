@@ -54,11 +54,11 @@ def settled(store: timestore.Store, asked: int | None) -> Moment:
     last = store.last
     if asked is None:
         return Moment(last)
+    if asked <= last:
+        return Moment(asked)
     if asked > times.now():
         raise Refusal(f"{times.spelled(asked)} is still to come")
-    if asked > last:
-        return Moment(last, f"Nothing was entered after {times.spelled(last)}, so far.")
-    return Moment(asked)
+    return Moment(last, f"Nothing was entered after {times.spelled(last)}, so far.")
 
 
 def _rows(view: timestore.View, relation: Relation, time: int) -> dict[int, Row]:

@@ -12,7 +12,8 @@ from typing import Any, NamedTuple, Self, get_type_hints
 
 FIELD_BYTES_MOST = 255
 SEAT_BITS = 16
-COMPANY_MOST = (1 << 48) - 1
+SEAT_MOST = (1 << SEAT_BITS) - 1
+COMPANY_MOST = (1 << 64 - SEAT_BITS) - 1
 STATES = ("active", "dissolved")
 VERSION = "1"
 
@@ -109,12 +110,12 @@ def _number(text: str) -> int:
 def _amount(text: str) -> Decimal:
     try:
         amount = Decimal(text)
+        cents = amount.quantize(Decimal("0.01"))
     except InvalidOperation:
         raise ValueError("is no amount such as 25000.00") from None
-    exponent = amount.as_tuple().exponent
-    if not isinstance(exponent, int) or exponent < -2 or amount < 0:
+    if amount != cents or amount.is_signed():
         raise ValueError("is no amount such as 25000.00")
-    return amount.quantize(Decimal("0.01"))
+    return cents
 
 
 def _day(text: str) -> date:

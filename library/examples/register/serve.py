@@ -19,11 +19,13 @@ from .office import Office
 from .schema import Refusal
 
 CONNECT_SECONDS = 2.0
+PATH_BYTES = 108  # of a socket, with the zero at its end
 
 
-def socket_of(register: str) -> str:
-    """Where the socket of a register is."""
-    return os.path.normpath(register) + ".desk"
+def socket_of(register: str) -> str | None:
+    """Where the socket of a register is; None where the path would be too long for one."""
+    path = os.path.normpath(register) + ".desk"
+    return path if len(os.fsencode(path)) < PATH_BYTES else None
 
 
 class _Server(socketserver.ThreadingUnixStreamServer):
@@ -56,6 +58,8 @@ class _Handler(socketserver.StreamRequestHandler):
 def serve(register: str) -> Iterator[str]:
     """Serves a register until it is interrupted."""
     path = socket_of(register)
+    if path is None:
+        raise Refusal(f"{register} is too long a path to be served: go to the folder that it is in, and name it from there")
     with Office(register) as office:
         # (who has the store open is the only one who serves: what stands there was left by one that was killed)
         if os.path.exists(path):
@@ -101,10 +105,9 @@ def _answers(file: Iterable[bytes]) -> Iterator[str]:
 
 def ask(args: argparse.Namespace) -> Iterator[str] | None:
     """What who serves the register answers to a command; None where nobody serves it."""
-    line = _connected(socket_of(args.register))
-    if line is None:
-        return None
-    return _asked(line, args)
+    path = socket_of(args.register)
+    line = _connected(path) if path else None
+    return _asked(line, args) if line else None
 
 
 def _asked(line: socket.socket, args: argparse.Namespace) -> Iterator[str]:

@@ -1,11 +1,15 @@
 """What the tests share: a register in a folder of its own, and its commands as processes."""
 
+import io
 import os
-import subprocess
 import sys
 import tempfile
 import unittest
+from contextlib import chdir, redirect_stderr, redirect_stdout
 from pathlib import Path
+from unittest.mock import patch
+
+from ..__main__ import main
 
 PACKAGE = Path(__file__).resolve().parents[1]
 SAMPLE = PACKAGE / "companies.csv"
@@ -37,9 +41,17 @@ class RegisterTest(unittest.TestCase):
         self.folder = str(self.base / "reg")
 
     def run_command(self, *words: str, clock: str = FIRST_MAY) -> tuple[int, str, str]:
-        """Status, output and errors of a command of the clerk ada."""
-        done = subprocess.run(command(*words), cwd=self.base, env=environment(clock, REGISTER_CLERK="ada"), capture_output=True, timeout=120)
-        return done.returncode, done.stdout.decode(), done.stderr.decode()
+        """Status, output and errors of a command of the clerk ada, made in this process."""
+        out, errors = io.TextIOWrapper(io.BytesIO()), io.StringIO()
+        settings = patch.dict(os.environ, {"REGISTER_CLOCK": clock, "REGISTER_CLERK": "ada"})
+        with chdir(self.base), settings, redirect_stdout(out), redirect_stderr(errors):
+            try:
+                status = main(list(words))
+            except SystemExit as why:
+                status = int(why.code or 0)
+        out.flush()
+        assert isinstance(out.buffer, io.BytesIO)  # as it was made
+        return status, out.buffer.getvalue().decode(), errors.getvalue()
 
     def said(self, *words: str, clock: str = FIRST_MAY) -> str:
         """What a command tells that must not be refused."""

@@ -41,11 +41,36 @@ class Entries(RegisterTest):
             ("1", "towns=Lyon"): f"'towns=Lyon' is not FIELD=VALUE, where FIELD is one of {fields}",
             ("1", "town"): f"'town' is not FIELD=VALUE, where FIELD is one of {fields}",
             ("1", "seats=9"): f"'seats=9' is not FIELD=VALUE, where FIELD is one of {fields}",
+            ("1", "town=Paris", "--remark", "a\nb"): "remark: 'a\\nb' has a line end or another control character",
+            ("1", "town=Paris", "--remark", "x" * 256): f"remark: {'x' * 256!r} is longer than 255 bytes",
             ("1", "town=Paris", "--clerk", "cy"): "'cy' is no clerk of this register",
         }
         for words, why in wrong.items():
             self.assertEqual(self.refused("change", "reg", *words, "--case", "3"), why)
         self.assertEqual(self.said("journal", "reg"), before)
+
+    def test_numbers_out_of_range(self) -> None:
+        """They are no command: a seat never reaches into the next company's."""
+        wrong = {
+            ("dismiss", "reg", "1", "65536", "--case", "3"): "'65536' is not from 1 to 65535",
+            ("dismiss", "reg", "0", "1", "--case", "3"): "'0' is not from 1 to 281474976710655",
+            ("show", "reg", "281474976710656"): "'281474976710656' is not from 1 to 281474976710655",
+            ("change", "reg", "1", "town=Paris", "--case", "4294967296"): "'4294967296' is not from 1 to 4294967295",
+        }
+        for words, why in wrong.items():
+            status, _, errors = self.run_command(*words)
+            self.assertEqual(status, 2)
+            self.assertTrue(errors.endswith(f": {why}\n"), errors)
+
+    def test_seats_are_counted(self) -> None:
+        with Office(self.folder) as desk_office:
+
+            def fill(desk: Desk) -> None:
+                company, _ = entries.found_of(desk, 1)
+                desk.put(Relation.COMPANIES, 1, company._replace(seats=65_535))
+
+            desk_office.enter(Author(1, 9, "change"), fill)
+        self.assertEqual(self.refused("appoint", "reg", "1", "A", "b", "--case", "3"), "company 1 has had all its 65535 seats")
 
     def test_add(self) -> None:
         fields = "name=Bolt", "form=AG", "capital=5", "founded=2026-05-01", "street=S", "postcode=1", "town=Bern", "country=CH"

@@ -26,6 +26,8 @@ class Encodings(RegisterTest):
             ("capital", "12,5"): "capital: '12,5' is no amount such as 25000.00",
             ("capital", "-1"): "capital: '-1' is no amount such as 25000.00",
             ("capital", "1.005"): "capital: '1.005' is no amount such as 25000.00",
+            ("capital", "1e30"): "capital: '1e30' is no amount such as 25000.00",
+            ("capital", "-0"): "capital: '-0' is no amount such as 25000.00",
             ("capital", "NaN"): "capital: 'NaN' is no amount such as 25000.00",
             ("capital", "Infinity"): "capital: 'Infinity' is no amount such as 25000.00",
             ("founded", "31.12.2019"): "founded: '31.12.2019' is no day such as 2026-05-03",
