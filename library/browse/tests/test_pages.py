@@ -83,6 +83,19 @@ class Pages(BrowseTest):
         self.assertEqual([link.get("href") for link in picture.iter("a")], ["#v1", "#v2", "#v3"])
         self.assertEqual([title.text for title in picture.iter("title")][2], f"from {DAY}.000120: no value")
 
+    def test_ticks(self) -> None:
+        """The times above the lane are shorter the nearer they are, and none stands twice."""
+
+        def ticks(start: int, last: int) -> list[str]:
+            found = chart.timeline([chart.Span(start, last + 1, (b"a",), 1, ())], "record 7", last)
+            return re.findall(r'text-anchor="[a-z]+">([^<]*)<', found)
+
+        day, second = 86_400_000_000, 1_000_000
+        self.assertEqual(ticks(0, 0), [DAY])
+        self.assertEqual(ticks(100, 102), [f"{DAY}.000100", ".000101", ".000102"])
+        self.assertEqual(ticks(0, 8 * second), [DAY, "00:00:02", "00:00:04", "00:00:06", "00:00:08"])
+        self.assertEqual(ticks(0, 8 * day), [DAY, "1970-01-03", "1970-01-05", "1970-01-07", "1970-01-09"])
+
     def test_changes(self) -> None:
         def between(start: int, end: int) -> list[list[str]]:
             return rows(self.page(self.server, f"/relations/1/changes?from={start}&to={end}"))

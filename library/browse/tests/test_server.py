@@ -2,6 +2,7 @@
 
 import os
 import signal
+import socket
 import subprocess
 import sys
 import tempfile
@@ -47,7 +48,7 @@ class Addresses(BrowseTest):
     def test_paths(self) -> None:
         """No file is reached by a path but the two that belong to the pages."""
         tricks = (
-            "//", "//evil.example/", "/..", "/../", "/../../etc/passwd", "/%2e%2e/%2e%2e/etc/passwd", "/style.css/../server.py", "/server.py", "/style.js",
+            "//evil.example/", "/..", "/../", "/../../etc/passwd", "/%2e%2e/%2e%2e/etc/passwd", "/style.css/../server.py", "/server.py", "/style.js",
             "/slider.css", "/status", "/heap", "/style.css%00", "/./style.css", "/Style.css", "/relations", "/relations/", "/relations/01", "/relations/65536",
             "/relations/-1", "/relations/1/", "/relations/1%2F..", "/relations/1/records/18446744073709551616", "/relations/1/records/007", "/relations/%D9%A3",
             "/relations/1.csv/../..", "/relations/1/../2", "/relations/1\\..\\2", "/commits/0", "/commits/9223372036854775808", "/copy",
@@ -56,6 +57,20 @@ class Addresses(BrowseTest):
             self.assertEqual(self.ask(self.server, path).status, 404, path)
         self.assertEqual(self.ask(self.server, f"http://127.0.0.1:{self.server.server_port}/").status, 404)
         self.assertEqual(self.ask(self.server, "/relations/1?" + "&".join(f"a{number}=1" for number in range(9))).status, 404)
+
+    def raw(self, request: str) -> bytes:
+        """The first line of the answer to a request, byte by byte."""
+        with socket.create_connection(("127.0.0.1", self.server.server_port), timeout=30) as line:
+            line.sendall(request.encode("latin-1"))
+            return line.makefile("rb").readline()
+
+    def test_raw_requests(self) -> None:
+        host = f"Host: 127.0.0.1:{self.server.server_port}\r\n"
+        self.assertEqual(self.raw(f"GET / HTTP/1.1\r\n{host}\r\n"), b"HTTP/1.0 200 OK\r\n")
+        for headers in (f"{host}{host}", f"{host}Host: evil.example\r\n", "", f"{host}Origin: null\r\n"):
+            self.assertEqual(self.raw(f"GET / HTTP/1.1\r\n{headers}\r\n"), b"HTTP/1.0 403 Forbidden\r\n", headers)
+        for path in ("..", "relations/1", "*", "/relations/1\0", "/relations/\xb2", "/style.css/", "/;/style.css"):
+            self.assertEqual(self.raw(f"GET {path} HTTP/1.1\r\n{host}\r\n"), b"HTTP/1.0 404 Not Found\r\n", path)
 
     def test_methods(self) -> None:
         for method in ("PUT", "DELETE", "OPTIONS", "TRACE", "CONNECT"):

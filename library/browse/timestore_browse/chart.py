@@ -4,7 +4,7 @@ from typing import NamedTuple
 
 import timestore
 
-from .markup import Markup, element
+from .markup import Markup, element, join
 from .values import instant, spelled
 
 BOX_WIDTH, BOX_GAP = 132, 8
@@ -14,7 +14,7 @@ HEIGHT = BOX_TOP + BOX_HEIGHT + 4
 WIDTH_LEAST = 1110
 TEXT_MOST = 12
 TICKS = 4
-SHORT = 5 * 86_400_000_000  # microseconds; ticks of longer times are days
+DAYS, SECONDS = 5 * 86_400_000_000, 5_000_000  # microseconds from which on ticks are days, and seconds
 SHARE = 0.93  # of the width, for what was committed
 
 
@@ -97,27 +97,36 @@ def _box(place: int, span: Span, scale: _Scale) -> Markup:
         element("svg", texts, x=left, y=BOX_TOP, width=BOX_WIDTH - 2, height=BOX_HEIGHT),  # which cuts what is too long
     )
     linked = element("a", *inside, href=f"#v{span.version}") if span.version else element("g", *inside)
-    return Markup(element("path", class_="thread", d=path) + linked)
+    return join(element("path", class_="thread", d=path), linked)
 
 
-def _tick(number: int, scale: _Scale) -> Markup:
-    time = scale.start + (scale.last - scale.start) * number // TICKS
+def _ticks(scale: _Scale) -> list[Markup]:
+    """The times above the lane, of which the first is told in full."""
+    length = scale.last - scale.start
+    first, *later = sorted({scale.start + length * number // TICKS for number in range(TICKS + 1)})
+    return [_tick(first, scale, instant(first), "start"), *(_tick(time, scale, _short(time, length), "middle") for time in later)]
+
+
+def _tick(time: int, scale: _Scale, text: str, anchor: str) -> Markup:
     x = scale.x(time)
-    anchor = "start" if number == 0 else "middle"
-    is_short = scale.last - scale.start < SHORT
-    text = instant(time) if is_short else instant(time).split(" ")[0]
-    if 0 < number < TICKS and is_short:
-        text = text.partition(" ")[2].partition(".")[0]
-    return Markup(element("line", class_="tick", x1=x, x2=x, y1=LANE_TOP - 5, y2=LANE_TOP) + element("text", text, x=x, y=LANE_TOP - 9, text_anchor=anchor))
+    line = element("line", class_="tick", x1=x, x2=x, y1=LANE_TOP - 5, y2=LANE_TOP)
+    return join(line, element("text", text, x=x, y=LANE_TOP - 9, text_anchor=anchor))
+
+
+def _short(time: int, length: int) -> str:
+    """A time without what the times beside it have too: a day, a clock's time, or microseconds of a second."""
+    if length >= DAYS:
+        return instant(time).split(" ")[0]
+    clock = instant(time).partition(" ")[2]
+    return clock.partition(".")[0] if length >= SECONDS else f".{time % 1_000_000:06}"
 
 
 def timeline(found: list[Span], name: str, last: int) -> Markup:
     """The picture of some spans, one behind the other, and of the last commit."""
     width = max(WIDTH_LEAST, len(found) * (BOX_WIDTH + BOX_GAP) - BOX_GAP)
     scale = _Scale(found[0].start, last, width)
-    ticks = [_tick(number, scale) for number in range(TICKS + 1)]
     segments = [_segment(span, scale) for span in found]
     boxes = [_box(place, span, scale) for place, span in enumerate(found)]
     label = f"Timeline of {name}: {sum(span.version > 0 for span in found)} versions, which the table below has too"
-    picture = element("svg", ticks, segments, boxes, viewBox=f"-1 0 {width + 2} {HEIGHT}", width=width + 2, height=HEIGHT, role="img", aria_label=label)
+    picture = element("svg", _ticks(scale), segments, boxes, viewBox=f"-1 0 {width + 2} {HEIGHT}", width=width + 2, height=HEIGHT, role="img", aria_label=label)
     return element("div", picture, class_="picture", tabindex=0, role="group", aria_label="Timeline")

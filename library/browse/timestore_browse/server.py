@@ -160,7 +160,7 @@ class Asked(NamedTuple):
 
     def interval(self) -> pages.Interval:
         """The two moments that the query compares."""
-        start = self.time("from", max(0, self.past.last - 1))
+        start = self.time("from", max(self.past.floor(self.relation), self.past.last - 1))
         return pages.Interval(self.relation, start, self.time("to", self.past.last), self.whole("first"))
 
 
