@@ -21,7 +21,8 @@ FIRST_MAY_MICROS = 1_777_626_000_000_000
 def environment(clock: str | None, **more: str) -> dict[str, str]:
     """The environment of a command."""
     found = {name: text for name, text in os.environ.items() if not name.startswith("REGISTER_")}
-    found["PYTHONPATH"] = os.pathsep.join((str(PACKAGE.parent), os.environ.get("PYTHONPATH", "")))
+    folders = (str(PACKAGE.parent), *os.environ.get("PYTHONPATH", "").split(os.pathsep))
+    found["PYTHONPATH"] = os.pathsep.join(os.path.abspath(folder) for folder in folders if folder)
     found["PYTHONDONTWRITEBYTECODE"] = "1"
     return {**found, **({"REGISTER_CLOCK": clock} if clock else {}), **more}
 

@@ -27,7 +27,7 @@ class Readme(RegisterTest):
         (self.base / "companies.csv").write_bytes(SAMPLE.read_bytes())
         script = self.base / "script.sh"
         script.write_text("".join(f"{command}\nprintf '\\0'\n" for command, _ in wanted), encoding="utf-8")
-        done = subprocess.run(["bash", script], cwd=self.base, env=environment(None), stdout=subprocess.PIPE, stderr=subprocess.STDOUT, timeout=300)
+        done = subprocess.run(["bash", script], cwd=self.base, env=environment(None), stdout=subprocess.PIPE, stderr=subprocess.STDOUT, timeout=120)
         told = done.stdout.decode().replace("\r\n", "\n").split("\0")  # CSV has other line ends than a page
         self.assertEqual(told[-1], "")
         for (command, output), said in zip(wanted, told, strict=False):
