@@ -218,6 +218,12 @@ class Program(BrowseTest):
         self.assertEqual((process.returncode, errors), (0, ""))
         self.assertEqual(list(self.folder.parent.glob("timestore-browse-*")), [])
 
+    def test_without_the_library(self) -> None:
+        environment = {**os.environ, "TIMESTORE_LIBRARY": "/nowhere/libtimestore.so"}
+        done = subprocess.run([sys.executable, SCRIPT, str(self.folder)], env=environment, capture_output=True, text=True, timeout=60)
+        self.assertEqual(done.returncode, 1)
+        self.assertRegex(done.stderr, r"^timestore-browse: /nowhere/libtimestore\.so: [^\n]+: the environment's TIMESTORE_LIBRARY names [^\n]+\n$")
+
     def test_nothing_to_show(self) -> None:
         empty = self.folder.parent / "empty"
         empty.mkdir()

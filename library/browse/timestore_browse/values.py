@@ -1,10 +1,12 @@
 """Fields and times as people read them."""
 
 from datetime import datetime, timezone
+from functools import lru_cache
 
 import timestore
 
 HEXADECIMAL = "0x"
+INSTANTS_KEPT = 4_096  # as many rows have the time of one commit
 
 
 class BadTime(ValueError):
@@ -26,6 +28,7 @@ def spelled(field: bytes) -> str:
     return field.decode() if is_text(field) else HEXADECIMAL + field.hex()
 
 
+@lru_cache(INSTANTS_KEPT)
 def instant(time: int) -> str:
     """A time in UTC, to the microsecond where it is no whole second."""
     try:
