@@ -43,6 +43,8 @@ class _Handler(socketserver.StreamRequestHandler):
     def handle(self) -> None:
         args = argparse.Namespace(**json.loads(self.rfile.readline()))
         try:
+            if args.command not in COMMANDS:
+                raise Refusal(f"{args.command!r} is not served")
             for line in COMMANDS[args.command](cast(_Server, self.server).office, args):
                 self._tell("line", line)
             self._tell("done")

@@ -3,12 +3,13 @@
 import os
 import subprocess
 import threading
+from argparse import Namespace
 from concurrent.futures import ThreadPoolExecutor
 from decimal import Decimal
 
 import timestore
 
-from .. import entries, office, past
+from .. import entries, office, past, serve
 from ..office import Author, Desk, Office
 from ..schema import Company, Label, Refusal, Relation
 from .base import HEADER, RegisterTest, command, environment
@@ -238,6 +239,22 @@ class Served(RegisterTest):
         self.start()
         with self.assertRaises(Refusal):
             Office(self.folder, wait_seconds=0.1)
+
+    def test_what_is_not_served(self) -> None:
+        self.start()
+        answers = serve.ask(Namespace(command="serve", register=self.folder))
+        assert answers is not None  # it is served
+        with self.assertRaises(Refusal) as caught:
+            list(answers)
+        self.assertEqual(str(caught.exception), "'serve' is not served")
+
+    def test_path_too_long_for_a_socket(self) -> None:
+        """Commands work there all the same, one at a time."""
+        folder = self.base / ("x" * 100)
+        self.said("new", str(folder), "--name", "Ada Okafor", "--case", "1")
+        self.assertEqual(self.said("list", str(folder)), "0 companies, capital 0.00\n")
+        why = "is too long a path to be served: go to the folder that it is in, and name it from there"
+        self.assertEqual(self.refused("serve", str(folder)), f"{folder} {why}")
 
 
 def raise_capital(desk: Desk, tries: list[int]) -> None:
