@@ -87,7 +87,7 @@ class Addresses(BrowseTest):
             policy = reply.headers["Content-Security-Policy"]
             self.assertTrue(policy.startswith("default-src 'none'; "), policy)
             self.assertNotIn("unsafe", policy)
-            self.assertEqual((reply.headers["X-Content-Type-Options"], reply.headers["Referrer-Policy"]), ("nosniff", "no-referrer"))
+            self.assertEqual((reply.headers["X-Content-Type-Options"], reply.headers["Referrer-Policy"]), ("nosniff", "same-origin"))
             self.assertNotIn("://", reply.body)
             self.assertNotIn(" style=", reply.body)
             self.assertNotRegex(reply.body, r" on[a-z]+=")

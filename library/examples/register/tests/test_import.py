@@ -105,7 +105,7 @@ class Killed(RegisterTest):
         self.make()
         lines = [row(number) for number in range(1, ROWS + 1)]
         self.write("large.csv", HEADER, *lines)
-        for parts in (1, 4, 9):
+        for parts in (1, 3, 6):
             told = self.import_until(parts)
             export = self.said("export", "reg").splitlines()[1:]
             self.assertIn(len(export), (50 * told, 50 * (told + 1)))
