@@ -1,6 +1,7 @@
 """The pages in a headless Chromium, where there is one: the slider by keyboard, the button that copies again, and no
 complaint of the browser's."""
 
+import fcntl
 import json
 import os
 import shutil
@@ -29,17 +30,13 @@ class Tab:
         assert CHROMIUM is not None  # else the tests are left out
         reads, self._out = os.pipe()
         self._in, writes = os.pipe()
-
-        def numbered() -> None:
-            # (first above both numbers, since either may be one of them)
-            low, high = os.dup2(reads, 13), os.dup2(writes, 14)
-            os.dup2(low, 3)
-            os.dup2(high, 4)
-
-        words = [CHROMIUM, *FLAGS, f"--user-data-dir={profile}"]
-        self._process = subprocess.Popen(words, preexec_fn=numbered, pass_fds=(3, 4), stdout=subprocess.DEVNULL, stderr=subprocess.DEVNULL)
-        os.close(reads)
-        os.close(writes)
+        # (both above 9, so that neither is 3 or 4)
+        ends = [fcntl.fcntl(end, fcntl.F_DUPFD, 10) for end in (reads, writes)]
+        script = f'exec "$0" "$@" 3<&{ends[0]} 4>&{ends[1]}'
+        words = ["bash", "-c", script, CHROMIUM, *FLAGS, f"--user-data-dir={profile}"]
+        self._process = subprocess.Popen(words, pass_fds=ends, stdout=subprocess.DEVNULL, stderr=subprocess.DEVNULL)
+        for end in (reads, writes, *ends):
+            os.close(end)
         self._buffer = b""
         self._count = 0
         self._session = ""
