@@ -111,7 +111,7 @@ install:
 	$(MAKE) -C library install $(if $(PREFIX),PREFIX=$(PREFIX))
 
 library-test:
-	$(MAKE) -C library test
+	$(MAKE) -C library test test-applications
 
 # FOLDER="DIR DIR" measures the file systems of these.
 library-bench:

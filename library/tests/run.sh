@@ -7,7 +7,7 @@ top=$(dirname "$here")
 out=$(cd "$1" && pwd)
 program=${2:-$top/../crates/timestore/out/timestore}
 work=$(mktemp -d)
-trap 'umount "$work/stale/mounted" 2> /dev/null; rm -rf "$work"' EXIT
+trap 'umount "$work/stale/mounted" 2> /dev/null || true; rm -rf "$work"' EXIT
 warnings="-std=c11 -Wall -Wextra -pedantic -g -O1 -I$top/include"
 
 say() { printf '%-60s ' "$1"; }
