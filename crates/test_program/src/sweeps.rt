@@ -3,7 +3,7 @@
 use crate::machine::{Machine, Profiles};
 use crate::steps::Step;
 use crate::stopped::{
-    Came, Dialogue, Gates, dialogue_of, fillings, gates_behind, gates_of, refuses,
+    Came, Dialogue, Gates, dialogue_of, fillings, gates_behind, gates_of, is_call, refuses,
 };
 use crate::text::script_of;
 use disk::Fault;
