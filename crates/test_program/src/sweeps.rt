@@ -116,6 +116,20 @@ fn stops_behind(machine: &mut Machine, sweep: &Sweep, dialogue: &str, lines: usi
         && machine.goes(front)
 }
 
+/// The same on a new machine of a profile.
+fn stops_behind_in(
+    alloc: Global,
+    sweep: &Sweep,
+    dialogue: &str,
+    (lines, profile): (usize, u8),
+) -> Result<(), Fail> {
+    let mut machine = Machine::new(alloc, profile);
+    if stops_behind(&mut machine, sweep, dialogue, lines) {
+        return Ok(());
+    }
+    Err(machine.failure(sweep.name, lines as u64))
+}
+
 /// A stop before each call in turn, and behind all lines, in a profile.
 fn stops_before_each(
     alloc: Global,
@@ -123,18 +137,12 @@ fn stops_before_each(
     dialogue: &str,
     profile: u8,
 ) -> Result<(), Fail> {
-    let end = dialogue.lines().count();
-    for lines in 0..=end {
-        let is_stop = match dialogue.lines().nth(lines) {
-            Some(line) => is_call(line),
-            None => true,
-        };
-        let mut machine = Machine::new(alloc, profile);
-        if is_stop && !stops_behind(&mut machine, sweep, dialogue, lines) {
-            return Err(machine.failure(sweep.name, lines as u64));
+    for (lines, line) in dialogue.lines().enumerate() {
+        if is_call(line) {
+            stops_behind_in(alloc, sweep, dialogue, (lines, profile))?;
         }
     }
-    Ok(())
+    stops_behind_in(alloc, sweep, dialogue, (usize::MAX, profile))
 }
 
 /// A stop between two calls of a sweep, in each of its profiles.
