@@ -19,13 +19,17 @@ use std::sync::ledger::Share;
 use std::test::Fail;
 use std::thread;
 use std::thread::{Threads, join};
+use std::time::{Clock, Duration};
 use store::{Did, JobDid, PumpFault, StartFault, TxnFault};
 
 /// So often a thread looks whether another has gone on, before it calls it asleep for good.
-const LOOKS: u64 = 20_000_000;
+const LOOKS: u32 = 30_000;
 
-/// So often a thread lets others go first, so that a loop that has nothing to do sleeps by then.
-const PAUSES: u64 = 20_000;
+/// How long it waits between two looks, in milliseconds.
+const LOOK_MS: u64 = 1;
+
+/// How long it waits for a loop that has nothing to do to fall asleep, in milliseconds.
+const PAUSE_MS: u64 = 5;
 
 /// A committer's steps: three commits in turn, one that waits for a job, and its end.
 const COMMITTER: [Step; 26] = [
@@ -100,21 +104,14 @@ const VACUUM: [Step; 38] = [
     Step::Start(Err(StartFault::NothingToDo)),
 ];
 
-/// Lets other threads go first.
-fn pause_a_while() {
-    for _ in 0..PAUSES {
-        thread::yield_now();
-    }
-}
-
 /// Waits until so much was counted, and then until whoever counts sleeps.
-fn await_count(rt: &impl Abort, count: &AtomicU64, wanted: u64) {
+fn await_count(rt: &(impl Abort + Clock), count: &AtomicU64, wanted: u64) {
     for _ in 0..LOOKS {
         if wanted <= count.load(Ordering::SeqCst) {
-            pause_a_while();
+            thread::sleep(rt, Duration::from_millis(PAUSE_MS));
             return;
         }
-        thread::yield_now();
+        thread::sleep(rt, Duration::from_millis(LOOK_MS));
     }
     panic!(rt; "{wanted} did not come: a loop has ended, or was not woken");
 }
@@ -145,7 +142,7 @@ fn run_committer<D: Disk, L: Opening, R: Wait + Abort>(
 }
 
 /// An archive whose slot is in the writing when a commit comes, which waits for it.
-fn commit_behind_a_job<D: Disk, L: Opening, R: Wait + Abort>(
+fn commit_behind_a_job<D: Disk, L: Opening, R: Wait + Clock + Abort>(
     rt: &R,
     alloc: Global,
     store: &SharedStore<D, L>,
@@ -164,7 +161,7 @@ fn commit_behind_a_job<D: Disk, L: Opening, R: Wait + Abort>(
 }
 
 /// Commits that find the committer asleep, of which a job is before the last. Then it is told to end.
-fn wake_committer<D: Disk, L: Opening, R: Wait + Abort>(
+fn wake_committer<D: Disk, L: Opening, R: Wait + Clock + Abort>(
     rt: &R,
     alloc: Global,
     store: &SharedStore<D, L>,
@@ -173,7 +170,7 @@ fn wake_committer<D: Disk, L: Opening, R: Wait + Abort>(
 ) {
     let mut me = me;
     for published in [6, 12, 18] {
-        pause_a_while();
+        thread::sleep(rt, Duration::from_millis(PAUSE_MS));
         queued(rt, alloc, store, &mut me, (8, Some("d")), 0).give_up();
         await_count(rt, steps, published);
     }
@@ -184,13 +181,11 @@ fn wake_committer<D: Disk, L: Opening, R: Wait + Abort>(
 }
 
 /// A committer in a thread of its own, which another wakes.
-fn commit_when_woken<D: Disk + Send, L: Opening + Send + Sync, R: Threads + Wait + Abort + Sync>(
-    rt: &R,
-    alloc: Global,
-    store: &SharedStore<D, L>,
-    me: Observer<L>,
-    steps: &AtomicU64,
-) {
+fn commit_when_woken<
+    D: Disk + Send,
+    L: Opening + Send + Sync,
+    R: Threads + Wait + Clock + Abort + Sync,
+>(rt: &R, alloc: Global, store: &SharedStore<D, L>, me: Observer<L>, steps: &AtomicU64) {
     let mut me = me;
     let other = store.another(&mut me);
     join(
@@ -218,7 +213,7 @@ fn run_vacuum<D: Disk, L: Opening, R: Wait + Abort>(
 
 /// A commit that is queued, its publication and the end of a transaction each find the vacuum asleep. Then
 /// it is told to end.
-fn wake_vacuum<D: Disk, L: Opening, R: Wait + Abort>(
+fn wake_vacuum<D: Disk, L: Opening, R: Wait + Clock + Abort>(
     rt: &R,
     alloc: Global,
     store: &SharedStore<D, L>,
@@ -239,13 +234,11 @@ fn wake_vacuum<D: Disk, L: Opening, R: Wait + Abort>(
 }
 
 /// A vacuum in a thread of its own, which another wakes.
-fn vacuum_when_woken<D: Disk + Send, L: Opening + Send + Sync, R: Threads + Wait + Abort + Sync>(
-    rt: &R,
-    alloc: Global,
-    store: &SharedStore<D, L>,
-    me: Observer<L>,
-    steps: &AtomicU64,
-) {
+fn vacuum_when_woken<
+    D: Disk + Send,
+    L: Opening + Send + Sync,
+    R: Threads + Wait + Clock + Abort + Sync,
+>(rt: &R, alloc: Global, store: &SharedStore<D, L>, me: Observer<L>, steps: &AtomicU64) {
     let mut me = me;
     let other = store.another(&mut me);
     join(
@@ -292,7 +285,7 @@ fn commit_and_be_refused<D: Disk, L: Opening, R: Wait + Abort>(
 }
 
 /// Calls `commit` again and again, and counts how often it has come back. Then the committer is told to end.
-fn commit_in_turn<D: Disk, L: Opening, R: Wait + Abort>(
+fn commit_in_turn<D: Disk, L: Opening, R: Wait + Clock + Abort>(
     rt: &R,
     store: &SharedStore<D, L>,
     share: Share<L>,
@@ -305,21 +298,25 @@ fn commit_in_turn<D: Disk, L: Opening, R: Wait + Abort>(
     for time in 131..181 {
         commit_and_be_refused(rt, store, &mut share, &mut me, time);
         count.fetch_add(1, Ordering::SeqCst);
-        pause_a_while();
+        thread::sleep(rt, Duration::from_millis(PAUSE_MS));
     }
     store.stop(rt);
     share
 }
 
 /// Looks whether the caller comes back each time, and the committer ends.
-fn watch(rt: &impl Abort, count: &AtomicU64) {
+fn watch(rt: &(impl Abort + Clock), count: &AtomicU64) {
     for number in 1..52 {
         await_count(rt, count, number);
     }
 }
 
 /// A caller that is watched.
-fn commit_watched<D: Disk + Send, L: Opening + Send + Sync, R: Threads + Wait + Abort + Sync>(
+fn commit_watched<
+    D: Disk + Send,
+    L: Opening + Send + Sync,
+    R: Threads + Wait + Clock + Abort + Sync,
+>(
     rt: &R,
     store: &SharedStore<D, L>,
     share: Share<L>,
@@ -337,7 +334,11 @@ fn commit_watched<D: Disk + Send, L: Opening + Send + Sync, R: Threads + Wait + 
 }
 
 /// A committer in a thread of its own, which serves one caller.
-fn commit_when_called<D: Disk + Send, L: Opening + Send + Sync, R: Threads + Wait + Abort + Sync>(
+fn commit_when_called<
+    D: Disk + Send,
+    L: Opening + Send + Sync,
+    R: Threads + Wait + Clock + Abort + Sync,
+>(
     rt: &R,
     store: &SharedStore<D, L>,
     share: Share<L>,
@@ -360,7 +361,7 @@ fn commit_when_called<D: Disk + Send, L: Opening + Send + Sync, R: Threads + Wai
 fn committer_goes_on<
     D: Disk + Drop + Send,
     L: Opening + Send + Sync,
-    R: Threads + Wait + Abort + Sync,
+    R: Threads + Wait + Clock + Abort + Sync,
 >(rt: &R, alloc: Global, opened: Opened<D>)
     requires name { (opened.blank.name ≡ L.name) × (opened.blank.parts ≡ L.parts) × (opened.cell.table.shared.table_id ≡ L.table) }
     requires fresh { IsFresh D.tells L.start L.mark opened.store (cell_view opened.writer) }
@@ -394,7 +395,7 @@ fn a_committer_goes_on_until_it_is_told_to_end(rt: HostRuntime) -> Result<(), Fa
 fn vacuum_goes_on<
     D: Disk + Drop + Send,
     L: Opening + Send + Sync,
-    R: Threads + Wait + Abort + Sync,
+    R: Threads + Wait + Clock + Abort + Sync,
 >(rt: &R, alloc: Global, opened: Opened<D>)
     requires name { (opened.blank.name ≡ L.name) × (opened.blank.parts ≡ L.parts) × (opened.cell.table.shared.table_id ≡ L.table) }
     requires fresh { IsFresh D.tells L.start L.mark opened.store (cell_view opened.writer) }
@@ -428,7 +429,7 @@ fn a_vacuum_goes_on_until_it_is_told_to_end(rt: HostRuntime) -> Result<(), Fail>
 fn caller_comes_back<
     D: Disk + Drop + Send,
     L: Opening + Send + Sync,
-    R: Threads + Wait + Abort + Sync,
+    R: Threads + Wait + Clock + Abort + Sync,
 >(rt: &R, alloc: Global, opened: Opened<D>)
     requires name { (opened.blank.name ≡ L.name) × (opened.blank.parts ≡ L.parts) × (opened.cell.table.shared.table_id ≡ L.table) }
     requires parts { L.parts ≡ 1 }
