@@ -56,17 +56,13 @@ fn push_at(text: &mut String, writes: &[Written], time: u32) -> Result<(), Alloc
     Ok(())
 }
 
-/// Appends the question for all records at a time.
-fn push_scan(
-    text: &mut String,
-    records: &[u32],
-    writes: &[Written],
-    time: u32,
-) -> Result<(), AllocError> {
+/// Appends the question for all records at the last time.
+fn push_scan(text: &mut String, records: &[u32], writes: &[Written]) -> Result<(), AllocError> {
     let mut rows: u32 = 0;
-    write!(text, "scan 1 {time} | ")?;
+    let last = last_time(writes);
+    write!(text, "scan 1 {last} | ")?;
     for record in records {
-        if let Some(field) = field_at(writes, *record, time) {
+        if let Some(field) = field_at(writes, *record, last) {
             write!(text, "{record} {field}\n| ")?;
             rows = rows.saturating_add(1);
         }
@@ -82,8 +78,8 @@ fn push_between(text: &mut String, writes: &[Written], record: u32) -> Result<()
     write!(text, "between 1 {record} {FIRST} {past} | ")?;
     for write in writes {
         if let (true, Some(field)) = (write.record == record, write.field) {
-            let end = end_of(writes, record, write.time);
-            write!(text, "{0} {end} {field}\n| ", write.time)?;
+            let (from, to) = (write.time, end_of(writes, record, write.time));
+            write!(text, "{from} {to} {field}\n| ")?;
             rows = rows.saturating_add(1);
         }
     }
@@ -91,25 +87,22 @@ fn push_between(text: &mut String, writes: &[Written], record: u32) -> Result<()
     Ok(())
 }
 
-/// Appends the questions for each time, and the one that comes too early.
-fn push_times(text: &mut String, records: &[u32], writes: &[Written]) -> Result<(), AllocError> {
+/// Appends the questions for the record at each time, and the one that comes too early.
+fn push_times(text: &mut String, writes: &[Written]) -> Result<(), AllocError> {
     let last = last_time(writes);
-    for time in FIRST..=last {
+    let past = last.saturating_add(1);
+    for time in FIRST..past {
         push_at(text, writes, time)?;
-        push_scan(text, records, writes, time)?;
     }
-    writeln!(
-        text,
-        "at 1 {RECORD} {0} | refused: not yet {last}",
-        last.saturating_add(1)
-    )?;
+    writeln!(text, "at 1 {RECORD} {past} | refused: not yet {last}")?;
     Ok(())
 }
 
-/// A dialogue with all that a store answers which has these writes, of these records.
+/// The questions to a store which has just these writes, of these records, with their answers.
 pub fn questions(alloc: Global, records: &[u32], writes: &[Written]) -> Result<String, AllocError> {
     let mut text = String::new(alloc);
-    push_times(&mut text, records, writes)?;
+    push_times(&mut text, writes)?;
+    push_scan(&mut text, records, writes)?;
     for record in records {
         push_between(&mut text, writes, *record)?;
     }
