@@ -5,19 +5,21 @@
 #   cluster.sh stop-osd DIR N [KILL]   ends an object store, 0 to 2: well, or as a crash does
 #   cluster.sh start-osd DIR N
 #   cluster.sh stop DIR                ends all of them by their process ids; DIR stays
+#   cluster.sh needed                  whether Ceph is installed; it says so where it is not
 # By the environment: STORE=bluestore|memstore (the latter is empty after a crash), PORT=42000 (it and the 100 above it are used).
 set -eu
-verb=${1:?start, status, stop-osd, start-osd or stop}
+verb=${1:?start, status, stop-osd, start-osd, stop or needed}
+
+for command in ceph ceph-authtool ceph-mgr ceph-mon ceph-osd monmaptool rados; do
+    command -v "$command" > /dev/null || { echo "not tested: there is no $command; Ceph's packages ceph-mon, ceph-mgr and ceph-osd are needed" >&2; exit 1; }
+done
+[ "$verb" != needed ] || exit 0
+
 mkdir -p "$(dirname "${2:?a folder}")"
 dir=$(cd "$(dirname "$2")" && pwd)/$(basename "$2") # whole, since a process is known by it
 conf=$dir/ceph.conf
 port=${PORT:-42000}
 osds="0 1 2"
-
-needed="ceph ceph-authtool ceph-mgr ceph-mon ceph-osd monmaptool rados"
-for command in $needed; do
-    command -v "$command" > /dev/null || { echo "not tested: there is no $command; Ceph's packages ceph-mon, ceph-mgr and ceph-osd are needed" >&2; exit 1; }
-done
 
 # A command to the cluster, which would wait for ever for a monitor that is not there.
 ask() { timeout 60 ceph -c "$conf" "$@"; }

@@ -53,18 +53,18 @@ static int32_t find_name(int dir, bool make, char *name) {
     return code;
 }
 
-static int32_t sync_made(int dir, const folder *local) {
+static int32_t sync_made(int dir, const local_files *local) {
     if (fsync(local->status) == 0 && fsync(local->heap) == 0 && fsync(dir) == 0) return TS_OK;
     return tsr_refuse(TS_SYSTEM, errno, "sync the folder");
 }
 
-static void close_files(folder *local) {
+static void close_files(local_files *local) {
     if (local->status >= 0) close(local->status);
     if (local->heap >= 0) close(local->heap);
     local->status = local->heap = -1;
 }
 
-int32_t tsr_folder_open(folder *local, const char *path, bool make) {
+int32_t tsr_folder_open(local_files *local, const char *path, bool make) {
     local->status = local->heap = -1;
     int dir = open(path, O_RDONLY | O_DIRECTORY | O_CLOEXEC);
     if (dir < 0) return tsr_refuse(TS_SYSTEM, errno, "open the folder %s", path);

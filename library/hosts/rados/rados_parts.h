@@ -88,13 +88,13 @@ void tsr_area_close(area *a);
 
 /* ---- the folder with status and heap of a store whose archive alone is in the pool */
 
-typedef struct folder {
+typedef struct local_files {
     int status, heap; /* descriptors, -1 where there is none */
     char archive[33]; /* the name that folder and archive have for each other */
-} folder;
+} local_files;
 
 /* Opens the files and locks them; makes those that are missing where `make` says so. Where it is refused nothing is left open. */
-int32_t tsr_folder_open(folder *local, const char *path, bool make);
+int32_t tsr_folder_open(local_files *local, const char *path, bool make);
 
 /* So many random digits, and the end of the text. */
 int32_t tsr_random_name(char name[33]);

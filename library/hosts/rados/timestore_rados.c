@@ -31,7 +31,7 @@ const char *ts_rados_text(int32_t code) { return code == TS_FENCED ? "another ho
 /* ---- the areas */
 
 /* The head's word for a store of this place. */
-static void layout_of(char layout[VALUE_ROOM], const ts_rados_place *place, const folder *local) {
+static void layout_of(char layout[VALUE_ROOM], const ts_rados_place *place, const local_files *local) {
     snprintf(layout, VALUE_ROOM, "%s%s", place->folder ? ARCHIVE : WHOLE, place->folder ? local->archive : "");
 }
 
@@ -70,7 +70,7 @@ static int32_t own_store(ts_rados *host, const ts_rados_place *place, const char
 
 /* Opens all areas, those in the pool as their owner. Where it is refused none is left open. */
 static int32_t open_areas(ts_rados *host, const ts_rados_place *place, bool make) {
-    folder local = {.status = -1, .heap = -1};
+    local_files local = {.status = -1, .heap = -1};
     char layout[VALUE_ROOM];
     for (int n = 0; n < AREAS; n++) host->area[n] = (area){.name = NAMES[n], .fd = -1};
     int32_t code = place->folder ? tsr_folder_open(&local, place->folder, make) : TS_OK;

@@ -3,9 +3,9 @@
 #define _GNU_SOURCE
 #include "../../../tests/check.h"
 #include "../rados_parts.h"
-#include <unistd.h>
+#include <errno.h>
 
-enum { CALLS = 2000, ROOM = 24 << 20, LONGEST = 96 << 10 };
+enum { CALLS = 1000, ROOM = 24 << 20, LONGEST = 96 << 10 };
 
 const char *ts_text(int32_t code) { return code == TS_OK ? "ok" : "a refusal"; } /* of the library, which is not linked */
 
@@ -115,22 +115,25 @@ static void random_window(uint64_t cache) {
 }
 
 /* A block that can't be read is told behind the query, and read again once it can be. */
-static void window_without_pool(void) {
+static void window_of_a_stranger(void) {
     window w;
+    owner stranger = {0};
     const uint8_t *at;
     size_t len;
+    ts_rados_place place_of_stranger = place;
+    place_of_stranger.user = "stranger";
+    CHECK(TS_OK, tsr_owner_connect(&stranger, &place_of_stranger));
     CHECK(TS_OK, tsr_window_open(&w, &areas[TS_ARCHIVE], 1 << 20));
     CHECK(TS_OK, tsr_window_lend(&w, &at, &len));
-    rados_ioctx_t pool = own.pool;
-    CHECK(0, rados_ioctx_create2(own.cluster, 999, &own.pool)); /* there is no such pool */
+    areas[TS_ARCHIVE].own = &stranger;
     HOLDS(at[0] == 0);
     CHECK(TS_SYSTEM, tsr_window_lent(&w));
-    HOLDS(tsr_last_cause()->error == 2);
-    rados_ioctx_destroy(own.pool);
-    own.pool = pool;
+    HOLDS(tsr_last_cause()->error == EPERM);
+    areas[TS_ARCHIVE].own = &own;
     HOLDS(at[0] == models[TS_ARCHIVE].bytes[0]);
     CHECK(TS_OK, tsr_window_lent(&w));
     tsr_window_close(&w);
+    tsr_owner_close(&stranger, false);
 }
 
 int main(int argc, char **argv) {
@@ -155,7 +158,7 @@ int main(int argc, char **argv) {
     compare_all();
     random_window(2 << 20);
     random_window(0);
-    window_without_pool();
+    window_of_a_stranger();
     close_areas(true);
     printf("%d calls\n", 3 * CALLS);
     return 0;
