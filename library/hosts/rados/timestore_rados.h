@@ -50,8 +50,8 @@ const char *ts_rados_text(int32_t code);
 int32_t ts_rados_format(const ts_rados_place *place, uint32_t slots);
 
 /* Becomes the store's owner and opens it; a: the time of the last commit, b: the floor of all relations. TS_LOCKED where another owns
-   it and is not to be replaced. Else the cluster refuses all writes of the earlier owner before anything is read. Where it is refused
-   there is nothing to close. */
+   it and is not to be replaced, TS_FENCED where one has taken it over meanwhile. Before anything is read the cluster refuses all writes
+   of the earlier owner. Where it is refused there is nothing to close. */
 int32_t ts_rados_open(const ts_rados_place *place, ts_rados **host, ts_info *info);
 
 /* The store, for all calls but ts_open, ts_close, ts_call, ts_called, ts_pump and ts_job_pump. */

@@ -1,7 +1,8 @@
 """Hosts that are killed, suspended and replaced, over object stores that are killed too: hosts.py CLUSTER FOLDER. CLUSTER is the folder
-of a running cluster of cluster.sh, FOLDER one that is there and empty. Each test asserts that what a host was answered as done is there,
+of a running cluster of cluster.sh, FOLDER one that is there and empty, whose name begins those of the stores. Each test asserts that what a host was answered as done is there,
 whatever became of the host; an archive, a reclaim, a floor and a growth run among the commits."""
 
+import contextlib
 import hashlib
 import os
 import random
@@ -33,12 +34,16 @@ def place_of(cluster: Path, name: str, cold: Path | None = None, lease: int = 30
 # ---- a host in a process of its own
 
 
-def write(place: rados.Place, told: int) -> None:
-    """Commits numbers, with a vacuum now and then, until it is killed or refused; which refusal and why is told, or how it stands at
-    the end of `told` seconds."""
-    end = time.monotonic() + told if told else float("inf")
-    with rados.Store(place) as store:
-        print("open", store.last, flush=True)
+def write(place: rados.Place, seconds: int) -> None:
+    """Commits numbers, with a vacuum now and then, until it is killed or refused, which is told with its cause's code; or for so
+    many seconds, where they are not 0, if it owns the store so long."""
+    end = time.monotonic() + seconds if seconds else float("inf")
+    try:
+        store = rados.Store(place)
+    except (rados.Fenced, timestore.Locked) as refusal:
+        print("refused", type(refusal).__name__, refusal.code, flush=True)
+        return
+    with store:
         number = store.last
         try:
             while time.monotonic() < end:
@@ -50,6 +55,12 @@ def write(place: rados.Place, told: int) -> None:
         except timestore.Refused as refusal:
             cause = store.cause
             print("refused", type(refusal).__name__, cause.code if cause else 0, flush=True)
+
+
+def commit(store: rados.Store, number: int) -> None:
+    """A commit of this process, which tells of none."""
+    with contextlib.redirect_stdout(None):
+        killed.commit(store, number)
 
 
 def vacuum(store: rados.Store, number: int) -> None:
@@ -125,7 +136,7 @@ def check_after(place: rados.Place, writer: Writer) -> int:
     with rados.Store(place) as store:
         check_store(store, writer.done, writer.floor)
         store.begin().abort()
-        killed.commit(store, store.last + 1)
+        commit(store, store.last + 1)
         return store.last
 
 
@@ -144,14 +155,14 @@ class Cluster:
         command = ["ceph", "-c", self.folder / "ceph.conf", *words]
         subprocess.run(command, check=True, stdout=subprocess.DEVNULL, stderr=subprocess.DEVNULL, timeout=60)
 
-    def rados(self, store: str, *words: str) -> bytes:
+    def of_objects(self, store: str, *words: str) -> bytes:
         command = ["rados", "-c", self.folder / "ceph.conf", "-p", "store", "-N", store, *words]
         return subprocess.run(command, check=True, stdout=subprocess.PIPE, timeout=60).stdout
 
     def digests(self, store: str) -> dict[str, str]:
         """Of each object of an area its bytes' digest."""
-        names = sorted(self.rados(store, "ls").decode().split())
-        return {name: hashlib.sha256(self.rados(store, "get", name, "-")).hexdigest() for name in names if name != "head"}
+        names = sorted(self.of_objects(store, "ls").decode().split())
+        return {name: hashlib.sha256(self.of_objects(store, "get", name, "-")).hexdigest() for name in names if name != "head"}
 
     def soon(self) -> None:
         time.sleep(self.chance.uniform(0.05, 0.8))
@@ -160,7 +171,7 @@ class Cluster:
         folder = self.work / name if cold else None
         if folder:
             folder.mkdir()
-        place = place_of(self.folder, name, folder)
+        place = place_of(self.folder, f"{self.work.name}-{name}", folder)
         rados.make(place, 4096)
         return place
 
@@ -262,7 +273,7 @@ def suspended(cluster: Cluster, place: rados.Place, taker: rados.Place, wait: fl
         check_store(store, writer.done, writer.floor)
         done = store.last
         for number in range(done + 1, done + 21):
-            killed.commit(store, number)
+            commit(store, number)
         before = cluster.digests(place.store)
         assert len(before) >= 2
         writer.signal(signal.SIGCONT)
@@ -271,7 +282,7 @@ def suspended(cluster: Cluster, place: rados.Place, taker: rados.Place, wait: fl
         assert name in ("InDoubt", "Fenced") and int(cause) == rados.Fenced.code, writer.lines[-3:]
         assert cluster.digests(place.store) == before
         assert writer.done <= done
-        killed.commit(store, done + 21)
+        commit(store, done + 21)
     with rados.Store(place) as store:
         check_store(store, done + 21, writer.floor)
 
