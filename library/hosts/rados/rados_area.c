@@ -102,7 +102,7 @@ int32_t tsr_area_of_objects(area *a, owner *own, const char *name) {
     int32_t code = tsr_head_get(own, key, value);
     if (code != TS_OK) return code;
     a->objects = strtoull(value, NULL, 10);
-    return own->fenced_one ? find_all(a) : find_last(a);
+    return own->former[0] ? find_all(a) : find_last(a);
 }
 
 /* ---- reading objects */

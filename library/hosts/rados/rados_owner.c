@@ -82,7 +82,7 @@ static int32_t start_renewing(owner *own) {
     pthread_condattr_setclock(&clock, CLOCK_MONOTONIC);
     pthread_cond_init(&own->wake, &clock);
     pthread_condattr_destroy(&clock);
-    int error = pthread_create(&own->renewer, NULL, renew, own);
+    int error = tsr_start_thread(&own->renewer, renew, own);
     own->renews = error == 0;
     if (own->renews) return TS_OK;
     pthread_cond_destroy(&own->wake);
@@ -112,11 +112,11 @@ int32_t tsr_owner_asked(owner *own) {
 /* Has the cluster refuse all that the client of an address writes from now on. Our calls carry the newer map of the cluster from here
    on, and a server answers them only once it has that map too. */
 static int32_t shut_out(owner *own, char *address) {
-    if (strcmp(address, own->self) == 0) return TS_OK;
+    if (strcmp(address, own->self) == 0 || strcmp(address, own->former) == 0) return TS_OK;
     int answer = rados_blocklist_add(own->cluster, address, SHUT_OUT_SECONDS);
     if (answer == 0) answer = rados_wait_for_latest_osdmap(own->cluster);
     if (answer < 0) return tsr_failed(answer, "shut out the former owner at %s", address);
-    own->fenced_one = true;
+    snprintf(own->former, sizeof own->former, "%s", address);
     return TS_OK;
 }
 

@@ -23,16 +23,20 @@ const ts_rados_cause *tsr_last_cause(void);
 /* The same of an answer of librados, a negative errno: TS_FENCED where it says that this client is shut out. */
 #define tsr_failed(answer, ...) tsr_refuse_((answer) == -ESHUTDOWN ? TS_FENCED : TS_SYSTEM, -(answer), __VA_ARGS__)
 
+/* Starts a thread that takes no signals; 0, or an errno. */
+int tsr_start_thread(pthread_t *thread, void *(*run)(void *), void *argument);
+
 /* ---- the owner: a client of the cluster that alone may write a store's objects */
 
 typedef struct owner {
     rados_t cluster;
     rados_ioctx_t pool;
-    char self[VALUE_ROOM]; /* our addresses, as the cluster shuts clients out by them */
+    char self[VALUE_ROOM];   /* our addresses, as the cluster shuts clients out by them */
+    char former[VALUE_ROOM]; /* those that were shut out last, whose writes may be under way; "" where none were */
     char cookie[33];
     uint32_t lease;
-    bool locked, owns, fenced_one; /* fenced_one: another client was shut out, whose writes may be under way */
-    atomic_int lost;               /* the answer that told that we own it no more */
+    bool locked, owns;
+    atomic_int lost; /* the answer that told that we own it no more */
     pthread_t renewer;
     pthread_mutex_t mutex; /* of `stop` */
     pthread_cond_t wake;

@@ -162,7 +162,7 @@ static int32_t start_serving(window *w, uint64_t cache) {
     w->blocks = calloc(w->most, sizeof *w->blocks);
     w->block = aligned_alloc(BLOCK, BLOCK);
     if (!w->blocks || !w->block) return TS_NO_MEMORY;
-    int error = pthread_create(&w->server, NULL, serve_all, w);
+    int error = tsr_start_thread(&w->server, serve_all, w);
     w->serves = error == 0;
     return w->serves ? TS_OK : tsr_refuse(TS_SYSTEM, error, "start a thread");
 }

@@ -153,7 +153,7 @@ int main(int argc, char **argv) {
     compare_all();
     close_areas(false); /* the next one shuts this one out, and asks for all objects */
     open_own(false);
-    HOLDS(own.fenced_one);
+    HOLDS(own.former[0]);
     open_areas();
     compare_all();
     random_window(2 << 20);

@@ -32,10 +32,14 @@ export RADOS_CONF=$cluster/ceph.conf
 sanitized="-fsanitize=address,undefined -fno-sanitize-recover=all"
 parts=("$top"/rados_*.c)
 
-say "C, areas (address, undefined)"
-# shellcheck disable=SC2086
-gcc $warnings $sanitized "$here/areas.c" "${parts[@]}" -o "$work/areas" -lrados -lpthread
-passes "$work/areas" "$RADOS_CONF"
+for test in areas fence; do
+    say "C, $test (address, undefined)"
+    # shellcheck disable=SC2086
+    gcc $warnings $sanitized "$here/$test.c" "${parts[@]}" -o "$work/$test" -lrados -lpthread
+    rounds=
+    [ "$test" != fence ] || rounds=5
+    passes "$work/$test" "$RADOS_CONF" $rounds
+done
 
 place=$(realpath --relative-to="$library/tests" "$here/place_rados.h")
 for kind in whole cold; do

@@ -1,6 +1,7 @@
-/* The causes of refusals, one for each thread. */
+/* What all parts use: the causes of refusals, one for each thread, and threads of the host's own. */
 #define _GNU_SOURCE
 #include "rados_parts.h"
+#include <signal.h>
 #include <stdarg.h>
 #include <stdio.h>
 #include <string.h>
@@ -19,4 +20,13 @@ int32_t tsr_refuse_(int32_t code, int error, const char *format, ...) {
     if (error == 0 || len < 0 || (size_t)len >= sizeof last.text) return code;
     snprintf(last.text + len, sizeof last.text - (size_t)len, ": %s", strerror_r(error, room, sizeof room));
     return code;
+}
+
+int tsr_start_thread(pthread_t *thread, void *(*run)(void *), void *argument) {
+    sigset_t all, before;
+    sigfillset(&all);
+    pthread_sigmask(SIG_SETMASK, &all, &before);
+    int error = pthread_create(thread, NULL, run, argument);
+    pthread_sigmask(SIG_SETMASK, &before, NULL);
+    return error;
 }
