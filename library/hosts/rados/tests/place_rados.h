@@ -37,6 +37,16 @@ static int32_t open_place(ts_rados **host, ts_info *told) {
 #define ts_file_refuse tsr_refuse_call
 #define ts_file_close ts_rados_close
 
+/* The host lends the archive itself. */
+#define ts_at(store, view, relation, record, time, at, len, ...) \
+    ((void)(at), (void)(len), ts_rados_at(file, view, relation, record, time, __VA_ARGS__))
+#define ts_scan_at(store, view, relation, time, at, len, ...) \
+    ((void)(at), (void)(len), ts_rados_scan_at(file, view, relation, time, __VA_ARGS__))
+#define ts_between(store, view, relation, record, from, upto, at, len, ...) \
+    ((void)(at), (void)(len), ts_rados_between(file, view, relation, record, from, upto, __VA_ARGS__))
+#define ts_scan_between(store, view, relation, from, upto, at, len, ...) \
+    ((void)(at), (void)(len), ts_rados_scan_between(file, view, relation, from, upto, __VA_ARGS__))
+
 static void make_place(void) { HOLDS(mkdir(folder, 0777) == 0); }
 
 /* ---- the bytes of an area, which lie in one object, seen by a client of their own */
