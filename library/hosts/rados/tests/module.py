@@ -41,7 +41,7 @@ def refusals(place: rados.Place, work: Path) -> None:
         assert raises(timestore.Locked, lambda: rados.Store(place))
         raises(timestore.Locked, lambda: rados.make(place))
         with rados.Store(replace(place, take_over=True)) as second:
-            with second.begin(label=9) as txn:
+            with second.begin(label=9, now=1) as txn:
                 txn.put(1, 7, b"a")
             txn = store.begin()
             txn.put(1, 7, b"b")

@@ -35,6 +35,7 @@ static int32_t open_place(ts_rados **host, ts_info *told) {
 #define ts_file_job ts_rados_job
 #define ts_file_commit ts_rados_commit
 #define ts_file_refuse tsr_refuse_call
+#define faults_refuse(call, error) tsr_refuse_call(file, call)
 #define ts_file_close ts_rados_close
 
 /* The host lends the archive itself. */
