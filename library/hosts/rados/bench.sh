@@ -8,7 +8,8 @@ rounds=${2:-5}
 "$here/cluster.sh" needed
 work=$(mktemp -d)
 trap '[ ! -d "$work/cluster" ] || "$here/cluster.sh" stop "$work/cluster"; rm -rf "$work"' EXIT
-gcc -std=c11 -O2 -Wall -Wextra "-I$here/../../include" "$here/bench.c" -o "$work/bench" "$out/libtimestore_rados.a" "$here/../../out/libtimestore.a" -lrados -lpthread
+gcc -std=c11 -O2 -Wall -Wextra "-I$here/../../include" "$here/bench.c" -o "$work/bench" \
+    "$out/libtimestore_rados.a" "$here/../../out/libtimestore.a" -lrados -lpthread
 if [ -z "${CONF:-}" ]; then
     "$here/cluster.sh" start "$work/cluster"
     CONF=$work/cluster/ceph.conf

@@ -1,6 +1,6 @@
 """Hosts that are killed, suspended and replaced, over object stores that are killed too: hosts.py CLUSTER FOLDER. CLUSTER is the folder
-of a running cluster of cluster.sh, FOLDER one that is there and empty, whose name begins those of the stores. Each test asserts that what a host was answered as done is there,
-whatever became of the host; an archive, a reclaim, a floor and a growth run among the commits."""
+of a running cluster of cluster.sh, FOLDER one that is there and empty, whose name begins those of the stores. Each test asserts that
+what a host was answered as done is there, whatever became of the host; archives, reclaims, floors and growths run among the commits."""
 
 import contextlib
 import hashlib
