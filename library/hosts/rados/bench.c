@@ -164,16 +164,20 @@ static samples raw_read = {.name = "raw: the same bytes read, a piece after the 
 static samples opening = {.name = "opening"};
 static samples taking_over = {.name = "opening, and the former owner is shut out"};
 
-static void read_raw(const char *store) {
+static void read_area(const char *area) {
     static char bytes[PIECE];
     char name[32];
     int got = PIECE;
-    rados_ioctx_set_namespace(pool, store);
-    HOLDS(rados_read(pool, "status.00000000", bytes, PIECE, 0) > 0);
     for (unsigned n = 0; got == PIECE; n++) {
-        snprintf(name, sizeof name, "heap.%08x", n);
+        snprintf(name, sizeof name, "%s.%08x", area, n);
         got = rados_read(pool, name, bytes, PIECE, 0);
     }
+}
+
+static void read_raw(const char *store) {
+    rados_ioctx_set_namespace(pool, store);
+    read_area("status");
+    read_area("heap");
     rados_ioctx_set_namespace(pool, "raw");
 }
 

@@ -12,6 +12,7 @@ import sys
 import threading
 import time
 from collections.abc import Callable
+from dataclasses import replace
 from pathlib import Path
 from typing import Self
 
@@ -152,11 +153,11 @@ class Cluster:
         subprocess.run([HERE.parent / "cluster.sh", words[0], self.folder, *words[1:]], check=True)
 
     def ceph(self, *words: str) -> None:
-        command = ["ceph", "-c", self.folder / "ceph.conf", *words]
+        command = ["ceph", "-c", str(self.folder / "ceph.conf"), *words]
         subprocess.run(command, check=True, stdout=subprocess.DEVNULL, stderr=subprocess.DEVNULL, timeout=60)
 
     def of_objects(self, store: str, *words: str) -> bytes:
-        command = ["rados", "-c", self.folder / "ceph.conf", "-p", "store", "-N", store, *words]
+        command = ["rados", "-c", str(self.folder / "ceph.conf"), "-p", "store", "-N", store, *words]
         return subprocess.run(command, check=True, stdout=subprocess.PIPE, timeout=60).stdout
 
     def digests(self, store: str) -> dict[str, str]:
@@ -176,7 +177,7 @@ class Cluster:
         return place
 
     def replacing(self, place: rados.Place) -> rados.Place:
-        return place_of(self.folder, place.store, place.folder, place.lease, True)
+        return replace(place, take_over=True)
 
 
 def killed_hosts(cluster: Cluster, name: str = "killed", cold: bool = False) -> None:
@@ -199,7 +200,7 @@ def killed_cold_hosts(cluster: Cluster) -> None:
 
 def ended_lease(cluster: Cluster) -> None:
     """Without being told to replace its owner, a host has the store only once the lease of the killed one has ended."""
-    place = place_of(cluster.folder, cluster.made("lease").store, None, LEASE)
+    place = replace(cluster.made("lease"), lease=LEASE)
     writer = Writer(place)
     writer.await_done(5)
     writer.end(signal.SIGKILL)
@@ -217,7 +218,7 @@ def ended_lease(cluster: Cluster) -> None:
 
 def kept_lease(cluster: Cluster) -> None:
     """A host that lives keeps its store beyond its lease's first end."""
-    place = place_of(cluster.folder, cluster.made("kept").store, None, 3)
+    place = replace(cluster.made("kept"), lease=3)
     writer = Writer(place)
     writer.await_done(1)
     for _ in range(16):
@@ -310,7 +311,7 @@ def suspended_cold_host(cluster: Cluster) -> None:
 
 
 def suspended_beyond_the_lease(cluster: Cluster) -> None:
-    place = place_of(cluster.folder, cluster.made("beyond").store, None, LEASE)
+    place = replace(cluster.made("beyond"), lease=LEASE)
     for _ in range(2):
         suspended(cluster, place, place, LEASE + 1)
 

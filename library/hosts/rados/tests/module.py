@@ -26,8 +26,9 @@ def raises(kind: type[timestore.Refused], call: Callable[[], object]) -> timesto
 
 
 def objects(place: rados.Place) -> list[str]:
-    command = ["rados", "-c", place.conf, "-p", place.pool, "-N", place.store, "ls"]
-    return subprocess.run(command, check=True, stdout=subprocess.PIPE, text=True).stdout.split()
+    command = ["rados", "-c", str(place.conf), "-p", place.pool, "-N", place.store, "ls"]
+    listed: str = subprocess.run(command, check=True, stdout=subprocess.PIPE, text=True).stdout
+    return listed.split()
 
 
 def refusals(place: rados.Place, work: Path) -> None:
@@ -56,8 +57,8 @@ def refusals(place: rados.Place, work: Path) -> None:
     assert "Operation not permitted" in str(stranger), stranger
     raises(timestore.System, lambda: rados.Store(replace(place, pool="nowhere")))
     raises(timestore.System, lambda: rados.Store(replace(place, conf=work / "none")))
-    for wrong in ({"store": ""}, {"lease": 2}, {"cache": 4096}):
-        assert "Invalid argument" in str(raises(timestore.System, lambda: rados.Store(replace(place, **wrong))))
+    for wrong in (replace(place, store=""), replace(place, lease=2), replace(place, cache=4096)):
+        assert "Invalid argument" in str(raises(timestore.System, lambda: rados.Store(wrong)))
 
 
 def cold_refusals(place: rados.Place, work: Path) -> None:

@@ -64,6 +64,12 @@ if ! python3 -c 'import sys; sys.exit(sys.version_info < (3, 11))'; then
 fi
 export TIMESTORE_LIBRARY=$library/out/libtimestore.so TIMESTORE_RADOS_LIBRARY=$out/libtimestore_rados.so
 export PYTHONPATH=$library/python:$top PYTHONDONTWRITEBYTECODE=1
+say "Python, the example of the module"
+passes env CEPH_CONF="$RADOS_CONF" python3 -m doctest "$top/timestore_rados.py"
+if command -v mypy > /dev/null; then
+    say "Python, types"
+    passes env MYPYPATH="$library/python" mypy --strict --cache-dir "$work/mypy" "$top/timestore_rados.py"
+fi
 say "Python, module"
 mkdir "$work/module"
 passes python3 "$here/module.py" "$cluster" "$work/module"
