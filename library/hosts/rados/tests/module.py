@@ -126,6 +126,15 @@ def archives(place: rados.Place, cold: bool) -> None:
     assert named == ({"head", "archive"} if cold else {"head", "status", "heap", "archive"}), named
 
 
+def fenced_queries(place: rados.Place) -> None:
+    """Whose store was taken over is told so by a query that needs the archive, and answered one that does not."""
+    with rados.Store(place) as first, rados.Store(replace(place, take_over=True)) as second:
+        raises(rados.Fenced, lambda: first.at(1, 0, 150))
+        raises(rados.Fenced, lambda: first.between(1, 0, 100, 200))
+        assert first.at(1, 0, 100 * ROUNDS) == value_of(0, ROUNDS)
+        assert second.at(1, 0, 150) == value_of(0, 1)
+
+
 def nothing_of_files() -> None:
     """Each method of `timestore.Store` that calls the host for files is another one here."""
     for name, method in inspect.getmembers(timestore.Store, inspect.isfunction):
@@ -140,6 +149,7 @@ def main() -> None:
     refusals(place, work)
     cold_refusals(place, work)
     archives(replace(place, store="archives"), False)
+    fenced_queries(replace(place, store="archives"))
     archives(replace(place, store="cold", folder=work / "cold"), True)
 
 
