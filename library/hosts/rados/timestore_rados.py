@@ -28,6 +28,8 @@ from typing import Any, NamedTuple, NoReturn
 import timestore
 
 MEBIBYTE = 1 << 20
+# What `timestore` has for its hosts alone.
+_Info, _Handle, _FAULTS = (getattr(timestore, name) for name in ("_Info", "_Handle", "_FAULTS"))
 
 
 class Fenced(timestore.Failed, code=-120):
@@ -78,7 +80,7 @@ class _Cause(ctypes.Structure):
 
 
 def _prototypes() -> dict[str, list[Any]]:
-    host, info, size = ctypes.c_void_p, ctypes.POINTER(timestore._Info), ctypes.POINTER(ctypes.c_size_t)
+    host, info, size = ctypes.c_void_p, ctypes.POINTER(_Info), ctypes.POINTER(ctypes.c_size_t)
     place, out = ctypes.POINTER(_Place), ctypes.POINTER(ctypes.c_void_p)
     return {
         "ts_rados_format": [place, ctypes.c_uint32],
@@ -112,7 +114,7 @@ def _load() -> ctypes.CDLL:
     library.ts_rados_text.argtypes, library.ts_rados_text.restype = [ctypes.c_int32], ctypes.c_char_p
     library.ts_rados_why.argtypes, library.ts_rados_why.restype = [ctypes.c_void_p], ctypes.POINTER(_Cause)
     library.ts_rados_store.argtypes = [ctypes.c_void_p]
-    library.ts_rados_store.restype = ctypes.POINTER(timestore._Handle)
+    library.ts_rados_store.restype = ctypes.POINTER(_Handle)
     library.ts_rados_close.argtypes, library.ts_rados_close.restype = [ctypes.c_void_p], None
     return library
 
@@ -128,12 +130,12 @@ def _why(host: ctypes.c_void_p | None = None) -> Cause:
     return Cause(found.code, found.error, found.text.decode(errors="replace"))
 
 
-def _refused(code: int, info: timestore._Info | None = None) -> NoReturn:
+def _refused(code: int, info: Any = None) -> NoReturn:
     text = _library.ts_rados_text(code).decode()
     if code in _CAUSED:
         text = f"{text}: {_why().text}"
     first, second = (info.a, info.b) if info else (0, 0)
-    raise timestore._FAULTS.get(code, timestore.Refused)(text, first, second)
+    raise _FAULTS.get(code, timestore.Refused)(text, first, second)
 
 
 def _c_place(place: Place) -> _Place:
@@ -159,7 +161,7 @@ class Store(timestore.Store):
     """An open store, of which this is the only owner. As a context it is closed at its end."""
 
     def __init__(self, place: Place) -> None:
-        self._info = timestore._Info()
+        self._info = _Info()
         self._value = ctypes.create_string_buffer(timestore._VALUE_MOST)
         self._owner = threading.get_ident()
         self._file: ctypes.c_void_p | None = None
