@@ -22,7 +22,7 @@ port=${PORT:-42000}
 osds="0 1 2"
 
 # A command to the cluster, which would wait for ever for a monitor that is not there.
-ask() { timeout 60 ceph -c "$conf" "$@"; }
+ask() { timeout 120 ceph -c "$conf" "$@"; }
 
 # Runs a daemon in the background and keeps its process id. It does not fork, and no signal of the terminal reaches it.
 launch() { # NAME COMMAND..
@@ -134,12 +134,14 @@ make_osds() {
 
 # Until all object stores are up and the pool keeps what is written.
 await_pool() {
-    for _ in $(seq 100); do
+    for _ in $(seq 300); do
         [ "$(ask osd stat -f json | grep -o '"num_up_osds":[0-9]*')" != '"num_up_osds":3' ] || break
         sleep 0.3
     done
-    timeout 60 rados -c "$conf" -p store put started "$conf"
-    timeout 60 rados -c "$conf" -p store rm started
+    if ! timeout 180 rados -c "$conf" -p store put started "$conf" || ! timeout 60 rados -c "$conf" -p store rm started; then
+        echo "the cluster's pool keeps nothing that is written" >&2
+        return 1
+    fi
 }
 
 start() {
