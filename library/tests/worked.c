@@ -3,6 +3,8 @@
  * of `folder` lie, and what opens them. */
 #define _GNU_SOURCE
 #include "check.h"
+#include "faults.h"
+#include <errno.h>
 #include <fcntl.h>
 #include <sys/stat.h>
 #include <unistd.h>
@@ -393,7 +395,7 @@ static void a_stop_within_the_gate(void) {
     for (size_t n = 0; n < sizeof left; n++) {
         fresh(16);
         for (uint64_t record = 7; record < 10; record++) queued(record, "a", 5, 100);
-        ts_file_refuse(file, 7); /* three extents, the sync, the body and its sync came before */
+        faults_refuse(7, EIO); /* three extents, the sync, the body and its sync came before */
         CHECK(TS_FAILED, ts_file_flush(file));
         ts_file_close(file);
         write_byte("status", FRONT, left[n]);
@@ -640,7 +642,7 @@ static void a_refused_sync_behind_the_gate(void) {
     a_history(16);
     uint64_t ticket = queued(7, "d", 9, 140);
     PUMPS(TS_WROTE, TS_SYNCED, TS_BODY_WRITTEN, TS_BODY_SYNCED, TS_GATE_WRITTEN);
-    ts_file_refuse(file, 1);
+    faults_refuse(1, EIO);
     CHECK(TS_FAILED, ts_file_pump(file, &info));
     CHECK(TS_IN_DOUBT, ts_redeem(h, ticket, &info));
     CHECK(TS_FAILED, ts_begin(h, &info));

@@ -37,7 +37,7 @@ part-same place a b heap same is_a is_b =
 fits : (content : List ℕ) → length (take 8168 content) ≤ 8168
 fits content = omega (arith, length-take 8168 content)
 
-walk : (most : ℕ) (heap : List ℕ) (ns ms : List ℕ) (g k h j : ℕ) (xs ys : List ℕ) → most < 2 ^ 32
+pub walk : (most : ℕ) (heap : List ℕ) (ns ms : List ℕ) (g k h j : ℕ) (xs ys : List ℕ) → most < 2 ^ 32
     → AllByRecursion (IsNumberOf most) ns → AllByRecursion (IsNumberOf most) ms → k < 2 ^ 32 → j < 2 ^ 32 → first_or 0 ns ≡ first_or 0 ms
     → HoldsAll (map extent_part (chain_to 0 g k ns xs)) heap → HoldsAll (map extent_part (chain_to 0 h j ms ys)) heap
     → map linked_bytes (chain_to 0 g k ns xs) ≡ map linked_bytes (chain_to 0 h j ms ys)

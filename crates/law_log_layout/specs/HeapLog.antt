@@ -208,10 +208,14 @@ roll_span r = record { start = r.roll.start; len = r.roll.len }
 abbrev pub spans_of : List StoredRun → List PlacedRoll → List Span
 spans_of runs rolls = map (λ (s : StoredRun). run_span s.entry) runs ++ map roll_span rolls
 
+-- the two have no byte in common; an empty one has none
+abbrev pub ShareNoByte : Span → Span → Type 0
+ShareNoByte s t = (s.len ≡ 0) ⊎ ((t.len ≡ 0) ⊎ AreApart s.start s.len t.start t.len)
+
 -- no two of them have a byte in common
 abbrev pub AreSpansApart : List Span → Type 0
 AreSpansApart [] = Unit {0}
-AreSpansApart (s ∷ spans) = AllByRecursion (λ (t : Span). AreApart s.start s.len t.start t.len) spans × AreSpansApart spans
+AreSpansApart (s ∷ spans) = AllByRecursion (ShareNoByte s) spans × AreSpansApart spans
 
 -- each of them begins at or behind the end of the one before it
 abbrev pub AreSpansInRow : ℕ → List Span → Type 0

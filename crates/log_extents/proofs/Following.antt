@@ -337,6 +337,7 @@ module _ (s : ChainState) (is : IsTaking s) (e : LinkedExtent) (fits : Fits s e)
   answer : (next : ℕ) → e.next ≡ next → Takes s (behind s e) image (told_by next)
   answer zero last = record {
     same = record { kind = refl; most = refl; head = head_same s is e fits };
+    numbers = ap (λ x. s.numbers ++ x ∷ []) fits.own;
     next = last;
     images = images;
     is_chain =

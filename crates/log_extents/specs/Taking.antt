@@ -152,6 +152,7 @@ pub record IsIt (s : ChainState) (numbers : List ℕ) (link : ℕ) (content : Li
 -- one extent more, and these are a chain
 pub record IsWhole (old new : ChainState) (image : List ℕ) : Type 0 where
   pub same : IsSameChain old new
+  pub numbers : new.numbers ≡ old.numbers ++ old.next ∷ []
   pub next : new.next ≡ 0
   pub images : images_of new ≡ images_of old ++ image ∷ []
   pub is_chain : IsChainFrom old.kind old.most (head_of old) new.numbers new.link new.content (images_of old ++ image ∷ [])

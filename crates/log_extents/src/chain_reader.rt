@@ -33,6 +33,14 @@ pub enum Taken {
     Bad,
 }
 
+/// A chain that was read: the numbers of its extents, the link of its first one, and the bytes that they hold.
+#[derive(Drop)]
+pub struct ChainParts {
+    pub numbers: Vec<u32>,
+    pub link: u32,
+    pub content: Vec<u8>,
+}
+
 /// The extents of a chain as far as they were read, and the bytes that they hold.
 #[derive(Drop)]
 pub struct ChainReader {
@@ -263,5 +271,18 @@ impl ChainReader {
         ensures { result.items ≡ self.content }
     {
         self.content
+    }
+
+    /// The extents that were taken, with the link of the first and the bytes of all.
+    pub fn into_parts(self) -> ChainParts
+        ensures numbers { result.numbers.items ≡ self.numbers }
+        ensures link { result.link ≡ self.link }
+        ensures content { result.content.items ≡ self.content }
+    {
+        ChainParts {
+            numbers: self.numbers,
+            link: self.link,
+            content: self.content,
+        }
     }
 }

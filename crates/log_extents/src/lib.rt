@@ -8,7 +8,7 @@ mod filling;
 pub mod laws;
 mod reading;
 
-pub use chain_reader::{ChainKind, ChainReader, Taken};
+pub use chain_reader::{ChainKind, ChainParts, ChainReader, Taken};
 pub use extent::{BODY_LEN, HEAD_LEN, LinkedRef, OPEN_GATE, count_extents, is_open};
 pub use filling::fill_extent;
 pub use reading::read_extent;

@@ -49,13 +49,13 @@ old_content mark (Delta mask changed) ok = absurd ok
 old_content mark Gone ok = absurd ok
 old_content mark (Old from value) ok = refl
 
-old_again : (mark : ℕ) (r : Record) → IsPermitted (OfAnchors mark) r.content → old_record_of (old_record r) ≡ r
+pub old_again : (mark : ℕ) (r : Record) → IsPermitted (OfAnchors mark) r.content → old_record_of (old_record r) ≡ r
 old_again mark r ok = let content = old_content mark r.content ok in λ i. record { key = r.key; content = content i }
 
-abbrev ArePermitted : ℕ → List Record → Type 0
+abbrev pub ArePermitted : ℕ → List Record → Type 0
 ArePermitted mark rs = AllByRecursion (λ r. IsPermitted (OfAnchors mark) r.content) rs
 
-spelled_again : (mark : ℕ) (rs : List Record) → ArePermitted mark rs → map old_bytes (map old_record rs) ≡ map spelling rs
+pub spelled_again : (mark : ℕ) (rs : List Record) → ArePermitted mark rs → map old_bytes (map old_record rs) ≡ map spelling rs
 unfolding old_bytes
 spelled_again mark [] ok = refl
 spelled_again mark (r ∷ rs) ok =
@@ -63,7 +63,7 @@ spelled_again mark (r ∷ rs) ok =
     let rest = spelled_again mark rs ok.1 in
     λ i. spelling (first i) ∷ rest i
 
-spelled_of : (olds : List OldRecord) → map spelling (map old_record_of olds) ≡ map old_bytes olds
+pub spelled_of : (olds : List OldRecord) → map spelling (map old_record_of olds) ≡ map old_bytes olds
 unfolding old_bytes
 spelled_of [] = refl
 spelled_of (o ∷ olds) = ap (λ l. spelling (old_record_of o) ∷ l) (spelled_of olds)
@@ -75,12 +75,12 @@ old_in_range mark key (Delta mask changed) low is ok range = absurd ok
 old_in_range mark key Gone low is ok range = absurd ok
 old_in_range mark key (Old from value) low is ok range = let upto = ok.1 in record { key = is; from = omega arith; value = range.1 }
 
-each_again : (mark : ℕ) (rs : List Record) → mark < 2 ^ 63 → ArePermitted mark rs → AllByRecursion deltas.IsRecord rs
+pub each_again : (mark : ℕ) (rs : List Record) → mark < 2 ^ 63 → ArePermitted mark rs → AllByRecursion deltas.IsRecord rs
     → AllByRecursion IsOldRecord (map old_record rs)
 each_again mark [] low ok each = tt
 each_again mark (r ∷ rs) low ok each = (old_in_range mark r.key r.content low (each.0).key ok.0 (each.0).content, each_again mark rs low ok.1 each.1)
 
-each_of : (olds : List OldRecord) → AllByRecursion IsOldRecord olds → AllByRecursion deltas.IsRecord (map old_record_of olds)
+pub each_of : (olds : List OldRecord) → AllByRecursion IsOldRecord olds → AllByRecursion deltas.IsRecord (map old_record_of olds)
 each_of [] each = tt
 each_of (o ∷ olds) each = let from = (each.0).from in (record { key = (each.0).key; content = (omega arith, (each.0).value) }, each_of olds each.1)
 
@@ -90,15 +90,15 @@ old_upto mark (Delta mask changed) ok = absurd ok
 old_upto mark Gone ok = absurd ok
 old_upto mark (Old from value) ok = let low = ok.0 in (omega arith, ok.1)
 
-times_again : (mark : ℕ) (rs : List Record) → ArePermitted mark rs → AllByRecursion (IsAnchorUpto mark) (map old_record rs)
+pub times_again : (mark : ℕ) (rs : List Record) → ArePermitted mark rs → AllByRecursion (IsAnchorUpto mark) (map old_record rs)
 times_again mark [] ok = tt
 times_again mark (r ∷ rs) ok = (old_upto mark r.content ok.0, times_again mark rs ok.1)
 
-permitted_of : (mark : ℕ) (olds : List OldRecord) → AllByRecursion (IsAnchorUpto mark) olds → ArePermitted mark (map old_record_of olds)
+pub permitted_of : (mark : ℕ) (olds : List OldRecord) → AllByRecursion (IsAnchorUpto mark) olds → ArePermitted mark (map old_record_of olds)
 permitted_of mark [] upto = tt
 permitted_of mark (o ∷ olds) upto = let low = (upto.0).0 in ((omega arith, (upto.0).1), permitted_of mark olds upto.1)
 
-keys_again : (rs : List Record) → map (λ (o : OldRecord). o.key) (map old_record rs) ≡ map (λ (r : Record). r.key) rs
+pub keys_again : (rs : List Record) → map (λ (o : OldRecord). o.key) (map old_record rs) ≡ map (λ (r : Record). r.key) rs
 keys_again [] = refl
 keys_again (r ∷ rs) = ap (λ l. r.key ∷ l) (keys_again rs)
 

@@ -45,7 +45,7 @@ use Rattle.recovery.proofs.RightChains.{numbered_of, member_of, right_found, liv
 -- ---- values
 
 -- the last value after commits is what they make of the values before them
-value_applied : (s : ℕ) (before : Key → Option Value) (h : History Value) (key : Key) → HasRisingTimes s h → value_after (before key) (writes_of h key) (2 ^ 63)
+pub value_applied : (s : ℕ) (before : Key → Option Value) (h : History Value) (key : Key) → HasRisingTimes s h → value_after (before key) (writes_of h key) (2 ^ 63)
     ≡ applied before h key
 value_applied s before [] key rising = refl
 value_applied s before (c ∷ cs) key rising =
@@ -108,7 +108,7 @@ commits-push mark olds members s rising =
     ∙ commits_from-append mark (values_of olds) (map (λ (s : StoredMember). s.member) members) (s.member ∷ []) rising
 
 -- what a commit adds to a key's writes
-written-one : (c : Commit Value) (key : Key) → writes_of (c ∷ []) key ≡ written c.time c.writes key
+pub written-one : (c : Commit Value) (key : Key) → writes_of (c ∷ []) key ≡ written c.time c.writes key
 written-one c key =
     let timed : Option Value → TimedWrite Value = λ write. record { time = c.time; write = write } in
     elim (write_in c.writes key) as (λ (o : Option (Option Value)). cons_option (option_map timed o) [] ≡ option_to_list (option_map timed o)) [

@@ -47,8 +47,8 @@ fn anchor_write(mark: u64, anchor: &Record) -> Result<TimedWrite<SharedValue>, A
     }
 }
 
-// The writes of these anchors up to the mark.
-fn anchored(alloc: Global, mark: u64, anchors: &[Record]) -> Result<Frozen, AllocError>
+/// The writes of these anchors up to the mark, each key's own.
+pub fn anchored(alloc: Global, mark: u64, anchors: &[Record]) -> Result<Frozen, AllocError>
     requires in_range { mark < 2 ^ 63 }
     requires anchors { AreRecordsOf (OfAnchors mark) anchors.now }
     ensures is { IfOk result (λ f. f ≡ map anchor_writes anchors.now) }

@@ -14,7 +14,10 @@ mod recovered;
 mod resolving;
 mod runs;
 
+pub use anchors::anchored;
 pub use fault::{FormatFault, OpenFault};
 pub use formatting::format;
+pub use members::with_records;
 pub use opening::read_image;
 pub use recovered::{LiveChain, Recovered};
+pub use resolving::resolve;

@@ -29,8 +29,8 @@ use disk::{Area, Disk};
 use std::alloc::{AllocError, Global};
 use wire::{Anchors, Member};
 
-// The writes of every key with those of these records more. None where a record is not the one that its write is stored as.
-fn with_records(
+/// The writes of every key with those of a commit's records more. None where a record is not the one that its write is stored as.
+pub fn with_records(
     alloc: Global,
     chains: Frozen,
     time: u64,

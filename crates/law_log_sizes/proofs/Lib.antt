@@ -1,0 +1,13 @@
+pub mod Putting
+pub mod Commits
+pub mod Standing
+pub mod Walking
+pub mod Sizes
+pub mod Bytes
+pub mod Orders
+pub mod Told
+pub mod Bases
+pub mod Chains
+pub mod WorkedRow
+pub mod Moved
+pub mod Next

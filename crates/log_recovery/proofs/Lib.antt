@@ -1,0 +1,17 @@
+pub mod Images
+pub mod Walking
+pub mod Facts
+pub mod Later
+pub mod Groups
+pub mod Spans
+pub mod AnchorBytes
+pub mod OneChain
+pub mod AnchorChains
+pub mod Following
+pub mod Sized
+pub mod Named
+pub mod Counting
+pub mod Rows
+pub mod Deciding
+pub mod HeapRead
+pub mod Past

@@ -1,0 +1,10 @@
+pub mod Taking
+pub mod Chains
+pub mod Rules
+pub mod Anchored
+pub mod Members
+pub mod Ends
+pub mod Following
+pub mod Opening
+pub mod Read
+pub mod Laws

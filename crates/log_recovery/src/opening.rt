@@ -1,0 +1,113 @@
+//! What the heap of an image says: the checks of opening, in their order.
+
+ghost use Rattle.std.specs.Prelude.{◌≡◌, ◌⊎◌, ◌<◌, ◌≤◌, ◌^◌, IsTrue, IfOk, IfErr, IfSome, length, option_to_list};
+ghost use Rattle.std.specs.List.{AllByRecursion};
+ghost use Rattle.chains.specs.KeyWrites.{latest};
+ghost use Rattle.log_entries.specs.Ranges.{AreNone, AreSome};
+ghost use Rattle.log_recovery.specs.Chains.{HasEntry};
+ghost use Rattle.log_recovery.specs.Rules.{mark_of};
+ghost use Rattle.log_recovery.specs.Following.{IsEndOf};
+ghost use Rattle.log_recovery.specs.Anchored.{first_names, TakesAnchors, IsAnchorsFault};
+ghost use Rattle.log_extents.specs.Chains.{IsNumberOf};
+ghost use Rattle.recovery.specs.Answers.{after_reads};
+ghost use Rattle.log_recovery.specs.Opening.{IsHeapFault};
+ghost use Rattle.log_recovery.specs.Read.{IsLogRead};
+
+use crate::anchors::{AnchorsRead, no_anchors, read_anchors};
+use crate::chain::LogChain;
+use crate::rules::{LogEnd, RuleCheck, check_rules};
+use crate::taking::HeapSize;
+use crate::walk::read_chains;
+use disk::{Area, Disk};
+use log_entries::{AnchorName, Entry};
+use log_space::Space;
+use recovery::OpenFault;
+use std::alloc::Global;
+
+/// The chains of a log that keep the rules between them, and its end.
+#[derive(Drop)]
+pub struct LogRead {
+    pub chains: Vec<LogChain>,
+    /// The extent where the log goes on.
+    pub next: u32,
+    /// The extents of the chains are in use.
+    pub space: Space,
+    pub end: LogEnd,
+}
+
+// The chains of the log, which keep the rules between them.
+fn read_rules<D: Disk>(
+    alloc: Global,
+    disk: &mut D,
+    heap: HeapSize,
+    root: u32,
+) -> Result<LogRead, OpenFault>
+    requires len { IsTrue D.tells → heap.len ≡ length (D.state disk.old).areas.heap.bytes }
+    requires most { heap.most < 2 ^ 32 }
+    requires root { IsNumberOf heap.most root }
+    ensures entries { IfOk result (λ read. AllByRecursion (HasEntry heap.most) read.chains.items) }
+    ensures end { IfOk result (λ read. IsEndOf (mark_of read.chains.items) read.chains.items read.end) }
+    ensures next { IfOk result (λ read. IsNumberOf heap.most read.next) }
+    ensures found { IsTrue D.tells → IfOk result (IsLogRead heap.most root (D.state disk.old).areas.heap.bytes) }
+    ensures fault { IsTrue D.tells → IfErr result (IsHeapFault heap.most root (D.state disk.old).areas.heap.bytes) }
+    ensures reads { D.state disk.new ≡ after_reads result (D.state disk.old) }
+{
+    let read = match read_chains(alloc, disk, heap, root) {
+        Ok(read) => read,
+        Err(fault) => return Err(fault),
+    };
+    match check_rules(alloc, &read.chains)? {
+        RuleCheck::Keeps(end) => Ok(LogRead {
+            chains: read.chains,
+            next: read.next,
+            space: read.space,
+            end,
+        }),
+        RuleCheck::Breaks(head) => Err(OpenFault::Damaged(Area::Heap, u64::from(head))),
+    }
+}
+
+// The anchors that the first chain names, if it is a base.
+fn anchors_name(most: u32, chains: &[LogChain]) -> Option<AnchorName>
+    requires { AllByRecursion (HasEntry most) chains.now }
+    ensures is { option_to_list result ≡ first_names chains.now }
+    ensures in_range { IfSome result (λ name. AreNone name ⊎ AreSome most name) }
+{
+    let [first, ..] = chains else {
+        return None;
+    };
+    match &first.entry {
+        Entry::Base(base) => Some(base.anchors),
+        Entry::Group(_) => None,
+        Entry::Archived(_) => None,
+        Entry::Floor(_) => None,
+    }
+}
+
+// The anchors of a log of these chains, whose extents are taken now.
+fn read_base<D: Disk>(
+    alloc: Global,
+    disk: &mut D,
+    heap: HeapSize,
+    space: &mut Space,
+    mark: u64,
+    chains: &[LogChain],
+) -> Result<AnchorsRead, OpenFault>
+    requires len { IsTrue D.tells → heap.len ≡ length (D.state disk.old).areas.heap.bytes }
+    requires most { heap.most < 2 ^ 32 }
+    requires mark { mark < 2 ^ 63 }
+    requires entries { AllByRecursion (HasEntry heap.most) chains.now }
+    ensures found { IsTrue D.tells → IfOk result (TakesAnchors heap.most mark (D.state disk.old).areas.heap.bytes space.old space.new (first_names chains.now)) }
+    ensures latest { IfOk result (λ read. latest read.versions ≤ mark) }
+    ensures fault { IsTrue D.tells → IfErr result (IsAnchorsFault heap.most mark (D.state disk.old).areas.heap.bytes space.old (first_names chains.now)) }
+    ensures reads { D.state disk.new ≡ after_reads result (D.state disk.old) }
+{
+    let Some(name) = anchors_name(heap.most, chains) else {
+        return Ok(no_anchors(alloc));
+    };
+    match read_anchors(alloc, disk, heap, space, mark, &name) {
+        Ok(Some(read)) => Ok(read),
+        Ok(None) => Err(OpenFault::Damaged(Area::Heap, u64::from(name.first))),
+        Err(fault) => Err(fault),
+    }
+}

@@ -1,0 +1,74 @@
+//! The shares of the heap: half of it is the log's, and a sixteenth the base's.
+
+ghost use Rattle.std.specs.Prelude.{◌≡◌, ◌↔◌, ◌+◌, ◌≤◌, ◌/◌, ◌^◌, ◌<◌, IsTrue, length, flat_map};
+ghost use Rattle.std.specs.List.{AllByRecursion};
+ghost use Rattle.log_entries.specs.Spelling.{entry_bytes};
+ghost use Rattle.law_log_layout.specs.HeapLog.{counted_of, IsBaseSmall};
+ghost use Rattle.log_recovery.specs.Ends.{counted_in, AreBasesSmall};
+
+use crate::chain::LogChain;
+use log_entries::Entry;
+use log_extents::count_extents;
+
+/// How many bytes a ROLL has.
+const ROLL_LEN: usize = 17;
+
+// Whether a base has room for one roll more.
+fn is_base_small(most: u32, chain: &LogChain) -> bool
+    ensures { IsTrue result ↔ IsBaseSmall most chain.now.entry }
+{
+    match &chain.entry {
+        Entry::Base(_) => count_extents(chain.len() + ROLL_LEN) <= most as usize / 16,
+        Entry::Group(_) => true,
+        Entry::Archived(_) => true,
+        Entry::Floor(_) => true,
+    }
+}
+
+/// Whether each base has room for one roll more within its share of the heap.
+pub(crate) fn are_bases_small(most: u32, chains: &[LogChain]) -> bool
+    ensures { IsTrue result ↔ AreBasesSmall most chains.now }
+{
+    let mut rest = chains;
+    while let Some((chain, after)) = rest.split_first() {
+        if !is_base_small(most, chain) {
+            return false;
+        }
+        rest = after;
+    }
+    true
+}
+
+// How many extents of a chain count as the log's: all but those of a base.
+fn counted(chain: &LogChain) -> usize
+    ensures { result ≡ length (counted_of chain.now.numbers chain.now.entry) }
+{
+    match &chain.entry {
+        Entry::Base(_) => 0,
+        Entry::Group(_) => chain.numbers.len(),
+        Entry::Archived(_) => chain.numbers.len(),
+        Entry::Floor(_) => chain.numbers.len(),
+    }
+}
+
+/// Whether the extents of these chains, those of the base aside, and so many more are at most half of the heap.
+pub(crate) fn fits_half(most: u32, chains: &[LogChain], more: usize) -> bool
+    requires { more ≤ 2 }
+    ensures { IsTrue result ↔ (length (counted_in chains.now) + more ≤ most / 2) }
+{
+    let half = most as usize / 2;
+    if half < more {
+        return false;
+    }
+    let mut left = half - more;
+    let mut rest = chains;
+    while let Some((chain, after)) = rest.split_first() {
+        let counted = counted(chain);
+        if left < counted {
+            return false;
+        }
+        left -= counted;
+        rest = after;
+    }
+    true
+}

@@ -1,0 +1,2 @@
+mod Fields
+pub mod Members
