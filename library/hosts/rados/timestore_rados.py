@@ -183,6 +183,11 @@ class Store(timestore.Store):
         cause = _why(self._of_file())
         return None if cause.code == 0 else cause
 
+    def _note_failure(self, refusal: timestore.Refused) -> None:
+        """Notes of a refusal why the store failed."""
+        if cause := self.cause:
+            refusal.add_note(cause.text)
+
     def _of_host(self, function: Callable[..., int], *args: Any) -> None:
         """A call of the host. Where it failed since another has the store, that is told."""
         code = function(self._of_file(), *args)

@@ -46,7 +46,8 @@ def refusals(place: rados.Place, work: Path) -> None:
                 txn.put(1, 7, b"a")
             txn = store.begin()
             txn.put(1, 7, b"b")
-            raises(timestore.InDoubt, txn.commit)
+            doubt = raises(timestore.InDoubt, txn.commit)
+            assert any("shutdown" in note for note in doubt.__notes__), doubt.__notes__
             assert store.cause and store.cause.code == rados.Fenced.code and store.cause.errno == errno.ESHUTDOWN
             raises(timestore.Failed, store.begin)
             raises(rados.Fenced, store.flush)
