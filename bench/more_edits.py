@@ -1,6 +1,6 @@
 #!/usr/bin/env python3
 """Tries the edits that the gate leaves out, crates/NAME/more-edits/*.edit, over the libraries that `rt ci` or `rt lib` left in crates/*/out:
-the prover must refuse each of them too. Where there are none, and no --minutes, rt lib builds them.
+the prover must refuse each of them too. Where there are none, and no --began, rt lib builds them.
 
 usage: bench/more_edits.py [--minutes N [--began SECONDS] [--proofs FILE]] [--new] [--first-tells] [--write] [NAME ..]
 
@@ -9,16 +9,18 @@ A NAME is a crate or CRATE/EDIT; with none all are meant. --new leaves out those
 bench/edits_tried.tsv tells when each edit was last tried and refused, and by which text. First come the edits of which it tells nothing, or whose
 crate or own text has changed since then; after them those that were tried the longest ago. --write puts what is refused into that table.
 
-Each crate is proved once as it is (its seed), and its edits are tried over what that proof left, as many at a time as RT_JOBS says. Over libraries
-of rt lib, and with no --minutes, a seed begins with what rt check kept. Nothing in the repository is changed but that table.
+First each edit is seen to apply: its texts stand once in the files that it names. Then each crate is proved once as it is (its seed), and its edits
+are tried over what that proof left, as many at a time as RT_JOBS says. Over libraries of rt lib, and with no --began, a seed begins with what rt check
+kept. Nothing in the repository is changed but that table.
 
 With no --minutes all edits are tried. With --minutes none is begun after so many minutes of the clock, and no seed that would leave no time for
-edits. On a machine that is slower than the reference machine (bench/gate_cost.py) it is less: --proofs is the file in which that program wrote what
-each proof took. --began is when the whole run began, in seconds since 1970: it is to end within 120 minutes of that, and within 165 where the
-machine is slow, with fewer edits or none.
+edits. --began is when the whole run with the gate began, in seconds since 1970: it is to end within 120 minutes of that, and within 165 where the
+machine is slow, with fewer edits or none. On a machine that is slower than the reference machine (bench/gate_cost.py) the minutes are then fewer:
+--proofs is the file in which that program wrote what each proof took.
 
 The status is 1 where an edit is proved, does not apply or compile any more, or is refused only because a proof names what it takes away; and where
-nothing could be tried. With --first-tells an edit of which the table tells nothing is only told then. An edit whose check was killed or cut off has no verdict, and is left to be tried.
+nothing could be tried. With --first-tells an edit of which the table tells nothing, and which applies, is only told then. An edit whose check was
+killed or cut off has no verdict, and is left to be tried.
 """
 import argparse
 import collections
@@ -151,24 +153,25 @@ class Turn:
 
 
 class Clock:
-    """When the last edit may begin, and when what still runs is cut off, in seconds since 1970. With no minutes: never."""
+    """When the last edit may begin, and when what still runs is cut off, in seconds since 1970: never without minutes, and without a gate."""
 
     def __init__(self, minutes, began, slowness):
         now = time.time()
         self.whole = min(max(WHOLE_RUN, WHOLE_RUN_BY_SLOWNESS * slowness), WHOLE_RUN_AT_MOST)
         self.took = (now - began) / 60 if began else 0
-        self.minutes = minutes
+        self.minutes, self.began = minutes, began
         if minutes is not None:
             self.minutes = max(0, min(minutes / max(slowness, 1), self.whole - self.took - TO_END if began else minutes))
         self.last_begin = now + 60 * self.minutes if minutes is not None else float("inf")
-        self.end = began + 60 * self.whole if began else self.last_begin + 60 * 10
+        self.end = began + 60 * self.whole if began else float("inf")
 
     def told(self, slowness):
         """How many minutes there are, and why."""
         whole = f", and the run has taken {self.took:.0f} of its {self.whole:.0f} minutes" if self.took else ""
         if self.minutes < 1:
             return f"more edits: no time is left for them{whole}"
-        return f"more edits: {self.minutes:.0f} minutes for them; a proof takes {slowness:.2f} of what it takes on the reference machine{whole}"
+        speed = f"; a proof takes {slowness:.2f} of what it takes on the reference machine" if self.began else ""
+        return f"more edits: {self.minutes:.0f} minutes for them{speed}{whole}"
 
     def has_time_for(self, seconds):
         return time.time() + seconds < self.last_begin
@@ -374,6 +377,16 @@ class Results:
     def is_refused(self, kind, text):
         return kind in (self.rt.REFUSED, self.rt.AT_LIMIT) and BY_NAMES_ALONE not in text
 
+    def take_out_unfit(self, turn):
+        """Takes those of a crate's edits out that do not apply any more, and says so: they fail whether there is time to try them or not."""
+        for edit in list(turn.edits):
+            _, why = self.rt.read_edit(str(edit.path), turn.crate.folder)
+            if why:
+                turn.edits.remove(edit)
+                self.failed.append(f"{turn.crate.name}/{edit.name}")
+                self.rows.pop((turn.crate.name, edit.name), None)
+                print(f"more-edits {turn.crate.name}/{edit.path.name}: BAD EDIT: {why}")
+
     def take(self, turn):
         """Notes what a crate's edits came to and says it."""
         crate, today = turn.crate.name, time.strftime("%Y-%m-%d", time.gmtime())
@@ -446,23 +459,26 @@ def main(words):
         tempfile.tempdir = room
         rt, crates = kit()
         rows = read_table()
-        turns = [turn for turn in (Turn(it, rows, given.names, given.new) for it in crates) if turn.edits]
+        every = [Turn(it, rows, given.names, given.new) for it in crates]
         unknown = unknown_of(given.names, crates)
         if unknown:
             print(f"no such edits in more-edits: {' '.join(unknown)}", file=sys.stderr)
             return 2
-        are_own, lack = libraries([it.crate for it in turns], given.minutes is None)
+        results = Results(rt, rows, given.write, given.first_tells)
+        for it in every:
+            results.take_out_unfit(it)
+        turns = [it for it in every if it.edits]
+        are_own, lack = libraries([it.crate for it in turns], given.began is None)
         if lack:
             print(f"more edits: none tried: {lack}", file=sys.stderr)
             return 1
         proofs = json.loads(pathlib.Path(given.proofs).read_text(encoding="utf-8")) if given.proofs else {}
-        slowness = slowness_of(proofs, rt, crates) if given.minutes else 1.0
+        slowness = slowness_of(proofs, rt, crates) if given.minutes and given.began else 1.0
         clock = Clock(given.minutes, given.began, slowness)
         if given.minutes is not None:
             print(clock.told(slowness), flush=True)
-        lanes = Lanes(rt, turns, clock, proofs, slowness, are_own and given.minutes is None)
+        lanes = Lanes(rt, turns, clock, proofs, slowness, are_own and given.began is None)
         lanes.turns = turns = ordered(turns, lanes.seed_estimate)
-        results = Results(rt, rows, given.write, given.first_tells)
         lanes.run(lanes_here(rt), results.take)
         results.sum_up(turns, began)
         for it in lanes.seedless:

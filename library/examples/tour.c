@@ -12,6 +12,24 @@ static int32_t ask(int32_t code, const char *what) {
     return code;
 }
 
+/* Adds one to the number in a record, in a transaction that is made again where another one was ahead, at most so often.
+   A conflict ends the transaction, and so what it read is read again. */
+static int32_t count(ts_file *file, uint64_t record, int attempts, ts_info *info) {
+    ts *store = ts_file_store(file);
+    int32_t code;
+    do {
+        uint8_t value[TS_VALUE_MOST] = {1, 1, 0};
+        if ((code = ts_begin(store, info)) != TS_OK) return code;
+        uint64_t txn = info->a;
+        code = ts_get(store, txn, 1, record, value, sizeof value, info);
+        value[2]++;
+        if (code >= 0) code = ts_put(store, txn, 1, record, value, 3);
+        if (code == TS_OK) code = ts_file_commit(file, txn, 9, ts_now(), info);
+        else ts_abort(store, txn);
+    } while (code == TS_CONFLICT && --attempts > 0);
+    return code;
+}
+
 int main(int argc, char **argv) {
     ts_file *file;
     ts_info info, view;
@@ -43,6 +61,10 @@ int main(int argc, char **argv) {
         printf("%" PRIu64 " %" PRIu64 " %.*s\n", rows[i].from, rows[i].upto, value[rows[i].at + 1],
                (const char *)value + rows[i].at + 2);
     ask(ts_end(store, view.a), "end");
+
+    for (int n = 0; n < 3; n++) ask(count(file, 8, 10, &info), "count");
+    ask(ts_file_get(file, 1, 8, value, sizeof value, &info), "get");
+    printf("counted %d\n", value[2]);
     ts_file_close(file);
     return 0;
 }

@@ -31,6 +31,16 @@ def main(folder: str) -> None:
             print(f"refused: {why} {why.relation} {why.record}")
         print("last:", timestore.moment(store.last).isoformat())
 
+        def count(txn: timestore.Transaction) -> int:
+            """Adds one to the number in a record. Where another transaction is ahead, it is called again."""
+            counted = (txn.get(1, 8) or (b"\0",))[0][0] + 1
+            txn.put(1, 8, bytes([counted]))
+            return counted
+
+        for _ in range(3):
+            counted = store.transact(count, label=9)
+        print("counted", counted, store.get(1, 8))
+
 
 if __name__ == "__main__":
     main(sys.argv[1])

@@ -12,8 +12,10 @@
  *
  * What the host must uphold, which nothing checks:
  *   1. Three areas of bytes that nobody else writes: status, heap and archive. Each is synced before ts_open
- *      is given its bytes, which stay as they are until ts_open returns, and are not used after it. So do those
- *      of the archive that a query is lent: all that was written to that area so far, from its first byte on.
+ *      is given its bytes, as the device has them: after a sync that failed a system may have more of them in
+ *      memory. They stay as they are until ts_open returns, and are not used after it. Of the archive ts_open asks
+ *      the length alone. The bytes of the archive that a query is lent stay as long as it: all that was written to
+ *      that area so far, from its first byte on.
  *   2. A write goes to that area and place whole, and a gap before it reads as zeros. A sync returns once
  *      what was written to that area outlasts a stop (fdatasync). They are made in the order told, each
  *      before ts_called says that it was. Of a write that was refused any part may have been made.
@@ -39,6 +41,14 @@
 #ifdef __cplusplus
 extern "C" {
 #endif
+
+/* The version of these headers, and of the library that is loaded. The first number, which is that of the shared
+   library's name, rises where a function, a type, a code or what one means is changed or taken away, the second where
+   something is added, the third where neither is. Which files a version reads is another matter: all that earlier ones
+   wrote. */
+#define TIMESTORE_VERSION "1.0.0"
+#define TIMESTORE_VERSION_NUMBER 10000 /* 10,000 times the first number, 100 times the second, and the third */
+const char *timestore_version(void);
 
 /* A handle: an open store, or none. */
 typedef struct ts {

@@ -1,5 +1,5 @@
 /* A host of timestore for three files of a folder, status, heap and archive, as the program `timestore`
- * has them: under a lock, by pwrite and fdatasync, and read by mmap where a store is opened. */
+ * has them: under a lock, written by pwrite and fdatasync, and read by pread into memory of its own. */
 #ifndef TIMESTORE_FILE_H
 #define TIMESTORE_FILE_H
 #include "timestore.h"
@@ -8,22 +8,39 @@ extern "C" {
 #endif
 
 /* A store in files. It keeps to what timestore.h asks of a host, but for its third point, which is its
-   user's. The folder is not renamed while it is open. */
+   user's. The folder is not renamed while it is open. In the child of a fork its files are closed, and
+   all its calls but ts_file_close answer TS_CLOSED; its parent goes on. */
 typedef struct ts_file ts_file;
 
 /* Codes beside those of the store. */
 enum {
-    TS_SYSTEM = -100,  /* the system refused a call; errno says why */
-    TS_LOCKED = -101,  /* another process has the store open */
-    TS_OCCUPIED = -102 /* a store, or something else, stands there */
+    TS_SYSTEM = -100,      /* the system refused a call; ts_file_error and errno say why */
+    TS_LOCKED = -101,      /* another process has the store open */
+    TS_OCCUPIED = -102,    /* a store, or something else, stands there */
+    TS_CACHED = -103,      /* the system keeps a part of a file in memory that the disk may lack */
+    TS_ALREADY_OPEN = -104 /* this process has the store open */
 };
+
+/* A call of the system that was refused. */
+typedef struct ts_cause {
+    const char *call; /* its name, as "fdatasync" */
+    const char *file; /* "status", "heap", "archive", or "" for the folder */
+    int number;       /* its errno; ENODATA where a file is shorter than what was written to it */
+} ts_cause;
 
 /* Makes a store of so many slots, 16 to 65,536, in a folder that is there. */
 int32_t ts_file_format(const char *folder, uint32_t slots);
 
 /* Opens the store of a folder; a: the time of the last commit, b: the floor of all relations. Where it is refused
-   there is nothing to close. */
+   there is nothing to close. What the system has of the files in memory is not believed, since after a sync that
+   failed, of whichever process, it may be more than the disk has: it is dropped, and what is not is compared with
+   the disk. TS_CACHED where that can't be done: end the process that has the file mapped, or start the machine again. */
 int32_t ts_file_open(const char *folder, ts_file **file, ts_info *info);
+
+/* Which call of the system was refused: for a file the device call that failed its store, and for NULL the last
+   call on this thread that was answered by TS_SYSTEM or TS_CACHED. TS_NONE where there was none; a store also fails
+   where there was no memory. */
+int32_t ts_file_error(const ts_file *file, ts_cause *cause);
 
 /* The store, for all calls but ts_open, ts_close, ts_call, ts_called, ts_pump and ts_job_pump. */
 ts *ts_file_store(ts_file *file);
@@ -32,8 +49,9 @@ ts *ts_file_store(ts_file *file);
 int32_t ts_file_pump(ts_file *file, ts_info *info);
 int32_t ts_file_job_pump(ts_file *file, ts_info *info);
 
-/* The archive area as it is now, mapped, to be lent to a query: at is not null, and len may be 0. It stays
-   until the next call of this function or of ts_file_close. */
+/* The archive area as it is now, read into memory, to be lent to a query: at is not null, and len may be 0. It stays
+   until the next call of this function or of ts_file_close. It takes as much memory as the archive has bytes; a query
+   that is lent nothing answers TS_NEEDS_ARCHIVE where it needs it. TS_SYSTEM where the file can't be read. */
 int32_t ts_file_archive(ts_file *file, const uint8_t **at, size_t *len);
 
 /* All steps of all commits that wait, and of the archive, the reclaim, the floor or the growth that is being made. */
@@ -44,8 +62,19 @@ int32_t ts_file_job(ts_file *file);
    way; TS_WAITING where memory was refused there, a: the ticket. */
 int32_t ts_file_commit(ts_file *file, uint64_t txn, uint64_t label, uint64_t now, ts_info *info);
 
-/* For tests: of the device calls from now on the one of this number, from 1, is refused; 0 for none. */
-void ts_file_refuse(ts_file *file, uint64_t call);
+/* The microseconds since 1970 of the system's clock, for a commit at the time that it is. */
+uint64_t ts_now(void);
+
+/* A commit of one value, or of one deletion: as ts_file_commit. */
+int32_t ts_file_put(ts_file *file, uint16_t relation, uint64_t record, const uint8_t *value, size_t value_len,
+                    uint64_t label, uint64_t now, ts_info *info);
+int32_t ts_file_delete(ts_file *file, uint16_t relation, uint64_t record, uint64_t label, uint64_t now, ts_info *info);
+
+/* What stands now, after the last commit: the value of a record, as ts_recent, and the records of a relation with their
+   values, as ts_scan_at. They need no archive. */
+int32_t ts_file_get(ts_file *file, uint16_t relation, uint64_t record, uint8_t *out, size_t len, ts_info *info);
+int32_t ts_file_scan(ts_file *file, uint16_t relation, ts_row *rows, size_t row_count, uint8_t *out, size_t len,
+                     ts_info *info);
 
 void ts_file_close(ts_file *file);
 

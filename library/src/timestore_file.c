@@ -1,85 +1,135 @@
 /* A host of timestore for three files of a folder. */
 #define _GNU_SOURCE
-#include "timestore_file.h"
+#include "files.h"
 #include <errno.h>
-#include <fcntl.h>
+#include <pthread.h>
 #include <stdatomic.h>
 #include <stdlib.h>
-#include <sys/file.h>
-#include <sys/mman.h>
-#include <sys/stat.h>
-#include <unistd.h>
+#include <time.h>
 
-#define AREAS 3
 #define FRONT 512 /* the bytes before the first slot */
 
 struct ts_file {
     ts store;
-    int fd[AREAS];
-    uint64_t made, refused;
+    store_files files;
+    ts_cause cause; /* the device call that was refused */
     uint8_t bytes[TS_WRITE_MOST];
-    const uint8_t *archive; /* as it was mapped last */
-    size_t archive_len;
-    bool grown; /* the archive was written to since */
+    uint8_t *archive; /* its first bytes, as far as they were read; NULL for none */
+    size_t archive_read, archive_room;
+    uint64_t archive_len; /* all that was written to it */
+    dev_t device;
+    ino_t number; /* of the status file */
+    ts_file *next;
 };
 
-static const uint8_t none[1];
-static const char *const NAMES[AREAS] = {"status", "heap", "archive"};
+static const uint8_t nothing[1];
 
-static void close_all(const int *fd) {
-    for (int area = 0; area < AREAS; area++)
-        if (fd[area] >= 0) close(fd[area]);
+/* ---- the stores that are open in this process */
+
+static pthread_mutex_t open_lock = PTHREAD_MUTEX_INITIALIZER;
+static ts_file *open_stores;
+
+static void before_fork(void) { pthread_mutex_lock(&open_lock); }
+
+static void in_parent(void) { pthread_mutex_unlock(&open_lock); }
+
+/* The parent's stores are not the child's: it has none of their files, and no handle that answers. */
+static void in_child(void) {
+    for (ts_file *file = open_stores; file; file = file->next) {
+        tsi_files_leave(&file->files);
+        file->store = (ts)TS_EMPTY;
+    }
+    open_stores = NULL;
+    pthread_mutex_unlock(&open_lock);
 }
 
-/* The three files, under a lock on the first; missing ones are made where flags say so. */
-static int32_t open_all(const char *folder, int flags, int *fd) {
-    int32_t code = TS_OK;
-    int dir = open(folder, O_RDONLY | O_DIRECTORY | O_CLOEXEC);
-    for (int area = 0; area < AREAS; area++) fd[area] = -1;
-    if (dir < 0) return TS_SYSTEM;
-    for (int area = 0; area < AREAS && code == TS_OK; area++) {
-        fd[area] = openat(dir, NAMES[area], O_RDWR | O_CLOEXEC | flags, 0666);
-        if (fd[area] < 0) code = errno == ENOENT ? TS_NOT_A_STORE : TS_SYSTEM;
-        else if (area == TS_STATUS && flock(fd[area], LOCK_EX | LOCK_NB))
-            code = errno == EWOULDBLOCK ? TS_LOCKED : TS_SYSTEM;
-    }
-    for (int area = 0; area < AREAS && code == TS_OK && flags; area++)
-        if (fsync(fd[area])) code = TS_SYSTEM;
-    if (code == TS_OK && flags && fsync(dir)) code = TS_SYSTEM;
-    if (code != TS_OK) {
-        int why = errno;
-        close_all(fd);
-        errno = why;
-    }
-    close(dir);
+static void watch_forks(void) { pthread_atfork(before_fork, in_parent, in_child); }
+
+static void add_open(ts_file *file) {
+    static pthread_once_t once = PTHREAD_ONCE_INIT;
+    pthread_once(&once, watch_forks);
+    pthread_mutex_lock(&open_lock);
+    file->next = open_stores;
+    open_stores = file;
+    pthread_mutex_unlock(&open_lock);
+}
+
+static void remove_open(const ts_file *file) {
+    pthread_mutex_lock(&open_lock);
+    for (ts_file **at = &open_stores; *at; at = &(*at)->next)
+        if (*at == file) {
+            *at = file->next;
+            break;
+        }
+    pthread_mutex_unlock(&open_lock);
+}
+
+static bool is_open_here(dev_t device, ino_t number) {
+    bool found = false;
+    pthread_mutex_lock(&open_lock);
+    for (const ts_file *file = open_stores; file && !found; file = file->next)
+        found = file->device == device && file->number == number;
+    pthread_mutex_unlock(&open_lock);
+    return found;
+}
+
+/* A code that is given out; where the system refused a call, with the errno of that, whatever was called since. */
+static int32_t told(int32_t code) {
+    if (code == TS_SYSTEM || code == TS_CACHED) errno = tsi_last_cause()->number;
     return code;
 }
 
-static int write_all(int fd, const uint8_t *bytes, size_t len, off_t at) {
-    while (len > 0) {
-        ssize_t count = pwrite(fd, bytes, len, at);
-        if (count < 0 && errno == EINTR) continue;
-        if (count <= 0) return -1;
-        bytes += count;
-        len -= (size_t)count;
-        at += count;
+/* The files of a folder; says of a lock who has it. */
+static int32_t open_files(const char *folder, bool make, store_files *files) {
+    dev_t device;
+    ino_t number;
+    int32_t code = tsi_files_open(folder, make, files);
+    if (code == TS_LOCKED && tsi_files_identity(files, &device, &number) == TS_OK && is_open_here(device, number))
+        code = TS_ALREADY_OPEN;
+    if (code != TS_OK) tsi_files_close(files);
+    return code;
+}
+
+/* ---- a new store */
+
+/* From now on the files read as the disk has them; their lengths. */
+static int32_t settle(const store_files *files, uint64_t *len) {
+    int32_t code = TS_OK;
+    for (int area = 0; area < AREAS && code == TS_OK; area++) {
+        code = tsi_settle(files, area);
+        if (code == TS_OK) code = tsi_length(files, area, &len[area]);
     }
-    return 0;
+    return code;
+}
+
+static bool are_zeros(const uint8_t *bytes, size_t len) {
+    for (size_t i = 0; i < len; i++)
+        if (bytes[i] != 0) return false;
+    return true;
 }
 
 /* Whether nothing stands in the files: no header, and no byte of the heap and of the archive. */
-static int32_t is_free(const int *fd) {
+static int32_t is_free(const store_files *files) {
     uint8_t front[FRONT];
-    ssize_t count = pread(fd[TS_STATUS], front, sizeof front, 0);
-    struct stat heap, archive;
-    if (count < 0 || fstat(fd[TS_HEAP], &heap) || fstat(fd[TS_ARCHIVE], &archive)) return TS_SYSTEM;
-    for (ssize_t i = 0; i < count; i++)
-        if (front[i] != 0) return TS_OCCUPIED;
-    return heap.st_size == 0 && archive.st_size == 0 ? TS_OK : TS_OCCUPIED;
+    uint64_t len[AREAS];
+    int32_t code = settle(files, len);
+    if (code != TS_OK) return code;
+    size_t count = len[TS_STATUS] < FRONT ? (size_t)len[TS_STATUS] : FRONT;
+    code = tsi_read(files, TS_STATUS, front, count, 0);
+    if (code != TS_OK) return code;
+    return are_zeros(front, count) && len[TS_HEAP] == 0 && len[TS_ARCHIVE] == 0 ? TS_OK : TS_OCCUPIED;
+}
+
+/* Writes the status area, its front last. */
+static int32_t write_status(const store_files *files, const uint8_t *bytes, size_t len) {
+    int32_t code = tsi_write(files, TS_STATUS, bytes + FRONT, len - FRONT, FRONT);
+    if (code == TS_OK) code = tsi_sync(files, TS_STATUS);
+    if (code == TS_OK) code = tsi_write(files, TS_STATUS, bytes, FRONT, 0);
+    return code == TS_OK ? tsi_sync(files, TS_STATUS) : code;
 }
 
 int32_t ts_file_format(const char *folder, uint32_t slots) {
-    int fd[AREAS];
+    store_files files = NO_FILES;
     ts_info info = {0, 0};
     uint8_t none[1];
     int32_t code = ts_format(slots, none, 0, &info);
@@ -87,18 +137,17 @@ int32_t ts_file_format(const char *folder, uint32_t slots) {
     uint8_t *bytes = malloc(info.a);
     if (!bytes) return TS_NO_MEMORY;
     code = ts_format(slots, bytes, info.a, &info);
-    if (code == TS_OK) code = open_all(folder, O_CREAT, fd);
+    if (code == TS_OK) code = open_files(folder, true, &files);
     if (code == TS_OK) {
-        code = is_free(fd);
-        if (code == TS_OK &&
-            (write_all(fd[0], bytes + FRONT, info.a - FRONT, FRONT) || fdatasync(fd[0]) ||
-             write_all(fd[0], bytes, FRONT, 0) || fdatasync(fd[0])))
-            code = TS_SYSTEM;
-        close_all(fd);
+        code = is_free(&files);
+        if (code == TS_OK) code = write_status(&files, bytes, info.a);
+        tsi_files_close(&files);
     }
     free(bytes);
-    return code;
+    return told(code);
 }
+
+/* ---- opening and closing */
 
 /* A mark for each store that is opened: two that are open at once have other ones, unless 32,768 are. */
 static uint64_t next_mark(void) {
@@ -106,82 +155,117 @@ static uint64_t next_mark(void) {
     return atomic_fetch_add(&marks, 1);
 }
 
-/* Syncs the files and opens the store on them, mapped. */
-static int32_t open_mapped(ts_file *file, ts_info *info) {
-    const uint8_t *bytes[AREAS] = {none, none, none};
-    size_t len[AREAS] = {0, 0, 0};
-    int32_t code = TS_OK;
-    for (int area = 0; area < AREAS && code == TS_OK; area++) {
-        struct stat state;
-        if (fdatasync(file->fd[area]) || fstat(file->fd[area], &state)) code = TS_SYSTEM;
-        else if (state.st_size > 0) {
-            void *at = mmap(NULL, (size_t)state.st_size, PROT_READ, MAP_PRIVATE, file->fd[area], 0);
-            if (at == MAP_FAILED) code = TS_SYSTEM;
-            else {
-                bytes[area] = at;
-                len[area] = (size_t)state.st_size;
-            }
-        }
-    }
-    if (code == TS_OK)
-        code = ts_open(&file->store, bytes[0], len[0], bytes[1], len[1], bytes[2], len[2], next_mark(), info);
-    for (int area = 0; area < AREAS; area++)
-        if (len[area] > 0) munmap((void *)(uintptr_t)bytes[area], len[area]);
+/* All bytes of an area, in memory that is the caller's to free; NULL where there are none. */
+static int32_t read_area(const store_files *files, int area, uint64_t len, uint8_t **bytes) {
+    if (len == 0) return TS_OK;
+    *bytes = malloc((size_t)len);
+    return *bytes ? tsi_read(files, area, *bytes, (size_t)len, 0) : TS_NO_MEMORY;
+}
+
+/* Opens the store on these bytes. Of the archive opening asks its length alone: nothing of it is in memory yet, and
+   what stands for it reads as zeros. */
+static int32_t open_on(ts_file *file, uint8_t *const *bytes, const uint64_t *len, ts_info *info) {
+    const uint8_t *archive = nothing;
+    if (len[TS_ARCHIVE] > 0) archive = tsi_zeros((size_t)len[TS_ARCHIVE]);
+    if (!archive) return TS_NO_MEMORY;
+    int32_t code = ts_open(&file->store, bytes[TS_STATUS] ? bytes[TS_STATUS] : nothing, (size_t)len[TS_STATUS],
+                           bytes[TS_HEAP] ? bytes[TS_HEAP] : nothing, (size_t)len[TS_HEAP], archive,
+                           (size_t)len[TS_ARCHIVE], next_mark(), info);
+    if (archive != nothing) tsi_drop_zeros(archive, (size_t)len[TS_ARCHIVE]);
+    return code;
+}
+
+/* Reads what the disk has of the files, and opens the store on it. */
+static int32_t open_read(ts_file *file, ts_info *info) {
+    uint8_t *bytes[AREAS] = {NULL, NULL, NULL};
+    uint64_t len[AREAS] = {0, 0, 0};
+    int32_t code = settle(&file->files, len);
+    if (code == TS_OK) code = read_area(&file->files, TS_STATUS, len[TS_STATUS], &bytes[TS_STATUS]);
+    if (code == TS_OK) code = read_area(&file->files, TS_HEAP, len[TS_HEAP], &bytes[TS_HEAP]);
+    if (code == TS_OK) code = open_on(file, bytes, len, info);
+    free(bytes[TS_STATUS]);
+    free(bytes[TS_HEAP]);
+    file->archive_len = len[TS_ARCHIVE];
     return code;
 }
 
 int32_t ts_file_open(const char *folder, ts_file **out, ts_info *info) {
     ts_file *file = calloc(1, sizeof *file);
     if (!file) return TS_NO_MEMORY;
-    file->archive = none;
-    file->grown = true;
-    int32_t code = open_all(folder, 0, file->fd);
+    file->files = (store_files)NO_FILES;
+    int32_t code = open_files(folder, false, &file->files);
+    if (code == TS_OK) code = tsi_files_identity(&file->files, &file->device, &file->number);
     if (code == TS_OK) {
-        code = open_mapped(file, info);
-        if (code != TS_OK) close_all(file->fd);
+        add_open(file);
+        code = open_read(file, info);
+        if (code != TS_OK) remove_open(file);
     }
-    if (code == TS_OK) *out = file;
-    else free(file);
-    return code;
+    if (code == TS_OK) {
+        *out = file;
+        return TS_OK;
+    }
+    tsi_files_close(&file->files);
+    free(file);
+    return told(code);
+}
+
+void ts_file_close(ts_file *file) {
+    remove_open(file);
+    ts_close(&file->store);
+    tsi_files_close(&file->files);
+    free(file->archive);
+    free(file);
 }
 
 ts *ts_file_store(ts_file *file) { return &file->store; }
 
-static void unmap_archive(ts_file *file) {
-    if (file->archive_len > 0) munmap((void *)(uintptr_t)file->archive, file->archive_len);
-    file->archive = none;
-    file->archive_len = 0;
-}
-
-/* Maps the archive again only where it was written to. */
-int32_t ts_file_archive(ts_file *file, const uint8_t **at, size_t *len) {
-    struct stat state;
-    if (file->grown) {
-        unmap_archive(file);
-        if (fstat(file->fd[TS_ARCHIVE], &state)) return TS_SYSTEM;
-        if (state.st_size > 0) {
-            void *map = mmap(NULL, (size_t)state.st_size, PROT_READ, MAP_SHARED, file->fd[TS_ARCHIVE], 0);
-            if (map == MAP_FAILED) return TS_SYSTEM;
-            file->archive = map;
-            file->archive_len = (size_t)state.st_size;
-        }
-        file->grown = false;
-    }
-    *at = file->archive;
-    *len = file->archive_len;
+int32_t ts_file_error(const ts_file *file, ts_cause *cause) {
+    const ts_cause *told = file ? &file->cause : tsi_last_cause();
+    if (!told->call) return TS_NONE;
+    *cause = *told;
     return TS_OK;
 }
 
-void ts_file_refuse(ts_file *file, uint64_t call) {
-    file->made = 0;
-    file->refused = call;
+/* ---- the archive */
+
+/* Room for so many bytes of the archive, and an eighth more. */
+static bool has_room(ts_file *file, size_t len) {
+    if (len <= file->archive_room) return true;
+    uint8_t *bytes = realloc(file->archive, len + len / 8);
+    if (!bytes) return false;
+    file->archive = bytes;
+    file->archive_room = len + len / 8;
+    return true;
 }
 
-void ts_file_close(ts_file *file) {
-    ts_close(&file->store);
-    unmap_archive(file);
-    close_all(file->fd);
-    free(file);
+/* Reads what was written to it since it was read last. */
+int32_t ts_file_archive(ts_file *file, const uint8_t **at, size_t *len) {
+    size_t wanted = (size_t)file->archive_len;
+    if (file->files.fd[TS_ARCHIVE] < 0) return TS_CLOSED;
+    if (file->archive_read < wanted) {
+        if (!has_room(file, wanted)) return TS_NO_MEMORY;
+        int32_t code = tsi_read(&file->files, TS_ARCHIVE, file->archive + file->archive_read,
+                                wanted - file->archive_read, file->archive_read);
+        if (code != TS_OK) return code;
+        file->archive_read = wanted;
+    }
+    *at = wanted > 0 ? file->archive : nothing;
+    *len = wanted;
+    return TS_OK;
+}
+
+/* What a write to the archive leaves to be read. */
+static void wrote_archive(ts_file *file, const ts_device *call) {
+    if (call->at < file->archive_read) file->archive_read = (size_t)call->at;
+    if (call->at + call->len > file->archive_len) file->archive_len = call->at + call->len;
+}
+
+/* ---- steps */
+
+static int32_t make_write(ts_file *file, const ts_device *call) {
+    int32_t code = tsi_write(&file->files, (int)call->area, file->bytes, (size_t)call->len, call->at);
+    if (code == TS_OK && call->area == TS_ARCHIVE) wrote_archive(file, call);
+    return code;
 }
 
 /* Makes the device call that is due, if one is; what its step did is told. */
@@ -189,12 +273,9 @@ static int32_t make_call(ts_file *file, ts_info *info) {
     ts_device call;
     int32_t code = ts_call(&file->store, &call, file->bytes, sizeof file->bytes);
     if (code != TS_OK) return code == TS_NONE ? TS_OK : code;
-    bool made = ++file->made != file->refused;
-    if (call.area == TS_ARCHIVE) file->grown = true;
-    if (made && call.kind == TS_WRITE)
-        made = write_all(file->fd[call.area], file->bytes, call.len, (off_t)call.at) == 0;
-    else if (made) made = fdatasync(file->fd[call.area]) == 0;
-    return ts_called(&file->store, made, info);
+    code = call.kind == TS_WRITE ? make_write(file, &call) : tsi_sync(&file->files, (int)call.area);
+    if (code != TS_OK) file->cause = *tsi_last_cause();
+    return ts_called(&file->store, code == TS_OK, info);
 }
 
 typedef int32_t step(ts *store, ts_info *info);
@@ -232,4 +313,63 @@ int32_t ts_file_commit(ts_file *file, uint64_t txn, uint64_t label, uint64_t now
     uint64_t ticket = info->a;
     ts_file_flush(file); /* where it is refused, the ticket says what became of the commit */
     return ts_redeem(&file->store, ticket, info);
+}
+
+/* ---- one call for what is asked most */
+
+uint64_t ts_now(void) {
+    struct timespec now;
+    if (clock_gettime(CLOCK_REALTIME, &now) || now.tv_sec < 0) return 0;
+    return (uint64_t)now.tv_sec * 1000000 + (uint64_t)now.tv_nsec / 1000;
+}
+
+/* Commits a transaction where its write was answered so, and else gives it up. */
+static int32_t commit_one(ts_file *file, uint64_t txn, int32_t code, uint64_t label, uint64_t now, ts_info *info) {
+    if (code == TS_OK) return ts_file_commit(file, txn, label, now, info);
+    ts_abort(&file->store, txn);
+    return code;
+}
+
+int32_t ts_file_put(ts_file *file, uint16_t relation, uint64_t record, const uint8_t *value, size_t value_len,
+                    uint64_t label, uint64_t now, ts_info *info) {
+    int32_t code = ts_begin(&file->store, info);
+    if (code != TS_OK) return code;
+    code = ts_put(&file->store, info->a, relation, record, value, value_len);
+    return commit_one(file, info->a, code, label, now, info);
+}
+
+int32_t ts_file_delete(ts_file *file, uint16_t relation, uint64_t record, uint64_t label, uint64_t now, ts_info *info) {
+    int32_t code = ts_begin(&file->store, info);
+    if (code != TS_OK) return code;
+    code = ts_delete(&file->store, info->a, relation, record);
+    return commit_one(file, info->a, code, label, now, info);
+}
+
+/* A view of what is published now, and the time of its last commit. */
+static int32_t view_now(ts_file *file, uint64_t *view, uint64_t *last) {
+    ts_info info = {0, 0};
+    int32_t code = ts_last(&file->store, &info);
+    *last = info.a;
+    if (code == TS_OK) code = ts_view(&file->store, &info);
+    *view = info.a;
+    return code;
+}
+
+int32_t ts_file_get(ts_file *file, uint16_t relation, uint64_t record, uint8_t *out, size_t len, ts_info *info) {
+    uint64_t view, last;
+    int32_t code = view_now(file, &view, &last);
+    if (code != TS_OK) return code;
+    code = ts_recent(&file->store, view, relation, record, last, out, len, info);
+    ts_end(&file->store, view);
+    return code;
+}
+
+int32_t ts_file_scan(ts_file *file, uint16_t relation, ts_row *rows, size_t row_count, uint8_t *out, size_t len,
+                     ts_info *info) {
+    uint64_t view, last;
+    int32_t code = view_now(file, &view, &last);
+    if (code != TS_OK) return code;
+    code = ts_scan_at(&file->store, view, relation, last, nothing, 0, rows, row_count, out, len, info);
+    ts_end(&file->store, view);
+    return code;
 }

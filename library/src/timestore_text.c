@@ -1,5 +1,7 @@
-/* The texts of codes. */
+/* The texts of codes, and of the version. */
 #include "timestore_file.h"
+
+const char *timestore_version(void) { return TIMESTORE_VERSION; }
 
 const char *ts_text(int32_t code) {
     switch (code) {
@@ -39,6 +41,8 @@ const char *ts_text(int32_t code) {
     case TS_SYSTEM: return "device";
     case TS_LOCKED: return "another process has this store open";
     case TS_OCCUPIED: return "occupied";
+    case TS_CACHED: return "the system keeps in memory what the disk may lack";
+    case TS_ALREADY_OPEN: return "this process has this store open";
     default: return "no such code";
     }
 }

@@ -1,9 +1,14 @@
-"""The Python module's calls: calls.py FOLDER."""
+"""The Python module's calls: calls.py FOLDER, with the library of faults.c preloaded."""
 
+import ctypes
+import errno
+import gc
 import os
+import resource
 import sys
-from collections.abc import Callable
+from collections.abc import Callable, Iterator
 from concurrent.futures import ThreadPoolExecutor
+from contextlib import contextmanager
 from datetime import datetime, timezone
 from pathlib import Path
 from typing import TypeVar
@@ -11,6 +16,15 @@ from typing import TypeVar
 import timestore
 
 Fault = TypeVar("Fault", bound=Exception)
+FAULTS = ctypes.CDLL(None)
+
+
+@contextmanager
+def refused(call: int, number: int = errno.EIO) -> Iterator[None]:
+    """The write or sync of this number from now on is refused with this errno."""
+    FAULTS.faults_refuse(ctypes.c_uint64(call), number)
+    yield
+    FAULTS.faults_refuse(ctypes.c_uint64(0), 0)
 
 
 def refuses(fault: type[Fault], call: Callable[..., object], *args: object) -> Fault:
@@ -72,6 +86,7 @@ def test_transactions(store: timestore.Store) -> None:
 def test_refused_call(folder: Path) -> None:
     with timestore.Store(folder) as store:
         before = store.last
+        refuses(timestore.AlreadyOpen, timestore.Store, folder)
         refuses(timestore.Locked, timestore.Store, folder)
         store.archive(before)
         refuses(timestore.NothingToDo, store.archive, before)
@@ -95,13 +110,16 @@ def test_refused_call(folder: Path) -> None:
             assert store.at(2, 5, before) == (b"first",)
             assert view.at(2, 5, store.times_of(1)[0]) == first
         store.grow()
-        store.refuse(3)
         txn = store.begin()
         txn.put(2, 5, b"lost")
-        refuses(timestore.InDoubt, txn.commit)
+        with refused(3):
+            why = refuses(timestore.InDoubt, txn.commit)
+        assert (why.call, why.file, why.errno) == ("pwrite", "status", errno.EIO)
         assert store.last == before
         assert store.at(2, 5, before) == (b"first",)
-        refuses(timestore.Failed, store.begin)
+        failed = refuses(timestore.Failed, store.begin)
+        assert (failed.call, failed.file, failed.errno) == ("pwrite", "status", errno.EIO)
+        assert failed.__notes__ == [f"pwrite of status: {os.strerror(errno.EIO)}"]
     refuses(timestore.Closed, store.flush)
     refuses(timestore.Closed, store.begin)
     with timestore.Store(folder) as store:
@@ -149,7 +167,7 @@ def test_let_go(store: timestore.Store) -> None:
     assert sum(1 for _ in store.scan_at(2, store.last)) == 200
 
 
-def test_fork(store: timestore.Store) -> None:
+def test_fork(store: timestore.Store, folder: Path) -> None:
     """In the child of a fork the store is closed, and in its parent it is not."""
     with store.view() as view:
         child = os.fork()
@@ -159,6 +177,7 @@ def test_fork(store: timestore.Store) -> None:
                 refuses(timestore.Closed, store.flush)
                 store.close()
                 view.end()
+                assert type(refuses(timestore.Locked, timestore.Store, folder)) is timestore.Locked
             except BaseException:
                 os._exit(1)
             os._exit(0)
@@ -177,9 +196,213 @@ def test_threads(store: timestore.Store) -> None:
             raise AssertionError(f"{call} on another thread")
 
 
+def test_left_to_a_child(folder: Path) -> None:
+    """While a child lives that was forked under an open store, its parent opens it again."""
+    ends = os.pipe()
+    with timestore.Store(folder):
+        child = os.fork()
+        if child == 0:
+            os.close(ends[1])
+            os.read(ends[0], 1)
+            os._exit(0)
+        os.close(ends[0])
+    with timestore.Store(folder) as store:
+        store.put(2, 5, b"beside")
+    os.close(ends[1])
+    assert os.waitpid(child, 0)[1] == 0
+
+
+def test_let_go_elsewhere(folder: Path) -> None:
+    """What dies on another thread is given back on the owner's: no snapshot is left that bars a reclaim."""
+    with ThreadPoolExecutor(1) as owner:
+        store = owner.submit(timestore.Store, folder).result()
+
+        def raises(kind: str) -> None:
+            """Its exception has the frame, and so what it took, where the exception goes."""
+            txn, view = store.begin(), store.view()
+            if kind == "ticket":
+                txn.put(4, 1, b"t")
+                ticket = txn.submit(4)
+            raise KeyError(kind)
+
+        for kind in ("transaction", "ticket"):
+            why = owner.submit(raises, kind).exception()
+            assert isinstance(why, KeyError)
+            del why
+            gc.collect()
+        owner.submit(store.flush).result()
+        last = owner.submit(store.put, 4, 1, b"later").result()
+        owner.submit(store.archive, last).result()
+        owner.submit(store.reclaim).result()
+        # So many may be out at a time, and no more are let go than that.
+        for _ in range(3):
+            views = owner.submit(lambda: [store.view() for _ in range(30_000)]).result()
+            del views
+        owner.submit(store.close).result()
+
+
+def test_exceptions_stay(folder: Path) -> None:
+    """What ends a context is raised, whatever became of the store and on any thread."""
+
+    def closes(store: timestore.Store) -> None:
+        with store.begin() as txn:
+            txn.put(2, 5, b"gone")
+            store.close()
+            raise KeyError("mine")
+
+    def goes_on(taken: timestore.Transaction | timestore.View) -> None:
+        with taken:
+            raise KeyError("mine")
+
+    with timestore.Store(folder) as store:
+        refuses(KeyError, closes, store)
+    with timestore.Store(folder) as store:
+        with ThreadPoolExecutor(1) as other:
+            for taken in (store.begin(), store.view()):
+                assert isinstance(other.submit(goes_on, taken).exception(), KeyError)
+        store.put(2, 5, b"then")
+        last = store.last
+        store.archive(last)
+        store.reclaim()
+
+
+def test_names() -> None:
+    """A refusal has the name by which it is caught, and that of a user its own."""
+
+    class Mine(timestore.Refused):
+        pass
+
+    assert (timestore.NotYet.__module__, Mine.__module__) == ("timestore", __name__)
+
+
+def test_now(folder: Path) -> None:
+    """What stands now is one call, and a commit has the time of the clock."""
+    with timestore.Store(folder) as store:
+        before = timestore.micros(datetime.now(timezone.utc))
+        first = store.put(5, 1, b"a", b"", label=50)
+        assert before <= first < before + 60_000_000
+        with store.view() as view:
+            assert view.last == store.last == first
+            second = store.put(5, 2, b"b", now=first + 10, label=50)
+            assert second == first + 10
+            assert (view.get(5, 1), view.get(5, 2)) == ((b"a", b""), None)
+            assert [*view.scan(5)] == [(1, (b"a", b""))]
+        assert store.get(5, 2) == (b"b",)
+        assert [*store.scan(5)] == [(1, (b"a", b"")), (2, (b"b",))]
+        third = store.delete(5, 1, now=1)
+        assert third == second + 1
+        assert store.get(5, 1) is None
+        refuses(timestore.Missing, store.delete, 5, 1)
+        refuses(timestore.BadValue, store.put, 5, 1)
+        refuses(ValueError, store.get, 65_536, 1)
+        refuses(ValueError, store.put, 5, 1 << 64, b"a")
+        assert store.times_of(50) == [first, second]
+        assert timestore.library_version() == timestore.__version__
+
+
+def test_transact(folder: Path) -> None:
+    """A transaction that others were ahead of is made again, so often as it may be."""
+
+    def count(txn: timestore.Transaction) -> int:
+        counted = (txn.get(6, 1) or (b"\0",))[0][0] + 1
+        txn.put(6, 1, bytes([counted]))
+        return counted
+
+    with timestore.Store(folder) as store:
+        ahead = [1, 2, 3]
+
+        def beaten(txn: timestore.Transaction) -> int:
+            counted = count(txn)
+            if ahead:
+                ahead.pop()
+                store.transact(count)
+            return counted
+
+        assert store.transact(beaten, attempts=4) == 4
+        assert store.get(6, 1) == (b"\4",)
+        calls = []
+
+        def always_beaten(txn: timestore.Transaction) -> None:
+            calls.append(count(txn))
+            store.transact(count)
+
+        why = refuses(timestore.Conflict, lambda: store.transact(always_beaten, attempts=3))
+        assert (why.relation, why.record, calls) == (6, 1, [5, 6, 7])
+        assert store.get(6, 1) == (b"\7",)
+
+        def fails(txn: timestore.Transaction) -> None:
+            count(txn)
+            raise KeyError
+
+        refuses(KeyError, store.transact, fails)
+        assert store.get(6, 1) == (b"\7",)
+        refuses(ValueError, lambda: store.transact(count, attempts=0))
+        assert store.transact(lambda txn: txn.get(6, 1)) == (b"\7",)
+
+
+def test_rooms(folder: Path) -> None:
+    """A query is asked again where its room was too small, and the next one as large is not."""
+    with timestore.Store(folder) as store:
+        with store.begin() as txn:
+            for record in range(500):
+                txn.put(7, record, bytes([record % 256]) * 100)
+        asked, scan_at = [], timestore._library.ts_scan_at
+
+        def counted(*args: object) -> int:
+            asked.append(1)
+            return scan_at(*args)
+
+        timestore._library.ts_scan_at = counted
+        try:
+            wanted = [(record, (bytes([record % 256]) * 100,)) for record in range(500)]
+            for times in (2, 3, 4):
+                assert [*store.scan_at(7, store.last)] == wanted
+                assert len(asked) == times
+            # Two that are taken by turns have a room each.
+            first, second = store.scan_at(7, store.last), store.scan_at(7, store.last)
+            assert [*zip(first, second)] == [*zip(wanted, wanted)]
+        finally:
+            timestore._library.ts_scan_at = scan_at
+
+
+def test_causes(folder: Path) -> None:
+    """Why the system refused a call."""
+    small, reads = folder.with_name("calls-small"), folder.with_name("calls-reads")
+    for path in (small, reads):
+        path.mkdir()
+        timestore.make(path, 64)
+    limits = resource.getrlimit(resource.RLIMIT_FSIZE)
+    with timestore.Store(small) as store:
+        resource.setrlimit(resource.RLIMIT_FSIZE, (40_000, limits[1]))
+        try:
+            for _ in range(4):
+                store.put(1, 7, b"a")
+            why = refuses(timestore.InDoubt, store.put, 1, 7, b"a")
+        finally:
+            resource.setrlimit(resource.RLIMIT_FSIZE, limits)
+        assert (why.call, why.file, why.errno) == ("pwrite", "heap", errno.EFBIG)
+    with timestore.Store(reads) as store:
+        first = store.put(1, 7, b"a")
+        store.archive(store.put(1, 7, b"b"))
+        store.reclaim()
+        with store.view() as view:
+            FAULTS.faults_refuse_reads(errno.EIO)
+            assert view.get(1, 7) == (b"b",)
+            for ask in (lambda: view.at(1, 7, first), lambda: view.between(1, 7, 0, first)):
+                unread = refuses(timestore.System, ask)
+                assert (unread.call, unread.file, unread.errno) == ("pread", "archive", errno.EIO)
+                assert str(unread) == os.strerror(errno.EIO)
+            FAULTS.faults_refuse_reads(0)
+            assert view.at(1, 7, first) == (b"a",)
+            assert [row.fields for row in view.between(1, 7, 0, first + 1)] == [(b"a",)]
+    unopened = refuses(timestore.System, timestore.Store, folder / "none")
+    assert (unopened.call, unopened.file, unopened.errno) == ("open", "", errno.ENOENT)
+    assert refuses(timestore.NotYet, lambda: timestore.Store(reads).at(1, 7, 1 << 62)).errno is None
+
+
 def main() -> None:
     folder = Path(sys.argv[1]) / "calls"
-    refuses(timestore.System, timestore.make, folder)
+    assert refuses(timestore.System, timestore.make, folder).errno == errno.ENOENT
     folder.mkdir()
     refuses(timestore.BadSlots, timestore.make, folder, 15)
     refuses(timestore.NotAStore, timestore.Store, folder)
@@ -192,8 +415,16 @@ def main() -> None:
         test_numbers(store)
         test_let_go(store)
         test_threads(store)
-        test_fork(store)
+        test_fork(store, folder)
     test_refused_call(folder)
+    test_left_to_a_child(folder)
+    test_let_go_elsewhere(folder)
+    test_exceptions_stay(folder)
+    test_names()
+    test_now(folder)
+    test_transact(folder)
+    test_rooms(folder)
+    test_causes(folder)
     test_damaged(folder)
 
 

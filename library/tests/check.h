@@ -71,6 +71,26 @@ static inline int now_has(ts *h, uint64_t record, uint64_t time, const char *tex
     return has;
 }
 
+/* Commits one record; its time. */
+static inline uint64_t commit_text(ts_file *file, uint64_t record, const char *text, uint64_t label, uint64_t now) {
+    ts *h = ts_file_store(file);
+    ts_info info;
+    CHECK(TS_OK, ts_begin(h, &info));
+    uint64_t txn = info.a;
+    put_text(h, txn, record, text);
+    CHECK(TS_OK, ts_file_commit(file, txn, label, now, &info));
+    return info.a;
+}
+
+/* Whether this is what the system refused: of a file, or for NULL last of all. */
+static inline int was_caused(const ts_file *file, const char *call, const char *name, int number) {
+    ts_cause cause;
+    CHECK(TS_OK, ts_file_error(file, &cause));
+    int is_so = strcmp(cause.call, call) == 0 && strcmp(cause.file, name) == 0 && cause.number == number;
+    if (!is_so) fprintf(stderr, "%s of %s: %s\n", cause.call, cause.file, strerror(cause.number));
+    return is_so;
+}
+
 /* The floor of relation 1, which a query before it tells. */
 static inline uint64_t floor_now(ts *h) {
     uint8_t value[TS_VALUE_MOST];

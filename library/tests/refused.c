@@ -1,6 +1,8 @@
 /* Refuses each device call in turn of two groups, an archive with a group beside it, a reclaim, a floor and a growth,
  * and opens what is left: refused FOLDER, one that is there; each trial has a folder of its own in it. */
 #include "check.h"
+#include "faults.h"
+#include <errno.h>
 #include <sys/stat.h>
 
 /* What was answered until the refusal: the commits whose tickets were redeemed as done, and the floor. */
@@ -137,9 +139,10 @@ static outcome trial(const char *folder, uint64_t refuse) {
     CHECK(TS_OK, ts_file_open(folder, &file, &info));
     ts *h = ts_file_store(file);
     CHECK(TS_OK, ts_view(h, &view));
-    ts_file_refuse(file, refuse);
+    faults_refuse(refuse, EIO);
     if (flush_two(file, 1, &so_far) && flush_two(file, 2, &so_far)) make_jobs(file, &so_far);
     if (so_far.refused) after_refusal(file, so_far.done, view.a);
+    faults_refuse(0, 0);
     ts_file_close(file);
     return so_far;
 }

@@ -1,6 +1,8 @@
 /* What the calls answer, on a store in files: rows FOLDER, an empty one. */
 #define _GNU_SOURCE
 #include "check.h"
+#include "faults.h"
+#include <errno.h>
 #include <fcntl.h>
 #include <sys/stat.h>
 #include <unistd.h>
@@ -8,15 +10,6 @@
 static uint64_t begun(ts *h) {
     ts_info info;
     CHECK(TS_OK, ts_begin(h, &info));
-    return info.a;
-}
-
-static uint64_t commit_text(ts_file *file, uint64_t record, const char *text, uint64_t label, uint64_t now) {
-    ts *h = ts_file_store(file);
-    ts_info info;
-    uint64_t txn = begun(h);
-    put_text(h, txn, record, text);
-    CHECK(TS_OK, ts_file_commit(file, txn, label, now, &info));
     return info.a;
 }
 
@@ -369,7 +362,7 @@ static void test_two_stores(ts_file *file, const char *folder) {
     CHECK(TS_UNKNOWN, ts_give_up(h, ticket));
     CHECK(TS_OK, ts_give_up(h2, ticket));
     /* The view of what was published before a refused call is of its own store too. */
-    ts_file_refuse(other, 1);
+    faults_refuse(1, EIO);
     CHECK(TS_FAILED, ts_file_flush(other));
     CHECK(TS_OK, ts_view(h2, &view));
     CHECK(TS_NOT_YET, ts_recent(h2, view.a, 1, 7, 2, out, sizeof out, &info));
@@ -463,6 +456,48 @@ static void test_damaged(const char *folder) {
     CHECK(TS_NOT_A_STORE, cut(folder, "status", 511, &info));
 }
 
+/* What stands now, in one call each. */
+static void test_now(ts_file *file) {
+    enum { RELATION = 900, LABEL = 77 };
+    const uint8_t first[] = {1, 1, 'a'}, second[] = {2, 1, 'b', 0}, wrong[] = {0};
+    uint8_t out[TS_VALUE_MOST];
+    ts_row rows[2];
+    ts_info info;
+    uint64_t before = ts_now();
+    CHECK(TS_NONE, ts_file_get(file, RELATION, 1, out, sizeof out, &info));
+    CHECK(TS_OK, ts_file_put(file, RELATION, 1, first, sizeof first, LABEL, ts_now(), &info));
+    uint64_t time = info.a;
+    HOLDS(time >= before && time - before < 60000000 && before > 1600000000000000);
+    CHECK(TS_OK, ts_file_put(file, RELATION, 2, second, sizeof second, LABEL, 0, &info));
+    HOLDS(info.a == time + 1);
+    CHECK(TS_OK, ts_file_get(file, RELATION, 2, out, sizeof out, &info));
+    HOLDS(info.a == sizeof second && memcmp(out, second, sizeof second) == 0);
+    CHECK(TS_SMALL, ts_file_get(file, RELATION, 2, out, 3, &info));
+    HOLDS(info.a == sizeof second);
+    CHECK(TS_OK, ts_file_scan(file, RELATION, rows, 2, out, sizeof out, &info));
+    HOLDS(info.a == 2 && rows[0].record == 1 && rows[1].record == 2);
+    HOLDS(memcmp(out + rows[0].at, first, sizeof first) == 0 && memcmp(out + rows[1].at, second, sizeof second) == 0);
+    CHECK(TS_SMALL, ts_file_scan(file, RELATION, rows, 1, out, sizeof out, &info));
+    HOLDS(info.a == 2 && info.b == sizeof first + sizeof second);
+    CHECK(TS_OK, ts_file_delete(file, RELATION, 1, LABEL, 0, &info));
+    HOLDS(info.a == time + 2);
+    CHECK(TS_NONE, ts_file_get(file, RELATION, 1, out, sizeof out, &info));
+    CHECK(TS_MISSING, ts_file_delete(file, RELATION, 1, LABEL, 0, &info));
+    CHECK(TS_BAD_VALUE, ts_file_put(file, RELATION, 1, wrong, sizeof wrong, LABEL, 0, &info));
+    CHECK(TS_OK, ts_last(ts_file_store(file), &info));
+    HOLDS(info.a == time + 2); /* what was refused has committed nothing */
+}
+
+/* What was given up by a refusal bars no reclaim, which an open transaction would. */
+static void test_nothing_left_open(ts_file *file) {
+    ts_info info;
+    uint64_t last = commit_text(file, 7, "later", 9, 0);
+    CHECK(TS_OK, ts_archive(ts_file_store(file), last, &info));
+    CHECK(TS_OK, ts_file_job(file));
+    CHECK(TS_OK, ts_reclaim(ts_file_store(file), &info));
+    CHECK(TS_OK, ts_file_job(file));
+}
+
 int main(int argc, char **argv) {
     ts_file *file, *second;
     ts_info info;
@@ -472,7 +507,7 @@ int main(int argc, char **argv) {
     CHECK(TS_OK, ts_file_format(argv[1], 1024));
     CHECK(TS_OCCUPIED, ts_file_format(argv[1], 1024));
     CHECK(TS_OK, ts_file_open(argv[1], &file, &info));
-    CHECK(TS_LOCKED, ts_file_open(argv[1], &second, &info));
+    CHECK(TS_ALREADY_OPEN, ts_file_open(argv[1], &second, &info));
     test_tour(file);
     test_pending(file);
     test_two_stores(file, argv[1]);
@@ -490,6 +525,8 @@ int main(int argc, char **argv) {
     HOLDS(info.a == 500 && info.b == 0);
     HOLDS(floor_now(ts_file_store(file)) == 300 && now_has(ts_file_store(file), 7, 401, "d"));
     test_reopened(file);
+    test_now(file);
+    test_nothing_left_open(file);
     ts_file_close(file);
     test_earlier(argv[1]);
     test_damaged(argv[1]);

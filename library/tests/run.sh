@@ -7,7 +7,7 @@ top=$(dirname "$here")
 out=$(cd "$1" && pwd)
 program=${2:-$top/../crates/timestore/out/timestore}
 work=$(mktemp -d)
-trap 'rm -rf "$work"' EXIT
+trap 'umount "$work/stale/mounted" 2> /dev/null || true; rm -rf "$work"' EXIT
 warnings="-std=c11 -Wall -Wextra -pedantic -g -O1 -I$top/include"
 
 say() { printf '%-60s ' "$1"; }
@@ -34,11 +34,18 @@ passes() {
     fi
 }
 
+# Stands between what is tested and the system.
+gcc -std=c11 -Wall -Wextra -g -O1 -fPIC -c "$here/faults.c" -o "$work/faults.o"
+gcc -std=c11 -Wall -Wextra -g -O1 -fPIC -c "$here/faults_memory.c" -o "$work/faults_memory.o"
+gcc -shared "$work/faults.o" "$work/faults_memory.o" -o "$work/faults.so"
+
+version=$(sed -n 's/^.define TIMESTORE_VERSION "\(.*\)"/\1/p' "$top/include/timestore.h")
+
 build() { # NAME FLAGS..
     local name=$1
     shift
     # shellcheck disable=SC2086
-    gcc $warnings "$@" "$top/src/timestore_file.c" "$top/src/timestore_text.c" -o "$work/$name" "$out/libtimestore.a"
+    gcc $warnings "$@" "$top"/src/*.c "$work/faults.o" -o "$work/$name" "$out/libtimestore.a"
 }
 
 sanitized="-fsanitize=address,undefined -fno-sanitize-recover=all"
@@ -47,7 +54,7 @@ if ! { echo 'int main(void){return 0;}' | gcc -x c - $sanitized -o "$work/probe"
     echo "gcc's sanitizers do not run here: the tests run without"
     sanitized=""
 fi
-for test in rows worked refused memory; do
+for test in rows worked refused memory lost reads forks; do
     say "C, $test${sanitized:+ (address, undefined, leak)}"
     wrapped=
     [ "$test" != memory ] || wrapped="-Wl,--wrap=malloc,--wrap=calloc,--wrap=realloc"
@@ -61,6 +68,23 @@ for test in rows worked refused memory; do
         exit 1
     fi
 done
+
+say "C, causes${sanitized:+ (address, undefined, leak)}"
+# shellcheck disable=SC2086
+build causes $sanitized "$here/causes.c"
+mkdir "$work/causes-folder" "$work/small"
+on_small_disk() { # FLAGS.. of unshare, so that only this test sees the folder that has little space
+    # shellcheck disable=SC2016
+    unshare "$@" sh -c 'mount -t tmpfs -o size=40k none "$1" && exec "$2" "$3" "$1"' sh "$work/small" "$work/causes" "$work/causes-folder"
+}
+if unshare -m mount -t tmpfs none "$work/small" 2> /dev/null; then
+    passes on_small_disk -m
+elif unshare -rm mount -t tmpfs none "$work/small" 2> /dev/null; then
+    passes on_small_disk -rm
+else
+    printf '(no full disk: no file system can be mounted here) '
+    passes "$work/causes" "$work/causes-folder"
+fi
 
 if command -v valgrind > /dev/null; then
     say "C, rows (valgrind, which sees the proved part too)"
@@ -84,6 +108,7 @@ done 100
 at 100: a
 refused: not yet 100
 100 101 a
+counted 3
 END
 gcc $warnings "$top/examples/tour.c" -o "$work/tour" "$out/libtimestore.a"
 mkdir "$work/tour-c"
@@ -91,13 +116,60 @@ compare "$work/tour" "$work/tour-c" < "$work/wanted-tour"
 
 if command -v pkg-config > /dev/null; then # what Python takes too
     say "C, the tour over what is installed"
-    make -s -C "$top" install PREFIX="$work/installed"
+    mkdir "$work/built"
+    printf '#!/bin/sh\necho the program\n' > "$work/built/timestore"
+    chmod +x "$work/built/timestore"
+    make -s -C "$top" install PREFIX="$work/installed" PROGRAM="$work/built/timestore"
     export PKG_CONFIG_PATH="$work/installed/lib/pkgconfig"
     # shellcheck disable=SC2046
     gcc "$work/installed/share/doc/timestore/examples/tour.c" $(pkg-config --cflags --libs timestore) -o "$work/toured"
     mkdir "$work/tour-installed"
     compare env LD_LIBRARY_PATH="$work/installed/lib" "$work/toured" "$work/tour-installed" < "$work/wanted-tour"
+    say "C, the tour linked with all that it needs"
+    # shellcheck disable=SC2046
+    gcc -static "$top/examples/tour.c" $(pkg-config --static --cflags --libs timestore) -o "$work/toured-static"
+    mkdir "$work/tour-static"
+    compare "$work/toured-static" "$work/tour-static" < "$work/wanted-tour"
+    say "the program, where it was built, and the completions are installed"
+    compare "$work/installed/bin/timestore" <<< "the program"
+    [ -f "$work/installed/share/bash-completion/completions/timestore" ]
+    say "one version: headers, library, pkg-config, man page"
+    printf '#include <stdio.h>\n#include <timestore.h>\nint main(void) { return printf("%%s %%d\\n", timestore_version(), TIMESTORE_VERSION_NUMBER) < 0; }\n' > "$work/version.c"
+    # shellcheck disable=SC2046
+    gcc $warnings "$work/version.c" $(pkg-config --cflags --libs timestore) -o "$work/version"
+    versions() {
+        env LD_LIBRARY_PATH="$work/installed/lib" "$work/version"
+        pkg-config --modversion timestore
+        grep -oE "timestore [0-9.]+[0-9]" "$work/installed/share/man/man1/timestore.1"
+        readelf -d "$work/version" | grep -o 'libtimestore.so.[0-9]*'
+    }
+    compare versions <<END
+$version $(echo "$version" | awk -F. '{ print 10000 * $1 + 100 * $2 + $3 }')
+$version
+timestore $version
+libtimestore.so.${version%%.*}
+END
 fi
+
+if command -v groff > /dev/null; then
+    say "the man page, without warnings"
+    warned() { groff -man -ww -z -Tutf8 "$top/man/timestore.1" 2>&1; }
+    compare warned < /dev/null
+fi
+say "the words that bash completes"
+completed() { # WORDS.., the last of which is completed
+    # shellcheck source=/dev/null
+    (. "$top/completions/timestore.bash"; COMP_WORDS=("$@"); COMP_CWORD=$(($# - 1)); _timestore; echo "${COMPREPLY[*]}")
+}
+mkdir -p "$work/words/reg"
+all_completed() { (cd "$work/words"; completed timestore g; completed timestore ""; completed timestore format --s; completed timestore at r; completed timestore stress ""); }
+compare all_completed <<'END'
+grow
+format run at between vacuum grow dump stress help --help
+--slots
+reg
+
+END
 
 say "C, one thread that owns the store"
 gcc $warnings -pthread "$top/examples/owner.c" -o "$work/owner" "$out/libtimestore.a"
@@ -107,7 +179,7 @@ compare "$work/owner" "$work/owner-c" <<'END'
 END
 
 say "the shared library has the headers' names and no other"
-grep -ohE '\bts_[a-z_]+\(' "$top"/include/*.h | tr -d '(' | sort -u > "$work/wanted-names"
+grep -ohE '\b(ts|timestore)_[a-z_]+\(' "$top"/include/*.h | tr -d '(' | sort -u > "$work/wanted-names"
 nm -D --defined-only "$out/libtimestore.so" | awk '{print $3}' | sort > "$work/names"
 passes diff "$work/wanted-names" "$work/names"
 
@@ -125,6 +197,7 @@ refused: not yet 100
 refused: conflict 1 7
 the view still answers: Some([[97]])
 times of 9: [100, 110]
+counted Some([[3]])
 END
     say "Rust, one thread that owns the store"
     mkdir "$work/owner-rust"
@@ -132,8 +205,32 @@ END
     compare "$work/target/debug/examples/owner" "$work/owner-rust" <<'END'
 4 threads, 100 commits, the last one at 100
 END
+    say "Rust, a program that the crate is added to"
+    added() { # CRATE FOLDER
+        (
+            unset TIMESTORE_LIB_DIR PKG_CONFIG_PATH
+            export CARGO_TARGET_DIR="$2-target"
+            cargo new --quiet --vcs none "$2" && cd "$2"
+            cargo add --offline --quiet --path "$1" 2> "$2.said" || { cat "$2.said"; exit 1; }
+            cat > src/main.rs <<'END'
+fn main() -> timestore::Result<()> {
+    let folder = std::env::args().nth(1).expect("a folder");
+    timestore::format(&folder, 16)?;
+    timestore::Store::open(&folder)?.put(1, 7, &[b"a"], 0)?;
+    println!("{}", timestore::library_version());
+    Ok(())
+}
+END
+            mkdir "$2-store" && cargo run --offline --quiet -- "$2-store"
+        )
+    }
+    if [ "$out" = "$top/out" ]; then compare added "$top/rust" "$work/adds" <<< "$version"; else echo "not tested: the library was built elsewhere"; fi
+    if [ -d "$work/installed" ]; then
+        say "Rust, the same of what is installed"
+        compare added "$work/installed/share/timestore/rust" "$work/adds-installed" <<< "$version"
+    fi
     say "Rust, calls"
-    cargo_test() { (cd "$top/rust" && cargo test --offline --quiet > "$work/cargo" 2>&1) || { cat "$work/cargo"; false; }; }
+    cargo_test() { (cd "$top/rust" && LD_PRELOAD="$work/faults.so" cargo test --offline --quiet > "$work/cargo" 2>&1) || { cat "$work/cargo"; false; }; }
     passes cargo_test
 else
     echo "no cargo: the Rust crate is not tested"
@@ -156,6 +253,7 @@ refused: not yet 100
 100 101 (b'a',)
 refused: conflict 1 7
 last: 2026-01-01T00:00:00+00:00
+counted 3 (b'\x03',)
 END
 compare python3 "$top/examples/tour.py" "$work/tour-python" < "$work/wanted-python"
 if [ -d "$work/installed" ]; then
@@ -164,25 +262,45 @@ if [ -d "$work/installed" ]; then
     mkdir "$work/tour-python-installed"
     compare env -u TIMESTORE_LIBRARY PYTHONPATH="$installed" python3 "$work/installed/share/doc/timestore/examples/tour.py" "$work/tour-python-installed" < "$work/wanted-python"
 fi
+if python3 -m pip --version > /dev/null 2>&1; then
+    say "Python, a wheel that is built and installed without a network"
+    wheel() { # SOURCE TARGET FLAGS..
+        local source=$1 target=$2
+        shift 2
+        env -u TIMESTORE_LIBRARY python3 -m pip install --quiet --disable-pip-version-check --no-index --no-cache-dir "$@" --target "$target" "$source" > "$work/pip" 2>&1 || { cat "$work/pip"; return 1; }
+        (cd "$work" && env -u LD_LIBRARY_PATH -u TIMESTORE_LIBRARY PYTHONPATH="$target" python3 -c 'import timestore; print(timestore.__file__, timestore.__version__, timestore.library_version())')
+        [ -f "$target/timestore/py.typed" ] && [ -f "$target/timestore/libtimestore.so.${version%%.*}" ]
+    }
+    mkdir "$work/source"
+    cp -r "$top/python" "$out" "$work/source"
+    compare wheel "$work/source/python" "$work/wheel" --no-build-isolation <<< "$work/wheel/timestore/__init__.py $version $version"
+    if [ -d "$work/installed" ]; then
+        say "Python, the same of what is installed"
+        compare wheel "$work/installed/share/timestore/python" "$work/wheel-installed" <<< "$work/wheel-installed/timestore/__init__.py $version $version"
+    fi
+fi
 say "Python, the example of the module"
 mkdir -p "$work/doctest/reg"
-documented() { (cd "$work/doctest" && python3 -m doctest "$top/python/timestore.py"); }
+documented() { (cd "$work/doctest" && python3 -c 'import doctest, sys, timestore; sys.exit(doctest.testmod(timestore).failed)'); }
 passes documented
 say "Python, one thread that owns the store"
 mkdir "$work/owner-python"
 compare python3 "$top/examples/owner.py" "$work/owner-python" <<'END'
-4 threads, 100 commits, the last one at 100
+4 threads, 100 commits
 END
 if command -v mypy > /dev/null; then
     say "Python, types"
-    typed() { MYPYPATH="$top/python" mypy --strict --cache-dir "$work/mypy" "$top/python/timestore.py" "$top"/examples/*.py > "$work/types" || { cat "$work/types"; false; }; }
+    typed() { MYPYPATH="$top/python" mypy --strict --cache-dir "$work/mypy" "$top/python/timestore" "$top"/examples/*.py > "$work/types" || { cat "$work/types"; false; }; }
     passes typed
 fi
 say "Python, calls"
-passes python3 "$here/calls.py" "$work"
+passes env LD_PRELOAD="$work/faults.so" python3 "$here/calls.py" "$work"
 
 say "Python, random calls beside a machine and a plain reader"
 passes python3 "$here/play.py" "$work/play" "${SEED:-1}"
+
+say "a disk that lacks what the system has of it in memory"
+passes python3 "$here/stale.py" "$work/stale"
 
 say "a host that is killed"
 passes python3 "$here/killed.py" "$work/killed"

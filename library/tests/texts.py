@@ -5,10 +5,11 @@ import re
 from pathlib import Path
 
 import timestore
+from timestore import _native, _refused
 
 TOP = Path(__file__).resolve().parents[2]
 # What the program's scripts have no answer for.
-OWN = {"TS_PENDING", "TS_CLOSED", "TS_UNKNOWN", "TS_SMALL", "TS_LOCKED"}
+OWN = {"TS_PENDING", "TS_CLOSED", "TS_UNKNOWN", "TS_SMALL", "TS_LOCKED", "TS_CACHED", "TS_ALREADY_OPEN"}
 # What the library has no call for.
 PROGRAMS_ALONE = {"name", "bad time"}
 ANSWERS = {"TS_OK", "TS_NONE", "TS_READ_ONLY", "TS_SMALL"}
@@ -33,7 +34,7 @@ def listed(name: str, last: str) -> dict[str, int]:
 
 
 def text(code: int) -> str:
-    return timestore._library.ts_text(code).decode()
+    return _native.library.ts_text(code).decode()
 
 
 def program_texts() -> set[str]:
@@ -48,7 +49,7 @@ def refusals_of_program() -> set[str]:
 
 
 def main() -> None:
-    store, host = listed("TS_OK", "TS_NOT_GROWABLE"), listed("TS_SYSTEM", "TS_OCCUPIED")
+    store, host = listed("TS_OK", "TS_NOT_GROWABLE"), listed("TS_SYSTEM", "TS_ALREADY_OPEN")
     proved = numbers("crates/c_engine/src/code.rt", r"Code::(\w+) => (-?\d+)")
     assert {cased(name): code for name, code in store.items()} == proved, (store, proved)
 
@@ -65,15 +66,19 @@ def main() -> None:
     assert refusals_of_program() - said == PROGRAMS_ALONE, refusals_of_program() - said
 
     named = {cased(name): code for name, code in codes.items() if name not in ANSWERS}
-    assert {fault.__name__: code for code, fault in timestore._FAULTS.items()} == named
+    assert {fault.__name__: code for code, fault in _refused.FAULTS.items()} == named
     rust = numbers("library/rust/src/error.rs", r"^    (\w+) = (-?\d+),")
-    rust |= {cased(name): code for name, code in numbers("library/rust/src/error.rs", r"^const (\w+): i32 = (-?\d+)").items()}
-    handled = {"Pending", "Closed"}  # which a store that is open in Rust never answers
+    rust |= {cased(name): code for name, code in numbers("library/rust/src/error.rs", r"^(?:pub\(crate\) )?const (\w+): i32 = (-?\d+)").items()}
+    handled = {"Pending"}  # which a store that is open in Rust never answers
     assert rust == {name: code for name, code in named.items() if name not in handled}, rust
+
+    versions = re.findall(r'TIMESTORE_VERSION "(.+?)"', (TOP / "library/include/timestore.h").read_text())
+    versions += re.findall(r'^version = "(.+?)"', (TOP / "library/rust/Cargo.toml").read_text(), re.M)
+    assert versions == [timestore.__version__] * 2, versions
 
     steps = listed("TS_IDLE", "TS_ZEROS_SYNCED")
     assert {f"TS_{step.name}": step.value for step in timestore.Step} == steps
-    rust_steps = re.findall(r"(\d+) => Step::(\w+)", (TOP / "library/rust/src/lib.rs").read_text())
+    rust_steps = re.findall(r"(\d+) => Step::(\w+)", (TOP / "library/rust/src/store.rs").read_text())
     assert {name: int(code) for code, name in rust_steps} == {cased(name): code for name, code in steps.items() if code > 0}
 
 

@@ -1,17 +1,25 @@
 /* The worked examples of the store, through the C calls: worked FOLDER, one that is there; each example has a
- * folder of its own in it. Records are of relation 1, and record 7 where none is named. */
+ * folder of its own in it. Records are of relation 1, and record 7 where none is named. PLACE says where the areas
+ * of `folder` lie, and what opens them. */
 #define _GNU_SOURCE
 #include "check.h"
+#include "faults.h"
+#include <errno.h>
 #include <fcntl.h>
 #include <sys/stat.h>
 #include <unistd.h>
 
 enum { EXTENT = 8192, FRONT = 512, SLOT = 512, OPEN_GATE = 0xC7 };
 
+#ifndef PLACE
+#define PLACE "place_files.h"
+#endif
+
 /* ---- the store in hand */
 
 static const char *top;
 static char folder[4096];
+#include PLACE
 static ts_file *file;
 static ts *h;
 static ts_info info;
@@ -26,7 +34,7 @@ static void fresh(uint32_t slots) {
     static int count;
     if (file) ts_file_close(file);
     snprintf(folder, sizeof folder, "%s/%d", top, ++count);
-    HOLDS(mkdir(folder, 0777) == 0);
+    make_place();
     CHECK(TS_OK, ts_file_format(folder, slots));
     open_again();
 }
@@ -34,30 +42,6 @@ static void fresh(uint32_t slots) {
 static void reopen(void) {
     ts_file_close(file);
     open_again();
-}
-
-static const char *path_of(const char *name) {
-    static char path[4200];
-    snprintf(path, sizeof path, "%s/%s", folder, name);
-    return path;
-}
-
-static int64_t size_of(const char *name) {
-    struct stat state;
-    HOLDS(stat(path_of(name), &state) == 0);
-    return state.st_size;
-}
-
-static void read_bytes(const char *name, int64_t at, uint8_t *bytes, size_t len) {
-    int fd = open(path_of(name), O_RDONLY);
-    HOLDS(fd >= 0 && pread(fd, bytes, len, at) == (ssize_t)len);
-    close(fd);
-}
-
-static void write_byte(const char *name, int64_t at, uint8_t byte) {
-    int fd = open(path_of(name), O_WRONLY);
-    HOLDS(fd >= 0 && pwrite(fd, &byte, 1, at) == 1);
-    close(fd);
 }
 
 /* What a store that is closed opens as. */
@@ -411,7 +395,7 @@ static void a_stop_within_the_gate(void) {
     for (size_t n = 0; n < sizeof left; n++) {
         fresh(16);
         for (uint64_t record = 7; record < 10; record++) queued(record, "a", 5, 100);
-        ts_file_refuse(file, 7); /* three extents, the sync, the body and its sync came before */
+        faults_refuse(7, EIO); /* three extents, the sync, the body and its sync came before */
         CHECK(TS_FAILED, ts_file_flush(file));
         ts_file_close(file);
         write_byte("status", FRONT, left[n]);
@@ -658,7 +642,7 @@ static void a_refused_sync_behind_the_gate(void) {
     a_history(16);
     uint64_t ticket = queued(7, "d", 9, 140);
     PUMPS(TS_WROTE, TS_SYNCED, TS_BODY_WRITTEN, TS_BODY_SYNCED, TS_GATE_WRITTEN);
-    ts_file_refuse(file, 1);
+    faults_refuse(1, EIO);
     CHECK(TS_FAILED, ts_file_pump(file, &info));
     CHECK(TS_IN_DOUBT, ts_redeem(h, ticket, &info));
     CHECK(TS_FAILED, ts_begin(h, &info));
@@ -676,15 +660,15 @@ static void damages(void) {
     fresh(16);
     commits(7, "a", 1, 100);
     ts_file_close(file);
-    HOLDS(truncate(path_of("heap"), EXTENT - 1) == 0);
+    cut("heap", EXTENT - 1);
     CHECK(TS_DAMAGED, opens_as());
     HOLDS(info.a == 1 && info.b == TS_HEAP);
     write_byte("status", FRONT + 1, 5);
     CHECK(TS_DAMAGED, opens_as());
     HOLDS(info.a == 0 && info.b == TS_STATUS);
-    HOLDS(truncate(path_of("status"), 8703) == 0);
+    cut("status", 8703);
     CHECK(TS_NOT_A_STORE, opens_as());
-    HOLDS(truncate(path_of("status"), 511) == 0);
+    cut("status", 511);
     CHECK(TS_NOT_A_STORE, opens_as());
     file = NULL;
 }
@@ -701,7 +685,7 @@ static void a_damaged_archive(void) {
     HOLDS(info.a == 0 && info.b == TS_ARCHIVE);
     ts_file_close(file);
     file = NULL;
-    HOLDS(truncate(path_of("archive"), 73) == 0);
+    cut("archive", 73);
     CHECK(TS_DAMAGED, opens_as());
     HOLDS(info.a == 0 && info.b == TS_ARCHIVE);
 }

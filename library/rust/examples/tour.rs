@@ -1,5 +1,11 @@
 //! The tour: `tour FOLDER`, a folder that is there.
-use timestore::{Error, Result, Store};
+use timestore::{Error, Result, Store, Txn, When};
+
+/// Adds one to the number in a record. Where another transaction is ahead, it is called again.
+fn count(txn: &mut Txn<'_>) -> Result<()> {
+    let count = txn.get(1, 8)?.map_or(0, |fields| fields[0][0]) + 1;
+    txn.put(1, 8, &[&[count]])
+}
 
 fn main() -> Result<()> {
     let folder = std::env::args().nth(1).expect("a folder");
@@ -30,5 +36,9 @@ fn main() -> Result<()> {
     }
     println!("the view still answers: {:?}", view.at(1, 7, 100)?);
     println!("times of 9: {:?}", store.times_of(9)?);
+    for _ in 0..3 {
+        store.transact(10, When::Now, 10, count)?;
+    }
+    println!("counted {:?}", store.get(1, 8)?);
     Ok(())
 }

@@ -1,6 +1,6 @@
 //! Why calls are refused.
-use crate::raw::{self, Info};
-use std::ffi::CStr;
+use crate::raw::{self, File, Info};
+use std::ffi::{CStr, c_char};
 use std::{fmt, io};
 
 /// The refusals by their codes, first those that tell nothing beside it, then those that tell a time.
@@ -29,20 +29,35 @@ macro_rules! refusals {
                 /// Where: a slot, the first extent of a chain, or the first byte of a run.
                 place: u64,
             },
+            /// Memory was refused amid a commit, which waits: a later flush publishes it, and
+            /// [`Store::ticket`](crate::Store::ticket) makes a ticket of what is given back.
+            Waiting(WaitingTicket),
+            /// The device failed before the commit was published: opened again, the store has it or not.
+            /// Without a cause memory was refused.
+            InDoubt(Option<Cause>),
+            /// A device call was refused, now or before; without a cause memory was.
+            Failed(Option<Cause>),
             /// The system refused a call.
-            System(io::Error),
+            System(Cause),
+            /// The system keeps a part of a file in memory that the disk may lack, and it can't be compared.
+            Cached(Cause),
             /// A code that this crate does not know.
             Other(i32),
         }
 
         impl Error {
-            pub(crate) fn of(code: i32, info: Info) -> Error {
+            // The refusal of a code, with what the system refused: to a file, or for null last of all.
+            pub(crate) fn of(code: i32, info: Info, file: *const File) -> Error {
                 match code {
                     $($plain_code => Error::$plain,)*
                     $($timed_code => Error::$timed(info.a),)*
                     CONFLICT => Error::Conflict { relation: info.a as u16, record: info.b },
                     DAMAGED => Error::Damaged { area: Area::of(info.b), place: info.a },
-                    SYSTEM => Error::System(io::Error::last_os_error()),
+                    WAITING => Error::Waiting(WaitingTicket(info.a)),
+                    IN_DOUBT => Error::InDoubt(Cause::of(file)),
+                    FAILED => Error::Failed(Cause::of(file)),
+                    SYSTEM => Error::System(Cause::last()),
+                    CACHED => Error::Cached(Cause::last()),
                     code => Error::Other(code),
                 }
             }
@@ -53,7 +68,11 @@ macro_rules! refusals {
                     $(Error::$timed(_) => $timed_code,)*
                     Error::Conflict { .. } => CONFLICT,
                     Error::Damaged { .. } => DAMAGED,
+                    Error::Waiting(_) => WAITING,
+                    Error::InDoubt(_) => IN_DOUBT,
+                    Error::Failed(_) => FAILED,
                     Error::System(_) => SYSTEM,
+                    Error::Cached(_) => CACHED,
                     Error::Other(code) => *code,
                 }
             }
@@ -69,21 +88,21 @@ macro_rules! refusals {
     };
 }
 
+pub(crate) const WAITING: i32 = 2;
+pub(crate) const IN_DOUBT: i32 = 4;
+const FAILED: i32 = -6;
 const CONFLICT: i32 = -8;
 const DAMAGED: i32 = -18;
 const SYSTEM: i32 = -100;
+const CACHED: i32 = -103;
 
 refusals! {
-    /// Memory was refused amid a commit, which waits: a later flush publishes it.
-    Waiting = 2,
-    /// The device failed before the commit was published: opened again, the store has it or not.
-    InDoubt = 4,
+    /// The store was its process's before a fork.
+    Closed = -2,
     /// No such transaction, ticket or view.
     Unknown = -3,
     /// Memory was refused.
     NoMemory = -5,
-    /// A device call was refused, now or before.
-    Failed = -6,
     /// A transaction, ticket or view of another store.
     Stranger = -7,
     /// The records need more extents than are free.
@@ -123,6 +142,8 @@ refusals! {
     Locked = -101,
     /// A store, or something else, stands there.
     Occupied = -102,
+    /// This process has the store open.
+    AlreadyOpen = -104,
     ;
     /// History before this time, the floor of the relation, may be gone.
     BeforeKept = -15,
@@ -130,6 +151,56 @@ refusals! {
     NotYet = -16,
     /// A transaction reads below the mark or the floor; the least snapshot is named.
     InUse = -25,
+}
+
+/// A commit that waits, as [`Error::Waiting`] gives it back: [`Store::ticket`](crate::Store::ticket).
+#[derive(Debug, PartialEq, Eq)]
+pub struct WaitingTicket(pub(crate) u64);
+
+/// A call of the system that was refused.
+#[derive(Debug)]
+pub struct Cause {
+    /// Its name, as `fdatasync`.
+    pub call: &'static str,
+    /// The file that it was about; none for the folder.
+    pub area: Option<Area>,
+    /// Why.
+    pub error: io::Error,
+}
+
+// A text of the library, all of which end in zero and stay.
+fn text_of(text: *const c_char) -> &'static str {
+    // SAFETY: as above.
+    unsafe { CStr::from_ptr(text) }.to_str().unwrap_or_default()
+}
+
+impl Cause {
+    fn of(file: *const File) -> Option<Cause> {
+        let mut cause = raw::Cause::none();
+        // SAFETY: the file is open, or null.
+        let code = unsafe { raw::ts_file_error(file, &mut cause) };
+        (code == 0).then(|| Cause {
+            call: text_of(cause.call),
+            area: Area::named(text_of(cause.file)),
+            error: io::Error::from_raw_os_error(cause.number),
+        })
+    }
+
+    // What the system refused last on this thread.
+    fn last() -> Cause {
+        Cause::of(std::ptr::null()).unwrap_or(Cause {
+            call: "",
+            area: None,
+            error: io::Error::last_os_error(),
+        })
+    }
+}
+
+impl fmt::Display for Cause {
+    fn fmt(&self, f: &mut fmt::Formatter<'_>) -> fmt::Result {
+        let file = self.area.map_or("the folder", Area::name);
+        write!(f, "{} of {file}: {}", self.call, self.error)
+    }
 }
 
 /// One of a store's three files.
@@ -152,6 +223,12 @@ impl Area {
         }
     }
 
+    fn named(name: &str) -> Option<Area> {
+        [Area::Status, Area::Heap, Area::Archive]
+            .into_iter()
+            .find(|area| area.name() == name)
+    }
+
     fn name(self) -> &'static str {
         match self {
             Area::Status => "status",
@@ -161,25 +238,34 @@ impl Area {
     }
 }
 
+impl Error {
+    /// What the system refused, where that is why.
+    pub fn cause(&self) -> Option<&Cause> {
+        match self {
+            Error::System(cause) | Error::Cached(cause) => Some(cause),
+            Error::InDoubt(cause) | Error::Failed(cause) => cause.as_ref(),
+            _ => None,
+        }
+    }
+}
+
 impl fmt::Display for Error {
     fn fmt(&self, f: &mut fmt::Formatter<'_>) -> fmt::Result {
-        // SAFETY: the library's texts are strings that end in zero and stay.
-        let text = unsafe { CStr::from_ptr(raw::ts_text(self.code())) }.to_string_lossy();
+        // SAFETY: it takes any number.
+        let text = text_of(unsafe { raw::ts_text(self.code()) });
         match (self, self.time()) {
             (Error::Conflict { relation, record }, _) => write!(f, "{text} {relation} {record}"),
             (Error::Damaged { area, place }, _) => write!(f, "{text} {} {place}", area.name()),
             (Error::System(cause), _) => write!(f, "{cause}"),
             (_, Some(time)) => write!(f, "{text} {time}"),
-            (_, None) => f.write_str(&text),
+            (_, None) => f.write_str(text),
         }
     }
 }
 
 impl std::error::Error for Error {
     fn source(&self) -> Option<&(dyn std::error::Error + 'static)> {
-        match self {
-            Error::System(cause) => Some(cause),
-            _ => None,
-        }
+        self.cause()
+            .map(|cause| &cause.error as &(dyn std::error::Error + 'static))
     }
 }

@@ -1,10 +1,11 @@
 //! `timestore.h` and `timestore_file.h`.
-use std::ffi::{c_char, c_void};
+use std::ffi::{c_char, c_int, c_void};
 
 /// Codes that are no refusals of a caller; `error.rs` has those.
 pub const NONE: i32 = 1;
 pub const READ_ONLY: i32 = 3;
 pub const SMALL: i32 = -4;
+pub const NEEDS_ARCHIVE: i32 = -26;
 
 /// The bytes of the longest value.
 pub const VALUE_MOST: usize = 4097;
@@ -28,13 +29,30 @@ pub struct Info {
 }
 
 #[repr(C)]
-#[derive(Clone, Copy, Default)]
+#[derive(Clone, Copy, Debug, Default)]
 pub struct Row {
     pub record: u64,
     pub from: u64,
     pub upto: u64,
     pub at: u64,
     pub len: u64,
+}
+
+#[repr(C)]
+pub struct Cause {
+    pub call: *const c_char,
+    pub file: *const c_char,
+    pub number: c_int,
+}
+
+impl Cause {
+    pub fn none() -> Cause {
+        Cause {
+            call: std::ptr::null(),
+            file: std::ptr::null(),
+            number: 0,
+        }
+    }
 }
 
 /// Calls that copy out a value.
@@ -106,7 +124,25 @@ unsafe extern "C" {
     pub fn ts_file_job_pump(file: *mut File, info: &mut Info) -> i32;
     pub fn ts_file_flush(file: *mut File) -> i32;
     pub fn ts_file_job(file: *mut File) -> i32;
-    pub fn ts_file_refuse(file: *mut File, call: u64);
+    pub fn ts_file_error(file: *const File, cause: &mut Cause) -> i32;
+    pub fn ts_file_get(
+        file: *mut File,
+        relation: u16,
+        record: u64,
+        out: *mut u8,
+        len: usize,
+        info: &mut Info,
+    ) -> i32;
+    pub fn ts_file_scan(
+        file: *mut File,
+        relation: u16,
+        rows: *mut Row,
+        count: usize,
+        out: *mut u8,
+        len: usize,
+        info: &mut Info,
+    ) -> i32;
+    pub fn timestore_version() -> *const c_char;
     pub fn ts_file_close(file: *mut File);
     pub fn ts_text(code: i32) -> *const c_char;
 }

@@ -1,6 +1,6 @@
 //! The crate's calls.
 use std::path::PathBuf;
-use timestore::{Area, Error, Store};
+use timestore::{Area, Error, Row, Store, When};
 
 fn folder(name: &str) -> PathBuf {
     let path = std::env::temp_dir().join(format!("timestore-{}-{name}", std::process::id()));
@@ -15,7 +15,7 @@ fn commits_are_read() {
     assert!(matches!(timestore::format(&path, 64), Err(Error::Occupied)));
     {
         let store = Store::open(&path).unwrap();
-        assert!(matches!(Store::open(&path), Err(Error::Locked)));
+        assert!(matches!(Store::open(&path), Err(Error::AlreadyOpen)));
         let mut txn = store.begin().unwrap();
         for record in 0..100 {
             txn.put(1, record, &[&[record as u8; 200], b""]).unwrap();
@@ -35,55 +35,171 @@ fn commits_are_read() {
     assert_eq!(view.at(1, 5, 50).unwrap(), Some(vec![vec![5; 200], vec![]]));
     assert_eq!(view.at(1, 5, 49).unwrap(), None);
     assert_eq!(view.scan_at(1, 50).unwrap().len(), 100);
-    let rows = view.scan_between(1, 0, 51).unwrap();
+    let rows: Vec<Row> = view.scan_between(1, 0, 51).unwrap().collect();
     assert_eq!(
         (rows.len(), rows[99].record, rows[99].from, rows[99].upto),
         (100, 99, 50, 51)
     );
-    assert_eq!(view.between(1, 7, 0, 51).unwrap(), rows[7..8]);
+    assert!(
+        view.between(1, 7, 0, 51)
+            .unwrap()
+            .eq(rows[7..8].iter().cloned())
+    );
     assert_eq!(store.times_of(3).unwrap(), [50]);
     assert!(matches!(view.at(1, 5, 51), Err(Error::NotYet(50))));
 }
 
 #[test]
-fn a_refused_call_leaves_what_was_published() {
-    let path = folder("refused");
+fn an_archive_is_read_where_it_is_needed() {
+    let path = folder("archive");
     timestore::format(&path, 64).unwrap();
     let store = Store::open(&path).unwrap();
-    let mut txn = store.begin().unwrap();
-    txn.put(1, 7, &[b"kept"]).unwrap();
-    assert_eq!(txn.commit(1, 10).unwrap(), Some(10));
+    store
+        .transact(1, 10, 1, |txn| txn.put(1, 7, &[b"kept"]))
+        .unwrap();
     store.archive(10).unwrap();
     store.reclaim().unwrap();
     assert!(matches!(store.reclaim(), Err(Error::NothingToDo)));
-    {
-        let view = store.view().unwrap();
-        assert!(matches!(view.recent(1, 7, 9), Err(Error::NeedsArchive)));
-        assert_eq!(view.recent(1, 7, 10).unwrap(), Some(vec![b"kept".to_vec()]));
-        assert_eq!(view.at(1, 7, 9).unwrap(), None);
-        assert!(matches!(store.raise_floor(10), Err(Error::WrongProfile)));
-        assert!(matches!(store.floor_of(1, 11), Err(Error::NotYet(10))));
-        store.floor_of(1, 10).unwrap();
-        assert_eq!(store.floor().unwrap(), 0);
-        assert!(matches!(store.floor_of(1, 10), Err(Error::NothingToDo)));
-        assert!(matches!(
-            store.view().unwrap().at(1, 7, 9),
-            Err(Error::BeforeKept(10))
-        ));
-        assert_eq!(view.at(1, 7, 9).unwrap(), None);
-        assert_eq!(store.view().unwrap().at(2, 7, 9).unwrap(), None);
-    }
+    let view = store.view().unwrap();
+    assert!(matches!(view.recent(1, 7, 9), Err(Error::NeedsArchive)));
+    assert_eq!(view.recent(1, 7, 10).unwrap(), Some(vec![b"kept".to_vec()]));
+    assert_eq!(view.at(1, 7, 9).unwrap(), None);
+    assert_eq!(view.scan_at(1, 9).unwrap().len(), 0);
+    assert!(matches!(store.raise_floor(10), Err(Error::WrongProfile)));
+    assert!(matches!(store.floor_of(1, 11), Err(Error::NotYet(10))));
+    store.floor_of(1, 10).unwrap();
+    assert_eq!(store.floor().unwrap(), 0);
+    assert!(matches!(store.floor_of(1, 10), Err(Error::NothingToDo)));
+    let later = store.view().unwrap();
+    assert!(matches!(later.at(1, 7, 9), Err(Error::BeforeKept(10))));
+    assert!(matches!(later.scan_at(1, 9), Err(Error::BeforeKept(10))));
+    assert_eq!(view.at(1, 7, 9).unwrap(), None);
+    assert_eq!(later.at(2, 7, 9).unwrap(), None);
     store.grow().unwrap();
-    store.refuse(6);
-    let mut txn = store.begin().unwrap();
-    txn.put(1, 7, &[b"lost"]).unwrap();
-    assert!(matches!(txn.commit(1, 20), Err(Error::InDoubt)));
-    assert_eq!(store.last().unwrap(), 10);
-    assert_eq!(
-        store.view().unwrap().at(1, 7, 10).unwrap(),
-        Some(vec![b"kept".to_vec()])
+}
+
+#[test]
+fn what_stands_now_is_one_call() {
+    let path = folder("now");
+    timestore::format(&path, 64).unwrap();
+    let store = Store::open(&path).unwrap();
+    assert_eq!(store.get(1, 7).unwrap(), None);
+    let before = timestore::micros(std::time::SystemTime::now()).unwrap();
+    let first = store.put(1, 7, &[b"a", b""], 3).unwrap();
+    assert!(
+        first >= before && first - before < 60_000_000,
+        "{first} {before}"
     );
-    assert!(matches!(store.begin().map(|_| ()), Err(Error::Failed)));
+    assert_eq!(store.get(1, 7).unwrap(), Some(vec![b"a".to_vec(), vec![]]));
+    let view = store.view().unwrap();
+    assert_eq!(view.last(), first);
+    let second = store.put(1, 8, &[b"b"], 3).unwrap();
+    assert!(second > first);
+    assert_eq!(view.get(1, 8).unwrap(), None);
+    assert_eq!(
+        view.scan(1)
+            .unwrap()
+            .map(|(record, _)| record)
+            .collect::<Vec<_>>(),
+        [7]
+    );
+    assert_eq!(
+        store
+            .scan(1)
+            .unwrap()
+            .map(|(record, _)| record)
+            .collect::<Vec<_>>(),
+        [7, 8]
+    );
+    store.delete(1, 7, 4).unwrap();
+    assert_eq!(store.get(1, 7).unwrap(), None);
+    assert!(matches!(store.delete(1, 7, 4), Err(Error::Missing)));
+    assert!(matches!(store.put(1, 7, &[], 4), Err(Error::BadValue)));
+    assert_eq!(store.times_of(3).unwrap(), [first, second]);
+    assert_eq!(timestore::library_version(), env!("CARGO_PKG_VERSION"));
+}
+
+// The number in a record, one more.
+fn count(txn: &mut timestore::Txn<'_>) -> timestore::Result<u8> {
+    let count = txn.get(1, 7)?.map_or(0, |fields| fields[0][0]) + 1;
+    txn.put(1, 7, &[&[count]])?;
+    Ok(count)
+}
+
+#[test]
+fn a_transaction_is_made_again_where_others_were_ahead() {
+    let path = folder("again");
+    timestore::format(&path, 256).unwrap();
+    let store = Store::open(&path).unwrap();
+    let mut ahead = 3;
+    let (counted, time) = store
+        .transact(1, When::Now, 4, |txn| {
+            let counted = count(txn)?;
+            if ahead > 0 {
+                ahead -= 1;
+                store.transact(1, When::Now, 1, count)?;
+            }
+            Ok(counted)
+        })
+        .unwrap();
+    assert_eq!((counted, time), (4, Some(store.last().unwrap())));
+    let mut calls = 0;
+    let beaten = store.transact(1, When::Now, 3, |txn| {
+        calls += 1;
+        count(txn)?;
+        store.transact(1, When::Now, 1, count)
+    });
+    assert!(matches!(
+        beaten,
+        Err(Error::Conflict {
+            relation: 1,
+            record: 7
+        })
+    ));
+    assert_eq!((calls, store.get(1, 7).unwrap()), (3, Some(vec![vec![7]])));
+    let given_up = store.transact(1, When::Now, 3, |txn| {
+        count(txn)?;
+        Err::<(), _>(Error::Missing)
+    });
+    assert!(matches!(given_up, Err(Error::Missing)));
+    assert_eq!(store.get(1, 7).unwrap(), Some(vec![vec![7]]));
+    assert_eq!(store.transact(1, 0, 1, |_| Ok(())).unwrap(), ((), None));
+}
+
+#[test]
+fn rows_are_made_as_they_are_taken() {
+    let path = folder("rows");
+    timestore::format(&path, 64).unwrap();
+    let store = Store::open(&path).unwrap();
+    store
+        .transact(1, 10, 1, |txn| {
+            (0..300).try_for_each(|record| txn.put(1, record, &[&[record as u8; 200]]))
+        })
+        .unwrap();
+    let view = store.view().unwrap();
+    // Two at once, of which the second one is asked while the first one is taken.
+    let mut first = view.scan_at(1, 10).unwrap();
+    assert_eq!(first.next(), Some((0, vec![vec![0; 200]])));
+    let mut second = view.scan_between(1, 0, 11).unwrap();
+    assert_eq!(
+        second.next().map(|row| (row.record, row.from, row.upto)),
+        Some((0, 10, 11))
+    );
+    assert_eq!((first.len(), second.len()), (299, 299));
+    for record in 1..300 {
+        let wanted = vec![vec![record as u8; 200]];
+        assert_eq!(first.next(), Some((record, wanted.clone())));
+        assert_eq!(second.next().map(|row| row.fields), Some(wanted));
+    }
+    assert_eq!((first.next(), second.next()), (None, None));
+}
+
+#[test]
+fn damage_is_named() {
+    let path = folder("damaged");
+    timestore::format(&path, 64).unwrap();
+    let store = Store::open(&path).unwrap();
+    store.put(1, 7, &[b"a"], 0).unwrap();
     drop(store);
     std::fs::write(path.join("heap"), b"").unwrap();
     let why = Store::open(&path).unwrap_err();
@@ -95,4 +211,8 @@ fn a_refused_call_leaves_what_was_published() {
         }
     ));
     assert!(why.to_string().starts_with("damaged heap "), "{why}");
+    let why = Store::open(path.join("nowhere")).unwrap_err();
+    let cause = why.cause().expect("the system refused a call");
+    assert_eq!((cause.call, cause.area), ("open", None));
+    assert_eq!(cause.error.kind(), std::io::ErrorKind::NotFound);
 }

@@ -1,0 +1,1 @@
+"""Tests of timestore-browse: python3 -m unittest discover -s tests -t . in library/browse."""

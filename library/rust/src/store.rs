@@ -1,0 +1,441 @@
+//! An open store.
+use crate::error::IN_DOUBT;
+use crate::raw::{self, Info};
+use crate::rows::{Records, Room, Rows};
+use crate::{Error, Fields, Result, Ticket, Txn, View, WaitingTicket, When, fields_of};
+use std::cell::RefCell;
+use std::ffi::CString;
+use std::io;
+use std::os::unix::ffi::OsStrExt;
+use std::path::Path;
+
+// How many pairs of buffers a store keeps for its next queries.
+const ROOMS_KEPT: usize = 4;
+
+/// What a step of a group or of a job did.
+#[derive(Clone, Copy, Debug, PartialEq, Eq)]
+#[non_exhaustive]
+pub enum Step {
+    /// There was nothing to do.
+    Idle,
+    /// An extent of the group, or a piece of an archive, was written.
+    Wrote,
+    /// What was written of it was synced.
+    Synced,
+    /// The body of its slot was written.
+    BodyWritten,
+    /// The body of its slot was synced.
+    BodySynced,
+    /// Its gate was written.
+    GateWritten,
+    /// So many commits are published, or the job is done.
+    Published(u64),
+    /// Of a reclaim: an extent of what stands at its mark was written.
+    KeptWritten,
+    /// Of a reclaim: these were synced.
+    KeptSynced,
+    /// Of a growth: zeros were written behind the slots.
+    ZerosWritten,
+    /// Of a growth: these were synced.
+    ZerosSynced,
+}
+
+impl Step {
+    fn of(info: Info) -> Step {
+        match info.a {
+            1 => Step::Wrote,
+            2 => Step::Synced,
+            3 => Step::BodyWritten,
+            4 => Step::BodySynced,
+            5 => Step::GateWritten,
+            6 => Step::Published(info.b),
+            7 => Step::KeptWritten,
+            8 => Step::KeptSynced,
+            9 => Step::ZerosWritten,
+            10 => Step::ZerosSynced,
+            _ => Step::Idle,
+        }
+    }
+}
+
+/// An open store. What it gives out borrows it, so it is over before the store is closed, which it is where
+/// it is dropped: what waits then is not published.
+#[derive(Debug)]
+pub struct Store {
+    file: *mut raw::File,
+    pub(crate) handle: *mut raw::Handle,
+    rooms: RefCell<Vec<Room>>,
+}
+
+// The code of an answer, or what a refusal is; the file, if any, tells why its store failed.
+fn asked(code: i32, info: Info, file: *const raw::File) -> Result<i32> {
+    if code < 0 || code == IN_DOUBT {
+        Err(Error::of(code, info, file))
+    } else {
+        Ok(code)
+    }
+}
+
+// A path has no byte that is zero.
+fn path_of(folder: &Path) -> Result<CString> {
+    CString::new(folder.as_os_str().as_bytes()).map_err(|why| {
+        Error::System(crate::Cause {
+            call: "open",
+            area: None,
+            error: io::Error::new(io::ErrorKind::InvalidInput, why),
+        })
+    })
+}
+
+/// Makes a store with 16 to 65,536 slots in a folder that is there.
+pub fn format(folder: impl AsRef<Path>, slots: u32) -> Result<()> {
+    let path = path_of(folder.as_ref())?;
+    // SAFETY: the path is a string that ends in zero.
+    let code = unsafe { raw::ts_file_format(path.as_ptr(), slots) };
+    asked(code, Info::default(), std::ptr::null())?;
+    Ok(())
+}
+
+impl Store {
+    /// Opens the store of a folder.
+    pub fn open(folder: impl AsRef<Path>) -> Result<Store> {
+        let path = path_of(folder.as_ref())?;
+        let (mut file, mut info) = (std::ptr::null_mut(), Info::default());
+        // SAFETY: the path is a string that ends in zero; the file is written where the call is answered.
+        let code = unsafe { raw::ts_file_open(path.as_ptr(), &mut file, &mut info) };
+        asked(code, info, std::ptr::null())?;
+        // SAFETY: the file is open until the store is dropped.
+        let handle = unsafe { raw::ts_file_store(file) };
+        Ok(Store {
+            file,
+            handle,
+            rooms: RefCell::default(),
+        })
+    }
+
+    // A call of the library. The store is neither `Send` nor `Sync`, so no two are made at once.
+    pub(crate) fn ask(
+        &self,
+        call: impl FnOnce(*mut raw::Handle, &mut Info) -> i32,
+    ) -> Result<(i32, Info)> {
+        let mut info = Info::default();
+        let code = asked(call(self.handle, &mut info), info, self.file)?;
+        Ok((code, info))
+    }
+
+    /// The time of the last commit, 0 for none.
+    pub fn last(&self) -> Result<u64> {
+        // SAFETY: the handle is open, here and below.
+        Ok(self.ask(|h, info| unsafe { raw::ts_last(h, info) })?.1.a)
+    }
+
+    /// The floor: history before this time may be gone; 0 for none, and where each relation has one of its own.
+    pub fn floor(&self) -> Result<u64> {
+        Ok(self.ask(|h, info| unsafe { raw::ts_last(h, info) })?.1.b)
+    }
+
+    /// A transaction on what is published now.
+    pub fn begin(&self) -> Result<Txn<'_>> {
+        let (_, info) = self.ask(|h, info| unsafe { raw::ts_begin(h, info) })?;
+        Ok(Txn::new(self, info.a, info.b))
+    }
+
+    /// What `work` gives for a transaction, which is committed then, and the commit's time; none where nothing
+    /// was written. Where another transaction was ahead in a record, `work` is called again with a new one;
+    /// after so many attempts the `Conflict` is told. An error of `work` gives the transaction up.
+    pub fn transact<T>(
+        &self,
+        label: u64,
+        now: impl Into<When>,
+        attempts: u32,
+        mut work: impl FnMut(&mut Txn<'_>) -> Result<T>,
+    ) -> Result<(T, Option<u64>)> {
+        let now = now.into();
+        for _ in 1..attempts {
+            match self.transact_once(label, now, &mut work) {
+                Err(Error::Conflict { .. }) => {}
+                answer => return answer,
+            }
+        }
+        self.transact_once(label, now, &mut work)
+    }
+
+    fn transact_once<T>(
+        &self,
+        label: u64,
+        now: When,
+        work: &mut impl FnMut(&mut Txn<'_>) -> Result<T>,
+    ) -> Result<(T, Option<u64>)> {
+        let mut txn = self.begin()?;
+        let answer = work(&mut txn)?;
+        Ok((answer, txn.commit(label, now)?))
+    }
+
+    // Commits what was written in a transaction; the commit's time.
+    fn committed(txn: Txn<'_>, label: u64) -> Result<u64> {
+        let time = txn.commit(label, When::Now)?;
+        Ok(time.expect("something was written"))
+    }
+
+    /// Commits one value, at the time that it is; the commit's time.
+    pub fn put(&self, relation: u16, record: u64, fields: &[&[u8]], label: u64) -> Result<u64> {
+        let mut txn = self.begin()?;
+        txn.put(relation, record, fields)?;
+        Store::committed(txn, label)
+    }
+
+    /// Commits the deletion of a record that has a value, at the time that it is; the commit's time.
+    pub fn delete(&self, relation: u16, record: u64, label: u64) -> Result<u64> {
+        let mut txn = self.begin()?;
+        txn.delete(relation, record)?;
+        Store::committed(txn, label)
+    }
+
+    /// The value that stands now, after the last commit.
+    pub fn get(&self, relation: u16, record: u64) -> Result<Option<Fields>> {
+        let file = self.file;
+        // SAFETY: the file is open, and at most `len` bytes are written at `out`.
+        self.read(|_, out, len, info| unsafe {
+            raw::ts_file_get(file, relation, record, out, len, info)
+        })
+    }
+
+    /// The records of a relation with the values that stand now, in rising order.
+    pub fn scan(&self, relation: u16) -> Result<Records<'_>> {
+        let file = self.file;
+        self.rows(|_, room, info| {
+            let Room { rows, out } = room;
+            // SAFETY: the file is open, and no more rows and bytes are written than there is room for.
+            unsafe {
+                raw::ts_file_scan(
+                    file,
+                    relation,
+                    rows.as_mut_ptr(),
+                    rows.len(),
+                    out.as_mut_ptr(),
+                    out.len(),
+                    info,
+                )
+            }
+        })
+        .map(Records)
+    }
+
+    /// The ticket of a commit that waits, as a refused commit gave it back. That of another store is unknown.
+    pub fn ticket(&self, waiting: WaitingTicket) -> Ticket<'_> {
+        Ticket::new(self, waiting.0)
+    }
+
+    /// What is published now, which later commits do not change.
+    pub fn view(&self) -> Result<View<'_>> {
+        let last = self.last()?;
+        let (_, info) = self.ask(|h, info| unsafe { raw::ts_view(h, info) })?;
+        Ok(View::new(self, info.a, last))
+    }
+
+    /// Publishes what waits.
+    pub fn flush(&self) -> Result<()> {
+        // SAFETY: the file is open.
+        let code = unsafe { raw::ts_file_flush(self.file) };
+        asked(code, Info::default(), self.file)?;
+        Ok(())
+    }
+
+    /// One step of the group that is being written, with its device call.
+    pub fn pump(&self) -> Result<Step> {
+        let file = self.file;
+        // SAFETY: the file is open.
+        let (_, info) = self.ask(|_, info| unsafe { raw::ts_file_pump(file, info) })?;
+        Ok(Step::of(info))
+    }
+
+    /// Copies what ended by a time into the archive.
+    pub fn archive(&self, upto: u64) -> Result<()> {
+        self.archive_start(upto)?;
+        self.job()
+    }
+
+    /// Begins that copy, of which [`Store::job_pump`] takes each step.
+    pub fn archive_start(&self, upto: u64) -> Result<()> {
+        self.ask(|h, info| unsafe { raw::ts_archive(h, upto, info) })?;
+        Ok(())
+    }
+
+    /// Gives up in the heap and in memory what is archived.
+    pub fn reclaim(&self) -> Result<()> {
+        self.reclaim_start()?;
+        self.job()
+    }
+
+    /// Begins that, of which [`Store::job_pump`] takes each step.
+    pub fn reclaim_start(&self) -> Result<()> {
+        self.ask(|h, info| unsafe { raw::ts_reclaim(h, info) })?;
+        Ok(())
+    }
+
+    /// Raises the floor of a relation to a time: of it views that are taken then answer `BeforeKept` at an
+    /// earlier one.
+    pub fn floor_of(&self, relation: u16, time: u64) -> Result<()> {
+        self.floor_of_start(relation, time)?;
+        self.job()
+    }
+
+    /// Begins that, of which [`Store::job_pump`] takes each step.
+    pub fn floor_of_start(&self, relation: u16, time: u64) -> Result<()> {
+        self.ask(|h, info| unsafe { raw::ts_floor_of(h, relation, time, info) })?;
+        Ok(())
+    }
+
+    /// The same of all relations, in a store that an earlier timestore made.
+    pub fn raise_floor(&self, time: u64) -> Result<()> {
+        self.floor_start(time)?;
+        self.job()
+    }
+
+    /// Begins that, of which [`Store::job_pump`] takes each step.
+    pub fn floor_start(&self, time: u64) -> Result<()> {
+        self.ask(|h, info| unsafe { raw::ts_floor(h, time, info) })?;
+        Ok(())
+    }
+
+    /// Makes 256 slots more.
+    pub fn grow(&self) -> Result<()> {
+        self.grow_start()?;
+        self.job()
+    }
+
+    /// Begins that, of which [`Store::job_pump`] takes each step.
+    pub fn grow_start(&self) -> Result<()> {
+        self.ask(|h, info| unsafe { raw::ts_grow(h, info) })?;
+        Ok(())
+    }
+
+    /// One step of the job that is being made, with its device call.
+    pub fn job_pump(&self) -> Result<Step> {
+        let file = self.file;
+        // SAFETY: the file is open.
+        let (_, info) = self.ask(|_, info| unsafe { raw::ts_file_job_pump(file, info) })?;
+        Ok(Step::of(info))
+    }
+
+    /// All steps of the job that is being made.
+    pub fn job(&self) -> Result<()> {
+        // SAFETY: the file is open.
+        let code = unsafe { raw::ts_file_job(self.file) };
+        asked(code, Info::default(), self.file)?;
+        Ok(())
+    }
+
+    /// The times of the commits with a label, rising.
+    pub fn times_of(&self, label: u64) -> Result<Vec<u64>> {
+        let mut times = vec![0; 16];
+        loop {
+            let (at, len, mut info) = (times.as_mut_ptr(), times.len(), Info::default());
+            // SAFETY: as many times as there is room for are written.
+            let code = unsafe { raw::ts_times_of(self.handle, label, at, len, &mut info) };
+            times.resize(info.a as usize, 0);
+            if code != raw::SMALL {
+                asked(code, info, self.file)?;
+                return Ok(times);
+            }
+        }
+    }
+
+    // The archive, which stays in memory until the next such call.
+    fn archive_area(&self) -> Result<(*const u8, usize)> {
+        let (mut at, mut len) = (std::ptr::null(), 0);
+        // SAFETY: the file is open.
+        let code = unsafe { raw::ts_file_archive(self.file, &mut at, &mut len) };
+        asked(code, Info::default(), self.file)?;
+        Ok((at, len))
+    }
+
+    // The code of a query, which is lent the archive only where it needs it.
+    fn lent(&self, mut query: impl FnMut(*const u8, usize) -> i32) -> Result<i32> {
+        let code = query([0].as_ptr(), 0);
+        if code != raw::NEEDS_ARCHIVE {
+            return Ok(code);
+        }
+        let (at, len) = self.archive_area()?;
+        Ok(query(at, len))
+    }
+
+    // The value that was copied out, if that was the answer.
+    fn told(&self, code: i32, info: Info, value: &[u8]) -> Result<Option<Fields>> {
+        let code = asked(code, info, self.file)?;
+        Ok((code != raw::NONE).then(|| fields_of(&value[..info.a as usize])))
+    }
+
+    // The value that a call copies out.
+    pub(crate) fn read(
+        &self,
+        call: impl FnOnce(*mut raw::Handle, *mut u8, usize, &mut Info) -> i32,
+    ) -> Result<Option<Fields>> {
+        let (mut value, mut info) = ([0; raw::VALUE_MOST], Info::default());
+        let code = call(self.handle, value.as_mut_ptr(), value.len(), &mut info);
+        self.told(code, info, &value)
+    }
+
+    // The value that a query copies out, which may be lent the archive.
+    pub(crate) fn read_lent(
+        &self,
+        mut query: impl FnMut(*mut raw::Handle, *const u8, usize, *mut u8, usize, &mut Info) -> i32,
+    ) -> Result<Option<Fields>> {
+        let (mut value, mut info) = ([0; raw::VALUE_MOST], Info::default());
+        let (out, len) = (value.as_mut_ptr(), value.len());
+        let code = self.lent(|at, size| query(self.handle, at, size, out, len, &mut info))?;
+        self.told(code, info, &value)
+    }
+
+    // What a query finds, which is called with room for it. The room grows with the most that was found, and the
+    // next query has it again.
+    pub(crate) fn rows(
+        &self,
+        mut query: impl FnMut(*mut raw::Handle, &mut Room, &mut Info) -> i32,
+    ) -> Result<Rows<'_>> {
+        let mut room = self.rooms.borrow_mut().pop().unwrap_or_else(Room::new);
+        loop {
+            let mut info = Info::default();
+            let code = query(self.handle, &mut room, &mut info);
+            if code != raw::SMALL {
+                asked(code, info, self.file)?;
+                return Ok(Rows::new(self, room, info.a as usize));
+            }
+            room.grow(info.a as usize, info.b as usize);
+        }
+    }
+
+    // The same of a query that may be lent the archive.
+    pub(crate) fn rows_lent(
+        &self,
+        mut query: impl FnMut(*mut raw::Handle, *const u8, usize, &mut Room, &mut Info) -> i32,
+    ) -> Result<Rows<'_>> {
+        let mut refusal = None;
+        let rows = self.rows(|h, room, info| {
+            let code = self.lent(|at, size| query(h, at, size, room, info));
+            code.unwrap_or_else(|why| {
+                let code = why.code();
+                refusal = Some(why);
+                code
+            })
+        });
+        match refusal {
+            Some(why) => Err(why),
+            None => rows,
+        }
+    }
+
+    pub(crate) fn keep(&self, room: Room) {
+        let mut rooms = self.rooms.borrow_mut();
+        if rooms.len() < ROOMS_KEPT {
+            rooms.push(room);
+        }
+    }
+}
+
+impl Drop for Store {
+    fn drop(&mut self) {
+        // SAFETY: the file is open, and nothing that borrows the store is left.
+        unsafe { raw::ts_file_close(self.file) }
+    }
+}

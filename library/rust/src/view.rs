@@ -1,0 +1,91 @@
+//! Views, and the questions about the past.
+use crate::rows::{Records, Room, Rows};
+use crate::{Fields, Result, Store, raw};
+
+/// What was published at one moment. Dropped, it is given back.
+#[derive(Debug)]
+pub struct View<'a> {
+    store: &'a Store,
+    number: u64,
+    last: u64,
+}
+
+/// The rows that a query finds, which is asked with these words, the archive and room for what it finds.
+macro_rules! rows_of {
+    ($view:ident, $call:ident($($word:expr),*)) => {
+        $view.store.rows_lent(|h, at, size, room, info| {
+            let Room { rows, out } = room;
+            // SAFETY: no more rows and bytes are written than there is room for, and the archive that is lent
+            // stays where it is.
+            unsafe {
+                raw::$call(
+                    h, $view.number, $($word,)* at, size, rows.as_mut_ptr(), rows.len(), out.as_mut_ptr(), out.len(),
+                    info,
+                )
+            }
+        })
+    };
+}
+
+impl<'a> View<'a> {
+    pub(crate) fn new(store: &'a Store, number: u64, last: u64) -> View<'a> {
+        View {
+            store,
+            number,
+            last,
+        }
+    }
+
+    /// The time of the last commit that it has, 0 for none.
+    pub fn last(&self) -> u64 {
+        self.last
+    }
+
+    /// The value of a record after its last commit.
+    pub fn get(&self, relation: u16, record: u64) -> Result<Option<Fields>> {
+        self.recent(relation, record, self.last)
+    }
+
+    /// The records of a relation with their values after its last commit, in rising order.
+    pub fn scan(&self, relation: u16) -> Result<Records<'a>> {
+        self.scan_at(relation, self.last)
+    }
+
+    /// The value of a record at a time, from memory alone.
+    pub fn recent(&self, relation: u16, record: u64, time: u64) -> Result<Option<Fields>> {
+        // SAFETY: at most `len` bytes are written at `out`, here and below.
+        self.store.read(|h, out, len, info| unsafe {
+            raw::ts_recent(h, self.number, relation, record, time, out, len, info)
+        })
+    }
+
+    /// The value of a record at a time.
+    pub fn at(&self, relation: u16, record: u64, time: u64) -> Result<Option<Fields>> {
+        let number = self.number;
+        self.store.read_lent(|h, at, size, out, len, info| unsafe {
+            raw::ts_at(h, number, relation, record, time, at, size, out, len, info)
+        })
+    }
+
+    /// The records of a relation that have a value at a time, in rising order.
+    pub fn scan_at(&self, relation: u16, time: u64) -> Result<Records<'a>> {
+        rows_of!(self, ts_scan_at(relation, time)).map(Records)
+    }
+
+    /// What stood in a record from one time up to another, by rising time.
+    pub fn between(&self, relation: u16, record: u64, from: u64, upto: u64) -> Result<Rows<'a>> {
+        rows_of!(self, ts_between(relation, record, from, upto))
+    }
+
+    /// The same of a relation's records, by record and then by time.
+    pub fn scan_between(&self, relation: u16, from: u64, upto: u64) -> Result<Rows<'a>> {
+        rows_of!(self, ts_scan_between(relation, from, upto))
+    }
+}
+
+impl Drop for View<'_> {
+    fn drop(&mut self) {
+        // SAFETY: the store is open.
+        unsafe { raw::ts_end(self.store.handle, self.number) };
+    }
+}
