@@ -45,8 +45,7 @@ three_decide most root heap read is number end_is shares ends fit s e f =
     let chains : List PlacedChain = read.log.chains.items in
     let range = all_in_range most root heap chains read.log.next is.keeps (uses_of most chains) refl read.log.space read.anchors is.takes in
     let both = end_decides most root heap chains read.log.next (record { numbers = read.anchors.numbers.items; records = is.takes.records }) read.log.end
-    read.log.space (greatest_of chains is.takes.records) (holds_anchors most root heap read is) number range end_is is.takes.taken refl in
-    (
+    read.log.space (greatest_of chains is.takes.records) (holds_anchors most root heap read is) number range end_is is.takes.taken refl in (
       λ all. both.0 (record { seen = e.0 all.1; log = (s.0 all.0).0; anchors = f.0 all.2; base = (s.0 all.0).1 }),
       λ right. (let end = both.1 right in (s.1 (end.log, end.base), e.1 end.seen, f.1 end.anchors)),
     )

@@ -64,8 +64,8 @@ returns-then-not-are_all-clause-fault c = λ bytes len is.
     let stored = subst (λ (m : ℕ). AreAllStored m (values_of olds) chains) mark_is read.0 in
     let sizes = c.in-Ok.ensures.sizes olds is.takes.writes (sym is.takes.len_is) in
     let shares = subst (λ (l : List PlacedChain). IsTrue c.are_shares_kept-keeps_shares.result
-        ↔ ((length (counted_in l) + (1 + open_of c.args.read.log.end.archived (max c.args.read.log.end.mark c.args.read.log.end.last)) ≤ most / 2)
-        × AreBasesSmall most l)) c.deref.ensures.value c.are_shares_kept-keeps_shares.ensures in
+    ↔ ((length (counted_in l) + (1 + open_of c.args.read.log.end.archived (max c.args.read.log.end.mark c.args.read.log.end.last)) ≤ most / 2)
+    × AreBasesSmall most l)) c.deref.ensures.value c.are_shares_kept-keeps_shares.ensures in
     let ends = subst (λ (n : ℕ). IsTrue c.is_end_right-ends_right.result ↔ IsEndSeen n c.args.read.log.next c.args.read.log.space c.args.read.log.end) len
     c.is_end_right-ends_right.ensures in
     let fit = c.are_anchors_small-anchors_fit.ensures olds (members_of_all (mark_of chains) chains)
@@ -87,8 +87,8 @@ returns-clause-found c = λ bytes len is.
     let facts = subst (λ (m : ℕ). HasFacts m olds (members_of_all m chains) c.in-Ok.members.read) mark_is read.1 in
     let sizes = c.in-Ok.ensures.sizes olds is.takes.writes (sym is.takes.len_is) in
     let shares = subst (λ (l : List PlacedChain). IsTrue c.are_shares_kept-keeps_shares.result
-        ↔ ((length (counted_in l) + (1 + open_of c.args.read.log.end.archived (max c.args.read.log.end.mark c.args.read.log.end.last)) ≤ most / 2)
-        × AreBasesSmall most l)) c.deref.ensures.value c.are_shares_kept-keeps_shares.ensures in
+    ↔ ((length (counted_in l) + (1 + open_of c.args.read.log.end.archived (max c.args.read.log.end.mark c.args.read.log.end.last)) ≤ most / 2)
+    × AreBasesSmall most l)) c.deref.ensures.value c.are_shares_kept-keeps_shares.ensures in
     let ends = subst (λ (n : ℕ). IsTrue c.is_end_right-ends_right.result ↔ IsEndSeen n c.args.read.log.next c.args.read.log.space c.args.read.log.end) len
     c.is_end_right-ends_right.ensures in
     let fit = c.are_anchors_small-anchors_fit.ensures olds (members_of_all (mark_of chains) chains)
