@@ -70,8 +70,9 @@ static rados_ioctx_t pool;
 
 static ts_rados *opened(void) {
     ts_rados *host;
+    ts_rados_cause cause;
     int32_t code = ts_rados_open(&place, &host, &info);
-    if (code != TS_OK) fprintf(stderr, "%s\n", ts_rados_why(NULL)->text);
+    if (code != TS_OK && ts_rados_error(NULL, &cause) == TS_OK) fprintf(stderr, "%s\n", cause.text);
     CHECK(TS_OK, code);
     return host;
 }
