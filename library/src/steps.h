@@ -11,8 +11,8 @@ typedef struct tsi_host {
 } tsi_host;
 
 /* A mark for each store that is opened. The host for files counts up from 0, the one for a pool down from the other end
-   of what 15 bits hold, since each of their shared libraries has a count of its own. Two stores of a process that are
-   open at once have other marks, unless 32,768 were opened meanwhile. */
+   of what 15 bits hold, since each of their shared libraries has a count of its own. No two of the first 32,768 stores
+   that a process opens have the same. */
 typedef enum tsi_kind { TSI_FILES, TSI_POOL } tsi_kind;
 uint64_t tsi_next_mark(tsi_kind kind);
 
