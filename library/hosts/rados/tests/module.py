@@ -156,10 +156,10 @@ def marks(place: rados.Place, work: Path) -> None:
     timestore.make(work / "marks")
     rados.make(place)
     with timestore.Store(work / "marks") as files, rados.Store(place) as pool:
-        for one, other in ((files, pool), (pool, files)):
-            view = one.view()
-            raises(timestore.Unknown, lambda: other._ask(timestore._library.ts_recent, view._number, 1, 7, 0, other._value, 4097))
-            assert view.get(1, 7) is None
+        views = files.view(), pool.view()  # each is the first of its store
+        for store, view in zip((pool, files), views):
+            raises(timestore.Unknown, lambda: store._ask(timestore._library.ts_recent, view._number, 1, 7, 0, store._value, 4097))
+        assert all(view.get(1, 7) is None for view in views)
 
 
 def nothing_of_files() -> None:
