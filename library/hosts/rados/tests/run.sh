@@ -47,8 +47,8 @@ for kind in whole cold; do
     flags=
     [ "$kind" = whole ] || flags=-DCOLD
     # shellcheck disable=SC2086
-    gcc $warnings "-I$library/src" $sanitized $flags "-DPLACE=\"$place\"" "$library/tests/worked.c" "${parts[@]}" "$top/timestore_rados.c" "$library/src/steps.c" \
-        -o "$work/worked-$kind" "$library/out/libtimestore.a" -lrados -lpthread
+    gcc $warnings "-I$library/src" $sanitized $flags "-DPLACE=\"$place\"" "$library/tests/worked.c" "$library/src/steps.c" \
+        "${parts[@]}" "$top/timestore_rados.c" -o "$work/worked-$kind" "$library/out/libtimestore.a" -lrados -lpthread
     mkdir "$work/worked-$kind-folder"
     passes "$work/worked-$kind" "$work/worked-$kind-folder"
 done
