@@ -1,6 +1,12 @@
 /* The areas of worked.c as files of a folder. */
 static void make_place(void) { HOLDS(mkdir(folder, 0777) == 0); }
 
+/* Whether the host tells which device call was refused. */
+static bool tells_a_refusal(const ts_file *host) {
+    ts_cause cause;
+    return ts_file_error(host, &cause) == TS_OK && cause.number == EIO && strcmp(cause.file, "status") == 0;
+}
+
 static const char *path_of(const char *name) {
     static char path[4200];
     snprintf(path, sizeof path, "%s/%s", folder, name);

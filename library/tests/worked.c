@@ -459,6 +459,50 @@ static void scans(void) {
     HOLDS(found("3 115 131 x; 7 112 120 b; 7 130 131 c"));
 }
 
+/* ---- one call for what is asked most */
+
+/* What stands now is of the last commit, also behind a reclaim: it needs no archive. */
+static void its_present(void) {
+    static const uint8_t C[] = {1, 1, 'c'}, X[] = {1, 1, 'x'};
+    uint8_t out[TS_VALUE_MOST];
+    ts_row row[2];
+    CHECK(TS_OK, ts_file_get(file, 1, 7, out, sizeof out, &info));
+    HOLDS(info.a == sizeof C && memcmp(out, C, sizeof C) == 0);
+    CHECK(TS_SMALL, ts_file_get(file, 1, 7, out, sizeof C - 1, &info));
+    HOLDS(info.a == sizeof C);
+    CHECK(TS_NONE, ts_file_get(file, 1, 8, out, sizeof out, &info));
+    CHECK(TS_OK, ts_file_scan(file, 1, row, 2, out, sizeof out, &info));
+    HOLDS(info.a == 2 && info.b == sizeof X + sizeof C && row[0].record == 3 && row[1].record == 7);
+    HOLDS(memcmp(out + row[0].at, X, sizeof X) == 0 && memcmp(out + row[1].at, C, sizeof C) == 0);
+    CHECK(TS_SMALL, ts_file_scan(file, 1, row, 1, out, sizeof out, &info));
+    HOLDS(info.a == 2 && info.b == sizeof X + sizeof C);
+}
+
+static void one_call_each(void) {
+    static const uint8_t A[] = {1, 1, 'a'}, B[] = {1, 1, 'b'}, C[] = {1, 1, 'c'}, X[] = {1, 1, 'x'}, NO_VALUE[] = {0};
+    fresh(16);
+    CHECK(TS_OK, ts_file_put(file, 1, 7, A, sizeof A, 1, 100, &info));
+    HOLDS(info.a == 100);
+    CHECK(TS_OK, ts_file_put(file, 1, 8, B, sizeof B, 2, 0, &info));
+    HOLDS(info.a == 101);
+    CHECK(TS_OK, ts_file_put(file, 1, 7, C, sizeof C, 3, 110, &info));
+    CHECK(TS_OK, ts_file_delete(file, 1, 8, 4, 120, &info));
+    HOLDS(info.a == 120);
+    CHECK(TS_MISSING, ts_file_delete(file, 1, 8, 5, 130, &info));
+    CHECK(TS_BAD_VALUE, ts_file_put(file, 1, 8, NO_VALUE, sizeof NO_VALUE, 5, 130, &info));
+    CHECK(TS_OK, ts_file_put(file, 1, 3, X, sizeof X, 5, 140, &info));
+    its_present();
+    HOLDS(has(105, "a") && has(110, "c"));
+    CHECK(TS_OK, ts_archive(h, 120, &info));
+    CHECK(TS_OK, ts_file_job(file));
+    CHECK(TS_OK, ts_reclaim(h, &info)); /* what was refused has left no transaction open, which would bar it */
+    CHECK(TS_OK, ts_file_job(file));
+    its_present();
+    reopen();
+    its_present();
+    HOLDS(has(105, "a"));
+}
+
 /* ---- archives, reclaims and floors */
 
 static void archived(uint64_t upto) {
@@ -642,8 +686,10 @@ static void a_refused_sync_behind_the_gate(void) {
     a_history(16);
     uint64_t ticket = queued(7, "d", 9, 140);
     PUMPS(TS_WROTE, TS_SYNCED, TS_BODY_WRITTEN, TS_BODY_SYNCED, TS_GATE_WRITTEN);
+    HOLDS(!tells_a_refusal(file));
     faults_refuse(1, EIO);
     CHECK(TS_FAILED, ts_file_pump(file, &info));
+    HOLDS(tells_a_refusal(file));
     CHECK(TS_IN_DOUBT, ts_redeem(h, ticket, &info));
     CHECK(TS_FAILED, ts_begin(h, &info));
     HOLDS(has(130, "c"));
@@ -651,6 +697,7 @@ static void a_refused_sync_behind_the_gate(void) {
     HOLDS(info.a == 130);
     for (int n = 0; n < 2; n++) { /* the gate was written */
         reopen();
+        HOLDS(!tells_a_refusal(file));
         CHECK(TS_OK, ts_times_of(h, 9, times, 2, &info));
         HOLDS(info.a == 1 && times[0] == 140);
     }
@@ -694,7 +741,7 @@ int main(int argc, char **argv) {
     static void (*const EXAMPLES[])(void) = {
         a_new_store, one_commit, times_rise, the_first_writer_wins, the_least_key_is_told, reads_do_not_conflict,
         what_waits_is_not_seen, a_scan_has_own_writes, writes_that_leave_nothing, large_values, many_records, deltas,
-        a_group_of_sixteen, a_group_has_begun, a_stop_within_the_gate, intervals, scans, an_archive, a_reclaim,
+        a_group_of_sixteen, a_group_has_begun, a_stop_within_the_gate, intervals, scans, one_call_each, an_archive, a_reclaim,
         a_reclaim_under_a_transaction, a_floor_up_to_a_transaction, what_stands_at_the_mark,
         a_job_with_its_slot_in_the_writing, a_floor, an_archive_behind_a_floor, a_floor_of_one_relation,
         few_slots_are_left, a_refused_sync_behind_the_gate, damages, a_damaged_archive,

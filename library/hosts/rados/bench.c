@@ -1,8 +1,7 @@
 /* What a store in a pool costs, beside raw calls of librados of the same bytes on the same pool: bench CONF ROUNDS. All lie in namespaces
  * of this run. Store and raw calls take turns, since a cluster's speed varies. */
 #define _GNU_SOURCE
-#include "../../tests/check.h"
-#include "timestore_rados.h"
+#include "bench_queue.h"
 #include <rados/librados.h>
 #include <time.h>
 #include <unistd.h>
@@ -14,6 +13,8 @@ enum {
     GROUP = 16,
     COMMITS_A_ROUND = 60,
     GROUPS_A_ROUND = 20,
+    THREADS = 16,
+    COMMITS_OF_THREAD = 20, /* in a round */
     QUERIES_A_ROUND = 200,
     RECORDS = 1024,
     ARCHIVED = 8,    /* versions of each record that go to the archive */
@@ -36,9 +37,14 @@ static double now(void) {
     return (double)time.tv_sec + 1e-9 * (double)time.tv_nsec;
 }
 
+/* Adds the time since then, on whichever thread. */
 static void add(samples *of, double start) {
+    static pthread_mutex_t lock = PTHREAD_MUTEX_INITIALIZER;
+    double seconds = now() - start;
+    pthread_mutex_lock(&lock);
     HOLDS(of->count < SAMPLES_MOST);
-    of->seconds[of->count++] = now() - start;
+    of->seconds[of->count++] = seconds;
+    pthread_mutex_unlock(&lock);
 }
 
 static int by_size(const void *left, const void *right) {
@@ -70,8 +76,9 @@ static rados_ioctx_t pool;
 
 static ts_rados *opened(void) {
     ts_rados *host;
+    ts_rados_cause cause;
     int32_t code = ts_rados_open(&place, &host, &info);
-    if (code != TS_OK) fprintf(stderr, "%s\n", ts_rados_why(NULL)->text);
+    if (code != TS_OK && ts_rados_error(NULL, &cause) == TS_OK) fprintf(stderr, "%s\n", cause.text);
     CHECK(TS_OK, code);
     return host;
 }
@@ -85,12 +92,12 @@ static void connect_raw(void) {
 
 /* Writes so many extents side by side and waits, then a slot's body, then its gate. */
 static void raw_group(uint64_t number, size_t extents) {
-    static char bytes[EXTENT];
+    char bytes[EXTENT];
     rados_completion_t done[GROUP];
     char name[32];
+    memset(bytes, (int)(number % 251), sizeof bytes);
     for (size_t n = 0; n < extents; n++) {
         uint64_t at = (number * extents + n) * EXTENT;
-        memset(bytes, (int)(number % 251), sizeof bytes);
         snprintf(name, sizeof name, "heap.%08x", (unsigned)(at / PIECE));
         HOLDS(rados_aio_create_completion2(NULL, NULL, &done[n]) == 0);
         HOLDS(rados_aio_write(pool, name, done[n], bytes, EXTENT, at % PIECE) == 0);
@@ -156,6 +163,53 @@ static void commits_round(ts_rados *host) {
         one_group(host, number);
         add(&sixteen, start);
     }
+}
+
+/* ---- commits by 16 threads: all that wait are committed together by the thread that owns the store */
+
+static samples raw_threads = {.name = "raw, by each of 16 threads: an extent, a body, its gate"};
+static samples by_threads = {.name = "a commit by each of 16 threads"};
+static double threads_seconds;
+static uint64_t threads_groups;
+
+/* What a thread does in a round: raw calls where there is no queue. */
+typedef struct work {
+    queue *queue;
+    uint64_t first; /* of its records */
+} work;
+
+static void *work_of_thread(void *argument) {
+    const work *w = argument;
+    for (uint64_t n = 0; n < COMMITS_OF_THREAD; n++) {
+        double start = now();
+        if (w->queue) queue_ask(w->queue, w->first + n);
+        else raw_group(w->first + n, 1);
+        add(w->queue ? &by_threads : &raw_threads, start);
+    }
+    if (w->queue) queue_leave(w->queue);
+    return NULL;
+}
+
+/* The threads and, where there is a queue, its owner, which is this one. */
+static void run_threads(ts_rados *host, queue *q, uint64_t first) {
+    pthread_t threads[THREADS];
+    work works[THREADS];
+    for (uint64_t n = 0; n < THREADS; n++) {
+        works[n] = (work){.queue = q, .first = first + n * COMMITS_OF_THREAD};
+        HOLDS(pthread_create(&threads[n], NULL, work_of_thread, &works[n]) == 0);
+    }
+    if (q) threads_groups += queue_own(q, host);
+    for (int n = 0; n < THREADS; n++) HOLDS(pthread_join(threads[n], NULL) == 0);
+}
+
+static void threads_round(ts_rados *host, uint64_t round) {
+    queue q;
+    uint64_t first = round * THREADS * COMMITS_OF_THREAD;
+    run_threads(host, NULL, first);
+    queue_init(&q, THREADS);
+    double start = now();
+    run_threads(host, &q, first);
+    threads_seconds += now() - start;
 }
 
 /* ---- opening */
@@ -264,6 +318,7 @@ int main(int argc, char **argv) {
     ts_rados *host = opened();
     for (uint64_t round = 0; round < rounds; round++) {
         commits_round(host);
+        threads_round(host, round);
         host = opening_round(host);
     }
     CHECK(TS_OK, ts_last(ts_rados_store(host), &info));
@@ -272,11 +327,15 @@ int main(int argc, char **argv) {
     row(&commit, &raw_commit);
     row(&raw_sixteen, NULL);
     row(&sixteen, &raw_sixteen);
-    printf("commits a second: alone %.0f, 16 in a group %.0f\n", 1 / share(&commit, 50), GROUP / share(&sixteen, 50));
+    row(&raw_threads, NULL);
+    row(&by_threads, &raw_threads);
+    double commits = (double)by_threads.count;
+    printf("commits a second: alone %.0f, 16 in a group %.0f, by 16 threads %.0f, of which %.1f are taken together\n", 1 / share(&commit, 50),
+           GROUP / share(&sixteen, 50), commits / threads_seconds, commits / (double)threads_groups);
     row(&raw_read, NULL);
     row(&opening, &raw_read);
     row(&taking_over, &raw_read);
-    printf("of %" PRIu64 " commits at the last opening\n", rounds * (COMMITS_A_ROUND + GROUP * GROUPS_A_ROUND));
+    printf("of %" PRIu64 " commits at the last opening\n", rounds * (COMMITS_A_ROUND + GROUP * GROUPS_A_ROUND + THREADS * COMMITS_OF_THREAD));
     ts_rados_close(host);
     make("bench-archive");
     host = opened();

@@ -1,5 +1,5 @@
 /* What the parts of the host share: the owner, the areas, and the archive as a query sees it. Calls answer a code, and note the cause
- * of a refusal for ts_rados_why. */
+ * of a refusal for ts_rados_error. */
 #ifndef RADOS_PARTS_H
 #define RADOS_PARTS_H
 #include "timestore_rados.h"

@@ -1,6 +1,7 @@
 /* A host of timestore for areas in a Ceph pool. */
 #define _GNU_SOURCE
 #include "rados_parts.h"
+#include "steps.h"
 #include <stdio.h>
 #include <stdlib.h>
 #include <string.h>
@@ -11,12 +12,11 @@
 #define ARCHIVE "timestore 1 archive " /* and the name that its folder has for it */
 
 struct ts_rados {
-    ts store;
+    tsi_host steps;
     owner own;
     area area[AREAS];
     window archive;
     uint64_t made, refused;
-    uint8_t bytes[TS_WRITE_MOST];
     ts_rados_cause cause;
 };
 
@@ -24,7 +24,12 @@ static const char *const NAMES[AREAS] = {"status", "heap", "archive"};
 
 /* ---- causes */
 
-const ts_rados_cause *ts_rados_why(const ts_rados *host) { return host ? &host->cause : tsr_last_cause(); }
+int32_t ts_rados_error(const ts_rados *host, ts_rados_cause *cause) {
+    const ts_rados_cause *told = host ? &host->cause : tsr_last_cause();
+    if (told->code == TS_OK) return TS_NONE;
+    *cause = *told;
+    return TS_OK;
+}
 
 const char *ts_rados_text(int32_t code) { return code == TS_FENCED ? "another host has taken the store over" : ts_text(code); }
 
@@ -138,11 +143,7 @@ int32_t ts_rados_format(const ts_rados_place *place, uint32_t slots) {
 
 /* ---- opening and closing */
 
-/* A mark for each store that is opened. Those of the host for files count up from 0, these down. */
-static uint64_t next_mark(void) {
-    static atomic_uint_fast32_t marks;
-    return 0x7fff - (atomic_fetch_add(&marks, 1) & 0x7fff);
-}
+static bool make_due(tsi_host *steps, const ts_device *call);
 
 static int32_t read_whole(area *a, uint8_t **bytes) {
     *bytes = malloc(a->len + 1);
@@ -159,11 +160,11 @@ static int32_t open_store(ts_rados *host, ts_info *info) {
     if (code == TS_OK) code = read_whole(status, &slots);
     if (code == TS_OK) code = read_whole(heap, &extents);
     if (code == TS_OK) {
-        code = ts_open(&host->store, slots, (size_t)status->len, extents, (size_t)heap->len, runs, runs_len, next_mark(), info);
+        code = ts_open(&host->steps.store, slots, (size_t)status->len, extents, (size_t)heap->len, runs, runs_len, tsi_next_mark(TSI_POOL), info);
         int32_t lent = tsr_window_lent(&host->archive);
         if (lent != TS_OK) code = lent;
     }
-    if (code != TS_OK) ts_close(&host->store);
+    if (code != TS_OK) ts_close(&host->steps.store);
     free(slots);
     free(extents);
     return code;
@@ -185,16 +186,17 @@ static int32_t open_host(ts_rados *host, const ts_rados_place *place, ts_info *i
 int32_t ts_rados_open(const ts_rados_place *place, ts_rados **out, ts_info *info) {
     ts_rados *host = calloc(1, sizeof *host);
     if (!host) return TS_NO_MEMORY;
+    host->steps.make = make_due;
     int32_t code = open_host(host, place, info);
     if (code == TS_OK) *out = host;
     else free(host);
     return code;
 }
 
-ts *ts_rados_store(ts_rados *host) { return &host->store; }
+ts *ts_rados_store(ts_rados *host) { return &host->steps.store; }
 
 void ts_rados_close(ts_rados *host) {
-    ts_close(&host->store);
+    ts_close(&host->steps.store);
     tsr_window_close(&host->archive);
     close_areas(host, host->cause.code == TS_OK);
     free(host);
@@ -207,63 +209,55 @@ void tsr_refuse_call(ts_rados *host, uint64_t call) {
     host->refused = call;
 }
 
-static int32_t make_due(ts_rados *host, const ts_device *call) {
+static int32_t make_call(ts_rados *host, const ts_device *call) {
     area *a = &host->area[call->area];
     if (++host->made == host->refused) return tsr_refuse(TS_SYSTEM, 0, "refused for a test");
     if (call->kind == TS_SYNC) return tsr_area_sync(a);
-    int32_t code = tsr_area_write(a, call->at, host->bytes, call->len);
+    int32_t code = tsr_area_write(a, call->at, host->steps.bytes, call->len);
     if (call->area == TS_ARCHIVE) tsr_window_changed(&host->archive, call->at, call->len);
     return code;
 }
 
-/* Makes the device call that is due, if one is; what its step did is told. */
-static int32_t make_call(ts_rados *host, ts_info *info) {
-    ts_device call;
-    int32_t code = ts_call(&host->store, &call, host->bytes, sizeof host->bytes);
-    if (code != TS_OK) return code == TS_NONE ? TS_OK : code;
-    bool made = make_due(host, &call) == TS_OK;
-    if (!made) host->cause = *tsr_last_cause();
-    return ts_called(&host->store, made, info);
+/* Makes a device call of the store that these steps are of. */
+static bool make_due(tsi_host *steps, const ts_device *call) {
+    ts_rados *host = (ts_rados *)steps;
+    int32_t code = make_call(host, call);
+    if (code != TS_OK) host->cause = *tsr_last_cause();
+    return code == TS_OK;
 }
 
-typedef int32_t step(ts *store, ts_info *info);
+/* ---- steps */
 
-/* A step with its device call. */
-static int32_t take(ts_rados *host, step *next, ts_info *info) {
-    int32_t code = next(&host->store, info);
-    int32_t made = make_call(host, info);
-    return made < 0 ? made : code;
-}
+int32_t ts_rados_pump(ts_rados *host, ts_info *info) { return tsi_pump(&host->steps, info); }
 
-/* All steps. A group and a job may each wait for the other's slot: TS_BUSY, and then that one goes on. */
-static int32_t take_all(ts_rados *host, step *next, step *other) {
-    ts_info info = {0, 0};
-    int32_t code;
-    do {
-        code = take(host, next, &info);
-        if (code == TS_BUSY) code = take(host, other, &info);
-        else if (code == TS_OK && info.a == TS_IDLE) return TS_OK;
-    } while (code == TS_OK);
-    return code;
-}
+int32_t ts_rados_job_pump(ts_rados *host, ts_info *info) { return tsi_job_pump(&host->steps, info); }
 
-int32_t ts_rados_pump(ts_rados *host, ts_info *info) { return take(host, ts_pump, info); }
+int32_t ts_rados_flush(ts_rados *host) { return tsi_flush(&host->steps); }
 
-int32_t ts_rados_job_pump(ts_rados *host, ts_info *info) { return take(host, ts_job_pump, info); }
-
-int32_t ts_rados_flush(ts_rados *host) { return take_all(host, ts_pump, ts_job_pump); }
-
-int32_t ts_rados_job(ts_rados *host) { return take_all(host, ts_job_pump, ts_pump); }
+int32_t ts_rados_job(ts_rados *host) { return tsi_job(&host->steps); }
 
 int32_t ts_rados_commit(ts_rados *host, uint64_t txn, uint64_t label, uint64_t now, ts_info *info) {
-    int32_t code = ts_submit(&host->store, txn, label, now, info);
-    if (code != TS_OK) return code;
-    uint64_t ticket = info->a;
-    ts_rados_flush(host); /* where it is refused, the ticket says what became of the commit */
-    return ts_redeem(&host->store, ticket, info);
+    return tsi_commit(&host->steps, txn, label, now, info);
+}
+
+int32_t ts_rados_put(ts_rados *host, uint16_t relation, uint64_t record, const uint8_t *value, size_t value_len, uint64_t label,
+                     uint64_t now, ts_info *info) {
+    return tsi_put(&host->steps, relation, record, value, value_len, label, now, info);
+}
+
+int32_t ts_rados_delete(ts_rados *host, uint16_t relation, uint64_t record, uint64_t label, uint64_t now, ts_info *info) {
+    return tsi_delete(&host->steps, relation, record, label, now, info);
 }
 
 /* ---- queries */
+
+int32_t ts_rados_get(ts_rados *host, uint16_t relation, uint64_t record, uint8_t *out, size_t len, ts_info *info) {
+    return tsi_get(&host->steps.store, relation, record, out, len, info);
+}
+
+int32_t ts_rados_scan(ts_rados *host, uint16_t relation, ts_row *rows, size_t row_count, uint8_t *out, size_t len, ts_info *info) {
+    return tsi_scan(&host->steps.store, relation, rows, row_count, out, len, info);
+}
 
 int32_t ts_rados_archive(ts_rados *host, const uint8_t **at, size_t *len) { return tsr_window_lend(&host->archive, at, len); }
 
@@ -281,7 +275,7 @@ int32_t ts_rados_at(ts_rados *host, uint64_t view, uint16_t relation, uint64_t r
     size_t runs_len;
     int32_t code = ts_rados_archive(host, &runs, &runs_len);
     if (code != TS_OK) return code;
-    return answered(host, ts_at(&host->store, view, relation, record, time, runs, runs_len, out, len, info));
+    return answered(host, ts_at(&host->steps.store, view, relation, record, time, runs, runs_len, out, len, info));
 }
 
 int32_t ts_rados_scan_at(ts_rados *host, uint64_t view, uint16_t relation, uint64_t time, ts_row *rows, size_t row_count, uint8_t *out,
@@ -290,7 +284,7 @@ int32_t ts_rados_scan_at(ts_rados *host, uint64_t view, uint16_t relation, uint6
     size_t runs_len;
     int32_t code = ts_rados_archive(host, &runs, &runs_len);
     if (code != TS_OK) return code;
-    return answered(host, ts_scan_at(&host->store, view, relation, time, runs, runs_len, rows, row_count, out, len, info));
+    return answered(host, ts_scan_at(&host->steps.store, view, relation, time, runs, runs_len, rows, row_count, out, len, info));
 }
 
 int32_t ts_rados_between(ts_rados *host, uint64_t view, uint16_t relation, uint64_t record, uint64_t from, uint64_t upto, ts_row *rows,
@@ -299,7 +293,7 @@ int32_t ts_rados_between(ts_rados *host, uint64_t view, uint16_t relation, uint6
     size_t runs_len;
     int32_t code = ts_rados_archive(host, &runs, &runs_len);
     if (code != TS_OK) return code;
-    code = ts_between(&host->store, view, relation, record, from, upto, runs, runs_len, rows, row_count, out, len, info);
+    code = ts_between(&host->steps.store, view, relation, record, from, upto, runs, runs_len, rows, row_count, out, len, info);
     return answered(host, code);
 }
 
@@ -309,6 +303,6 @@ int32_t ts_rados_scan_between(ts_rados *host, uint64_t view, uint16_t relation, 
     size_t runs_len;
     int32_t code = ts_rados_archive(host, &runs, &runs_len);
     if (code != TS_OK) return code;
-    code = ts_scan_between(&host->store, view, relation, from, upto, runs, runs_len, rows, row_count, out, len, info);
+    code = ts_scan_between(&host->steps.store, view, relation, from, upto, runs, runs_len, rows, row_count, out, len, info);
     return answered(host, code);
 }

@@ -34,14 +34,14 @@ enum {
 
 /* Why a call was refused. */
 typedef struct ts_rados_cause {
-    int32_t code;   /* TS_OK where none was; TS_SYSTEM, TS_FENCED, TS_LOCKED, TS_NOT_A_STORE or TS_OCCUPIED */
+    int32_t code;   /* TS_SYSTEM, TS_FENCED, TS_LOCKED, TS_NOT_A_STORE or TS_OCCUPIED */
     int error;      /* as errno has it, 0 where no call was made */
     char text[240]; /* what was asked, and what came */
 } ts_rados_cause;
 
 /* The cause of the device call that this store was refused, since which it is failed; of NULL, of the last call of this thread that
-   was refused. */
-const ts_rados_cause *ts_rados_why(const ts_rados *host);
+   was refused. TS_NONE where there was none; a store also fails where there was no memory. */
+int32_t ts_rados_error(const ts_rados *host, ts_rados_cause *cause);
 
 /* The text of a code, of these too. */
 const char *ts_rados_text(int32_t code);
@@ -87,6 +87,16 @@ int32_t ts_rados_job(ts_rados *host);
 /* Submits, flushes and redeems: TS_OK, a: the time of the commit; TS_IN_DOUBT where the device failed on the way; TS_WAITING where
    memory was refused there, a: the ticket. */
 int32_t ts_rados_commit(ts_rados *host, uint64_t txn, uint64_t label, uint64_t now, ts_info *info);
+
+/* A commit of one value, or of one deletion: as ts_rados_commit. */
+int32_t ts_rados_put(ts_rados *host, uint16_t relation, uint64_t record, const uint8_t *value, size_t value_len, uint64_t label,
+                     uint64_t now, ts_info *info);
+int32_t ts_rados_delete(ts_rados *host, uint16_t relation, uint64_t record, uint64_t label, uint64_t now, ts_info *info);
+
+/* What stands now, after the last commit: the value of a record, as ts_recent, and the records of a relation with their values, as
+   ts_scan_at. They need no archive. */
+int32_t ts_rados_get(ts_rados *host, uint16_t relation, uint64_t record, uint8_t *out, size_t len, ts_info *info);
+int32_t ts_rados_scan(ts_rados *host, uint16_t relation, ts_row *rows, size_t row_count, uint8_t *out, size_t len, ts_info *info);
 
 /* Gives the store back: the next owner replaces nobody, unless a device call was refused. */
 void ts_rados_close(ts_rados *host);

@@ -85,6 +85,7 @@ def _prototypes() -> dict[str, list[Any]]:
     return {
         "ts_rados_format": [place, ctypes.c_uint32],
         "ts_rados_open": [place, out, info],
+        "ts_rados_error": [host, ctypes.POINTER(_Cause)],
         "ts_rados_pump": [host, info],
         "ts_rados_job_pump": [host, info],
         "ts_rados_archive": [host, out, size],
@@ -112,7 +113,6 @@ def _load() -> ctypes.CDLL:
         function = getattr(library, name)
         function.argtypes, function.restype = types, ctypes.c_int32
     library.ts_rados_text.argtypes, library.ts_rados_text.restype = [ctypes.c_int32], ctypes.c_char_p
-    library.ts_rados_why.argtypes, library.ts_rados_why.restype = [ctypes.c_void_p], ctypes.POINTER(_Cause)
     library.ts_rados_store.argtypes = [ctypes.c_void_p]
     library.ts_rados_store.restype = ctypes.POINTER(_Handle)
     library.ts_rados_close.argtypes, library.ts_rados_close.restype = [ctypes.c_void_p], None
@@ -124,16 +124,18 @@ _library = _load()
 _CAUSED = {fault.code for fault in (timestore.System, timestore.Locked, timestore.NotAStore, timestore.Occupied, Fenced)}
 
 
-def _why(host: ctypes.c_void_p | None = None) -> Cause:
-    """The cause of the device call that a store was refused, or else of this thread's last refusal."""
-    found = _library.ts_rados_why(host).contents
+def _cause(host: ctypes.c_void_p | None = None) -> Cause | None:
+    """The cause of the device call that a store was refused, or else of this thread's last refusal; None where there was none."""
+    found = _Cause()
+    if _library.ts_rados_error(host, found) != 0:
+        return None
     return Cause(found.code, found.error, found.text.decode(errors="replace"))
 
 
 def _refused(code: int, info: Any = None) -> NoReturn:
     text = _library.ts_rados_text(code).decode()
-    if code in _CAUSED:
-        text = f"{text}: {_why().text}"
+    if code in _CAUSED and (cause := _cause()):
+        text = f"{text}: {cause.text}"
     first, second = (info.a, info.b) if info else (0, 0)
     raise _FAULTS.get(code, timestore.Refused)(text, first, second)
 
@@ -180,8 +182,7 @@ class Store(timestore.Store):
     @property
     def cause(self) -> Cause | None:
         """Of the device call that was refused, since which the store is failed; None where none was."""
-        cause = _why(self._of_file())
-        return None if cause.code == 0 else cause
+        return _cause(self._of_file())
 
     def _note_failure(self, refusal: timestore.Refused) -> None:
         """Notes of a refusal why the store failed."""

@@ -132,8 +132,34 @@ def fenced_queries(place: rados.Place) -> None:
     with rados.Store(place) as first, rados.Store(replace(place, take_over=True)) as second:
         raises(rados.Fenced, lambda: first.at(1, 0, 150))
         raises(rados.Fenced, lambda: first.between(1, 0, 100, 200))
-        assert first.at(1, 0, 100 * ROUNDS) == value_of(0, ROUNDS)
+        assert first.at(1, 0, 100 * ROUNDS) == first.get(1, 0) == value_of(0, ROUNDS)
+        assert list(first.scan(1)) == [(record, value_of(record, ROUNDS)) for record in range(RECORDS)]
         assert second.at(1, 0, 150) == value_of(0, 1)
+
+
+def what_stands(place: rados.Place) -> None:
+    """The calls that commit one value or ask what stands now."""
+    rados.make(place)
+    with rados.Store(place) as store:
+        assert store.get(1, 7) is None and list(store.scan(1)) == []
+        assert [store.put(1, record, b"a", b"", label=9, now=100) for record in (7, 3)] == [100, 101]
+        assert store.put(1, 7, b"b", now=110) == 110 and store.delete(1, 3, now=0) == 111
+        raises(timestore.Missing, lambda: store.delete(1, 3))
+        assert store.last == 111 and store.times_of(9) == [100, 101]
+    with rados.Store(place) as store:
+        assert store.get(1, 7) == (b"b",) and store.get(1, 3) is None and list(store.scan(1)) == [(7, (b"b",))]
+
+
+def marks(place: rados.Place, work: Path) -> None:
+    """The first store of each host in this process: a number of the one names nothing in the other."""
+    (work / "marks").mkdir()
+    timestore.make(work / "marks")
+    rados.make(place)
+    with timestore.Store(work / "marks") as files, rados.Store(place) as pool:
+        views = files.view(), pool.view()  # each is the first of its store
+        for store, view in zip((pool, files), views):
+            raises(timestore.Unknown, lambda: store._ask(timestore._library.ts_recent, view._number, 1, 7, 0, store._value, 4097))
+        assert all(view.get(1, 7) is None for view in views)
 
 
 def nothing_of_files() -> None:
@@ -147,6 +173,8 @@ def main() -> None:
     cluster, work = Path(sys.argv[1]), Path(sys.argv[2])
     place = rados.Place("store", "module", "store", cluster / "ceph.conf")
     nothing_of_files()
+    marks(replace(place, store="marks"), work)
+    what_stands(replace(place, store="stands"))
     refusals(place, work)
     cold_refusals(place, work)
     archives(replace(place, store="archives"), False)

@@ -34,6 +34,10 @@ static int32_t open_place(ts_rados **host, ts_info *told) {
 #define ts_file_flush ts_rados_flush
 #define ts_file_job ts_rados_job
 #define ts_file_commit ts_rados_commit
+#define ts_file_put ts_rados_put
+#define ts_file_delete ts_rados_delete
+#define ts_file_get ts_rados_get
+#define ts_file_scan ts_rados_scan
 #define ts_file_refuse tsr_refuse_call
 #define faults_refuse(call, error) tsr_refuse_call(file, call)
 #define ts_file_close ts_rados_close
@@ -47,6 +51,12 @@ static int32_t open_place(ts_rados **host, ts_info *told) {
     ((void)(at), (void)(len), ts_rados_between(file, view, relation, record, from, upto, __VA_ARGS__))
 #define ts_scan_between(store, view, relation, from, upto, at, len, ...) \
     ((void)(at), (void)(len), ts_rados_scan_between(file, view, relation, from, upto, __VA_ARGS__))
+
+/* Whether the host tells which device call was refused. */
+static bool tells_a_refusal(const ts_rados *host) {
+    ts_rados_cause cause;
+    return ts_rados_error(host, &cause) == TS_OK && cause.code == TS_SYSTEM && strcmp(cause.text, "refused for a test") == 0;
+}
 
 static void make_place(void) { HOLDS(mkdir(folder, 0777) == 0); }
 

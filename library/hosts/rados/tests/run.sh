@@ -47,8 +47,8 @@ for kind in whole cold; do
     flags=
     [ "$kind" = whole ] || flags=-DCOLD
     # shellcheck disable=SC2086
-    gcc $warnings $sanitized $flags "-DPLACE=\"$place\"" "$library/tests/worked.c" "${parts[@]}" "$top/timestore_rados.c" \
-        -o "$work/worked-$kind" "$library/out/libtimestore.a" -lrados -lpthread
+    gcc $warnings "-I$library/src" $sanitized $flags "-DPLACE=\"$place\"" "$library/tests/worked.c" "$library/src/steps.c" \
+        "${parts[@]}" "$top/timestore_rados.c" -o "$work/worked-$kind" "$library/out/libtimestore.a" -lrados -lpthread
     mkdir "$work/worked-$kind-folder"
     passes "$work/worked-$kind" "$work/worked-$kind-folder"
 done
@@ -57,6 +57,11 @@ say "the shared library has the header's names and no other"
 grep -ohE '\bts_rados_[a-z_]+\(' "$top/timestore_rados.h" | tr -d '(' | sort -u > "$work/wanted-names"
 nm -D --defined-only "$out/libtimestore_rados.so" | awk '{print $3}' | sort > "$work/names"
 passes diff "$work/wanted-names" "$work/names"
+
+say "each call of the host for files, and here"
+grep -ohE '\bts_file_[a-z_]+\(' "$library/include/timestore_file.h" | tr -d '(' | sed 's/^ts_file/ts_rados/' | sort -u > "$work/of-files"
+all_here() { [ -s "$work/of-files" ] && comm -23 "$work/of-files" "$work/names" | (! grep .); }
+passes all_here
 
 if ! python3 -c 'import sys; sys.exit(sys.version_info < (3, 11))'; then
     echo "not tested: hosts that are killed and replaced, and the Python module, for which Python 3.11 is needed" >&2
