@@ -1,0 +1,5 @@
+pub mod Named
+pub mod Walked
+pub mod Archived
+pub mod Members
+pub mod Opens
