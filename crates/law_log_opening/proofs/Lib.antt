@@ -3,3 +3,6 @@ pub mod Walked
 pub mod Archived
 pub mod Members
 pub mod Opens
+pub mod OneWalk
+pub mod OneFault
+pub mod Once
