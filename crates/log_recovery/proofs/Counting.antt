@@ -35,7 +35,7 @@ sizes_more mark olds ms read m writes next has are same more =
     let b : Key → Option Value = before_of read.versions in
     sizes-next olds ms (member_told m) b read.sizes next (facts_before mark olds ms read has ∙ values_same (values_of olds) ms) are
     (subst (λ (ws : List (KeyWrite Value)). (len most : ℕ) → AreSizes len most read.sizes
-        → AreSizes (len_behind len b ws) (max most (len_behind len b ws)) next) same more)
+    → AreSizes (len_behind len b ws) (max most (len_behind len b ws)) next) same more)
 
 -- some of these members are counted behind others, and these are left
 pub record IsCountedUpto (mark : ℕ) (olds : List OldRecord) (before all left : List Member) (read : MembersRead) : Type 0 where

@@ -11,7 +11,7 @@ ghost use Rattle.log_recovery.specs.Anchored.{first_names, TakesAnchors, IsAncho
 ghost use Rattle.log_extents.specs.Chains.{IsNumberOf};
 ghost use Rattle.recovery.specs.Answers.{after_reads};
 ghost use Rattle.log_recovery.specs.Opening.{IsHeapFault};
-ghost use Rattle.log_recovery.specs.Read.{IsLogRead};
+ghost use Rattle.log_recovery.specs.Read.{IsLogRead, IsAnchoredLog};
 
 use crate::anchors::{AnchorsRead, no_anchors, read_anchors};
 use crate::chain::LogChain;
@@ -108,6 +108,41 @@ fn read_base<D: Disk>(
     match read_anchors(alloc, disk, heap, space, mark, &name) {
         Ok(Some(read)) => Ok(read),
         Ok(None) => Err(OpenFault::Damaged(Area::Heap, u64::from(name.first))),
+        Err(fault) => Err(fault),
+    }
+}
+
+/// A log with its anchors.
+#[derive(Drop)]
+pub struct AnchoredLog {
+    pub log: LogRead,
+    pub anchors: AnchorsRead,
+}
+
+// The chains of the log, which keep the rules between them, and the anchors that they name.
+fn read_anchored<D: Disk>(
+    alloc: Global,
+    disk: &mut D,
+    heap: HeapSize,
+    root: u32,
+) -> Result<AnchoredLog, OpenFault>
+    requires len { IsTrue D.tells → heap.len ≡ length (D.state disk.old).areas.heap.bytes }
+    requires most { heap.most < 2 ^ 32 }
+    requires root { IsNumberOf heap.most root }
+    ensures entries { IfOk result (λ read. AllByRecursion (HasEntry heap.most) read.log.chains.items) }
+    ensures end { IfOk result (λ read. IsEndOf (mark_of read.log.chains.items) read.log.chains.items read.log.end) }
+    ensures next { IfOk result (λ read. IsNumberOf heap.most read.log.next) }
+    ensures latest { IfOk result (λ read. latest read.anchors.versions ≤ read.log.end.mark) }
+    ensures found { IsTrue D.tells → IfOk result (IsAnchoredLog heap.most root (D.state disk.old).areas.heap.bytes) }
+    ensures fault { IsTrue D.tells → IfErr result (IsHeapFault heap.most root (D.state disk.old).areas.heap.bytes) }
+    ensures reads { D.state disk.new ≡ after_reads result (D.state disk.old) }
+{
+    let mut log = match read_rules(alloc, disk, heap, root) {
+        Ok(log) => log,
+        Err(fault) => return Err(fault),
+    };
+    match read_base(alloc, disk, heap, &mut log.space, log.end.mark, &log.chains) {
+        Ok(anchors) => Ok(AnchoredLog { log, anchors }),
         Err(fault) => Err(fault),
     }
 }

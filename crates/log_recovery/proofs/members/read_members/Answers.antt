@@ -18,18 +18,17 @@ pub loop-chain-init : goal.loop-chain-init
 loop-chain-init c =
     let mark = c.args.mark in
     let all = c.args.chains.items in
-    let is : all ≡ c.into_iter-chain-iterator.result.rest.items = sym c.into_iter-chain-iterator.ensures.into_iter_gives.0 in
-    (
+    let is : all ≡ c.into_iter-chain-iterator.result.rest.items = sym c.into_iter-chain-iterator.ensures.into_iter_gives.0 in (
       (c.requires.entries.0, subst (AllByRecursion (λ (d : PlacedChain). IsEntry c.requires.entries.0 d.entry)) is c.requires.entries.1),
       subst (λ (l : List PlacedChain). AreRisingAfter c.behind-read.result.last (heads_told (members_of_all mark l))) is
-      (subst (λ (n : ℕ). AreRisingAfter n (heads_told (members_of_all mark all))) (sym c.behind-read.ensures.last) c.requires.rising),
+          (subst (λ (n : ℕ). AreRisingAfter n (heads_told (members_of_all mark all))) (sym c.behind-read.ensures.last) c.requires.rising),
       ap (λ l. map live_told l ++ lives_of c.into_iter-chain-iterator.result.rest.items) c.new-live.ensures.items ∙ ap lives_of (sym is),
       λ olds writes. subst (λ (l : List PlacedChain). AreUnderWay mark olds all l c.behind-read.result) is
-      (chains_start mark olds all c.behind-read.result (subst (AreWritesOf olds) (sym c.behind-read.ensures.versions) writes) c.behind-read.ensures.commits
-      c.behind-read.ensures.last),
+          (chains_start mark olds all c.behind-read.result (subst (AreWritesOf olds) (sym c.behind-read.ensures.versions) writes) c.behind-read.ensures.commits
+          c.behind-read.ensures.last),
       λ olds writes len_is. subst (λ (l : List PlacedChain). IsCountedUpto mark olds [] (members_of_all mark all) (members_of_all mark l) c.behind-read.result) is
-      (counts_start mark c.args.len olds all c.behind-read.result (subst (AreWritesOf olds) (sym c.behind-read.ensures.versions) writes)
-      c.behind-read.ensures.commits c.behind-read.ensures.last len_is c.behind-read.ensures.sizes),
+          (counts_start mark c.args.len olds all c.behind-read.result (subst (AreWritesOf olds) (sym c.behind-read.ensures.versions) writes)
+          c.behind-read.ensures.commits c.behind-read.ensures.last len_is c.behind-read.ensures.sizes),
     )
 
 pub with_entry-requires-clause-rising : goal.with_entry-requires-clause-rising

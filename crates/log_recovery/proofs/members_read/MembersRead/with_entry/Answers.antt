@@ -16,5 +16,5 @@ returns-in-Group-clause-read c = λ olds before has.
 pub returns-in-Group-clause-sizes : goal.returns-in-Group-clause-sizes
 returns-in-Group-clause-sizes c = λ olds before has are.
     rw c.in-Group.is (
-      subst (λ (l : List Member). IfOk c.with_group.result (λ o. IfSome o (λ next. AreSizesBehind olds (before ++ later_of c.args.mark l) next.sizes)))
-      c.into_vec.ensures (c.with_group.ensures.sizes olds before has are))
+    subst (λ (l : List Member). IfOk c.with_group.result (λ o. IfSome o (λ next. AreSizesBehind olds (before ++ later_of c.args.mark l) next.sizes)))
+    c.into_vec.ensures (c.with_group.ensures.sizes olds before has are))

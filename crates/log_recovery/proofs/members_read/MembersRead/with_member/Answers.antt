@@ -45,13 +45,12 @@ returns-clause-read c = λ mark olds before has.
     let b : Key → Option Value = before_of c.args.self.versions in
     let found = rw c.in-Some.is at c.in_ok-writes.ensures in
     let both = rw c.into_vec-records.ensures at found in
-    let same : c.deref-2.result.now ≡ map (write_of b) (map heap_record c.args.member.records) = c.deref-2.ensures.value ∙ both.1 in
-    (
+    let same : c.deref-2.result.now ≡ map (write_of b) (map heap_record c.args.member.records) = c.deref-2.ensures.value ∙ both.1 in (
       member_stored mark olds before c.args.self c.args.member has both.0,
       facts_more mark olds before c.args.self _ c.args.member has c.requires.later c.requires.is.time_high refl
-      (ap (map name_told) c.in_ok-push.ensures.items ∙ map-append name_told c.args.self.commits.items _)
-      (λ key. c.in_ok-versions.ensures.by_key key
-      ∙ ap (λ (ws : List (KeyWrite Value)). writes_of c.args.self.versions key ++ written c.args.member.time ws key) same),
+          (ap (map name_told) c.in_ok-push.ensures.items ∙ map-append name_told c.args.self.commits.items _)
+          (λ key. c.in_ok-versions.ensures.by_key key
+          ∙ ap (λ (ws : List (KeyWrite Value)). writes_of c.args.self.versions key ++ written c.args.member.time ws key) same),
     )
 
 pub returns-clause-sizes : goal.returns-clause-sizes
