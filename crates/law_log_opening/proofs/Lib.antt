@@ -6,3 +6,4 @@ pub mod Opens
 pub mod OneWalk
 pub mod OneFault
 pub mod Once
+pub mod Sound

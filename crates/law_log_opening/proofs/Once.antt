@@ -13,7 +13,7 @@ use Rattle.law_log_opening.proofs.OneWalk.{fails-stopped, holds-stopped, stopped
 module _ (most root : ℕ) (heap : List ℕ) (few : most < 2 ^ 32) where
   -- ---- what is read is one
 
-  chains-once : (cs : List PlacedChain) (n : ℕ) (ds : List PlacedChain) (m : ℕ) → HoldsChains most root heap cs n → HoldsChains most root heap ds m
+  pub chains-once : (cs : List PlacedChain) (n : ℕ) (ds : List PlacedChain) (m : ℕ) → HoldsChains most root heap cs n → HoldsChains most root heap ds m
       → (cs ≡ ds) × (n ≡ m)
   chains-once cs n ds m h k =
       stopped-same most heap [] root cs ds n m few (holds-stopped most root heap cs n h) (holds-stopped most root heap ds m k)
