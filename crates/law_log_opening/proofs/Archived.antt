@@ -1,13 +1,11 @@
 -- The runs and rolls of a log end within the archive that holds them, and have no byte in common.
-use Rattle.std.proofs.Common.{◌≡◌, ℕ, ◌+◌, ◌*◌, ◌≤◌, List, [], ◌∷◌, ◌++◌, length, map, refl, sym, ap, subst, ◌∙◌, arith}
+use Rattle.std.proofs.Common.{◌≡◌, ℕ, ◌*◌, List, [], ◌∷◌, length, map, refl, ap, arith}
 use Rattle.std.specs.Prelude.{flat_map}
 use Rattle.std.specs.List.{AllByRecursion}
 use Rattle.wire.specs.Numbers.{u64_bytes}
-use Rattle.wire.specs.declared.slot.Run.{Run}
 use Rattle.law_image.specs.Reading.{Head}
 use Rattle.law_layout.specs.Runs.{StoredRun, IsStoredRun, HoldsRun}
-use Rattle.log_entries.specs.declared.entry.Roll.{Roll}
-use Rattle.law_log_layout.specs.HeapLog.{PlacedRoll, Span, run_span, roll_span, name_bytes, HoldsRoll, IsStoredRoll, spans_of}
+use Rattle.law_log_layout.specs.HeapLog.{PlacedRoll, Span, run_span, roll_span, name_bytes, HoldsRoll, IsStoredRoll}
 use Rattle.log_recovery.specs.Rules.{roll_part}
 use Rattle.log_recovery.specs.Opening.{EndsWithin}
 

@@ -1,14 +1,13 @@
 -- The members of a log, chain by chain.
-use Rattle.std.proofs.Common.{◌≡◌, ℕ, nat_lt, List, [], ◌∷◌, ◌++◌, Option, refl, sym, ap, subst, ◌∙◌}
+use Rattle.std.proofs.Common.{◌≡◌, ℕ, nat_lt, List, [], ◌∷◌, ◌++◌, Option, refl, ap, ◌∙◌}
 use Rattle.std.specs.Prelude.{filter, flat_map}
 use Rattle.history.specs.declared.key.Key.{Key}
-use Rattle.history.specs.declared.time.Version.{Version}
 use Rattle.history.specs.Versions.{versions}
 use Rattle.history.specs.Histories.{writes_of}
 use Rattle.law_image.specs.Values.{Value}
-use Rattle.law_image.specs.Reading.{Head, Member, OldRecord, Reading}
+use Rattle.law_image.specs.Reading.{Head, Member, Reading}
 use Rattle.law_image.specs.Facts.{AreStored, commits_from, heap_versions, latest, old_writes}
-use Rattle.law_log.specs.Chains.{LogChain, members_in, members_of, reclaimed_by}
+use Rattle.law_log.specs.Chains.{LogChain, members_in, members_of}
 use Rattle.law_log_sizes.proofs.Chains.{by-chain}
 use Rattle.log_entries.specs.declared.entry.Entry.{Entry}
 use Rattle.log_entries.specs.declared.entry.Entry.TheVariants.{Group, Archived, Floor}

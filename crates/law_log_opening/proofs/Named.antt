@@ -1,5 +1,5 @@
 -- The names in the rolls matter for nothing that opening asks of a log: without them it tells the same runs and floors, and its chains keep the same rules.
-use Rattle.std.proofs.Common.{◌≡◌, ℕ, zero, suc, ◌+◌, ◌-◌, ◌<◌, ◌≤◌, max, List, [], ◌∷◌, ◌++◌, map, length, take, refl, ap, sym, subst, ◌∙◌, arith}
+use Rattle.std.proofs.Common.{◌≡◌, ℕ, zero, suc, ◌+◌, ◌-◌, List, [], ◌∷◌, ◌++◌, map, length, take, refl, ap, sym, subst, ◌∙◌, arith}
 use Rattle.std.proofs.Common.{append_assoc}
 use Rattle.std.specs.Prelude.{flat_map}
 use Rattle.std.proofs.lemmas.List.{append-nil, map-append}
@@ -10,15 +10,14 @@ use Rattle.law_image.specs.Log.{last_time_after, archive_mark, floors_after, flo
 use Rattle.law_image.specs.HeapPlans.{marks_of, first_runs}
 use Rattle.law_image.proofs.Logs.{floors-append}
 use Rattle.law_image.proofs.HeapRuns.{marks-append, first-marks, last_mark, last_mark-is}
-use Rattle.law_log.specs.Chains.{LogChain, IsBase, MayFollow, MayAllFollow, commits_slot, later_heads, floor_slot, base_slots, heads_in, told_behind, told_from}
+use Rattle.law_log.specs.Chains.{IsBase, MayFollow, MayAllFollow, commits_slot, later_heads, floor_slot, base_slots, heads_in, told_behind, told_from}
 use Rattle.law_log.specs.Chains.{commits_in, last_commit, reclaimed_by}
-use Rattle.log_entries.specs.declared.entry.Archive.{Archive}
 use Rattle.log_entries.specs.declared.entry.Base.{Base}
 use Rattle.log_entries.specs.declared.entry.Entry.{Entry}
 use Rattle.log_entries.specs.declared.entry.Entry.TheVariants.{Group, Archived, Floor}
 use Rattle.log_entries.specs.declared.entry.Entry.TheVariants as entries
 use Rattle.law_log_layout.specs.HeapLog.{PlacedChain, Span, run_span, member_told, floor_told, base_told, chain_told, chains_told, archives_in, rolls_in, AreSpansInRow}
-use Rattle.log_recovery.specs.Rules.{LogState, MayComeBehind, MayAllComeBehind, roll_part, row_end, archive_spans, roll_spans, state_behind, state_from, mark_of}
+use Rattle.log_recovery.specs.Rules.{LogState, MayAllComeBehind, roll_part, row_end, archive_spans, roll_spans, state_behind, state_from, mark_of}
 use Rattle.log_recovery.specs.Ends.{rolls_named}
 
 -- ---- what is told

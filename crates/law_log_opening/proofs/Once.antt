@@ -1,5 +1,5 @@
 -- Opening reads one log at most, and where a check fails it is one, told with one extent.
-use Rattle.std.proofs.Common.{◌≡◌, ℕ, ◌^◌, ◌<◌, List, [], refl, sym, ap, subst, ◌∙◌}
+use Rattle.std.proofs.Common.{◌≡◌, ℕ, ◌^◌, ◌<◌, List, [], sym, subst, ◌∙◌}
 use Rattle.law_log_layout.specs.HeapLog.{PlacedAnchors, PlacedChain}
 use Rattle.log_recovery.specs.Anchored.{AreRightAnchors, FailsAnchors, anchor_names}
 use Rattle.log_recovery.specs.Chains.{FailsChain, HasOpenGate, HoldsChains, numbers_of}

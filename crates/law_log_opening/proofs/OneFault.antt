@@ -1,11 +1,10 @@
 -- Of the same chains, one rule, one chain of anchors and one record at most is the first that fails.
-use Rattle.std.proofs.Common.{◌≡◌, ℕ, ◌^◌, ◌<◌, ◌≤◌, ◌⊎◌, inl, inr, List, [], ◌∷◌, ◌++◌, length, map, Option, refl, sym, ap, subst, ◌∙◌, arith}
+use Rattle.std.proofs.Common.{◌≡◌, ℕ, ◌^◌, ◌<◌, inl, inr, List, [], ◌∷◌, ◌++◌, length, map, Option, refl, sym, ap, subst, ◌∙◌, arith}
 use Rattle.std.specs.Prelude.{flat_map}
 use Rattle.std.specs.List.{AllByRecursion}
 use Rattle.std.proofs.lemmas.List.{nil_from_length}
 use Rattle.history.specs.declared.key.Key.{Key}
 use Rattle.law_image.specs.Values.{Value}
-use Rattle.law_image.specs.Reading.{OldRecord}
 use Rattle.law_layout.specs.Records.{old_bytes}
 use Rattle.law_layout.proofs.OpensAsOne.{olds_once}
 use Rattle.log_extents.specs.Chains.{count_of, first_or, chain_of, AreDistinct, IsNumberOf}

@@ -1,8 +1,6 @@
 -- One walk along the chains of a heap goes as far as any other.
 use Rattle.std.proofs.Common.{◌≡◌, ℕ, suc, ◌+◌, ◌-◌, ◌^◌, ◌<◌, ◌≤◌, List, [], ◌∷◌, ◌++◌, length, map, take, drop, refl, sym, ap, subst, ◌∙◌, arith}
-use Rattle.std.specs.List.{AllByRecursion}
 use Rattle.std.proofs.lemmas.List.{append_assoc, append-nil, length-take}
-use Rattle.disk.specs.Parts.{HoldsPart}
 use Rattle.deltas.specs.Extents.{extent_start}
 use Rattle.log_extents.specs.Extents.{LinkedExtent, linked_bytes}
 use Rattle.log_extents.specs.Chains.{first_or, chain_of}

@@ -1,37 +1,34 @@
 -- An image that stands for a history opens.
-use Rattle.std.proofs.Common.{◌≡◌, ℕ, ◌+◌, ◌<◌, ◌≤◌, max, nat_lt, if◌then◌else◌, List, [], ◌∷◌, ◌++◌, length, map, refl, sym, ap, subst, ◌∙◌, arith}
+use Rattle.std.proofs.Common.{◌≡◌, ℕ, max, List, [], ◌++◌, length, map, sym, ap, subst, ◌∙◌, arith}
 use Rattle.std.specs.Prelude.{flat_map}
 use Rattle.std.specs.List.{AllByRecursion}
 use Rattle.std.proofs.lemmas.List.{map-append}
 use Rattle.std.specs.List.Sorted.{IsStrictlySortedBy}
 use Rattle.history.specs.Key.{key_cmp}
 use Rattle.history.specs.Histories.{History}
-use Rattle.history.specs.declared.key.Key.{Key}
 use Rattle.history.specs.declared.time.Version.{Version}
 use Rattle.history.specs.Versions.{stands_at, as_write}
 use Rattle.wire.specs.declared.slot.Run.{Run}
 use Rattle.std.specs.Prelude.{filter}
 use Rattle.law_image.specs.Values.{Value}
-use Rattle.law_image.specs.Reading.{Head, Member, OldRecord, Reading, Slot}
+use Rattle.law_image.specs.Reading.{OldRecord, Reading, Slot}
 use Rattle.law_image.specs.Log.{archive_mark, reclaim_mark, told_time}
-use Rattle.law_image.specs.Facts.{AreStored, heap_versions}
+use Rattle.law_image.specs.Facts.{AreStored}
 use Rattle.law_image.specs.StandsFor.{IsAnchorUpto, Reads, StandsFor}
 use Rattle.law_layout.specs.Runs.{StoredRun}
 use Rattle.law_log.specs.Chains.{MayAllFollow, last_commit, reclaimed_by, told, told_from}
 use Rattle.law_log.proofs.Telling.{TellsSo, tells-all}
-use Rattle.deltas.specs.Extents.{extent_start}
-use Rattle.log_extents.specs.Chains.{AreDistinct}
 use Rattle.log_entries.specs.declared.entry.Roll.{Roll}
 use Rattle.log_writer.specs.Turns.{extent_part, Part}
 use Rattle.law_log_layout.specs.Turns.{HoldsAll}
-use Rattle.law_log_layout.specs.HeapLog.{HeapLog, HoldsLog, IsLogOf, KeepsShares, PlacedChain, PlacedRoll, Span, AreAnchorsAt, AreSpansApart, AreSpansInRow}
-use Rattle.law_log_layout.specs.HeapLog.{anchor_extents, chains_told, extents_of, roll_span, run_span, spans_of}
+use Rattle.law_log_layout.specs.HeapLog.{HeapLog, HoldsLog, IsLogOf, KeepsShares, AreAnchorsAt, AreSpansApart, AreSpansInRow}
+use Rattle.law_log_layout.specs.HeapLog.{anchor_extents, chains_told, extents_of, roll_span, run_span}
 use Rattle.law_log_layout.proofs.Places.{distinct-parts}
 use Rattle.log_recovery.specs.Anchored.{anchor_names, AreRightAnchors}
 use Rattle.log_recovery.specs.Chains.{HoldsChains, numbers_of}
 use Rattle.log_recovery.specs.Ends.{EndsRight, open_of, rolls_named, runs_left, unread_log, unread_reading}
 use Rattle.log_recovery.specs.Members.{AreAllStored, members_of_all, values_of}
-use Rattle.log_recovery.specs.Opening.{EndsWithin, HoldsAnchors, HoldsHeap, HoldsMembers, KeepsRules, Opens, archive_parts}
+use Rattle.log_recovery.specs.Opening.{EndsWithin, HoldsMembers, Opens, archive_parts}
 use Rattle.log_recovery.specs.Rules.{MayAllComeBehind, mark_of, no_log, roll_part, state_from}
 use Rattle.log_recovery.proofs.Past.{within_joined}
 use Rattle.log_recovery.proofs.Sized.{follow-all}

@@ -1,12 +1,12 @@
 -- The chains of a log that a heap holds are right, one behind the other, and where it ends no gate is open.
-use Rattle.std.proofs.Common.{◌≡◌, ◌≢◌, ℕ, List, [], ◌∷◌, ◌++◌, map, refl, sym, ap, subst, ◌∙◌}
+use Rattle.std.proofs.Common.{◌≡◌, ◌≢◌, ℕ, List, [], ◌∷◌, ◌++◌, map, refl, sym, subst}
 use Rattle.std.specs.Prelude.{flat_map}
 use Rattle.std.specs.List.{AllByRecursion}
 use Rattle.std.proofs.lemmas.List.{append_assoc, map-append}
 use Rattle.disk.specs.Parts.{HoldsPart}
 use Rattle.deltas.specs.Extents.{extent_start}
 use Rattle.law_layout.proofs.Lists.{all_of_front, all_of_back}
-use Rattle.log_extents.specs.Chains.{IsNew, AreDistinct}
+use Rattle.log_extents.specs.Chains.{AreDistinct}
 use Rattle.log_writer.specs.Turns.{open_gate, extent_part, Part}
 use Rattle.law_log_layout.specs.Turns.{HoldsAll, IsClosed}
 use Rattle.law_log_layout.specs.HeapLog.{PlacedChain, extents_of, IsPlaced, AreChained}
