@@ -18,6 +18,6 @@ mod walk;
 pub use anchors::AnchorsRead;
 pub use chain::LogChain;
 pub use members_read::{CommitName, MembersRead};
-pub use opening::{AnchoredLog, LogRead};
+pub use opening::{AnchoredLog, LogHeap, LogRead};
 pub use rules::{LogEnd, RuleCheck, check_rules};
 pub use walk::ChainsRead;
