@@ -16,7 +16,8 @@ use Rattle.log_entries.specs.declared.entry.Base.{Base}
 use Rattle.log_entries.specs.declared.entry.Entry.{Entry}
 use Rattle.log_entries.specs.declared.entry.Entry.TheVariants.{Group, Archived, Floor}
 use Rattle.log_entries.specs.declared.entry.Entry.TheVariants as entries
-use Rattle.law_log_layout.specs.HeapLog.{PlacedChain, Span, run_span, member_told, floor_told, base_told, chain_told, chains_told, archives_in, rolls_in, AreSpansInRow}
+use Rattle.law_log_layout.specs.HeapLog.{PlacedChain, Span, AreSpansInRow, run_span, archives_in, rolls_in}
+use Rattle.law_log_layout.specs.HeapLog.{member_told, floor_told, base_told, chain_told, chains_told}
 use Rattle.log_recovery.specs.Rules.{LogState, MayAllComeBehind, roll_part, row_end, archive_spans, roll_spans, state_behind, state_from, mark_of}
 use Rattle.log_recovery.specs.Ends.{rolls_named}
 
@@ -130,7 +131,8 @@ commits-same names (Archived archive) = refl
 commits-same names (Floor floor) = refl
 commits-same names (entries.Base base) = refl
 
-pub last-same : (names : List Head) (last : ℕ) (chains : List PlacedChain) → last_commit last (chains_told names chains) ≡ last_commit last (chains_told [] chains)
+pub last-same : (names : List Head) (last : ℕ) (chains : List PlacedChain)
+    → last_commit last (chains_told names chains) ≡ last_commit last (chains_told [] chains)
 last-same names last [] = refl
 last-same names last (c ∷ chains) =
     ap (λ (hs : List Head). last_commit (last_time_after last hs) (chains_told names chains)) (commits-same names c.entry)
@@ -180,6 +182,7 @@ pub come-behind : (mark : ℕ) (names : List Head) (before : List Slot) (s : Log
 come-behind mark names before s [] so none may runs rolls = tt
 come-behind mark names before s (c ∷ chains) so none may runs rolls =
     let later = flat_map (λ (d : PlacedChain). archives_in d.entry) chains in
+    let told : List Slot = told_behind mark before (chain_told names c.entry) in
     let all_runs = subst (AreSpansInRow s.runs_end) (map-append run_span (archives_in c.entry) later) runs in
     let all_rolls = subst (AreSpansInRow s.rolls_end) (map-append roll_part (rolls_in c.entry) (rolls_named chains)) rolls in (
       record {
@@ -187,10 +190,9 @@ come-behind mark names before s (c ∷ chains) so none may runs rolls =
         runs = row-front s.runs_end (archive_spans c.entry) (map run_span later) all_runs;
         rolls = row-front s.rolls_end (roll_spans c.entry) (map roll_part (rolls_named chains)) all_rolls;
       },
-      come-behind mark names (told_behind mark before (chain_told names c.entry)) (state_behind mark s c.entry) chains
+      come-behind mark names told (state_behind mark s c.entry) chains
           (alike-behind mark names before s.told c.entry so) (none-behind mark names before s.told c.entry none)
-          (subst (λ (hs : List Head). MayAllFollow mark (last_time_after s.last hs) (told_behind mark before (chain_told names c.entry)) (chains_told names chains))
-          (commits-same names c.entry) may.1)
+          (subst (λ (hs : List Head). MayAllFollow mark (last_time_after s.last hs) told (chains_told names chains)) (commits-same names c.entry) may.1)
           (row-back s.runs_end (archive_spans c.entry) (map run_span later) all_runs)
           (row-back s.rolls_end (roll_spans c.entry) (map roll_part (rolls_named chains)) all_rolls),
     )
