@@ -7,3 +7,4 @@ pub mod Ends
 pub mod Following
 pub mod Opening
 pub mod Read
+pub mod Image

@@ -215,7 +215,7 @@ fn finish_heap(
 }
 
 // Reads the heap, from this root on.
-fn read_heap<D: Disk>(
+pub(crate) fn read_heap<D: Disk>(
     alloc: Global,
     disk: &mut D,
     heap: HeapSize,
