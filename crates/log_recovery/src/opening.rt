@@ -7,6 +7,7 @@ ghost use Rattle.log_entries.specs.Ranges.{AreNone, AreSome};
 ghost use Rattle.log_recovery.specs.Chains.{HasEntry};
 ghost use Rattle.log_recovery.specs.Rules.{mark_of};
 ghost use Rattle.log_recovery.specs.Following.{IsEndOf};
+ghost use Rattle.log_recovery.specs.Ends.{EndsEarly, end_parts};
 ghost use Rattle.log_recovery.specs.Anchored.{first_names, TakesAnchors, IsAnchorsFault};
 ghost use Rattle.log_extents.specs.Chains.{IsNumberOf};
 ghost use Rattle.recovery.specs.Answers.{after_reads};
@@ -186,6 +187,7 @@ fn finish_heap(
     requires end { IsEndOf (mark_of read.log.chains.items) read.log.chains.items read.log.end }
     requires next { IsNumberOf heap.most read.log.next }
     requires latest { latest read.anchors.versions ≤ read.log.end.mark }
+    ensures ends_early { IfOk result (λ heap. AllByRecursion EndsEarly (end_parts heap.end)) }
     ensures found { (bytes : List ℕ) → heap.len ≡ length bytes → IsAnchoredLog heap.most root bytes read → IfOk result (IsHeapRead heap.most root bytes) }
     ensures fault { (bytes : List ℕ) → heap.len ≡ length bytes → IsAnchoredLog heap.most root bytes read → IfErr result (IsHeapFault heap.most root bytes) }
     ensures in_memory { IfErr result IsInMemoryFault }
@@ -210,4 +212,25 @@ fn finish_heap(
         live: members.live,
         members: members.read,
     })
+}
+
+// Reads the heap, from this root on.
+pub(crate) fn read_heap<D: Disk>(
+    alloc: Global,
+    disk: &mut D,
+    heap: HeapSize,
+    root: u32,
+) -> Result<LogHeap, OpenFault>
+    requires len { IsTrue D.tells → heap.len ≡ length (D.state disk.old).areas.heap.bytes }
+    requires most { heap.most ≤ 1048576 }
+    requires root { IsNumberOf heap.most root }
+    ensures ends_early { IfOk result (λ read. AllByRecursion EndsEarly (end_parts read.end)) }
+    ensures found { IsTrue D.tells → IfOk result (IsHeapRead heap.most root (D.state disk.old).areas.heap.bytes) }
+    ensures fault { IsTrue D.tells → IfErr result (IsHeapFault heap.most root (D.state disk.old).areas.heap.bytes) }
+    ensures reads { D.state disk.new ≡ after_reads result (D.state disk.old) }
+{
+    match read_anchored(alloc, disk, heap, root) {
+        Ok(read) => finish_heap(alloc, heap, root, read),
+        Err(fault) => Err(fault),
+    }
 }

@@ -8,10 +8,11 @@ use Rattle.log_entries.specs.declared.entry.Roll.{Roll}
 use Rattle.law_log_layout.specs.HeapLog.{PlacedChain, AreSpansInRow, run_span}
 use Rattle.log_recovery.specs.Rules.{mark_of, roll_part}
 use Rattle.log_recovery.specs.Members.{values_of, heads_told, members_of_all, AreAllStored, HasFacts, IsMembersFault}
-use Rattle.log_recovery.specs.Ends.{EndsEarly, IsEndSeen, open_of, counted_in, AreBasesSmall}
+use Rattle.log_recovery.specs.Ends.{EndsEarly, IsEndSeen, open_of, counted_in, AreBasesSmall, end_parts}
 use Rattle.log_recovery.specs.Opening.{FailsHeap, AtEnd}
 use Rattle.log_recovery.proofs.HeapRead.{members_rise_behind, fault_of_members}
 use Rattle.log_recovery.proofs.Rows.{runs_in_row, rolls_in_row}
+use Rattle.log_recovery.proofs.Walking.{all_joined}
 use Rattle.log_recovery.proofs.Finishing.{holds_anchors, three_decide}
 use Rattle.log_recovery.proofs.opening.finish_heap.Goals as goal
 
@@ -108,3 +109,12 @@ returns-clause-found c = λ bytes len is.
       live_are = c.in-Ok.ensures.live;
       facts = facts;
     }
+
+pub returns-clause-ends_early : goal.returns-clause-ends_early
+returns-clause-ends_early c =
+    let chains = c.args.read.log.chains.items in
+    let runs = subst (λ (l : List Run). AllByRecursion EndsEarly (map run_span l)) (sym c.requires.end.runs_are)
+    (runs_in_row (mark_of chains) c.args.heap.most chains c.requires.entries c.requires.end.keeps).1.early in
+    let rolls = subst (λ (l : List Roll). AllByRecursion EndsEarly (map roll_part l)) (sym c.requires.end.rolls_are)
+    (rolls_in_row (mark_of chains) c.args.heap.most chains c.requires.entries c.requires.end.keeps).early in
+    all_joined EndsEarly (map run_span c.args.read.log.end.runs.items) (map roll_part c.args.read.log.end.rolls.items) runs rolls
