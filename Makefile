@@ -8,7 +8,7 @@ BENCH = crates/bench/out/bench
 # tell its speed is given as much longer for the gate.
 BUDGET = 200
 
-.PHONY: demo test more-edits build try examples bench trials torture torture-short soak hostile try-refused planted rates lib install library-test library-bench
+.PHONY: demo test more-edits build try examples bench trials torture torture-short soak hostile try-refused planted rates lib install library-test library-bench rados-test rados-bench
 
 test:
 	@command -v rt >/dev/null || { echo "the Rattle kit's command rt is not on PATH" >&2; exit 1; }
@@ -116,3 +116,10 @@ library-test:
 # FOLDER="DIR DIR" measures the file systems of these.
 library-bench:
 	$(MAKE) -C library bench $(if $(FOLDER),FOLDER="$(FOLDER)")
+
+# The host for a Ceph pool, library/hosts/rados/README.md: on a cluster of three object stores, which is started on loopback and ended.
+rados-test:
+	$(MAKE) -C library/hosts/rados test
+
+rados-bench:
+	$(MAKE) -C library/hosts/rados bench

@@ -1,19 +1,18 @@
 /* A host of timestore for three files of a folder. */
 #define _GNU_SOURCE
 #include "files.h"
+#include "steps.h"
 #include <errno.h>
 #include <pthread.h>
-#include <stdatomic.h>
 #include <stdlib.h>
 #include <time.h>
 
 #define FRONT 512 /* the bytes before the first slot */
 
 struct ts_file {
-    ts store;
+    tsi_host host;
     store_files files;
     ts_cause cause; /* the device call that was refused */
-    uint8_t bytes[TS_WRITE_MOST];
     uint8_t *archive; /* its first bytes, as far as they were read; NULL for none */
     size_t archive_read, archive_room;
     uint64_t archive_len; /* all that was written to it */
@@ -37,7 +36,7 @@ static void in_parent(void) { pthread_mutex_unlock(&open_lock); }
 static void in_child(void) {
     for (ts_file *file = open_stores; file; file = file->next) {
         tsi_files_leave(&file->files);
-        file->store = (ts)TS_EMPTY;
+        file->host.store = (ts)TS_EMPTY;
     }
     open_stores = NULL;
     pthread_mutex_unlock(&open_lock);
@@ -149,11 +148,7 @@ int32_t ts_file_format(const char *folder, uint32_t slots) {
 
 /* ---- opening and closing */
 
-/* A mark for each store that is opened: two that are open at once have other ones, unless 32,768 are. */
-static uint64_t next_mark(void) {
-    static atomic_uint_fast32_t marks;
-    return atomic_fetch_add(&marks, 1);
-}
+static bool make(tsi_host *host, const ts_device *call);
 
 /* All bytes of an area, in memory that is the caller's to free; NULL where there are none. */
 static int32_t read_area(const store_files *files, int area, uint64_t len, uint8_t **bytes) {
@@ -168,9 +163,9 @@ static int32_t open_on(ts_file *file, uint8_t *const *bytes, const uint64_t *len
     const uint8_t *archive = nothing;
     if (len[TS_ARCHIVE] > 0) archive = tsi_zeros((size_t)len[TS_ARCHIVE]);
     if (!archive) return TS_NO_MEMORY;
-    int32_t code = ts_open(&file->store, bytes[TS_STATUS] ? bytes[TS_STATUS] : nothing, (size_t)len[TS_STATUS],
+    int32_t code = ts_open(&file->host.store, bytes[TS_STATUS] ? bytes[TS_STATUS] : nothing, (size_t)len[TS_STATUS],
                            bytes[TS_HEAP] ? bytes[TS_HEAP] : nothing, (size_t)len[TS_HEAP], archive,
-                           (size_t)len[TS_ARCHIVE], next_mark(), info);
+                           (size_t)len[TS_ARCHIVE], tsi_next_mark(TSI_FILES), info);
     if (archive != nothing) tsi_drop_zeros(archive, (size_t)len[TS_ARCHIVE]);
     return code;
 }
@@ -192,6 +187,7 @@ static int32_t open_read(ts_file *file, ts_info *info) {
 int32_t ts_file_open(const char *folder, ts_file **out, ts_info *info) {
     ts_file *file = calloc(1, sizeof *file);
     if (!file) return TS_NO_MEMORY;
+    file->host.make = make;
     file->files = (store_files)NO_FILES;
     int32_t code = open_files(folder, false, &file->files);
     if (code == TS_OK) code = tsi_files_identity(&file->files, &file->device, &file->number);
@@ -211,13 +207,13 @@ int32_t ts_file_open(const char *folder, ts_file **out, ts_info *info) {
 
 void ts_file_close(ts_file *file) {
     remove_open(file);
-    ts_close(&file->store);
+    ts_close(&file->host.store);
     tsi_files_close(&file->files);
     free(file->archive);
     free(file);
 }
 
-ts *ts_file_store(ts_file *file) { return &file->store; }
+ts *ts_file_store(ts_file *file) { return &file->host.store; }
 
 int32_t ts_file_error(const ts_file *file, ts_cause *cause) {
     const ts_cause *told = file ? &file->cause : tsi_last_cause();
@@ -260,59 +256,32 @@ static void wrote_archive(ts_file *file, const ts_device *call) {
     if (call->at + call->len > file->archive_len) file->archive_len = call->at + call->len;
 }
 
-/* ---- steps */
+/* ---- device calls and steps */
 
 static int32_t make_write(ts_file *file, const ts_device *call) {
-    int32_t code = tsi_write(&file->files, (int)call->area, file->bytes, (size_t)call->len, call->at);
+    int32_t code = tsi_write(&file->files, (int)call->area, file->host.bytes, (size_t)call->len, call->at);
     if (code == TS_OK && call->area == TS_ARCHIVE) wrote_archive(file, call);
     return code;
 }
 
-/* Makes the device call that is due, if one is; what its step did is told. */
-static int32_t make_call(ts_file *file, ts_info *info) {
-    ts_device call;
-    int32_t code = ts_call(&file->store, &call, file->bytes, sizeof file->bytes);
-    if (code != TS_OK) return code == TS_NONE ? TS_OK : code;
-    code = call.kind == TS_WRITE ? make_write(file, &call) : tsi_sync(&file->files, (int)call.area);
+/* Makes a device call of the file that this is the host of. */
+static bool make(tsi_host *host, const ts_device *call) {
+    ts_file *file = (ts_file *)host;
+    int32_t code = call->kind == TS_WRITE ? make_write(file, call) : tsi_sync(&file->files, (int)call->area);
     if (code != TS_OK) file->cause = *tsi_last_cause();
-    return ts_called(&file->store, code == TS_OK, info);
+    return code == TS_OK;
 }
 
-typedef int32_t step(ts *store, ts_info *info);
+int32_t ts_file_pump(ts_file *file, ts_info *info) { return tsi_pump(&file->host, info); }
 
-/* A step with its device call. */
-static int32_t take(ts_file *file, step *next, ts_info *info) {
-    int32_t code = next(&file->store, info);
-    int32_t made = make_call(file, info);
-    return made < 0 ? made : code;
-}
+int32_t ts_file_job_pump(ts_file *file, ts_info *info) { return tsi_job_pump(&file->host, info); }
 
-/* All steps. A group and a job may each wait for the other's slot: TS_BUSY, and then that one goes on. */
-static int32_t take_all(ts_file *file, step *next, step *other) {
-    ts_info info = {0, 0};
-    int32_t code;
-    do {
-        code = take(file, next, &info);
-        if (code == TS_BUSY) code = take(file, other, &info);
-        else if (code == TS_OK && info.a == TS_IDLE) return TS_OK;
-    } while (code == TS_OK);
-    return code;
-}
+int32_t ts_file_flush(ts_file *file) { return tsi_flush(&file->host); }
 
-int32_t ts_file_pump(ts_file *file, ts_info *info) { return take(file, ts_pump, info); }
-
-int32_t ts_file_job_pump(ts_file *file, ts_info *info) { return take(file, ts_job_pump, info); }
-
-int32_t ts_file_flush(ts_file *file) { return take_all(file, ts_pump, ts_job_pump); }
-
-int32_t ts_file_job(ts_file *file) { return take_all(file, ts_job_pump, ts_pump); }
+int32_t ts_file_job(ts_file *file) { return tsi_job(&file->host); }
 
 int32_t ts_file_commit(ts_file *file, uint64_t txn, uint64_t label, uint64_t now, ts_info *info) {
-    int32_t code = ts_submit(&file->store, txn, label, now, info);
-    if (code != TS_OK) return code;
-    uint64_t ticket = info->a;
-    ts_file_flush(file); /* where it is refused, the ticket says what became of the commit */
-    return ts_redeem(&file->store, ticket, info);
+    return tsi_commit(&file->host, txn, label, now, info);
 }
 
 /* ---- one call for what is asked most */
@@ -323,53 +292,20 @@ uint64_t ts_now(void) {
     return (uint64_t)now.tv_sec * 1000000 + (uint64_t)now.tv_nsec / 1000;
 }
 
-/* Commits a transaction where its write was answered so, and else gives it up. */
-static int32_t commit_one(ts_file *file, uint64_t txn, int32_t code, uint64_t label, uint64_t now, ts_info *info) {
-    if (code == TS_OK) return ts_file_commit(file, txn, label, now, info);
-    ts_abort(&file->store, txn);
-    return code;
-}
-
 int32_t ts_file_put(ts_file *file, uint16_t relation, uint64_t record, const uint8_t *value, size_t value_len,
                     uint64_t label, uint64_t now, ts_info *info) {
-    int32_t code = ts_begin(&file->store, info);
-    if (code != TS_OK) return code;
-    code = ts_put(&file->store, info->a, relation, record, value, value_len);
-    return commit_one(file, info->a, code, label, now, info);
+    return tsi_put(&file->host, relation, record, value, value_len, label, now, info);
 }
 
 int32_t ts_file_delete(ts_file *file, uint16_t relation, uint64_t record, uint64_t label, uint64_t now, ts_info *info) {
-    int32_t code = ts_begin(&file->store, info);
-    if (code != TS_OK) return code;
-    code = ts_delete(&file->store, info->a, relation, record);
-    return commit_one(file, info->a, code, label, now, info);
-}
-
-/* A view of what is published now, and the time of its last commit. */
-static int32_t view_now(ts_file *file, uint64_t *view, uint64_t *last) {
-    ts_info info = {0, 0};
-    int32_t code = ts_last(&file->store, &info);
-    *last = info.a;
-    if (code == TS_OK) code = ts_view(&file->store, &info);
-    *view = info.a;
-    return code;
+    return tsi_delete(&file->host, relation, record, label, now, info);
 }
 
 int32_t ts_file_get(ts_file *file, uint16_t relation, uint64_t record, uint8_t *out, size_t len, ts_info *info) {
-    uint64_t view, last;
-    int32_t code = view_now(file, &view, &last);
-    if (code != TS_OK) return code;
-    code = ts_recent(&file->store, view, relation, record, last, out, len, info);
-    ts_end(&file->store, view);
-    return code;
+    return tsi_get(&file->host.store, relation, record, out, len, info);
 }
 
 int32_t ts_file_scan(ts_file *file, uint16_t relation, ts_row *rows, size_t row_count, uint8_t *out, size_t len,
                      ts_info *info) {
-    uint64_t view, last;
-    int32_t code = view_now(file, &view, &last);
-    if (code != TS_OK) return code;
-    code = ts_scan_at(&file->store, view, relation, last, nothing, 0, rows, row_count, out, len, info);
-    ts_end(&file->store, view);
-    return code;
+    return tsi_scan(&file->host.store, relation, rows, row_count, out, len, info);
 }

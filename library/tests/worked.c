@@ -1,5 +1,6 @@
 /* The worked examples of the store, through the C calls: worked FOLDER, one that is there; each example has a
- * folder of its own in it. Records are of relation 1, and record 7 where none is named. */
+ * folder of its own in it. Records are of relation 1, and record 7 where none is named. PLACE says where the areas
+ * of `folder` lie, and what opens them. */
 #define _GNU_SOURCE
 #include "check.h"
 #include "faults.h"
@@ -10,10 +11,15 @@
 
 enum { EXTENT = 8192, FRONT = 512, SLOT = 512, OPEN_GATE = 0xC7 };
 
+#ifndef PLACE
+#define PLACE "place_files.h"
+#endif
+
 /* ---- the store in hand */
 
 static const char *top;
 static char folder[4096];
+#include PLACE
 static ts_file *file;
 static ts *h;
 static ts_info info;
@@ -28,7 +34,7 @@ static void fresh(uint32_t slots) {
     static int count;
     if (file) ts_file_close(file);
     snprintf(folder, sizeof folder, "%s/%d", top, ++count);
-    HOLDS(mkdir(folder, 0777) == 0);
+    make_place();
     CHECK(TS_OK, ts_file_format(folder, slots));
     open_again();
 }
@@ -36,30 +42,6 @@ static void fresh(uint32_t slots) {
 static void reopen(void) {
     ts_file_close(file);
     open_again();
-}
-
-static const char *path_of(const char *name) {
-    static char path[4200];
-    snprintf(path, sizeof path, "%s/%s", folder, name);
-    return path;
-}
-
-static int64_t size_of(const char *name) {
-    struct stat state;
-    HOLDS(stat(path_of(name), &state) == 0);
-    return state.st_size;
-}
-
-static void read_bytes(const char *name, int64_t at, uint8_t *bytes, size_t len) {
-    int fd = open(path_of(name), O_RDONLY);
-    HOLDS(fd >= 0 && pread(fd, bytes, len, at) == (ssize_t)len);
-    close(fd);
-}
-
-static void write_byte(const char *name, int64_t at, uint8_t byte) {
-    int fd = open(path_of(name), O_WRONLY);
-    HOLDS(fd >= 0 && pwrite(fd, &byte, 1, at) == 1);
-    close(fd);
 }
 
 /* What a store that is closed opens as. */
@@ -477,6 +459,50 @@ static void scans(void) {
     HOLDS(found("3 115 131 x; 7 112 120 b; 7 130 131 c"));
 }
 
+/* ---- one call for what is asked most */
+
+/* What stands now is of the last commit, also behind a reclaim: it needs no archive. */
+static void its_present(void) {
+    static const uint8_t C[] = {1, 1, 'c'}, X[] = {1, 1, 'x'};
+    uint8_t out[TS_VALUE_MOST];
+    ts_row row[2];
+    CHECK(TS_OK, ts_file_get(file, 1, 7, out, sizeof out, &info));
+    HOLDS(info.a == sizeof C && memcmp(out, C, sizeof C) == 0);
+    CHECK(TS_SMALL, ts_file_get(file, 1, 7, out, sizeof C - 1, &info));
+    HOLDS(info.a == sizeof C);
+    CHECK(TS_NONE, ts_file_get(file, 1, 8, out, sizeof out, &info));
+    CHECK(TS_OK, ts_file_scan(file, 1, row, 2, out, sizeof out, &info));
+    HOLDS(info.a == 2 && info.b == sizeof X + sizeof C && row[0].record == 3 && row[1].record == 7);
+    HOLDS(memcmp(out + row[0].at, X, sizeof X) == 0 && memcmp(out + row[1].at, C, sizeof C) == 0);
+    CHECK(TS_SMALL, ts_file_scan(file, 1, row, 1, out, sizeof out, &info));
+    HOLDS(info.a == 2 && info.b == sizeof X + sizeof C);
+}
+
+static void one_call_each(void) {
+    static const uint8_t A[] = {1, 1, 'a'}, B[] = {1, 1, 'b'}, C[] = {1, 1, 'c'}, X[] = {1, 1, 'x'}, NO_VALUE[] = {0};
+    fresh(16);
+    CHECK(TS_OK, ts_file_put(file, 1, 7, A, sizeof A, 1, 100, &info));
+    HOLDS(info.a == 100);
+    CHECK(TS_OK, ts_file_put(file, 1, 8, B, sizeof B, 2, 0, &info));
+    HOLDS(info.a == 101);
+    CHECK(TS_OK, ts_file_put(file, 1, 7, C, sizeof C, 3, 110, &info));
+    CHECK(TS_OK, ts_file_delete(file, 1, 8, 4, 120, &info));
+    HOLDS(info.a == 120);
+    CHECK(TS_MISSING, ts_file_delete(file, 1, 8, 5, 130, &info));
+    CHECK(TS_BAD_VALUE, ts_file_put(file, 1, 8, NO_VALUE, sizeof NO_VALUE, 5, 130, &info));
+    CHECK(TS_OK, ts_file_put(file, 1, 3, X, sizeof X, 5, 140, &info));
+    its_present();
+    HOLDS(has(105, "a") && has(110, "c"));
+    CHECK(TS_OK, ts_archive(h, 120, &info));
+    CHECK(TS_OK, ts_file_job(file));
+    CHECK(TS_OK, ts_reclaim(h, &info)); /* what was refused has left no transaction open, which would bar it */
+    CHECK(TS_OK, ts_file_job(file));
+    its_present();
+    reopen();
+    its_present();
+    HOLDS(has(105, "a"));
+}
+
 /* ---- archives, reclaims and floors */
 
 static void archived(uint64_t upto) {
@@ -660,8 +686,10 @@ static void a_refused_sync_behind_the_gate(void) {
     a_history(16);
     uint64_t ticket = queued(7, "d", 9, 140);
     PUMPS(TS_WROTE, TS_SYNCED, TS_BODY_WRITTEN, TS_BODY_SYNCED, TS_GATE_WRITTEN);
+    HOLDS(!tells_a_refusal(file));
     faults_refuse(1, EIO);
     CHECK(TS_FAILED, ts_file_pump(file, &info));
+    HOLDS(tells_a_refusal(file));
     CHECK(TS_IN_DOUBT, ts_redeem(h, ticket, &info));
     CHECK(TS_FAILED, ts_begin(h, &info));
     HOLDS(has(130, "c"));
@@ -669,6 +697,7 @@ static void a_refused_sync_behind_the_gate(void) {
     HOLDS(info.a == 130);
     for (int n = 0; n < 2; n++) { /* the gate was written */
         reopen();
+        HOLDS(!tells_a_refusal(file));
         CHECK(TS_OK, ts_times_of(h, 9, times, 2, &info));
         HOLDS(info.a == 1 && times[0] == 140);
     }
@@ -678,15 +707,15 @@ static void damages(void) {
     fresh(16);
     commits(7, "a", 1, 100);
     ts_file_close(file);
-    HOLDS(truncate(path_of("heap"), EXTENT - 1) == 0);
+    cut("heap", EXTENT - 1);
     CHECK(TS_DAMAGED, opens_as());
     HOLDS(info.a == 1 && info.b == TS_HEAP);
     write_byte("status", FRONT + 1, 5);
     CHECK(TS_DAMAGED, opens_as());
     HOLDS(info.a == 0 && info.b == TS_STATUS);
-    HOLDS(truncate(path_of("status"), 8703) == 0);
+    cut("status", 8703);
     CHECK(TS_NOT_A_STORE, opens_as());
-    HOLDS(truncate(path_of("status"), 511) == 0);
+    cut("status", 511);
     CHECK(TS_NOT_A_STORE, opens_as());
     file = NULL;
 }
@@ -703,7 +732,7 @@ static void a_damaged_archive(void) {
     HOLDS(info.a == 0 && info.b == TS_ARCHIVE);
     ts_file_close(file);
     file = NULL;
-    HOLDS(truncate(path_of("archive"), 73) == 0);
+    cut("archive", 73);
     CHECK(TS_DAMAGED, opens_as());
     HOLDS(info.a == 0 && info.b == TS_ARCHIVE);
 }
@@ -712,7 +741,7 @@ int main(int argc, char **argv) {
     static void (*const EXAMPLES[])(void) = {
         a_new_store, one_commit, times_rise, the_first_writer_wins, the_least_key_is_told, reads_do_not_conflict,
         what_waits_is_not_seen, a_scan_has_own_writes, writes_that_leave_nothing, large_values, many_records, deltas,
-        a_group_of_sixteen, a_group_has_begun, a_stop_within_the_gate, intervals, scans, an_archive, a_reclaim,
+        a_group_of_sixteen, a_group_has_begun, a_stop_within_the_gate, intervals, scans, one_call_each, an_archive, a_reclaim,
         a_reclaim_under_a_transaction, a_floor_up_to_a_transaction, what_stands_at_the_mark,
         a_job_with_its_slot_in_the_writing, a_floor, an_archive_behind_a_floor, a_floor_of_one_relation,
         few_slots_are_left, a_refused_sync_behind_the_gate, damages, a_damaged_archive,

@@ -15,3 +15,4 @@ pub mod Rows
 pub mod Deciding
 pub mod HeapRead
 pub mod Past
+pub mod Finishing

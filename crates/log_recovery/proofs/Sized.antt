@@ -7,9 +7,11 @@ use Rattle.law_image.specs.Log.{reclaim_mark}
 use Rattle.law_log.specs.Chains.{LogChain, MayAllFollow, members_in}
 use Rattle.log_extents.specs.Chains.{count_of}
 use Rattle.law_log_layout.specs.HeapLog.{AreAnchorsAt, IsPlaced, PlacedAnchors, PlacedChain, chains_told}
-use Rattle.law_log_sizes.specs.Sizes.{IsOrdered, anchors_len, greatest, lens_behind, size_most}
+use Rattle.law_log_sizes.specs.Sizes.{IsOrdered, anchors_len, greatest, lens_behind, size_most, size_now}
 use Rattle.law_log_sizes.proofs.Chains.{by-chain, chains-ordered}
 use Rattle.law_log_sizes.proofs.Told.{most-bound}
+use Rattle.log_sizes.specs.declared.anchor_sizes.AnchorSizes.{AnchorSizes}
+use Rattle.log_sizes.specs.Counted.{AreSizes, AreSizesBehind}
 use Rattle.log_recovery.specs.Chains.{AreWalked}
 use Rattle.log_recovery.specs.Rules.{LogState, MayAllComeBehind, mark_of, no_log, state_behind}
 use Rattle.log_recovery.specs.Members.{members_later, members_of_all, values_of}
@@ -26,6 +28,23 @@ pub follow-all : (mark : ℕ) (s : LogState) (chains : List PlacedChain) → May
     → MayAllFollow mark s.last s.told (chains_told [] chains)
 follow-all mark s [] may = tt
 follow-all mark s (c ∷ chains) may = (may.0.rule, follow-all mark (state_behind mark s c.entry) chains may.1)
+
+by-placed : (mark : ℕ) (cs : List PlacedChain)
+    → flat_map (λ (c : LogChain). filter (λ (m : Member). nat_lt mark m.head.time) (members_in c)) (chains_told [] cs) ≡ members_of_all mark cs
+by-placed mark [] = refl
+by-placed mark (c ∷ cs) = ap (λ l. members_later mark c ++ l) (by-placed mark cs)
+
+-- the members of the reading are those that opening reads, chain by chain
+pub members-are : (mark : ℕ) (cs : List PlacedChain)
+    → filter (λ (m : Member). nat_lt mark m.head.time) (flat_map members_in (chains_told [] cs)) ≡ members_of_all mark cs
+members-are mark cs = by-chain mark (chains_told [] cs) ∙ by-placed mark cs
+
+-- so the sizes that opening counts behind them are those of the reading
+pub unread-sizes : (most : ℕ) (chains : List PlacedChain) (a : PlacedAnchors) (sizes : AnchorSizes)
+    → AreSizesBehind a.records (members_of_all (mark_of chains) chains) sizes
+    → AreSizes (size_now (unread_reading most chains a)) (size_most (unread_reading most chains a)) sizes
+unread-sizes most chains a sizes are =
+    subst (λ (ms : List Member). AreSizesBehind a.records ms sizes) (sym (members-are (mark_of chains) chains)) are
 
 module _ (most root : ℕ) (heap : List ℕ) (chains : List PlacedChain) (next : ℕ) (a : PlacedAnchors) (holds : HoldsAnchors most root heap chains next a) where
   both : (reclaim_mark (unread_reading most chains a).log ≡ mark_of chains) × IsOrdered (mark_of chains) (unread_reading most chains a)
@@ -56,12 +75,3 @@ module _ (most root : ℕ) (heap : List ℕ) (chains : List PlacedChain) (next :
         λ each. subst P members (is.0 (λ time olds le are. each time olds (subst (λ (m : ℕ). m ≤ time) (sym unread-mark) le) are)),
         λ within time olds le are. is.1 (subst P (sym members) within) time olds (subst (λ (m : ℕ). m ≤ time) unread-mark le) are,
       )
-    where
-      by-placed : (mark : ℕ) (cs : List PlacedChain)
-          → flat_map (λ (c : LogChain). filter (λ (m : Member). nat_lt mark m.head.time) (members_in c)) (chains_told [] cs) ≡ members_of_all mark cs
-      by-placed mark [] = refl
-      by-placed mark (c ∷ cs) = ap (λ l. members_later mark c ++ l) (by-placed mark cs)
-
-      members-are : (mark : ℕ) (cs : List PlacedChain)
-          → filter (λ (m : Member). nat_lt mark m.head.time) (flat_map members_in (chains_told [] cs)) ≡ members_of_all mark cs
-      members-are mark cs = by-chain mark (chains_told [] cs) ∙ by-placed mark cs

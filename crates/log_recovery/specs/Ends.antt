@@ -68,3 +68,7 @@ pub record IsEnd (most heap_len next : ℕ) (flags : List Bool) (end : LogEnd) (
   pub log : length (counted_in chains) + (1 + open_of end.archived (max end.mark end.last)) ≤ most / 2
   pub anchors : count_of greatest_len ≤ (3 * most) / 16
   pub base : AreBasesSmall most chains
+
+-- the parts of the archive that the end of a log names: the runs that stand, then the rolls
+abbrev pub end_parts : LogEnd → List Span
+end_parts end = map run_span end.runs.items ++ map roll_part end.rolls.items

@@ -7,4 +7,4 @@ pub mod Ends
 pub mod Following
 pub mod Opening
 pub mod Read
-pub mod Laws
+pub mod Image

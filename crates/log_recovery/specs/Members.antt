@@ -99,3 +99,10 @@ IsMembersFault mark before chains (Damaged Heap n) = FailsMembers mark before ch
 IsMembersFault mark before chains (Damaged Archive n) = ⊥
 IsMembersFault mark before chains Device = ⊥
 IsMembersFault mark before chains NoMemory = Unit {0}
+
+-- of what was read already: damage, or that memory gave out
+abbrev pub IsInMemoryFault : OpenFault → Type 0
+IsInMemoryFault NotAStore = ⊥
+IsInMemoryFault (Damaged area n) = Unit {0}
+IsInMemoryFault Device = ⊥
+IsInMemoryFault NoMemory = Unit {0}

@@ -1,14 +1,36 @@
 -- What opening has read of the heap, step by step.
-use Rattle.std.specs.Prelude.{ℕ, ◌≡◌, List}
+use Rattle.std.specs.Prelude.{ℕ, ◌≡◌, List, map}
+use Rattle.law_log_layout.specs.HeapLog.{PlacedChain, PlacedAnchors}
 use Rattle.log_space.specs.Uses.{all_used}
 use Rattle.log_recovery.specs.declared.opening.LogRead.{LogRead}
+use Rattle.log_recovery.specs.declared.opening.LogHeap.{LogHeap}
+use Rattle.log_recovery.specs.declared.opening.AnchoredLog.{AnchoredLog}
+use Rattle.log_recovery.specs.Anchored.{TakesAnchors, first_names}
 use Rattle.log_recovery.specs.Chains.{uses_of}
 use Rattle.log_recovery.specs.Rules.{mark_of}
 use Rattle.log_recovery.specs.Following.{IsEndOf}
-use Rattle.log_recovery.specs.Opening.{KeepsRules}
+use Rattle.log_recovery.specs.Members.{live_told, lives_of, members_of_all, HasFacts}
+use Rattle.log_recovery.specs.Opening.{KeepsRules, HoldsHeap}
 
 -- the chains, which keep the rules between them, and their end; just their extents are in use
 pub record IsLogRead (most root : ℕ) (heap : List ℕ) (read : LogRead) : Type 0 where
   pub keeps : KeepsRules most root heap read.chains.items read.next
   pub end_is : IsEndOf (mark_of read.chains.items) read.chains.items read.end
   pub space_is : read.space ≡ uses_of most read.chains.items
+
+-- the same with the anchors that the chains name: these are right, and their extents are in use too
+pub record IsAnchoredLog (most root : ℕ) (heap : List ℕ) (read : AnchoredLog) : Type 0 where
+  pub keeps : KeepsRules most root heap read.log.chains.items read.log.next
+  pub takes : TakesAnchors most (mark_of read.log.chains.items) heap (uses_of most read.log.chains.items) read.log.space
+      (first_names read.log.chains.items) read.anchors
+
+-- The heap is read, and this is what it says.
+pub record IsHeapRead (most root : ℕ) (heap : List ℕ) (read : LogHeap) : Type 0 where
+  pub chains : List PlacedChain
+  pub anchors : PlacedAnchors
+  pub holds : HoldsHeap most root heap chains read.next anchors
+  pub end_is : IsEndOf (mark_of chains) chains read.end
+  pub space_is : read.space ≡ all_used (uses_of most chains) anchors.numbers
+  pub anchors_are : read.anchors.items ≡ anchors.numbers
+  pub live_are : map live_told read.live.items ≡ lives_of chains
+  pub facts : HasFacts (mark_of chains) anchors.records (members_of_all (mark_of chains) chains) read.members

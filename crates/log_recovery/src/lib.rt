@@ -6,6 +6,7 @@ mod apart;
 mod archive_parts;
 mod chain;
 mod ending;
+mod image;
 mod members;
 mod members_read;
 mod opening;
@@ -17,7 +18,8 @@ mod walk;
 
 pub use anchors::AnchorsRead;
 pub use chain::LogChain;
+pub use image::{LogRecovered, read_log};
 pub use members_read::{CommitName, MembersRead};
-pub use opening::LogRead;
+pub use opening::{AnchoredLog, LogHeap, LogRead};
 pub use rules::{LogEnd, RuleCheck, check_rules};
 pub use walk::ChainsRead;

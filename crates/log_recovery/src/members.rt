@@ -12,7 +12,7 @@ ghost use Rattle.log_extents.specs.Chains.{first_or};
 ghost use Rattle.law_log_sizes.specs.Sizes.{anchors_len};
 ghost use Rattle.log_sizes.specs.Counted.{AreSizes, AreSizesBehind};
 ghost use Rattle.log_recovery.specs.Chains.{HasEntry};
-ghost use Rattle.log_recovery.specs.Members.{later_of, later_in, heads_told, HasFacts, values_behind, values_of, members_of_all, AreAllStored, IsMembersFault, live_told, lives_of, last_in, AreWritesOf};
+ghost use Rattle.log_recovery.specs.Members.{later_of, later_in, heads_told, HasFacts, values_behind, values_of, members_of_all, AreAllStored, IsMembersFault, IsInMemoryFault, live_told, lives_of, last_in, AreWritesOf};
 
 use crate::chain::LogChain;
 use crate::members_read::{CommitName, MembersRead};
@@ -182,6 +182,7 @@ pub(crate) fn read_members(
     ensures read { (olds : List OldRecord) → AreWritesOf olds anchors → IfOk result (λ log. AreAllStored mark (values_of olds) chains.items × HasFacts mark olds (members_of_all mark chains.items) log.read) }
     ensures sizes { (olds : List OldRecord) → AreWritesOf olds anchors → anchors_len olds ≡ len → IfOk result (λ log. AreSizesBehind olds (members_of_all mark chains.items) log.read.sizes) }
     ensures live { IfOk result (λ log. map live_told log.live.items ≡ lives_of chains.items) }
+    ensures in_memory { IfErr result IsInMemoryFault }
     ensures fault { (olds : List OldRecord) → AreWritesOf olds anchors → IfErr result (IsMembersFault mark (values_of olds) chains.items) }
 {
     let mut read = MembersRead::behind(alloc, mark, anchors, len);

@@ -1,27 +1,33 @@
 //! What the heap of an image says: the checks of opening, in their order.
 
-ghost use Rattle.std.specs.Prelude.{◌≡◌, ◌⊎◌, ◌<◌, ◌≤◌, ◌^◌, IsTrue, IfOk, IfErr, IfSome, length, option_to_list};
+ghost use Rattle.std.specs.Prelude.{◌≡◌, ◌⊎◌, ◌↔◌, ℕ, List, ◌<◌, ◌≤◌, ◌^◌, IsTrue, IfOk, IfErr, IfSome, length, option_to_list};
 ghost use Rattle.std.specs.List.{AllByRecursion};
 ghost use Rattle.chains.specs.KeyWrites.{latest};
 ghost use Rattle.log_entries.specs.Ranges.{AreNone, AreSome};
 ghost use Rattle.log_recovery.specs.Chains.{HasEntry};
 ghost use Rattle.log_recovery.specs.Rules.{mark_of};
 ghost use Rattle.log_recovery.specs.Following.{IsEndOf};
+ghost use Rattle.log_recovery.specs.Ends.{EndsEarly, end_parts};
 ghost use Rattle.log_recovery.specs.Anchored.{first_names, TakesAnchors, IsAnchorsFault};
 ghost use Rattle.log_extents.specs.Chains.{IsNumberOf};
 ghost use Rattle.recovery.specs.Answers.{after_reads};
 ghost use Rattle.log_recovery.specs.Opening.{IsHeapFault};
-ghost use Rattle.log_recovery.specs.Read.{IsLogRead};
+ghost use Rattle.log_recovery.specs.Read.{IsLogRead, IsAnchoredLog, IsHeapRead};
+ghost use Rattle.log_recovery.specs.Members.{IsInMemoryFault};
 
 use crate::anchors::{AnchorsRead, no_anchors, read_anchors};
 use crate::chain::LogChain;
+use crate::ending::{are_shares_kept, is_end_right};
+use crate::members::read_members;
+use crate::members_read::MembersRead;
 use crate::rules::{LogEnd, RuleCheck, check_rules};
+use crate::shares::are_anchors_small;
 use crate::taking::HeapSize;
 use crate::walk::read_chains;
 use disk::{Area, Disk};
 use log_entries::{AnchorName, Entry};
 use log_space::Space;
-use recovery::OpenFault;
+use recovery::{LiveChain, OpenFault};
 use std::alloc::Global;
 
 /// The chains of a log that keep the rules between them, and its end.
@@ -108,6 +114,123 @@ fn read_base<D: Disk>(
     match read_anchors(alloc, disk, heap, space, mark, &name) {
         Ok(Some(read)) => Ok(read),
         Ok(None) => Err(OpenFault::Damaged(Area::Heap, u64::from(name.first))),
+        Err(fault) => Err(fault),
+    }
+}
+
+/// A log with its anchors.
+#[derive(Drop)]
+pub struct AnchoredLog {
+    pub log: LogRead,
+    pub anchors: AnchorsRead,
+}
+
+// The chains of the log, which keep the rules between them, and the anchors that they name.
+fn read_anchored<D: Disk>(
+    alloc: Global,
+    disk: &mut D,
+    heap: HeapSize,
+    root: u32,
+) -> Result<AnchoredLog, OpenFault>
+    requires len { IsTrue D.tells → heap.len ≡ length (D.state disk.old).areas.heap.bytes }
+    requires most { heap.most < 2 ^ 32 }
+    requires root { IsNumberOf heap.most root }
+    ensures entries { IfOk result (λ read. AllByRecursion (HasEntry heap.most) read.log.chains.items) }
+    ensures end { IfOk result (λ read. IsEndOf (mark_of read.log.chains.items) read.log.chains.items read.log.end) }
+    ensures next { IfOk result (λ read. IsNumberOf heap.most read.log.next) }
+    ensures latest { IfOk result (λ read. latest read.anchors.versions ≤ read.log.end.mark) }
+    ensures found { IsTrue D.tells → IfOk result (IsAnchoredLog heap.most root (D.state disk.old).areas.heap.bytes) }
+    ensures fault { IsTrue D.tells → IfErr result (IsHeapFault heap.most root (D.state disk.old).areas.heap.bytes) }
+    ensures reads { D.state disk.new ≡ after_reads result (D.state disk.old) }
+{
+    let mut log = match read_rules(alloc, disk, heap, root) {
+        Ok(log) => log,
+        Err(fault) => return Err(fault),
+    };
+    match read_base(alloc, disk, heap, &mut log.space, log.end.mark, &log.chains) {
+        Ok(anchors) => Ok(AnchoredLog { log, anchors }),
+        Err(fault) => Err(fault),
+    }
+}
+
+/// What the heap of an image says.
+#[derive(Drop)]
+pub struct LogHeap {
+    /// The extent where the log goes on.
+    pub next: u32,
+    /// The extents of live chains are in use, and `next` is free.
+    pub space: Space,
+    /// The extents of the anchors.
+    pub anchors: Vec<u32>,
+    pub end: LogEnd,
+    /// The chains of the log in their order, each with the time of its last commit; 0 where it has none.
+    pub live: Vec<LiveChain>,
+    pub members: MembersRead,
+}
+
+// Whether all three are so.
+fn are_all(first: bool, second: bool, third: bool) -> bool
+    ensures { IsTrue result ↔ (IsTrue first × IsTrue second × IsTrue third) }
+{
+    first && second && third
+}
+
+// The members of a log, and where it ends.
+fn finish_heap(
+    alloc: Global,
+    heap: HeapSize,
+    root: u32,
+    read: AnchoredLog,
+) -> Result<LogHeap, OpenFault>
+    requires most { heap.most ≤ 1048576 }
+    requires entries { AllByRecursion (HasEntry heap.most) read.log.chains.items }
+    requires end { IsEndOf (mark_of read.log.chains.items) read.log.chains.items read.log.end }
+    requires next { IsNumberOf heap.most read.log.next }
+    requires latest { latest read.anchors.versions ≤ read.log.end.mark }
+    ensures ends_early { IfOk result (λ heap. AllByRecursion EndsEarly (end_parts heap.end)) }
+    ensures found { (bytes : List ℕ) → heap.len ≡ length bytes → IsAnchoredLog heap.most root bytes read → IfOk result (IsHeapRead heap.most root bytes) }
+    ensures fault { (bytes : List ℕ) → heap.len ≡ length bytes → IsAnchoredLog heap.most root bytes read → IfErr result (IsHeapFault heap.most root bytes) }
+    ensures in_memory { IfErr result IsInMemoryFault }
+{
+    let AnchoredLog { log, anchors } = read;
+    let keeps_shares = are_shares_kept(heap.most, &log.chains, &log.end);
+    let ends_right = is_end_right(heap.len, log.next, &log.space, &log.end);
+    let len = anchors.len as u64;
+    let members = match read_members(alloc, log.end.mark, anchors.versions, len, log.chains) {
+        Ok(members) => members,
+        Err(fault) => return Err(fault),
+    };
+    let anchors_fit = are_anchors_small(heap.most, members.read.sizes);
+    if !are_all(keeps_shares, ends_right, anchors_fit) {
+        return Err(OpenFault::Damaged(Area::Heap, u64::from(root)));
+    }
+    Ok(LogHeap {
+        next: log.next,
+        space: log.space,
+        anchors: anchors.numbers,
+        end: log.end,
+        live: members.live,
+        members: members.read,
+    })
+}
+
+// Reads the heap, from this root on.
+pub(crate) fn read_heap<D: Disk>(
+    alloc: Global,
+    disk: &mut D,
+    heap: HeapSize,
+    root: u32,
+) -> Result<LogHeap, OpenFault>
+    requires len { IsTrue D.tells → heap.len ≡ length (D.state disk.old).areas.heap.bytes }
+    requires most { heap.most ≤ 1048576 }
+    requires root { IsNumberOf heap.most root }
+    ensures ends_early { IfOk result (λ read. AllByRecursion EndsEarly (end_parts read.end)) }
+    ensures found { IsTrue D.tells → IfOk result (IsHeapRead heap.most root (D.state disk.old).areas.heap.bytes) }
+    ensures fault { IsTrue D.tells → IfErr result (IsHeapFault heap.most root (D.state disk.old).areas.heap.bytes) }
+    ensures reads { D.state disk.new ≡ after_reads result (D.state disk.old) }
+{
+    match read_anchored(alloc, disk, heap, root) {
+        Ok(read) => finish_heap(alloc, heap, root, read),
         Err(fault) => Err(fault),
     }
 }

@@ -1,14 +1,20 @@
-//! The shares of the heap: half of it is the log's, and a sixteenth the base's.
+//! The shares of the heap: half of it is the log's, a sixteenth the base's, and three sixteenths the anchors' of any state.
 
-ghost use Rattle.std.specs.Prelude.{◌≡◌, ◌↔◌, ◌+◌, ◌≤◌, ◌/◌, ◌^◌, ◌<◌, IsTrue, length, flat_map};
+ghost use Rattle.std.specs.Prelude.{◌≡◌, ◌↔◌, ◌+◌, ◌≤◌, ◌/◌, ◌^◌, ◌<◌, ◌*◌, IsTrue, List, length, flat_map};
 ghost use Rattle.std.specs.List.{AllByRecursion};
 ghost use Rattle.log_entries.specs.Spelling.{entry_bytes};
 ghost use Rattle.law_log_layout.specs.HeapLog.{counted_of, IsBaseSmall};
 ghost use Rattle.log_recovery.specs.Ends.{counted_in, AreBasesSmall};
+ghost use Rattle.law_image.specs.Reading.{Member, OldRecord};
+ghost use Rattle.log_extents.specs.Chains.{count_of};
+ghost use Rattle.law_log_sizes.specs.Sizes.{anchors_len, greatest, lens_behind};
+ghost use Rattle.log_sizes.specs.Counted.{AreSizesBehind};
+ghost use Rattle.log_recovery.specs.Members.{values_of};
 
 use crate::chain::LogChain;
 use log_entries::Entry;
 use log_extents::count_extents;
+use log_sizes::AnchorSizes;
 
 /// How many bytes a ROLL has.
 const ROLL_LEN: usize = 17;
@@ -71,4 +77,12 @@ pub(crate) fn fits_half(most: u32, chains: &[LogChain], more: usize) -> bool
         rest = after;
     }
     true
+}
+
+/// Whether the anchors of each state, of these sizes, keep their share of a heap of so many extents.
+pub(crate) fn are_anchors_small(most: u32, sizes: AnchorSizes) -> bool
+    ensures { (olds : List OldRecord) (members : List Member) → AreSizesBehind olds members sizes → (IsTrue result ↔ (count_of (greatest (anchors_len olds) (lens_behind (anchors_len olds) (values_of olds) members)) ≤ (3 * most) / 16)) }
+{
+    let share = 3 * u64::from(most) / 16;
+    sizes.fit(share as u32)
 }

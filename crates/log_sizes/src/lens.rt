@@ -9,9 +9,6 @@ use chains::{Frozen, SharedValue};
 use history::{ENDLESS, Key, KeyWrite};
 use wire::Value;
 
-/// How many records a commit writes at most.
-pub const MOST_WRITES: usize = 1024;
-
 // The bytes of an anchor beside those of its value's fields.
 const FRONT_LEN: u64 = 20;
 

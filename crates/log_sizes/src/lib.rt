@@ -7,4 +7,4 @@ mod lens;
 
 pub use anchor_sizes::AnchorSizes;
 pub use counting::MOST_COUNTED;
-pub use lens::{MOST_WRITES, anchor_len};
+pub use lens::anchor_len;

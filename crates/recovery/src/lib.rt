@@ -18,6 +18,6 @@ pub use anchors::anchored;
 pub use fault::{FormatFault, OpenFault};
 pub use formatting::format;
 pub use members::with_records;
-pub use opening::read_image;
+pub use opening::{read_image, settle};
 pub use recovered::{LiveChain, Recovered};
 pub use resolving::resolve;

@@ -48,8 +48,8 @@ fn entries(alloc: Global, slots: &[Slot]) -> Result<Vec<Member>, AllocError>
     Ok(entries)
 }
 
-// All that was written is on the disk from now on.
-fn settle<D: Disk>(disk: &mut D) -> Result<(), DeviceFault>
+/// Syncs the three areas in turn. All that was written is on the disk from now on.
+pub fn settle<D: Disk>(disk: &mut D) -> Result<(), DeviceFault>
     ensures settled { IsTrue D.tells → OnOk result ((D.state disk.new).areas ≡ settled_on (image_of (D.state disk.old).areas)) }
     ensures read { IsTrue D.tells → image_of (D.state disk.new).areas ≡ image_of (D.state disk.old).areas }
     ensures left { IsTrue D.tells → LeavesNoMore (D.state disk.old).areas (D.state disk.new).areas }
