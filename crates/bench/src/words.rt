@@ -4,7 +4,7 @@ use crate::leaves::Scale;
 use crate::{many_callers, one_caller};
 
 /// Where the files of a measurement are, and how much of it is done.
-#[derive(Clone, Copy, Debug)]
+#[derive(Clone, Copy)]
 pub(crate) struct Request<'a> {
     pub(crate) folder: &'a str,
     /// How often it is done, or of how many versions.

@@ -4,7 +4,7 @@ use std::io;
 use std::time::{Clock, Instant};
 
 /// How much of each measurement is done.
-#[derive(Clone, Copy, Debug, PartialEq, Eq)]
+#[derive(Clone, Copy, PartialEq, Eq)]
 pub(crate) enum Scale {
     /// A little, to see that it runs: its numbers say nothing, and are not printed.
     Trial,
