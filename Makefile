@@ -1,6 +1,7 @@
 # `make try` shows the program before any proof, `make demo` builds it and shows it; `make test` is the gate.
 # TABLE=FILE keeps what it cost, PROOFS=FILE what each proof took. `make more-edits` tries the edits that the gate leaves out, all or
 # (`make more-edits CRATES="wire disk"`) those of some crates, over the libraries of the last gate or of rt lib, and writes bench/edits_tried.tsv.
+# MINUTES=30 begins none after half an hour.
 PROGRAM = crates/timestore/out/timestore
 BENCH = crates/bench/out/bench
 # The most processor minutes that the gate may take, on the reference machine of bench/gate_cost.py. A machine that takes longer for the crates that
@@ -16,7 +17,7 @@ test:
 	$(MAKE) torture-short
 
 more-edits:
-	bench/more_edits.py --write $(CRATES)
+	bench/more_edits.py --write $(if $(MINUTES),--minutes $(MINUTES)) $(CRATES)
 
 build:
 	@command -v rt >/dev/null || { echo "the Rattle kit's command rt is not on PATH" >&2; exit 1; }

@@ -1,6 +1,6 @@
 #!/usr/bin/env python3
 """Tries the edits that the gate leaves out, crates/NAME/more-edits/*.edit, over the libraries that `rt ci` or `rt lib` left in crates/*/out:
-the prover must refuse each of them too. Where there are none, and no --minutes, rt lib builds them.
+the prover must refuse each of them too. Where there are none, and no --began, rt lib builds them.
 
 usage: bench/more_edits.py [--minutes N [--began SECONDS] [--proofs FILE]] [--new] [--first-tells] [--write] [NAME ..]
 
@@ -10,12 +10,12 @@ bench/edits_tried.tsv tells when each edit was last tried and refused, and by wh
 crate or own text has changed since then; after them those that were tried the longest ago. --write puts what is refused into that table.
 
 Each crate is proved once as it is (its seed), and its edits are tried over what that proof left, as many at a time as RT_JOBS says. Over libraries
-of rt lib, and with no --minutes, a seed begins with what rt check kept. Nothing in the repository is changed but that table.
+of rt lib, and with no --began, a seed begins with what rt check kept. Nothing in the repository is changed but that table.
 
 With no --minutes all edits are tried. With --minutes none is begun after so many minutes of the clock, and no seed that would leave no time for
-edits. On a machine that is slower than the reference machine (bench/gate_cost.py) it is less: --proofs is the file in which that program wrote what
-each proof took. --began is when the whole run began, in seconds since 1970: it is to end within 120 minutes of that, and within 165 where the
-machine is slow, with fewer edits or none.
+edits. --began is when the whole run with the gate began, in seconds since 1970: it is to end within 120 minutes of that, and within 165 where the
+machine is slow, with fewer edits or none. On a machine that is slower than the reference machine (bench/gate_cost.py) the minutes are then fewer:
+--proofs is the file in which that program wrote what each proof took.
 
 The status is 1 where an edit is proved, does not apply or compile any more, or is refused only because a proof names what it takes away; and where
 nothing could be tried. With --first-tells an edit of which the table tells nothing is only told then. An edit whose check was killed or cut off has no verdict, and is left to be tried.
@@ -157,7 +157,7 @@ class Clock:
         now = time.time()
         self.whole = min(max(WHOLE_RUN, WHOLE_RUN_BY_SLOWNESS * slowness), WHOLE_RUN_AT_MOST)
         self.took = (now - began) / 60 if began else 0
-        self.minutes = minutes
+        self.minutes, self.began = minutes, began
         if minutes is not None:
             self.minutes = max(0, min(minutes / max(slowness, 1), self.whole - self.took - TO_END if began else minutes))
         self.last_begin = now + 60 * self.minutes if minutes is not None else float("inf")
@@ -168,7 +168,8 @@ class Clock:
         whole = f", and the run has taken {self.took:.0f} of its {self.whole:.0f} minutes" if self.took else ""
         if self.minutes < 1:
             return f"more edits: no time is left for them{whole}"
-        return f"more edits: {self.minutes:.0f} minutes for them; a proof takes {slowness:.2f} of what it takes on the reference machine{whole}"
+        speed = f"; a proof takes {slowness:.2f} of what it takes on the reference machine" if self.began else ""
+        return f"more edits: {self.minutes:.0f} minutes for them{speed}{whole}"
 
     def has_time_for(self, seconds):
         return time.time() + seconds < self.last_begin
@@ -451,16 +452,16 @@ def main(words):
         if unknown:
             print(f"no such edits in more-edits: {' '.join(unknown)}", file=sys.stderr)
             return 2
-        are_own, lack = libraries([it.crate for it in turns], given.minutes is None)
+        are_own, lack = libraries([it.crate for it in turns], given.began is None)
         if lack:
             print(f"more edits: none tried: {lack}", file=sys.stderr)
             return 1
         proofs = json.loads(pathlib.Path(given.proofs).read_text(encoding="utf-8")) if given.proofs else {}
-        slowness = slowness_of(proofs, rt, crates) if given.minutes else 1.0
+        slowness = slowness_of(proofs, rt, crates) if given.minutes and given.began else 1.0
         clock = Clock(given.minutes, given.began, slowness)
         if given.minutes is not None:
             print(clock.told(slowness), flush=True)
-        lanes = Lanes(rt, turns, clock, proofs, slowness, are_own and given.minutes is None)
+        lanes = Lanes(rt, turns, clock, proofs, slowness, are_own and given.began is None)
         lanes.turns = turns = ordered(turns, lanes.seed_estimate)
         results = Results(rt, rows, given.write, given.first_tells)
         lanes.run(lanes_here(rt), results.take)
