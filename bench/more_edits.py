@@ -9,8 +9,9 @@ A NAME is a crate or CRATE/EDIT; with none all are meant. --new leaves out those
 bench/edits_tried.tsv tells when each edit was last tried and refused, and by which text. First come the edits of which it tells nothing, or whose
 crate or own text has changed since then; after them those that were tried the longest ago. --write puts what is refused into that table.
 
-Each crate is proved once as it is (its seed), and its edits are tried over what that proof left, as many at a time as RT_JOBS says. Over libraries
-of rt lib, and with no --began, a seed begins with what rt check kept. Nothing in the repository is changed but that table.
+First each edit is seen to apply: its texts stand once in the files that it names. Then each crate is proved once as it is (its seed), and its edits
+are tried over what that proof left, as many at a time as RT_JOBS says. Over libraries of rt lib, and with no --began, a seed begins with what rt check
+kept. Nothing in the repository is changed but that table.
 
 With no --minutes all edits are tried. With --minutes none is begun after so many minutes of the clock, and no seed that would leave no time for
 edits. --began is when the whole run with the gate began, in seconds since 1970: it is to end within 120 minutes of that, and within 165 where the
@@ -18,7 +19,8 @@ machine is slow, with fewer edits or none. On a machine that is slower than the 
 --proofs is the file in which that program wrote what each proof took.
 
 The status is 1 where an edit is proved, does not apply or compile any more, or is refused only because a proof names what it takes away; and where
-nothing could be tried. With --first-tells an edit of which the table tells nothing is only told then. An edit whose check was killed or cut off has no verdict, and is left to be tried.
+nothing could be tried. With --first-tells an edit of which the table tells nothing, and which applies, is only told then. An edit whose check was
+killed or cut off has no verdict, and is left to be tried.
 """
 import argparse
 import collections
@@ -375,6 +377,16 @@ class Results:
     def is_refused(self, kind, text):
         return kind in (self.rt.REFUSED, self.rt.AT_LIMIT) and BY_NAMES_ALONE not in text
 
+    def take_out_unfit(self, turn):
+        """Takes those of a crate's edits out that do not apply any more, and says so: they fail whether there is time to try them or not."""
+        for edit in list(turn.edits):
+            _, why = self.rt.read_edit(str(edit.path), turn.crate.folder)
+            if why:
+                turn.edits.remove(edit)
+                self.failed.append(f"{turn.crate.name}/{edit.name}")
+                self.rows.pop((turn.crate.name, edit.name), None)
+                print(f"more-edits {turn.crate.name}/{edit.path.name}: BAD EDIT: {why}")
+
     def take(self, turn):
         """Notes what a crate's edits came to and says it."""
         crate, today = turn.crate.name, time.strftime("%Y-%m-%d", time.gmtime())
@@ -447,11 +459,15 @@ def main(words):
         tempfile.tempdir = room
         rt, crates = kit()
         rows = read_table()
-        turns = [turn for turn in (Turn(it, rows, given.names, given.new) for it in crates) if turn.edits]
+        every = [Turn(it, rows, given.names, given.new) for it in crates]
         unknown = unknown_of(given.names, crates)
         if unknown:
             print(f"no such edits in more-edits: {' '.join(unknown)}", file=sys.stderr)
             return 2
+        results = Results(rt, rows, given.write, given.first_tells)
+        for it in every:
+            results.take_out_unfit(it)
+        turns = [it for it in every if it.edits]
         are_own, lack = libraries([it.crate for it in turns], given.began is None)
         if lack:
             print(f"more edits: none tried: {lack}", file=sys.stderr)
@@ -463,7 +479,6 @@ def main(words):
             print(clock.told(slowness), flush=True)
         lanes = Lanes(rt, turns, clock, proofs, slowness, are_own and given.began is None)
         lanes.turns = turns = ordered(turns, lanes.seed_estimate)
-        results = Results(rt, rows, given.write, given.first_tells)
         lanes.run(lanes_here(rt), results.take)
         results.sum_up(turns, began)
         for it in lanes.seedless:
