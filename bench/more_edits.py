@@ -153,7 +153,7 @@ class Turn:
 
 
 class Clock:
-    """When the last edit may begin, and when what still runs is cut off, in seconds since 1970. With no minutes: never."""
+    """When the last edit may begin, and when what still runs is cut off, in seconds since 1970: never without minutes, and without a gate."""
 
     def __init__(self, minutes, began, slowness):
         now = time.time()
@@ -163,7 +163,7 @@ class Clock:
         if minutes is not None:
             self.minutes = max(0, min(minutes / max(slowness, 1), self.whole - self.took - TO_END if began else minutes))
         self.last_begin = now + 60 * self.minutes if minutes is not None else float("inf")
-        self.end = began + 60 * self.whole if began else self.last_begin + 60 * 10
+        self.end = began + 60 * self.whole if began else float("inf")
 
     def told(self, slowness):
         """How many minutes there are, and why."""
