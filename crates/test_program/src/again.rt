@@ -7,6 +7,7 @@ use crate::write_sets::Written;
 use disk::Area;
 
 /// A dialogue behind a stop.
+#[derive(Clone, Copy)]
 pub struct Again {
     /// The dialogue's parts, as `repeated` has them.
     pub parts: &'static [(&'static str, u32)],
@@ -16,6 +17,19 @@ pub struct Again {
     pub fronts: &'static [&'static [Written]],
     /// The place and the bytes of its last slot.
     pub slot: (usize, &'static str),
+}
+
+/// What of the commits beside an archive is published at a stop.
+#[derive(Clone, Copy)]
+pub enum Reached {
+    Nothing,
+    One,
+    Two,
+    Three,
+    /// Three, and the archive.
+    Archive,
+    Four,
+    All,
 }
 
 /// How a line ends whose step writes a gate.

@@ -1,6 +1,6 @@
 //! Six commits beside an archive, stopped before, within and after each call of the disk. What is left goes on
 //! with a reclaim, where the archive stands, and a commit, and is stopped again at each call of these.
-use crate::again::Again;
+use crate::again::{Again, Reached};
 use crate::examples::{Example, FOUR_COMMITS, each_goes};
 use crate::machine::Profiles::Each;
 use crate::steps::Step;
@@ -312,15 +312,56 @@ const BETWEEN: &[Sweep] = &[Sweep {
     failed: "",
     gate: Some("| gate written"),
     fronts: &[
-        &[Has(RECORDS, UP_TO_130), StopsAtEach(&AGAIN_NONE)],
-        &[Has(RECORDS, UP_TO_131), StopsAtEach(&AGAIN_FIRST)],
-        &[Has(RECORDS, UP_TO_132), StopsAtEach(&AGAIN_SECOND)],
-        &[Has(RECORDS, UP_TO_133), StopsAtEach(&AGAIN_THIRD)],
-        &[Has(RECORDS, UP_TO_133), StopsAtEach(&AGAIN_ARCHIVE)],
-        &[Has(RECORDS, UP_TO_134), StopsAtEach(&AGAIN_FOURTH)],
-        &[Has(RECORDS, UP_TO_136), StopsAtEach(&AGAIN_ALL)],
+        &[Has(RECORDS, UP_TO_130), StopsAtEach(Reached::Nothing)],
+        &[Has(RECORDS, UP_TO_131), StopsAtEach(Reached::One)],
+        &[Has(RECORDS, UP_TO_132), StopsAtEach(Reached::Two)],
+        &[Has(RECORDS, UP_TO_133), StopsAtEach(Reached::Three)],
+        &[Has(RECORDS, UP_TO_133), StopsAtEach(Reached::Archive)],
+        &[Has(RECORDS, UP_TO_134), StopsAtEach(Reached::Four)],
+        &[Has(RECORDS, UP_TO_136), StopsAtEach(Reached::All)],
     ],
 }];
+
+fn again_none() -> Again {
+    AGAIN_NONE
+}
+
+fn again_first() -> Again {
+    AGAIN_FIRST
+}
+
+fn again_second() -> Again {
+    AGAIN_SECOND
+}
+
+fn again_third() -> Again {
+    AGAIN_THIRD
+}
+
+fn again_archive() -> Again {
+    AGAIN_ARCHIVE
+}
+
+fn again_fourth() -> Again {
+    AGAIN_FOURTH
+}
+
+fn again_all() -> Again {
+    AGAIN_ALL
+}
+
+/// What goes on behind a stop, by what had been reached.
+pub fn again_behind(reached: Reached) -> Again {
+    match reached {
+        Reached::Nothing => again_none(),
+        Reached::One => again_first(),
+        Reached::Two => again_second(),
+        Reached::Three => again_third(),
+        Reached::Archive => again_archive(),
+        Reached::Four => again_fourth(),
+        Reached::All => again_all(),
+    }
+}
 
 /// Without a stop: three commits before the archive's slot, one behind it, and two that share a slot.
 const NO_STOP: &[Example] = &[Example {

@@ -1,7 +1,8 @@
 //! Steps: what is done to a disk, and what must come of it.
-use crate::again::{Again, stops_at_each};
+use crate::again::{Reached, stops_at_each};
 use crate::bytes::{bytes_of, change, has_bytes, has_extents, has_parts, is_long, put};
 use crate::machine::{KEY, Machine, NEWEST, NO_FAULT, SCRIPT};
+use crate::second_stops::again_behind;
 use crate::write_sets::Written;
 use disk::{Area, Disk, Fault, FaultDisk, MemDisk};
 use script::read_time;
@@ -64,7 +65,7 @@ pub enum Step {
     /// The store answers by a plain list of writes, of these records.
     Has(&'static [u32], &'static [Written]),
     /// In the newest profile, a dialogue that is stopped at each device call; the disk stays as it is.
-    StopsAtEach(&'static Again),
+    StopsAtEach(Reached),
 }
 
 /// The question for the example's key at the time that a text spells.
@@ -275,7 +276,8 @@ impl Machine {
             }
             Step::Refuses(text) => self.refuses(text),
             Step::Has(records, writes) => self.has(records, writes),
-            Step::StopsAtEach(again) => self.profile != NEWEST || stops_at_each(self, again),
+            Step::StopsAtEach(reached) => self.profile != NEWEST
+                || stops_at_each(self, &again_behind(reached)),
             _ => self.commands(step),
         }
     }
