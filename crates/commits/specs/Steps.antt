@@ -1,5 +1,5 @@
 -- The way of a commit: it waits, a group begins with it, and it is published.
-use Rattle.std.specs.Prelude.{ℕ, ◌+◌, ◌==◌, ◌&&◌, nat_lt, min, List, [], ◌∷◌, ◌++◌, length, take, drop, if◌then◌else◌}
+use Rattle.std.specs.Prelude.{ℕ, ◌+◌, ◌==◌, ◌&&◌, true, nat_lt, min, List, [], ◌∷◌, ◌++◌, length, take, drop, if◌then◌else◌}
 use Rattle.history.specs.declared.key.KeyWrite.{KeyWrite}
 use Rattle.law_image.specs.Values.{Value}
 use Rattle.chains.specs.KeyWrites.{with_commit}
