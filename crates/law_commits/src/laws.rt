@@ -1,0 +1,44 @@
+//! Laws of the memory.
+ghost use Rattle.law_commits.specs.Laws.{LastIsLast, AssignedIsLast, BeginStands, AbortStands, ConflictIsFound, ConflictIsDecided, SubmitStands};
+ghost use Rattle.law_commits.specs.Laws.{RedeemStands, AwaitedIsAnswered, OthersAreStrangers, PublishStands, PublishedIsMachine, BreakStands};
+
+/// The last published time, and the last time that was given, are those of the history and of the commit
+/// order, wherever the names of the first commits are.
+pub fn last_is_last()
+    ensures published { LastIsLast }
+    ensures assigned { AssignedIsLast }
+{}
+
+/// A begin takes the last published time as its snapshot.
+pub fn begin_stands()
+    ensures { BeginStands }
+{}
+
+/// A transaction that is aborted gives its snapshot up.
+pub fn abort_stands()
+    ensures { AbortStands }
+{}
+
+/// A submit answers a conflict exactly where a later commit in the commit order wrote a key of its write
+/// set, and else its writes wait at a time later than all before.
+pub fn submit_stands()
+    ensures found { ConflictIsFound }
+    ensures decided { ConflictIsDecided }
+    ensures stands { SubmitStands }
+{}
+
+/// A ticket whose commit is awaited in memory is answered as the machine says, and every other one is a
+/// stranger's.
+pub fn redeem_stands()
+    ensures stands { RedeemStands }
+    ensures awaited { AwaitedIsAnswered }
+    ensures others { OthersAreStrangers }
+{}
+
+/// A group that is published is that of the first commits that wait. A store that has failed stands for
+/// the machine that has.
+pub fn publish_stands()
+    ensures published { PublishStands }
+    ensures machine { PublishedIsMachine }
+    ensures broken { BreakStands }
+{}
