@@ -1,5 +1,5 @@
 -- The calls that change what a store has in memory are steps of the machine.
-use Rattle.std.specs.Prelude.{ℕ, ◌≡◌, ◌≢◌, ◌≤◌, ◌<◌, ◌^◌, ◌↔◌, ◌==◌, Bool, true, false, List, [], ◌++◌, take, drop, Option, None, Some, Result, Ok, Err, MatchBool}
+use Rattle.std.specs.Prelude.{ℕ, ◌≡◌, ◌≢◌, ◌≤◌, ◌<◌, ◌^◌, ◌↔◌, ◌==◌, Bool, true, false, List, [], ◌++◌, length, take, drop, Option, None, Some, Result, Ok, Err, MatchBool}
 use Rattle.history.specs.declared.key.Key.{Key}
 use Rattle.history.specs.Histories.{last}
 use Rattle.history.specs.Machine.{Machine, commit_order, IsMachine}
@@ -102,8 +102,9 @@ SubmitStands =
 
 -- a ticket is answered as the machine does, or it is a stranger's, and nothing of the machine's changes
 abbrev pub RedeemStands : Type 0
-RedeemStands = (old new : CommitsValue) (ticket : TicketValue) (answer : Redeemed) (m : Machine Value) → StandsInMemory old m → Redeems old ticket answer new
-    → RedeemsAs (answers.redeemed_by m ticket.time) answer × StandsInMemory new m
+RedeemStands =
+    (old new : CommitsValue) (ticket : TicketValue) (answer : Redeemed) (m : Machine Value) → StandsInMemory old m → IsMachine IsValue m
+    → Redeems old ticket answer new → RedeemsAs (answers.redeemed_by m ticket.time) answer × StandsInMemory new m
 
 -- what the machine says of a ticket, as the store tells it
 abbrev pub told_as : TicketValue → answers.Redeemed → Redeemed
@@ -114,8 +115,8 @@ told_as ticket answers.InDoubt = redeemed.InDoubt
 -- an own ticket whose commit is awaited in memory is answered just as the machine does
 abbrev pub AwaitedIsAnswered : Type 0
 AwaitedIsAnswered =
-    (old new : CommitsValue) (ticket : TicketValue) (answer : Redeemed) (m : Machine Value) → StandsInMemory old m → Redeems old ticket answer new
-    → ticket.mark ≡ old.mark → is_awaited ticket.time old.heads ≡ true → answer ≡ told_as ticket (answers.redeemed_by m ticket.time)
+    (old new : CommitsValue) (ticket : TicketValue) (answer : Redeemed) (m : Machine Value) → StandsInMemory old m → IsMachine IsValue m
+    → Redeems old ticket answer new → ticket.mark ≡ old.mark → is_awaited ticket.time old.heads ≡ true → answer ≡ told_as ticket (answers.redeemed_by m ticket.time)
 
 -- every other ticket is a stranger's, and nothing changes: it is of another store, or of a commit whose name is not in memory or is awaited no longer
 abbrev pub OthersAreStrangers : Type 0
@@ -135,7 +136,8 @@ with_published count m = record m { published = m.published ++ take count m.queu
 
 -- a group that is published is that of the first commits of the queue
 abbrev pub PublishStands : Type 0
-PublishStands = (v : CommitsValue) (m : Machine Value) → StandsInMemory v m → IsMachine IsValue m → IsFresh v → StandsInMemory (published v) (with_published v.group m)
+PublishStands = (v : CommitsValue) (m : Machine Value) → StandsInMemory v m → IsMachine IsValue m → v.group ≤ length v.queue → IsFresh v
+    → StandsInMemory (published v) (with_published v.group m)
 
 -- what is published so is a machine's, where no group of its own stands
 abbrev pub PublishedIsMachine : Type 0

@@ -4,7 +4,7 @@ use Rattle.std.specs.List.{AllByRecursion}
 use Rattle.history.specs.declared.key.Key.{Key}
 use Rattle.history.specs.Time.{IsRisingAfter as IsRisingWrites}
 use Rattle.history.specs.Histories.{Commit, History}
-use Rattle.history.specs.Machine.{Machine, commit_order}
+use Rattle.history.specs.Machine.{Machine}
 use Rattle.law_image.specs.Values.{Value}
 use Rattle.floors.specs.Floors.{floor_at}
 use Rattle.chains.specs.Writes.{kept_after, written}
@@ -14,20 +14,20 @@ use Rattle.group.specs.declared.commit_order.CommitHead.{CommitHead}
 use Rattle.commits.specs.Values.{CommitsValue, WaitingValue}
 use Rattle.law_refinement.specs.Standing.{Name, name_of, name_at, HasWrites, HasForgotten, snapshots_of}
 
--- The heads in memory, by the commit order. The names of its first commits have left memory, all of them at most the reclaim mark; of these some are kept that
--- wait for their Done. Behind them are the heads of all other commits.
-pub record HasNames (reclaimed : ℕ) (heads : List CommitHead) (published : ℕ) (m : Machine Value) : Type 0 where
+-- The heads in memory, by the published history and the commits that wait behind it. The names of the first commits have left memory, all of them at most the
+-- reclaim mark; of these some are kept that wait for their Done. Behind them are the heads of all other commits.
+pub record HasNames (reclaimed : ℕ) (heads : List CommitHead) (published : ℕ) (h queue : History Value) : Type 0 where
   pub before : List Name
   pub early : AllByRecursion (λ (name : Name). name.time ≤ reclaimed) before
   pub kept : List CommitHead
   pub late : List CommitHead
   pub heads_are : heads ≡ kept ++ late
-  pub kept_of : AllByRecursion (λ (head : CommitHead). Contains before (name_at head)) kept
-  pub names : before ++ map name_at late ≡ map name_of (commit_order m)
+  pub kept_of : AllByRecursion (λ (name : Name). Contains before name) (map name_at kept)
+  pub names : before ++ map name_at late ≡ map name_of (h ++ queue)
   -- how many of the heads behind the kept ones are published
   pub count : ℕ
   pub published_are : published ≡ length kept + count
-  pub many : length before + count ≡ length m.published
+  pub many : length before + count ≡ length h
 
 -- A commit waits behind these versions: from the reclaim mark on, the versions after it say what these say, and what it writes. They have forgotten what ended
 -- by a mark of their own, the one of their making.
@@ -49,7 +49,7 @@ AllWait reclaimed before (w ∷ ws) (c ∷ cs) = Waits reclaimed before w c × A
 
 -- What the store holds in memory is the machine's state. How many commits its group has, the machine does not say.
 pub record StandsInMemory (v : CommitsValue) (m : Machine Value) : Type 0 where
-  pub names : HasNames v.reclaimed v.heads v.published m
+  pub names : HasNames v.reclaimed v.heads v.published m.published m.queue
   pub rising : IsRisingAfter 0 v.heads
   pub versions : HasWrites m.floors v.reclaimed v.versions m.published
   pub forgot : HasForgotten v.reclaimed v.versions
