@@ -333,7 +333,8 @@ redeem-step old new ticket answer m stands machine redeems = by-mark (ticket.mar
   where
     by-mark : (b : Bool) → MatchBool b (AnswersTicket old ticket (state_of_ticket ticket.time (order_of old)) answer new) ((answer ≡ redeemed.Stranger)
         × (new ≡ old)) → RedeemsAs (answers.redeemed_by m ticket.time) answer × StandsInMemory new m
-    by-mark true says = (by-standing old new ticket answer m stands machine (state_of_ticket ticket.time (order_of old)) refl says).1
+    by-mark true says =
+        let told = by-standing old new ticket answer m stands machine (state_of_ticket ticket.time (order_of old)) refl says in (told.1, told.2)
     by-mark false says = (
       subst (λ (r : Redeemed). RedeemsAs (answers.redeemed_by m ticket.time) r) (sym says.0) tt,
       subst (λ (v : CommitsValue). StandsInMemory v m) (sym says.1) stands,

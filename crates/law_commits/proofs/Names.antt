@@ -88,18 +88,18 @@ held-last mark before kept late h early among named reached =
 
 -- the first of the heads are the kept ones, and so many more
 pub take-both : {X : Type 0} (xs ys : List X) (n : ℕ) → take (length xs + n) (xs ++ ys) ≡ xs ++ take n ys
-take-both [] ys n = refl
+take-both [] ys n = let same : 0 + n ≡ n = omega arith in ap (λ (k : ℕ). take k ys) same
 take-both (x ∷ xs) ys n = ap (λ l. x ∷ l) (take-both xs ys n)
 
 pub drop-both : {X : Type 0} (xs ys : List X) (n : ℕ) → drop (length xs + n) (xs ++ ys) ≡ drop n ys
-drop-both [] ys n = refl
+drop-both [] ys n = let same : 0 + n ≡ n = omega arith in ap (λ (k : ℕ). drop k ys) same
 drop-both (x ∷ xs) ys n = drop-both xs ys n
 
 -- the names of the first commits
 pub front-names : (before : List Name) (late : List CommitHead) (count : ℕ) (h later : History Value) → before ++ map name_at late ≡ map name_of (h ++ later)
     → length before + count ≡ length h → before ++ map name_at (take count late) ≡ map name_of h
 front-names [] late count h later same many =
-    ap (λ (n : ℕ). map name_at (take n late)) many ∙ front-named late h later same
+    let size : count ≡ length h = omega (arith, many) in ap (λ (n : ℕ). map name_at (take n late)) size ∙ front-named late h later same
 front-names (b ∷ bs) late count [] later same many = absurd (omega (arith, many))
 front-names (b ∷ bs) late count (c ∷ cs) later same many =
     let first : b ≡ name_of c = cc in
@@ -118,7 +118,7 @@ back-named (x ∷ xs) (c ∷ cs) later same =
 pub back-names : (before : List Name) (late : List CommitHead) (count : ℕ) (h later : History Value) → before ++ map name_at late ≡ map name_of (h ++ later)
     → length before + count ≡ length h → map name_at (drop count late) ≡ map name_of later
 back-names [] late count h later same many =
-    ap (λ (n : ℕ). map name_at (drop n late)) many ∙ back-named late h later same
+    let size : count ≡ length h = omega (arith, many) in ap (λ (n : ℕ). map name_at (drop n late)) size ∙ back-named late h later same
 back-names (b ∷ bs) late count [] later same many = absurd (omega (arith, many))
 back-names (b ∷ bs) late count (c ∷ cs) later same many =
     let rest : bs ++ map name_at late ≡ map name_of (cs ++ later) = cc in back-names bs late count cs later rest (omega (arith, many))
