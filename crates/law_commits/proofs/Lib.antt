@@ -5,3 +5,5 @@ pub mod Memory
 pub mod Submitting
 pub mod Publishing
 pub mod Answering
+pub mod Views
+pub mod Beside

@@ -1,2 +1,4 @@
 pub mod Standing
 pub mod Laws
+pub mod Views
+pub mod Beside

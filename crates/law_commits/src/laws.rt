@@ -1,6 +1,8 @@
 //! Laws of the memory.
 ghost use Rattle.law_commits.specs.Laws.{LastIsLast, AssignedIsLast, BeginStands, AbortStands, ConflictIsFound, ConflictIsDecided, SubmitStands};
 ghost use Rattle.law_commits.specs.Laws.{RedeemStands, AwaitedIsAnswered, OthersAreStrangers, PublishStands, PublishedIsMachine, BreakStands};
+ghost use Rattle.law_commits.specs.Views.{ViewIsOfHistory};
+ghost use Rattle.law_commits.specs.Beside.{BesideStands, GroupStands, RaiseStands};
 
 /// The last published time, and the last time that was given, are those of the history and of the commit
 /// order, wherever the names of the first commits are.
@@ -41,4 +43,18 @@ pub fn publish_stands()
     ensures published { PublishStands }
     ensures machine { PublishedIsMachine }
     ensures broken { BreakStands }
+{}
+
+/// A view of what memory has stands for the published history: from its reclaim mark on it is answered
+/// by that, whatever lies on the disk.
+pub fn view_stands()
+    ensures { ViewIsOfHistory }
+{}
+
+/// A group that begins, a floor in the making and where the gate is leave memory as it is; floors that are
+/// raised stand in the place of those before.
+pub fn floors_stand()
+    ensures beside { BesideStands }
+    ensures group { GroupStands }
+    ensures raised { RaiseStands }
 {}
