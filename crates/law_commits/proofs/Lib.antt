@@ -7,3 +7,5 @@ pub mod Publishing
 pub mod Answering
 pub mod Views
 pub mod Beside
+pub mod Reclaims
+pub mod Freshening

@@ -2,3 +2,4 @@ pub mod Standing
 pub mod Laws
 pub mod Views
 pub mod Beside
+pub mod Reclaims

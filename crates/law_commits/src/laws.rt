@@ -3,6 +3,7 @@ ghost use Rattle.law_commits.specs.Laws.{LastIsLast, AssignedIsLast, BeginStands
 ghost use Rattle.law_commits.specs.Laws.{RedeemStands, AwaitedIsAnswered, OthersAreStrangers, PublishStands, PublishedIsMachine, BreakStands};
 ghost use Rattle.law_commits.specs.Views.{ViewIsOfHistory};
 ghost use Rattle.law_commits.specs.Beside.{BesideStands, GroupStands, RaiseStands};
+ghost use Rattle.law_commits.specs.Reclaims.{ReclaimStands, FreshStands, FreshIsFresh};
 
 /// The last published time, and the last time that was given, are those of the history and of the commit
 /// order, wherever the names of the first commits are.
@@ -57,4 +58,18 @@ pub fn floors_stand()
     ensures beside { BesideStands }
     ensures group { GroupStands }
     ensures raised { RaiseStands }
+{}
+
+/// A reclaim makes memory forget, and the names up to its mark leave it but for those that wait for their
+/// Done: it stands for the same machine.
+pub fn reclaims_stand()
+    ensures { ReclaimStands }
+{
+    law_refinement::forgotten_holds();
+}
+
+/// A group that began before a reclaim was done is made fresh, and may be published then.
+pub fn freshened_stands()
+    ensures stands { FreshStands }
+    ensures fresh { FreshIsFresh }
 {}
