@@ -89,11 +89,15 @@ held-last mark before kept late h early among named reached =
 -- the first of the heads are the kept ones, and so many more
 pub take-both : {X : Type 0} (xs ys : List X) (n : ℕ) → take (length xs + n) (xs ++ ys) ≡ xs ++ take n ys
 take-both [] ys n = let same : 0 + n ≡ n = omega arith in ap (λ (k : ℕ). take k ys) same
-take-both (x ∷ xs) ys n = ap (λ l. x ∷ l) (take-both xs ys n)
+take-both (x ∷ xs) ys n =
+    let moved : length (x ∷ xs) + n ≡ suc (length xs + n) = omega arith in
+    ap (λ (k : ℕ). take k (x ∷ (xs ++ ys))) moved ∙ ap (λ l. x ∷ l) (take-both xs ys n)
 
 pub drop-both : {X : Type 0} (xs ys : List X) (n : ℕ) → drop (length xs + n) (xs ++ ys) ≡ drop n ys
 drop-both [] ys n = let same : 0 + n ≡ n = omega arith in ap (λ (k : ℕ). drop k ys) same
-drop-both (x ∷ xs) ys n = drop-both xs ys n
+drop-both (x ∷ xs) ys n =
+    let moved : length (x ∷ xs) + n ≡ suc (length xs + n) = omega arith in
+    ap (λ (k : ℕ). drop k (x ∷ (xs ++ ys))) moved ∙ drop-both xs ys n
 
 -- the names of the first commits
 pub front-names : (before : List Name) (late : List CommitHead) (count : ℕ) (h later : History Value) → before ++ map name_at late ≡ map name_of (h ++ later)
