@@ -1,7 +1,6 @@
 -- What changes beside memory, and floors that are raised.
 use Rattle.std.proofs.Common.{◌≡◌, ℕ, ◌≤◌, ◌==◌, ◌&&◌, nat_lt, min, length, Bool, true, false, cond, List, Option, refl, arith, ap, sym, ◌∙◌}
-use Rattle.std.specs.Prelude.{filter, IsTrue}
-use Rattle.history.specs.declared.key.Key.{Key}
+use Rattle.std.specs.Prelude.{filter}
 use Rattle.history.specs.Floors.{Raising, covers, raised}
 use Rattle.history.specs.Machine.{Machine, Gate, MayRaise}
 use Rattle.history.specs.Steps.{floor_published}

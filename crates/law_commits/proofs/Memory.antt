@@ -1,5 +1,5 @@
 -- A transaction begins and is given up.
-use Rattle.std.proofs.Common.{◌≡◌, ℕ, ◌≤◌, ◌==◌, Bool, true, false, List, [], ◌∷◌, Option, None, Some, Result, Ok, Err, MatchBool, cond, refl, arith, ap, sym, subst}
+use Rattle.std.proofs.Common.{◌≡◌, ℕ, ◌≤◌, ◌==◌, Bool, true, false, List, ◌∷◌, Option, None, Some, Result, Ok, Err, MatchBool, cond, refl, arith, ap, sym, subst}
 use Rattle.std.proofs.Common.{◌∙◌, ⊎_elim}
 use Rattle.std.specs.Prelude.{IsPermutation, Contains}
 use Rattle.std.specs.List.{list_all}
@@ -8,7 +8,7 @@ use Rattle.std.proofs.lemmas.List.Sorted.{IsPermutation-refl, IsPermutation-sym,
 use Rattle.history.specs.declared.key.Key.{Key}
 use Rattle.history.specs.Time.{value_at}
 use Rattle.history.specs.Histories.{last, state}
-use Rattle.history.specs.Machine.{Machine, commit_order, IsMachine, IsKeptSnapshot}
+use Rattle.history.specs.Machine.{Machine, IsMachine, IsKeptSnapshot}
 use Rattle.history.specs.Steps.{Aborted, begun}
 use Rattle.history.proofs.Histories.{last_after-range}
 use Rattle.history.proofs.Members.{Contains-head}

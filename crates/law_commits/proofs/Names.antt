@@ -1,10 +1,10 @@
 -- The names in memory and those of the commit order.
-use Rattle.std.proofs.Common.{◌≡◌, ℕ, zero, suc, ◌+◌, ◌<◌, ◌≤◌, max, List, [], ◌∷◌, ◌++◌, length, take, drop, map, refl, arith, ap, sym, subst, ◌∙◌, ⊎_elim}
+use Rattle.std.proofs.Common.{◌≡◌, ℕ, suc, ◌+◌, ◌≤◌, max, List, [], ◌∷◌, ◌++◌, length, take, drop, map, refl, arith, ap, sym, subst, ◌∙◌, ⊎_elim}
 use Rattle.std.specs.Prelude.{Contains}
 use Rattle.std.specs.List.{AllByRecursion}
 use Rattle.std.proofs.lemmas.Bool.Decides.{nat_tests}
 use Rattle.std.proofs.lemmas.List.{map-append}
-use Rattle.history.specs.Histories.{Commit, History, last, last_after}
+use Rattle.history.specs.Histories.{History, last, last_after}
 use Rattle.history.specs.Machine.{Machine, commit_order, IsMachine}
 use Rattle.history.proofs.Members.{Contains-cons_cases, Contains-nil}
 use Rattle.law_image.specs.Values.{Value, IsValue}

@@ -3,8 +3,6 @@ use Rattle.std.proofs.Common.{◌≡◌, ℕ, zero, suc, ◌+◌, ◌≤◌, Lis
 use Rattle.std.proofs.Common.{length-append, Option, Some, None}
 use Rattle.std.specs.Prelude.{MatchOption}
 use Rattle.std.specs.List.{AllByRecursion}
-use Rattle.history.specs.declared.key.Key.{Key}
-use Rattle.history.specs.Histories as histories
 use Rattle.history.specs.Floors.{Raising}
 use Rattle.history.specs.Histories.{History, HasRisingTimes, IsHistory, last}
 use Rattle.history.specs.Machine.{Machine, commit_order, IsRaisable, IsKeptSnapshot, IsMachine}
@@ -12,15 +10,13 @@ use Rattle.history.proofs.Histories.{last_after-append}
 use Rattle.history.proofs.Runs.{last-later}
 use Rattle.history.specs.Steps as steps
 use Rattle.law_image.specs.Values.{Value, IsValue}
-use Rattle.chains.specs.KeyWrites.{writes_of}
-use Rattle.group.specs.CommitOrder.{IsRisingAfter}
 use Rattle.commits.specs.Values.{CommitsValue, versions_after}
 use Rattle.commits.specs.Steps.{members, published, broken}
-use Rattle.law_refinement.specs.Standing.{name_of, HasWrites, HasForgotten}
+use Rattle.law_refinement.specs.Standing.{name_of, HasForgotten}
 use Rattle.law_refinement.proofs.Conflicts.{rising-front, rising-behind}
 use Rattle.law_refinement.proofs.Held.{many-more}
 use Rattle.law_refinement.proofs.Submitting.{order-rising}
-use Rattle.law_commits.specs.Standing.{HasNames, AllWait, StandsInMemory}
+use Rattle.law_commits.specs.Standing.{AllWait, StandsInMemory}
 use Rattle.law_commits.specs.Laws.{IsFresh, with_published}
 use Rattle.law_commits.proofs.Waiting.{as-many, wait-front, rest-waits, ordered-behind, forgot-behind}
 use Rattle.law_commits.proofs.Order.{writes-behind}

@@ -1,20 +1,19 @@
 -- A reclaim leaves memory that stands for the same machine.
-use Rattle.std.proofs.Common.{◌≡◌, ℕ, zero, suc, ◌+◌, ◌-◌, ◌<◌, ◌≤◌, ◌^◌, ◌||◌, nat_lt, Bool, true, false, cond, List, [], ◌∷◌, ◌++◌, length, take, drop, map, refl}
+use Rattle.std.proofs.Common.{◌≡◌, ℕ, zero, suc, ◌+◌, ◌-◌, ◌<◌, ◌≤◌, ◌^◌, ◌||◌, Bool, true, false, cond, List, [], ◌∷◌, ◌++◌, length, take, drop, map, refl}
 use Rattle.std.proofs.Common.{arith, ap, sym, subst, ◌∙◌, ⊎_elim, append_assoc, length-append}
-use Rattle.std.specs.Prelude.{filter, Contains}
+use Rattle.std.specs.Prelude.{Contains}
 use Rattle.std.specs.List.{AllByRecursion}
 use Rattle.std.proofs.lemmas.Bool.{cases_lt}
 use Rattle.std.proofs.lemmas.List.{map-append, length-map}
 use Rattle.std.proofs.lemmas.List.Elements.{filter-append}
-use Rattle.history.specs.declared.key.Key.{Key}
 use Rattle.history.specs.Histories.{Commit, History, HasRisingTimes, last}
 use Rattle.history.specs.Machine.{Machine, IsMachine}
 use Rattle.history.proofs.Histories.{times-earlier}
 use Rattle.history.proofs.Members.{Contains-cons_cases, Contains-head, Contains-tail, Contains-nil}
-use Rattle.history.proofs.Orders.{is_lt, not_lt}
+use Rattle.history.proofs.Orders.{is_lt}
 use Rattle.law_image.specs.Values.{Value, IsValue}
 use Rattle.chains.specs.Writes.{Write, written, kept_after}
-use Rattle.chains.specs.KeyWrites.{KeyWrites, writes_of, IsOrdered, forgotten}
+use Rattle.chains.specs.KeyWrites.{KeyWrites, writes_of, forgotten}
 use Rattle.group.specs.CommitOrder.{IsRisingAfter}
 use Rattle.group.specs.declared.commit_order.CommitHead.{CommitHead}
 use Rattle.commits.specs.Values.{CommitsValue, WaitingValue}

@@ -4,7 +4,6 @@ use Rattle.std.proofs.Common.{None, Some, Result, Ok, Err, refl, arith, ap, sym,
 use Rattle.std.specs.Prelude.{◌↔◌, IsPermutation, is_some}
 use Rattle.std.specs.List.{AllByRecursion, list_all}
 use Rattle.std.specs.List.Sorted.{IsStrictlySortedBy}
-use Rattle.std.proofs.lemmas.Bool.Decides.{nat_tests}
 use Rattle.std.proofs.lemmas.List.{map-append}
 use Rattle.history.specs.declared.key.Key.{Key}
 use Rattle.history.specs.declared.key.KeyWrite.{KeyWrite}
@@ -15,7 +14,6 @@ use Rattle.history.specs.Machine.{Machine, commit_order, IsMachine}
 use Rattle.history.specs.Submissions as submissions
 use Rattle.history.specs.Submissions.{Decision, Submission, commit_made, conflict_of, decision, timed, unless_conflict, EndsASeenValue, IsSubmitted}
 use Rattle.history.specs.Steps.{Aborted}
-use Rattle.history.specs.Steps as steps
 use Rattle.history.proofs.Histories.{rising-from_following, times-earlier, state-append, may_follow-behind}
 use Rattle.history.proofs.Machines.{step-machine}
 use Rattle.history.proofs.Orders.{is_lt, not_lt}
@@ -43,7 +41,6 @@ use Rattle.law_refinement.proofs.KeptWrites.{kept-more}
 use Rattle.law_refinement.proofs.Held.{rising-both}
 use Rattle.law_refinement.proofs.Waiting.{written-later}
 use Rattle.law_refinement.proofs.Conflicts.{conflicts-same}
-use Rattle.law_refinement.proofs.Deciding.{some-writes}
 use Rattle.law_refinement.proofs.Submitting.{order-rising, snapshot-kept}
 use Rattle.law_commits.specs.Standing.{HasNames, Waits, StandsInMemory}
 use Rattle.law_commits.specs.Laws.{AnswersSubmit, Goes}

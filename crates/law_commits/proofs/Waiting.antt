@@ -5,7 +5,7 @@ use Rattle.history.specs.Histories as histories
 use Rattle.history.specs.Histories.{Commit, History}
 use Rattle.history.proofs.Histories.{writes_of-append}
 use Rattle.law_image.specs.Values.{Value}
-use Rattle.chains.specs.Writes.{Write, kept_after, written}
+use Rattle.chains.specs.Writes.{Write, kept_after}
 use Rattle.chains.specs.KeyWrites.{KeyWrites, writes_of, IsOrdered}
 use Rattle.commits.specs.Values.{WaitingValue, versions_after, mark_after}
 use Rattle.law_refinement.specs.Standing.{HasForgotten}

@@ -1,5 +1,5 @@
 -- What of the machine memory does not say, and floors that are raised.
-use Rattle.std.specs.Prelude.{ℕ, ◌≡◌, ◌≤◌, Option}
+use Rattle.std.specs.Prelude.{ℕ, ◌≡◌, Option}
 use Rattle.history.specs.Floors.{Raising, raised}
 use Rattle.history.specs.Machine.{Machine, Gate, MayRaise}
 use Rattle.history.specs.Steps.{floor_published}

@@ -1,5 +1,5 @@
 -- The calls that change what a store has in memory are steps of the machine.
-use Rattle.std.specs.Prelude.{ℕ, ◌≡◌, ◌≢◌, ◌≤◌, ◌<◌, ◌^◌, ◌↔◌, ◌==◌, Bool, true, false, List, [], ◌++◌, length, take, drop, Option, None, Some, Result, Ok, Err, MatchBool}
+use Rattle.std.specs.Prelude.{ℕ, ◌≡◌, ◌≢◌, ◌≤◌, ◌<◌, ◌^◌, ◌↔◌, true, false, [], ◌++◌, length, take, drop, None, Some, Result, Ok, Err, MatchBool}
 use Rattle.history.specs.declared.key.Key.{Key}
 use Rattle.history.specs.Histories.{last}
 use Rattle.history.specs.Machine.{Machine, commit_order, IsMachine}
