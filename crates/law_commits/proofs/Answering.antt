@@ -218,7 +218,8 @@ redeemed-parts : (time : ℕ) (kept late : List CommitHead) → InParts (orders.
 redeemed-parts time [] late =
     record { first = []; second = orders.redeemed time late; is = refl; first_names = refl; second_names = redeemed-names time late; many = refl }
 redeemed-parts time (x ∷ xs) late =
-    elim (x.time == time) as (λ (b : Bool). InParts (cond b (record x { awaited = false } ∷ (xs ++ late)) (x ∷ orders.redeemed time (xs ++ late))) (x ∷ xs) late) [
+    elim (x.time == time) as (λ (b : Bool). InParts (cond b (record x { awaited = false } ∷ (xs ++ late)) (x ∷ orders.redeemed time (xs ++ late))) (x
+    ∷ xs) late) [
       | true ↦ record { first = record x { awaited = false } ∷ xs; second = late; is = refl; first_names = refl; second_names = refl; many = refl }
       | false ↦
           let rest = redeemed-parts time xs late in
@@ -266,7 +267,8 @@ redeemed-stands v m time stands = record {
 -- what a ticket is told, where its commit is there
 abbrev Tells : CommitsValue → Machine Value → TicketValue → Redeemed → CommitsValue → Type 0
 Tells old m ticket answer new =
-    (is_awaited ticket.time old.heads ≡ true → answer ≡ told_as ticket (answers.redeemed_by m ticket.time)) × RedeemsAs (answers.redeemed_by m ticket.time) answer
+    (is_awaited ticket.time old.heads ≡ true → answer ≡ told_as ticket (answers.redeemed_by m ticket.time))
+    × RedeemsAs (answers.redeemed_by m ticket.time) answer
     × StandsInMemory new m
 
 told-same : (ticket : TicketValue) (said : answers.Redeemed) → RedeemsAs said (told_as ticket said)

@@ -67,7 +67,8 @@ pub raises : (v : CommitsValue) (m : Machine Value) (r : Raising) (floors : Floo
 raises v m r floors stands may is = record {
   names = stands.names;
   rising = stands.rising;
-  versions = raised-has m.floors (raised r.scope r.floor m.floors) v.reclaimed v.versions m.published (λ relation. raised-over m r relation may) stands.versions;
+  versions = raised-has m.floors (raised r.scope r.floor m.floors) v.reclaimed v.versions m.published (λ relation. raised-over m r relation may)
+      stands.versions;
   forgot = stands.forgot;
   recent = stands.recent;
   queue = stands.queue;

@@ -137,7 +137,8 @@ published-heads v m n =
     ∙ ap (λ (heads : List CommitHead). take (length n.kept + n.count) heads) n.heads_are
     ∙ take-both n.kept n.late n.count
 
-pub waiting-heads : (v : CommitsValue) (m : Machine Value) (n : HasNames v.reclaimed v.heads v.published m.published m.queue) → drop v.published v.heads ≡ drop n.count n.late
+pub waiting-heads : (v : CommitsValue) (m : Machine Value) (n : HasNames v.reclaimed v.heads v.published m.published m.queue) → drop v.published v.heads
+    ≡ drop n.count n.late
 waiting-heads v m n =
     ap (λ (k : ℕ). drop k v.heads) n.published_are
     ∙ ap (λ (heads : List CommitHead). drop (length n.kept + n.count) heads) n.heads_are

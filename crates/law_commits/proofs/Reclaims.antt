@@ -31,7 +31,8 @@ use Rattle.law_commits.proofs.Order.{published-rises}
 
 -- ---- what waits, behind versions that forget by a later mark
 
-pub behind-same : (mark : ℕ) (a b : List KeyWrites) (ws : List WaitingValue) (cs : History Value) → SaySame mark a b → AllWait mark a ws cs → AllWait mark b ws cs
+pub behind-same : (mark : ℕ) (a b : List KeyWrites) (ws : List WaitingValue) (cs : History Value) → SaySame mark a b → AllWait mark a ws cs
+    → AllWait mark b ws cs
 behind-same mark a b [] [] same all = tt
 behind-same mark a b [] (c ∷ cs) same all = absurd all
 behind-same mark a b (w ∷ ws) [] same all = absurd all
@@ -106,7 +107,15 @@ all-later mark t (x ∷ xs) low up =
     let first = up.0 in (omega (arith, first, low), all-later mark x.time xs (omega (arith, first, low)) up.2)
 
 apart : (mark t : ℕ) (heads : List CommitHead) → IsRisingAfter t heads → Parts mark heads
-apart mark t [] up = record { early = []; rest = []; is = refl; upto = tt; left = λ n. all-stay mark (take n []) (taken-later mark n [] tt); whole = refl; later = tt }
+apart mark t [] up = record {
+  early = [];
+  rest = [];
+  is = refl;
+  upto = tt;
+  left = λ n. all-stay mark (take n []) (taken-later mark n [] tt);
+  whole = refl;
+  later = tt;
+}
 apart mark t (x ∷ xs) up = ⊎_elim
     (λ (late : mark < x.time).
     let all : AllByRecursion (λ (head : CommitHead). mark < head.time) (x ∷ xs) = (late, all-later mark x.time xs (omega (arith, late)) up.2) in
@@ -135,7 +144,8 @@ apart mark t (x ∷ xs) up = ⊎_elim
 -- ---- names
 
 -- what stays of some heads is among their names
-left-among : (mark : ℕ) (before : List Name) (heads : List CommitHead) → AllAmong before (map name_at heads) → AllAmong before (map name_at (left_after mark heads))
+left-among : (mark : ℕ) (before : List Name) (heads : List CommitHead) → AllAmong before (map name_at heads)
+    → AllAmong before (map name_at (left_after mark heads))
 left-among mark before [] among = tt
 left-among mark before (x ∷ xs) among =
     elim (stays mark x) as (λ (b : Bool). AllAmong before (map name_at (cond b (x ∷ left_after mark xs) (left_after mark xs)))) [
@@ -285,8 +295,8 @@ reclaimed-names v m mark stands machine low reached n p =
           let whole = n.many in omega (arith, size, whole, few);
     }
 
-pub reclaims : ForgottenHolds → (v : CommitsValue) (m : Machine Value) (mark : ℕ) → StandsInMemory v m → IsMachine IsValue m → v.reclaimed ≤ mark → mark ≤ last m.published
-    → ((snapshot : ℕ) → Contains (snapshots_of v.opened) snapshot → mark ≤ snapshot) → StandsInMemory (reclaimed_to mark v) m
+pub reclaims : ForgottenHolds → (v : CommitsValue) (m : Machine Value) (mark : ℕ) → StandsInMemory v m → IsMachine IsValue m → v.reclaimed ≤ mark
+    → mark ≤ last m.published → ((snapshot : ℕ) → Contains (snapshots_of v.opened) snapshot → mark ≤ snapshot) → StandsInMemory (reclaimed_to mark v) m
 reclaims forgets v m mark stands machine low reached recent =
     let up = published-rises v m stands machine in
     let ordered = stands.versions.ordered in

@@ -116,7 +116,8 @@ told_as ticket answers.InDoubt = redeemed.InDoubt
 abbrev pub AwaitedIsAnswered : Type 0
 AwaitedIsAnswered =
     (old new : CommitsValue) (ticket : TicketValue) (answer : Redeemed) (m : Machine Value) → StandsInMemory old m → IsMachine IsValue m
-    → Redeems old ticket answer new → ticket.mark ≡ old.mark → is_awaited ticket.time old.heads ≡ true → answer ≡ told_as ticket (answers.redeemed_by m ticket.time)
+    → Redeems old ticket answer new → ticket.mark ≡ old.mark → is_awaited ticket.time old.heads ≡ true
+    → answer ≡ told_as ticket (answers.redeemed_by m ticket.time)
 
 -- every other ticket is a stranger's, and nothing changes: it is of another store, or of a commit whose name is not in memory or is awaited no longer
 abbrev pub OthersAreStrangers : Type 0

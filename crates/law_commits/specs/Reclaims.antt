@@ -1,5 +1,6 @@
 -- What a reclaim makes memory forget.
-use Rattle.std.specs.Prelude.{ℕ, ◌-◌, ◌<◌, ◌≤◌, ◌||◌, Bool, nat_lt, List, length, take, filter, slice_get, slice_set, Option, Some, None, Contains, if◌then◌else◌}
+use Rattle.std.specs.Prelude.{ℕ, ◌-◌, ◌<◌, ◌≤◌, ◌||◌, Bool, nat_lt, List, length, take, filter, slice_get, slice_set, Option, Some, None, Contains}
+use Rattle.std.specs.Prelude.{if◌then◌else◌}
 use Rattle.history.specs.Histories.{last}
 use Rattle.history.specs.Machine.{Machine, IsMachine}
 use Rattle.law_image.specs.Values.{Value, IsValue}
