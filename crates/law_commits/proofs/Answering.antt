@@ -33,7 +33,7 @@ use Rattle.law_commits.proofs.Order.{published-rises}
 
 -- ---- where a time stands among the heads
 
-awaited-later : (t time : ℕ) (heads : List CommitHead) → IsRisingAfter t heads → is_awaited time heads ≡ true → t < time
+pub awaited-later : (t time : ℕ) (heads : List CommitHead) → IsRisingAfter t heads → is_awaited time heads ≡ true → t < time
 awaited-later t time [] rising waits = absurd cc
 awaited-later t time (x ∷ xs) rising waits =
     elim (cases_eq x.time time) [

@@ -9,3 +9,4 @@ pub mod Views
 pub mod Beside
 pub mod Reclaims
 pub mod Freshening
+pub mod Tickets

@@ -32,7 +32,7 @@ one-upto mark (n ∷ ns) name all has =
     (Contains-cons_cases n ns name has)
 
 -- what is among names that are at most a mark is so too
-among-upto : (mark : ℕ) (before ns : List Name) → AllUpto mark before → AllAmong before ns → AllUpto mark ns
+pub among-upto : (mark : ℕ) (before ns : List Name) → AllUpto mark before → AllAmong before ns → AllUpto mark ns
 among-upto mark before [] all among = tt
 among-upto mark before (n ∷ ns) all among = (one-upto mark before n all among.0, among-upto mark before ns all among.1)
 

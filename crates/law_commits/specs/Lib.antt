@@ -3,3 +3,4 @@ pub mod Laws
 pub mod Views
 pub mod Beside
 pub mod Reclaims
+pub mod Tickets

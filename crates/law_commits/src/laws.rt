@@ -4,6 +4,7 @@ ghost use Rattle.law_commits.specs.Laws.{RedeemStands, AwaitedIsAnswered, Others
 ghost use Rattle.law_commits.specs.Views.{ViewIsOfHistory};
 ghost use Rattle.law_commits.specs.Beside.{BesideStands, GroupStands, RaiseStands};
 ghost use Rattle.law_commits.specs.Reclaims.{ReclaimStands, FreshStands, FreshIsFresh};
+ghost use Rattle.law_commits.specs.Tickets.{QueuedIsAwaited, ReclaimKeepsAwaited, LateTimesAreOfLabel};
 
 /// The last published time, and the last time that was given, are those of the history and of the commit
 /// order, wherever the names of the first commits are.
@@ -72,4 +73,15 @@ pub fn reclaims_stand()
 pub fn freshened_stands()
     ensures stands { FreshStands }
     ensures fresh { FreshIsFresh }
+{}
+
+/// A commit that begins to wait is awaited, and no reclaim changes what is awaited.
+pub fn tickets_stay()
+    ensures queued { QueuedIsAwaited }
+    ensures reclaimed { ReclaimKeepsAwaited }
+{}
+
+/// The times of a label that are later than the reclaim mark are those of the published history.
+pub fn times_are_of_label()
+    ensures { LateTimesAreOfLabel }
 {}
