@@ -1,0 +1,4 @@
+pub mod Values
+pub mod Submits
+pub mod Pumps
+pub mod Calls

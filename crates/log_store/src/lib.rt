@@ -1,0 +1,10 @@
+//! A store whose log lies in the heap, as chains of extents of which each names the next one.
+#![tactic(auto)]
+
+mod answers;
+mod pump;
+mod store;
+mod submit;
+
+pub use answers::Did;
+pub use store::LogStore;
