@@ -81,6 +81,9 @@ int32_t ts_shared_commit(ts_shared *store, uint64_t txn, uint64_t label, uint64_
 /* Goes on with a commit that was answered TS_WAITING. The ticket is spent, and answered as ts_shared_commit is. */
 int32_t ts_shared_resume(ts_shared *store, uint64_t ticket, ts_info *info);
 
+/* Spends such a ticket; its commit goes its way. */
+int32_t ts_shared_give_up(ts_shared *store, uint64_t ticket);
+
 int32_t ts_shared_abort(ts_shared *store, uint64_t txn);
 
 /* ---- views, and the past */

@@ -296,6 +296,13 @@ int32_t ts_shared_abort(ts_shared *s, uint64_t txn) {
     return tsi_leave(s, state, code);
 }
 
+int32_t ts_shared_give_up(ts_shared *s, uint64_t ticket) {
+    int state;
+    int32_t code = tsi_enter(s, &state);
+    if (code == TS_OK) code = ts_give_up(tsi_store(s), ticket);
+    return tsi_leave(s, state, code);
+}
+
 /* ---- what is published now, and views of it */
 
 static int32_t nothing(ts *store, const words *w, ts_info *info) {
