@@ -11,7 +11,7 @@
 #include <time.h>
 #include <unistd.h>
 
-enum { THREADS_MOST = 128, COMMITS_MOST = 50000, RECORDS = 1000 };
+enum { THREADS_MOST = 128, COMMITS_MOST = 50000, RECORDS = 1024, STEP = 64 };
 
 static atomic_uint_fast64_t commits, values;
 static atomic_bool over;
@@ -43,7 +43,7 @@ static void *write_on(void *arg) {
             atomic_store(&over, true);
             break;
         }
-        store_put(own, record = (record + 64) % RECORDS, RECORDS + number + 1, value);
+        store_put(own, record = (record + STEP) % RECORDS, RECORDS + number + 1, value); /* no other thread's */
     }
     thread_end(own);
     return NULL;

@@ -49,7 +49,8 @@ int32_t ts_shared_last(ts_shared *store, ts_info *info);
 
 /* ---- what stands now */
 
-/* A commit of one value, or of one deletion; a: its time. As ts_shared_commit. */
+/* A commit of one value, or of one deletion; a: its time. As ts_shared_commit; where another commit of that record is on its
+   way it comes behind that. (TS_CONFLICT only where that one was answered TS_WAITING.) */
 int32_t ts_shared_put(ts_shared *store, uint16_t relation, uint64_t record, const uint8_t *value, size_t value_len,
                       uint64_t label, uint64_t now, ts_info *info);
 int32_t ts_shared_delete(ts_shared *store, uint16_t relation, uint64_t record, uint64_t label, uint64_t now,
@@ -75,7 +76,8 @@ int32_t ts_shared_txn_scan(ts_shared *store, uint64_t txn, uint16_t relation, ts
 /* Commits it, with a label, at the time now or just after the last commit, and returns once that outlasts a stop: TS_OK,
    a: the time of the commit. TS_READ_ONLY where nothing was written. TS_IN_DOUBT where the device failed on the way.
    TS_WAITING where memory was refused on the way, a: the number of a ticket, for ts_shared_resume. Another refusal
-   says that nothing was committed. The transaction is over, but where the store is closed. */
+   says that nothing was committed; TS_CONFLICT comes once the commits that were on their way are done, so that a new
+   transaction sees them. The transaction is over, but where the store is closed. */
 int32_t ts_shared_commit(ts_shared *store, uint64_t txn, uint64_t label, uint64_t now, ts_info *info);
 
 /* Goes on with a commit that was answered TS_WAITING. The ticket is spent, and answered as ts_shared_commit is. */

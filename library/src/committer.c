@@ -51,32 +51,70 @@ static request *shift(request_list *list) {
 
 /* ---- sleeping and waking */
 
-/* Sleeps while its word is this; it may return sooner. */
-static void sleep_on(request *r, uint_least32_t word) { syscall(SYS_futex, &r->woken, FUTEX_WAIT_PRIVATE, word, NULL, NULL, 0); }
+/* Sleeps while a word is this, for so many microseconds at most, or UINT64_MAX; it may return sooner. */
+static void sleep_on(atomic_uint_least32_t *word, uint_least32_t value, uint64_t most) {
+    struct timespec time = tsi_place(most);
+    syscall(SYS_futex, word, FUTEX_WAIT_PRIVATE, value, most == UINT64_MAX ? NULL : &time, NULL, 0);
+}
+
+/* Behind the store to a request's word it may be gone with its thread's stack: then the address wakes nobody. */
+static void wake(atomic_uint_least32_t *word, uint_least32_t why, int most) {
+    atomic_store(word, why);
+    syscall(SYS_futex, word, FUTEX_WAKE_PRIVATE, most, NULL, NULL, 0);
+}
 
 /* Sleeps until it is answered, or is to look whether it leads; whether it is answered. */
 static bool sleeps_until_over(request *r) {
     uint_least32_t word;
-    while ((word = atomic_load(&r->woken)) == SLEEPS) sleep_on(r, SLEEPS);
+    while ((word = atomic_load(&r->woken)) == SLEEPS) sleep_on(&r->woken, SLEEPS, UINT64_MAX);
     return word == OVER;
 }
 
 /* Behind this nobody names it any more. */
 static void wait_for_over(request *r) {
-    for (uint_least32_t word; (word = atomic_load(&r->woken)) != OVER;) sleep_on(r, word);
+    for (uint_least32_t word; (word = atomic_load(&r->woken)) != OVER;) sleep_on(&r->woken, word, UINT64_MAX);
 }
 
-/* Behind the store to the word it may be gone with its thread's stack: then the address wakes nobody. */
-static void wake(atomic_uint_least32_t *word, uint_least32_t why) {
-    atomic_store(word, why);
-    syscall(SYS_futex, word, FUTEX_WAKE_PRIVATE, 1, NULL, NULL, 0);
+/* ---- the lock. Who asks queries without an end would have it again and again before the leader, who has slept, is awake. So
+   others wait while the leader comes, and it does not sleep unless a query takes long. */
+
+enum { NOBODY = 0, COMES = 1, AWAITED = 2 };
+enum { SPINS = 200 };
+
+static void spin(void) {
+#if defined(__x86_64__) || defined(__i386__)
+    __builtin_ia32_pause();
+#endif
+}
+
+/* Waits while the leader comes. */
+static void let_leader_pass(ts_shared *s) {
+    for (int i = 0; i < SPINS && atomic_load(&s->leader_comes) != NOBODY; i++) spin();
+    for (uint_least32_t word; (word = atomic_load(&s->leader_comes)) != NOBODY;)
+        if (word == AWAITED || atomic_compare_exchange_strong(&s->leader_comes, &word, AWAITED)) sleep_on(&s->leader_comes, AWAITED, UINT64_MAX);
+}
+
+static void take_lock(ts_shared *s) {
+    if (atomic_load(&s->leader_comes) != NOBODY) let_leader_pass(s);
+    pthread_mutex_lock(&s->lock);
+}
+
+static void take_lock_first(ts_shared *s) {
+    atomic_store(&s->leader_comes, COMES);
+    bool has_it = false;
+    for (int i = 0; i < SPINS && !has_it; i++) {
+        has_it = pthread_mutex_trylock(&s->lock) == 0;
+        if (!has_it) spin();
+    }
+    if (!has_it) pthread_mutex_lock(&s->lock);
+    if (atomic_exchange(&s->leader_comes, NOBODY) == AWAITED) wake(&s->leader_comes, NOBODY, INT_MAX);
 }
 
 /* Wakes those whose requests are answered, without the lock. */
 static void wake_all(request *r) {
     for (request *next; r; r = next) {
         next = r->next; /* it is its thread's again */
-        wake(&r->woken, OVER);
+        wake(&r->woken, OVER, 1);
     }
 }
 
@@ -86,18 +124,9 @@ static request *take_answered(ts_shared *s) {
     return first;
 }
 
-/* Gives the lock up for the waking, where some are to be woken. */
-static void breathe(ts_shared *s) {
-    request *answered = take_answered(s);
-    if (!answered) return;
-    pthread_mutex_unlock(&s->lock);
-    wake_all(answered);
-    pthread_mutex_lock(&s->lock);
-}
-
 int32_t tsi_enter(ts_shared *s, int *state) {
     pthread_setcancelstate(PTHREAD_CANCEL_DISABLE, state);
-    pthread_mutex_lock(&s->lock);
+    take_lock(s);
     return s->closing ? TS_CLOSED : TS_OK;
 }
 
@@ -177,20 +206,39 @@ static void note_refusal(ts_shared *s, int32_t code) {
     if (s->has_vacuum) pthread_cond_signal(&s->looks);
 }
 
+/* So many commits are waited for before a group begins. */
+static size_t wanted(const ts_shared *s) { return s->expected < GROUP_MOST ? s->expected : GROUP_MOST; }
+
+static void end_gathering(ts_shared *s) {
+    if (s->gathering) wake(&s->gathered, 1, 1);
+    s->gathering = false;
+}
+
 /* Makes a request, while no device call stands out. */
 static void make_request(ts_shared *s, request *r) {
     int32_t code = r->kind == JOBS && s->job ? TS_JOB_BUSY : r->call(tsi_store(s), &r->words, &r->info);
     bool waits = r->kind == COMMITS && (code == TS_OK || code == TS_WAITING);
     if (waits) {
         push(&s->commits, r);
-        if (s->commits.count >= s->expected || s->commits.count >= GROUP_MOST) pthread_cond_signal(&s->gathered);
+        if (s->commits.count >= wanted(s)) end_gathering(s);
     } else if (r->kind == JOBS && code == TS_OK) {
         s->job = r;
-        pthread_cond_signal(&s->gathered);
+        end_gathering(s);
+    } else if (code == TS_CONFLICT && s->commits.first) {
+        push(&s->conflicts, r);
     } else {
         note_refusal(s, code);
         answer(s, r, code);
     }
+}
+
+/* A group has ended: what conflicted may see now what was ahead of it. */
+static void settle_conflicts(ts_shared *s) {
+    request_list conflicts = s->conflicts;
+    s->conflicts = (request_list){NULL, NULL, 0};
+    for (request *r; (r = shift(&conflicts));)
+        if (r->again) make_request(s, r);
+        else answer(s, r, TS_CONFLICT);
 }
 
 /* ---- the leader */
@@ -206,7 +254,7 @@ static int32_t make_call(ts_shared *s, ts_info *info) {
     pthread_mutex_unlock(&s->lock);
     wake_all(answered);
     int32_t made = tsi_file_make(s->file, &call);
-    pthread_mutex_lock(&s->lock);
+    take_lock_first(s);
     s->calling = false;
     tsi_file_made(s->file, &call, made);
     return ts_called(&host->store, made == TS_OK, info);
@@ -224,6 +272,7 @@ static void settle_group(ts_shared *s, int32_t code, const ts_info *info) {
     } else {
         redeem(s, true);
     }
+    settle_conflicts(s);
 }
 
 /* A step of the job did this. */
@@ -251,6 +300,7 @@ static void take_step(ts_shared *s) {
     if (code == TS_FAILED) { /* nothing is written any more */
         renew(s);
         redeem(s, true);
+        settle_conflicts(s);
         end_job(s, code);
     }
     for (request *r; (r = shift(&s->posted));) make_request(s, r);
@@ -258,13 +308,17 @@ static void take_step(ts_shared *s) {
 
 /* Before a group begins: waits a part of what a group takes for those who are likely to commit again. */
 static void gather(ts_shared *s) {
-    size_t wanted = s->expected < GROUP_MOST ? s->expected : GROUP_MOST;
-    if (s->in_group || s->job || s->commits.count >= wanted) return;
-    breathe(s);
-    uint64_t patience = s->group_took / PATIENCE_PART;
-    struct timespec end = tsi_place(tsi_clock() + (patience < PATIENCE_MOST ? patience : PATIENCE_MOST));
-    while (!s->job && s->commits.count < wanted)
-        if (pthread_cond_timedwait(&s->gathered, &s->lock, &end)) break;
+    if (s->in_group || s->job || s->commits.count >= wanted(s)) return;
+    uint64_t now = tsi_clock(), patience = s->group_took / PATIENCE_PART;
+    uint64_t end = now + (patience < PATIENCE_MOST ? patience : PATIENCE_MOST);
+    request *answered = take_answered(s);
+    s->gathering = true;
+    atomic_store(&s->gathered, 0);
+    pthread_mutex_unlock(&s->lock);
+    wake_all(answered);
+    for (; atomic_load(&s->gathered) == 0 && now < end; now = tsi_clock()) sleep_on(&s->gathered, 0, end - now);
+    take_lock_first(s);
+    s->gathering = false;
 }
 
 /* Makes the device calls of all until its own request is answered, and then wakes the next that waits. */
@@ -276,7 +330,7 @@ static void lead(ts_shared *s, const request *own) {
     }
     s->leading = false;
     request *next = s->commits.first ? s->commits.first : s->job;
-    if (next) wake(&next->woken, LOOKS);
+    if (next) wake(&next->woken, LOOKS, 1);
 }
 
 /* Waits while another thread leads; the lock is given up meanwhile. Whether the request is answered, and the lock free. */
@@ -285,7 +339,7 @@ static bool follows(ts_shared *s, request *r) {
         r->sleeps = true;
         tsi_leave(s, PTHREAD_CANCEL_DISABLE, TS_OK);
         if (sleeps_until_over(r)) return true;
-        pthread_mutex_lock(&s->lock);
+        take_lock(s);
         if (r->over) break;
         r->sleeps = false;
         atomic_store(&r->woken, SLEEPS);

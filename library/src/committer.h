@@ -28,6 +28,7 @@ typedef struct request {
     kind kind;
     bool over;   /* it is answered */
     bool sleeps; /* its thread does, or is about to: it is to be woken */
+    bool again;  /* it is made again behind a commit that it conflicts with */
     int32_t code;
     ts_info info;            /* of a commit that waits, a: its ticket */
     atomic_uint_least32_t woken; /* what its thread sleeps on: see committer.c */
@@ -52,6 +53,7 @@ typedef struct seat {
 
 struct ts_shared {
     pthread_mutex_t lock; /* over all of this, and over each call of the store */
+    atomic_uint_least32_t leader_comes; /* the leader is to have the lock next: see committer.c */
     ts_file *file;        /* NULL once it is closed */
     bool closing, is_child;
     struct ts_shared *next; /* of those that are open in this process */
@@ -60,14 +62,17 @@ struct ts_shared {
     bool calling;               /* one is being made, without the lock */
     request_list posted;        /* requests that came meanwhile */
     request_list commits;       /* those that are submitted, in the order of that */
+    request_list conflicts;     /* those that conflict, perhaps with one of these, until the group ends */
     request_list answered;      /* whose threads are to be woken once the lock is free */
     request *job;               /* the one whose job is being made */
     bool job_turn;              /* whether the job has the next step */
     bool in_group;              /* a group is in the writing */
     size_t expected;            /* so many commits are likely to come for the next group */
+    bool gathering;             /* the leader waits for them, on this word */
+    atomic_uint_least32_t gathered;
     uint64_t group_began, group_took; /* in microseconds */
     size_t within;              /* threads whose requests are not answered yet */
-    pthread_cond_t gathered, quiet;
+    pthread_cond_t quiet;
 
     moment *latest;             /* what is published now; NULL where there was no memory for it */
     seat *seats;

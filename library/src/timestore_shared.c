@@ -25,10 +25,11 @@ static void unlock_all(void) {
     pthread_mutex_unlock(&open_lock);
 }
 
-/* The child has none of the threads that wait, nor the vacuum. */
+/* The child has none of the threads that wait, nor the vacuum, nor a leader who comes. */
 static void in_child(void) {
     for (ts_shared *s = open_stores; s; s = s->next) {
         s->closing = s->is_child = true;
+        atomic_store(&s->leader_comes, 0);
         s->has_vacuum = false;
     }
     unlock_all();
@@ -67,7 +68,6 @@ static void make_locks(ts_shared *s) {
     pthread_mutexattr_destroy(&kind);
     pthread_condattr_init(&clock);
     pthread_condattr_setclock(&clock, CLOCK_MONOTONIC);
-    pthread_cond_init(&s->gathered, &clock);
     pthread_cond_init(&s->quiet, &clock);
     pthread_cond_init(&s->looks, &clock);
     pthread_condattr_destroy(&clock);
@@ -76,7 +76,6 @@ static void make_locks(ts_shared *s) {
 /* In a child it would wait for threads that only its parent has. */
 static void drop_locks(ts_shared *s) {
     if (s->is_child) return;
-    pthread_cond_destroy(&s->gathered);
     pthread_cond_destroy(&s->quiet);
     pthread_cond_destroy(&s->looks);
     pthread_mutex_destroy(&s->lock);
@@ -162,6 +161,12 @@ static int32_t ask(ts_shared *s, kind kind, asking *call, words words, ts_info *
     return tsi_complete(s, &r, info);
 }
 
+/* A commit of one value, which may be made behind any other. */
+static int32_t ask_one(ts_shared *s, asking *call, words words, ts_info *info) {
+    request r = {.call = call, .words = words, .kind = COMMITS, .again = true};
+    return tsi_complete(s, &r, info);
+}
+
 /* Submits what was written in a transaction, or gives it up. */
 static int32_t submit_one(ts *store, uint64_t txn, int32_t code, const words *w, ts_info *info) {
     if (code == TS_OK) return ts_submit(store, txn, w->b, w->c, info);
@@ -221,11 +226,11 @@ static int32_t go_on(ts *store, const words *w, ts_info *info) {
 
 int32_t ts_shared_put(ts_shared *s, uint16_t relation, uint64_t record, const uint8_t *value, size_t value_len,
                       uint64_t label, uint64_t now, ts_info *info) {
-    return ask(s, COMMITS, put_one, (words){record, label, now, relation, NULL, value, value_len}, info);
+    return ask_one(s, put_one, (words){record, label, now, relation, NULL, value, value_len}, info);
 }
 
 int32_t ts_shared_delete(ts_shared *s, uint16_t relation, uint64_t record, uint64_t label, uint64_t now, ts_info *info) {
-    return ask(s, COMMITS, delete_one, (words){record, label, now, relation, NULL, NULL, 0}, info);
+    return ask_one(s, delete_one, (words){record, label, now, relation, NULL, NULL, 0}, info);
 }
 
 int32_t ts_shared_begin(ts_shared *s, ts_info *info) { return ask(s, ANSWERS, begin, (words){.a = 0}, info); }
