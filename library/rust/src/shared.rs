@@ -65,10 +65,7 @@ impl Open {
     }
 
     // The time of a commit; none where nothing was written.
-    fn commit(
-        &self,
-        call: impl FnOnce(*mut raw::Shared, &mut Info) -> i32,
-    ) -> Result<Option<u64>> {
+    fn commit(&self, call: impl FnOnce(*mut raw::Shared, &mut Info) -> i32) -> Result<Option<u64>> {
         match self.ask(call)? {
             (crate::error::WAITING, info) => Err(Error::Waiting(WaitingTicket(info.a))),
             (raw::READ_ONLY, _) => Ok(None),
@@ -370,9 +367,8 @@ impl Txn {
     pub fn put(&mut self, relation: u16, record: u64, fields: &[&[u8]]) -> Result<()> {
         let (value, number) = (spelled(fields)?, self.number);
         let (at, len) = (value.as_ptr(), value.len());
-        self.store.ask(|s, _| unsafe {
-            raw::ts_shared_txn_put(s, number, relation, record, at, len)
-        })?;
+        self.store
+            .ask(|s, _| unsafe { raw::ts_shared_txn_put(s, number, relation, record, at, len) })?;
         Ok(())
     }
 

@@ -47,11 +47,18 @@ fn each_call() {
     let view = store.view().unwrap();
     assert_eq!(view.last(), second);
     store.delete(1, 8, 0).unwrap();
-    assert_eq!(store.scan(1).unwrap().map(|it| it.0).collect::<Vec<_>>(), [7]);
+    assert_eq!(
+        store.scan(1).unwrap().map(|it| it.0).collect::<Vec<_>>(),
+        [7]
+    );
     assert_eq!(view.scan(1).unwrap().len(), 2);
     assert_eq!(view.at(1, 7, first).unwrap(), Some(vec![b"a".to_vec()]));
     assert_eq!(view.get(1, 8).unwrap(), Some(vec![b"c".to_vec(), vec![]]));
-    let rows: Vec<_> = view.between(1, 7, first, second + 1).unwrap().map(|it| it.from).collect();
+    let rows: Vec<_> = view
+        .between(1, 7, first, second + 1)
+        .unwrap()
+        .map(|it| it.from)
+        .collect();
     assert_eq!(rows, [first, second]);
     assert_eq!(view.scan_between(1, first, second + 1).unwrap().len(), 3);
     assert!(matches!(view.at(1, 7, second + 1), Err(Error::NotYet(_))));
@@ -60,10 +67,19 @@ fn each_call() {
     store.archive(second).unwrap();
     store.reclaim().unwrap();
     assert!(matches!(store.reclaim(), Err(Error::NothingToDo)));
-    assert_eq!(store.view().unwrap().at(1, 7, first).unwrap(), Some(vec![b"a".to_vec()]));
+    assert_eq!(
+        store.view().unwrap().at(1, 7, first).unwrap(),
+        Some(vec![b"a".to_vec()])
+    );
     store.floor_of(1, second).unwrap();
-    assert!(matches!(store.view().unwrap().at(1, 7, first), Err(Error::BeforeKept(_))));
-    assert!(matches!(store.raise_floor(second), Err(Error::WrongProfile)));
+    assert!(matches!(
+        store.view().unwrap().at(1, 7, first),
+        Err(Error::BeforeKept(_))
+    ));
+    assert!(matches!(
+        store.raise_floor(second),
+        Err(Error::WrongProfile)
+    ));
     store.grow().unwrap();
     store.job().unwrap();
     store.close().unwrap();
@@ -81,8 +97,17 @@ fn commits_of_many_threads() {
             let mut asked = 0;
             while !done.load(Ordering::Relaxed) {
                 let view = store.view().unwrap();
-                let sum: u64 = view.scan(2).unwrap().map(|(_, fields)| fields[0][0] as u64).sum();
-                assert_eq!(sum, view.get(3, 0).unwrap().map_or(0, |fields| fields[0][0] as u64));
+                let sum: u64 = view
+                    .scan(2)
+                    .unwrap()
+                    .map(|(_, fields)| fields[0][0] as u64)
+                    .sum();
+                assert_eq!(
+                    sum,
+                    view.get(3, 0)
+                        .unwrap()
+                        .map_or(0, |fields| fields[0][0] as u64)
+                );
                 asked += 1;
             }
             asked
@@ -163,5 +188,8 @@ fn a_vacuum_runs_by_policy() {
         store.put(1, 7, &[b"b"], 0).unwrap();
         thread::sleep(Duration::from_millis(1));
     }
-    assert_eq!(store.view().unwrap().at(1, 7, first).unwrap(), Some(vec![b"a".to_vec()]));
+    assert_eq!(
+        store.view().unwrap().at(1, 7, first).unwrap(),
+        Some(vec![b"a".to_vec()])
+    );
 }
