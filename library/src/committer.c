@@ -14,8 +14,9 @@
 
 enum { GROUP_MOST = 16 }; /* the store has no more commits under one gate */
 
-/* Of the time that a group took, a part is waited for commits; at most so many microseconds. */
-enum { PATIENCE_PART = 2, PATIENCE_MOST = 2000 };
+/* Of the time that a group took, a part is waited for commits: at most so many microseconds, and none where it is less than what
+   the waiting takes by itself. */
+enum { PATIENCE_PART = 2, PATIENCE_LEAST = 30, PATIENCE_MOST = 2000 };
 
 /* What a thread sleeps on: it is to sleep; it may look whether it is to lead; its request is answered. */
 enum { SLEEPS = 0, LOOKS = 1, OVER = 2 };
@@ -308,8 +309,8 @@ static void take_step(ts_shared *s) {
 
 /* Before a group begins: waits a part of what a group takes for those who are likely to commit again. */
 static void gather(ts_shared *s) {
-    if (s->in_group || s->job || s->commits.count >= wanted(s)) return;
     uint64_t now = tsi_clock(), patience = s->group_took / PATIENCE_PART;
+    if (s->in_group || s->job || s->commits.count >= wanted(s) || patience < PATIENCE_LEAST) return;
     uint64_t end = now + (patience < PATIENCE_MOST ? patience : PATIENCE_MOST);
     request *answered = take_answered(s);
     s->gathering = true;
