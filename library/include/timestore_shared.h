@@ -123,7 +123,7 @@ int32_t ts_shared_job(ts_shared *store);
 
 /* What a vacuum does. Times are microseconds. */
 typedef struct ts_policy {
-    uint64_t every; /* from one look to the next, by the machine's own clock */
+    uint64_t every; /* from one look to the next, by the machine's own clock; at least a millisecond */
     uint64_t keep;  /* memory keeps what ended less than so long before the last commit; the rest is archived and reclaimed */
     bool grows;     /* 256 slots more once a commit or a job was refused with TS_STATUS_FULL, which its caller makes again */
 } ts_policy;

@@ -519,9 +519,16 @@ static void look(ts_shared *s, bool needs_slots) {
     note_vacuum(s, ts_shared_reclaim(s, &info));
 }
 
+/* From one look to the next, of which the policy may say what no clock has. */
+static uint64_t pause_of(const ts_policy *policy) {
+    enum { LEAST = 1000 };
+    const uint64_t most = 1000000000000000;
+    return policy->every < LEAST ? LEAST : policy->every > most ? most : policy->every;
+}
+
 /* Sleeps until the next look; whether there is one. */
 static bool waits(ts_shared *s, bool *needs_slots) {
-    struct timespec next = tsi_place(tsi_clock() + s->policy.every);
+    struct timespec next = tsi_place(tsi_clock() + pause_of(&s->policy));
     int state, slept = 0;
     tsi_enter(s, &state);
     while (!s->closing && !s->is_full && !s->needs_slots && slept == 0) slept = pthread_cond_timedwait(&s->looks, &s->lock, &next);

@@ -234,7 +234,8 @@ class SharedStore:
         Memory keeps what ended less than `keep` seconds before the last commit. Where `grows`, 256
         slots more are made once something was refused with `StatusFull`, which is then done again.
         """
-        policy = RawPolicy(round(1e6 * every), round(1e6 * keep), grows)
+        times = (number_of(round(1e6 * seconds)) for seconds in (every, keep))
+        policy = RawPolicy(*times, grows)
         self._do(library.ts_shared_vacuum, policy)
 
     def vacuumed(self) -> int | None:
