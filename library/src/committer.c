@@ -76,11 +76,10 @@ static void wait_for_over(request *r) {
     for (uint_least32_t word; (word = atomic_load(&r->woken)) != OVER;) sleep_on(&r->woken, word, UINT64_MAX);
 }
 
-/* ---- the lock. Who asks queries without an end would have it again and again before the leader, who has slept, is awake. So
-   others wait while the leader comes, and it does not sleep unless a query takes long. */
+/* ---- the lock. Threads that ask queries without an end would have it again and again before one that has slept is awake.
+   So they wait while others come who commit, or lead. The word has twice the number of these, and 1 more where some wait. */
 
-enum { NOBODY = 0, COMES = 1, AWAITED = 2 };
-enum { SPINS = 200 };
+enum { ONE_COMES = 2, AWAITED = 1, SPINS = 200 };
 
 static void spin(void) {
 #if defined(__x86_64__) || defined(__i386__)
@@ -88,27 +87,29 @@ static void spin(void) {
 #endif
 }
 
-/* Waits while the leader comes. */
-static void let_leader_pass(ts_shared *s) {
-    for (int i = 0; i < SPINS && atomic_load(&s->leader_comes) != NOBODY; i++) spin();
-    for (uint_least32_t word; (word = atomic_load(&s->leader_comes)) != NOBODY;)
-        if (word == AWAITED || atomic_compare_exchange_strong(&s->leader_comes, &word, AWAITED)) sleep_on(&s->leader_comes, AWAITED, UINT64_MAX);
+/* Waits while others come first. */
+static void let_others_pass(ts_shared *s) {
+    for (int i = 0; i < SPINS && atomic_load(&s->comers) >= ONE_COMES; i++) spin();
+    for (uint_least32_t word; (word = atomic_load(&s->comers)) >= ONE_COMES;)
+        if (word & AWAITED || atomic_compare_exchange_strong(&s->comers, &word, word | AWAITED)) sleep_on(&s->comers, word | AWAITED, UINT64_MAX);
 }
 
 static void take_lock(ts_shared *s) {
-    if (atomic_load(&s->leader_comes) != NOBODY) let_leader_pass(s);
+    if (atomic_load(&s->comers) >= ONE_COMES) let_others_pass(s);
     pthread_mutex_lock(&s->lock);
 }
 
-static void take_lock_first(ts_shared *s) {
-    atomic_store(&s->leader_comes, COMES);
+/* Before those who wait; the leader does not sleep unless the lock is held for long. */
+static void take_lock_first(ts_shared *s, int spins) {
+    atomic_fetch_add(&s->comers, ONE_COMES);
     bool has_it = false;
-    for (int i = 0; i < SPINS && !has_it; i++) {
+    for (int i = 0; i < spins && !has_it; i++) {
         has_it = pthread_mutex_trylock(&s->lock) == 0;
         if (!has_it) spin();
     }
     if (!has_it) pthread_mutex_lock(&s->lock);
-    if (atomic_exchange(&s->leader_comes, NOBODY) == AWAITED) wake(&s->leader_comes, NOBODY, INT_MAX);
+    uint_least32_t left = atomic_fetch_sub(&s->comers, ONE_COMES) - ONE_COMES;
+    if (left == AWAITED && atomic_compare_exchange_strong(&s->comers, &left, 0)) syscall(SYS_futex, &s->comers, FUTEX_WAKE_PRIVATE, INT_MAX, NULL, NULL, 0);
 }
 
 /* Wakes those whose requests are answered, without the lock. */
@@ -128,6 +129,12 @@ static request *take_answered(ts_shared *s) {
 int32_t tsi_enter(ts_shared *s, int *state) {
     pthread_setcancelstate(PTHREAD_CANCEL_DISABLE, state);
     take_lock(s);
+    return s->closing ? TS_CLOSED : TS_OK;
+}
+
+static int32_t enter_first(ts_shared *s, int *state) {
+    pthread_setcancelstate(PTHREAD_CANCEL_DISABLE, state);
+    take_lock_first(s, 0);
     return s->closing ? TS_CLOSED : TS_OK;
 }
 
@@ -255,7 +262,7 @@ static int32_t make_call(ts_shared *s, ts_info *info) {
     pthread_mutex_unlock(&s->lock);
     wake_all(answered);
     int32_t made = tsi_file_make(s->file, &call);
-    take_lock_first(s);
+    take_lock_first(s, SPINS);
     s->calling = false;
     tsi_file_made(s->file, &call, made);
     return ts_called(&host->store, made == TS_OK, info);
@@ -318,7 +325,7 @@ static void gather(ts_shared *s) {
     pthread_mutex_unlock(&s->lock);
     wake_all(answered);
     for (; atomic_load(&s->gathered) == 0 && now < end; now = tsi_clock()) sleep_on(&s->gathered, 0, end - now);
-    take_lock_first(s);
+    take_lock_first(s, SPINS);
     s->gathering = false;
 }
 
@@ -340,7 +347,7 @@ static bool follows(ts_shared *s, request *r) {
         r->sleeps = true;
         tsi_leave(s, PTHREAD_CANCEL_DISABLE, TS_OK);
         if (sleeps_until_over(r)) return true;
-        take_lock(s);
+        take_lock_first(s, 0);
         if (r->over) break;
         r->sleeps = false;
         atomic_store(&r->woken, SLEEPS);
@@ -350,7 +357,7 @@ static bool follows(ts_shared *s, request *r) {
 
 int32_t tsi_complete(ts_shared *s, request *r, ts_info *info) {
     int state;
-    int32_t code = tsi_enter(s, &state);
+    int32_t code = enter_first(s, &state);
     if (code != TS_OK) return tsi_leave(s, state, code);
     s->within++;
     if (s->calling) push(&s->posted, r);

@@ -53,7 +53,7 @@ typedef struct seat {
 
 struct ts_shared {
     pthread_mutex_t lock; /* over all of this, and over each call of the store */
-    atomic_uint_least32_t leader_comes; /* the leader is to have the lock next: see committer.c */
+    atomic_uint_least32_t comers; /* who is to have it next: see committer.c */
     ts_file *file;        /* NULL once it is closed */
     bool closing, is_child;
     struct ts_shared *next; /* of those that are open in this process */

@@ -25,11 +25,11 @@ static void unlock_all(void) {
     pthread_mutex_unlock(&open_lock);
 }
 
-/* The child has none of the threads that wait, nor the vacuum, nor a leader who comes. */
+/* The child has none of the threads that wait, nor the vacuum, nor those who come. */
 static void in_child(void) {
     for (ts_shared *s = open_stores; s; s = s->next) {
         s->closing = s->is_child = true;
-        atomic_store(&s->leader_comes, 0);
+        atomic_store(&s->comers, 0);
         s->has_vacuum = false;
     }
     unlock_all();
