@@ -2,6 +2,8 @@
  * each trial has a folder of its own in it. What is refused memory is asked again, and answers as if it had not been; a commit
  * and a job that were on their way go on. It is linked with --wrap of malloc, calloc and realloc. */
 #include "check.h"
+#include <pthread.h>
+#include <stdatomic.h>
 #include <stdbool.h>
 #include <sys/stat.h>
 #include <timestore_shared.h>
@@ -13,9 +15,10 @@ void *__wrap_malloc(size_t size);
 void *__wrap_calloc(size_t count, size_t size);
 void *__wrap_realloc(void *at, size_t size);
 
-static uint64_t grown, refused_growth, failures, waited, stopped_jobs;
+static atomic_uint_fast64_t grown, refused_growth; /* of all threads */
+static uint64_t failures, waited, stopped_jobs;
 
-static bool is_refused(void) { return ++grown == refused_growth; }
+static bool is_refused(void) { return atomic_fetch_add(&grown, 1) + 1 == atomic_load(&refused_growth); }
 
 void *__wrap_malloc(size_t size) { return is_refused() ? NULL : __real_malloc(size); }
 void *__wrap_calloc(size_t count, size_t size) { return is_refused() ? NULL : __real_calloc(count, size); }
@@ -157,15 +160,61 @@ static bool live(uint64_t refuse) {
     return grown >= refuse;
 }
 
+static void *reclaim_on(void *arg) {
+    int32_t code;
+    ts_info info;
+    ASK(code, ts_shared_reclaim(s, &info));
+    if (code == TS_JOB_BUSY) ASK(code, ts_shared_job(s));
+    if (code != TS_FAILED) CHECK(TS_OK, code);
+    return arg;
+}
+
+/* The same of commits beside a reclaim on another thread: one may wait for memory while the reclaim's slot is in the writing. */
+static void live_beside(uint64_t refuse) {
+    pthread_t thread;
+    ts_info info;
+    int32_t code = TS_OK;
+    last = 0;
+    refused_growth = UINT64_MAX;
+    CHECK(TS_OK, ts_file_format(folder, 64));
+    open_it();
+    commit(100);
+    commit(200);
+    CHECK(TS_OK, ts_shared_archive(s, 200, &info));
+    grown = 0;
+    refused_growth = refuse;
+    HOLDS(pthread_create(&thread, NULL, reclaim_on, NULL) == 0);
+    for (uint64_t time = 300; time <= 320 && code == TS_OK; time++) {
+        code = commit_text_at(time, &info);
+        if (code == TS_OK) last = info.a;
+        else HOLDS(code == TS_IN_DOUBT || code == TS_FAILED);
+    }
+    HOLDS(pthread_join(thread, NULL) == 0);
+    refused_growth = UINT64_MAX;
+    failures += code != TS_OK;
+    ts_shared_free(s);
+    open_it();
+    answers(150);
+    answers(last);
+    ts_shared_free(s);
+}
+
+static void new_folder(char *path, const char *top, const char *kind, uint64_t growth) {
+    snprintf(path, 4096, "%s/%s%" PRIu64, top, kind, growth);
+    HOLDS(mkdir(path, 0777) == 0);
+}
+
 int main(int argc, char **argv) {
     char path[4096];
     if (argc != 2) return 2;
     folder = path;
     uint64_t growth = 0;
-    do {
-        snprintf(path, sizeof path, "%s/%" PRIu64, argv[1], ++growth);
-        HOLDS(mkdir(path, 0777) == 0);
-    } while (live(growth));
+    do new_folder(path, argv[1], "", ++growth);
+    while (live(growth));
+    for (uint64_t refuse = 1; refuse <= 60; refuse++) {
+        new_folder(path, argv[1], "beside-", refuse);
+        live_beside(refuse);
+    }
     printf("refused %" PRIu64 " growths, %" PRIu64 " of them of a device call; %" PRIu64 " commits waited, %" PRIu64 " jobs stopped", growth - 1,
            failures, waited, stopped_jobs);
     HOLDS(growth - 1 >= 50 && failures > 0);
