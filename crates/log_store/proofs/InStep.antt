@@ -1,6 +1,6 @@
 -- A store stays in step.
-use Rattle.std.proofs.Common.{◌≡◌, ℕ, zero, suc, ◌+◌, ◌-◌, ◌==◌, ◌&&◌, ◌^◌, ◌<◌, ◌≤◌, nat_lt, min, Bool, true, false, cond, List, [], ◌∷◌, ◌++◌, length, map, take, drop, Option}
-use Rattle.std.proofs.Common.{refl, sym, ap, subst, ◌∙◌, arith, Some, None, sum}
+use Rattle.std.proofs.Common.{◌≡◌, ℕ, zero, suc, ◌==◌, ◌&&◌, ◌^◌, ◌<◌, ◌≤◌, nat_lt, min, Bool, true, cond, List, [], ◌∷◌, ◌++◌, length, map, take, drop, Option}
+use Rattle.std.proofs.Common.{sym, ap, subst, ◌∙◌, arith, Some, None}
 use Rattle.std.specs.List.{AllByRecursion}
 use Rattle.std.proofs.lemmas.Bool.Decides.{nat_tests}
 use Rattle.std.proofs.lemmas.List.{length-append, length-drop}
@@ -16,7 +16,7 @@ use Rattle.log_writer.specs.Turns.{Writing, chain_turn}
 use Rattle.log_room.specs.Rooms.{RoomValue, promised_to, TakesChain}
 use Rattle.log_room.specs.Contents.{joined, extents_of, content_over, member_over, records_over, extents_over}
 use Rattle.log_room.proofs.Joins.{extents_push, extents_split}
-use Rattle.commits.specs.Values.{CommitsValue, WaitingValue, ordered}
+use Rattle.commits.specs.Values.{CommitsValue, ordered}
 use Rattle.commits.specs.Steps.{grouped, with_waiting, waiting_as}
 use Rattle.log_store.specs.Values.{LogStoreValue, HasBytes, HasTurn, IsInStep}
 use Rattle.log_store.specs.Pumps.{group_size, group_content, Begins}

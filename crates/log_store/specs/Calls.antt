@@ -1,5 +1,5 @@
 -- The calls of transactions, tickets and views.
-use Rattle.std.specs.Prelude.{ℕ, ◌≡◌, Result}
+use Rattle.std.specs.Prelude.{◌≡◌, Result}
 use Rattle.group.specs.declared.answers.BeginFault.{BeginFault}
 use Rattle.group.specs.declared.answers.Redeemed.{Redeemed}
 use Rattle.group.specs.Tickets.{TicketValue}

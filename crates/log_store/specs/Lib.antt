@@ -2,3 +2,4 @@ pub mod Values
 pub mod Submits
 pub mod Pumps
 pub mod Calls
+pub mod Formats

@@ -1,7 +1,6 @@
 -- The steps of a group to the disk.
-use Rattle.std.specs.Prelude.{ℕ, ◌≡◌, ◌⊎◌, ◌==◌, min, Bool, true, IsTrue, List, [], length, take, drop, Option, Some, None, Result, Ok, Err, MatchBool, MatchResult}
-use Rattle.disk.specs.Areas.{Areas}
-use Rattle.disk.specs.Calls.{DiskState, Counts, refused_answer}
+use Rattle.std.specs.Prelude.{ℕ, ◌≡◌, ◌⊎◌, ◌==◌, min, Bool, IsTrue, List, [], length, take, drop, Option, Some, None, Result, Ok, Err, MatchBool, MatchResult}
+use Rattle.disk.specs.Calls.{Counts, refused_answer}
 use Rattle.disk.specs.declared.area.DeviceFault.{DeviceFault}
 use Rattle.group.specs.declared.answers.PumpFault.{PumpFault}
 use Rattle.group.specs.declared.answers.PumpFault.TheVariants as fault
@@ -13,7 +12,6 @@ use Rattle.log_writer.specs.declared.writer.Wrote.TheVariants as wrote
 use Rattle.log_extents.specs.Chains.{count_of}
 use Rattle.log_room.specs.Rooms.{RoomValue, TakesChain}
 use Rattle.log_room.specs.Contents.{joined, extents_of}
-use Rattle.commits.specs.Values.{CommitsValue}
 use Rattle.commits.specs.Steps.{grouped, published, broken}
 use Rattle.log_store.specs.Values.{LogStoreValue}
 use Rattle.log_store.specs.declared.answers.Did.{Did}

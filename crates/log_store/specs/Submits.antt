@@ -1,5 +1,5 @@
 -- What becomes of a submit.
-use Rattle.std.specs.Prelude.{ℕ, ◌≡◌, ◌^◌, ◌&&◌, true, Bool, nat_lt, List, [], ◌∷◌, ◌++◌, Option, Some, None, Result, Ok, Err, MatchBool, if◌then◌else◌}
+use Rattle.std.specs.Prelude.{ℕ, ◌≡◌, Bool, List, [], ◌∷◌, ◌++◌, Option, Some, None, Result, Ok, Err, MatchBool, if◌then◌else◌}
 use Rattle.history.specs.declared.key.Key.{Key}
 use Rattle.history.specs.declared.key.KeyWrite.{KeyWrite}
 use Rattle.law_image.specs.Values.{Value}
@@ -13,7 +13,7 @@ use Rattle.law_log_sizes.specs.Sizes.{len_behind}
 use Rattle.log_sizes.specs.Counted.{values_in}
 use Rattle.log_room.specs.Rooms.{fits, promised_to}
 use Rattle.log_room.specs.Contents.{content_over, extents_over}
-use Rattle.commits.specs.Values.{CommitsValue, ordered, is_own, over}
+use Rattle.commits.specs.Values.{ordered, is_own, over}
 use Rattle.commits.specs.Steps.{time_now, with_waiting}
 use Rattle.log_store.specs.Values.{LogStoreValue}
 

@@ -2,9 +2,11 @@
 #![tactic(auto)]
 
 mod answers;
+mod formatting;
 mod pump;
 mod store;
 mod submit;
 
 pub use answers::Did;
+pub use formatting::format;
 pub use store::LogStore;

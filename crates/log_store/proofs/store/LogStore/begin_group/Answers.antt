@@ -1,6 +1,6 @@
-use Rattle.std.proofs.Common.{◌∙◌, ◌≡◌, sym, ap, subst, arith, ℕ, ◌≤◌, ◌<◌, length, List, take, min, None, Some}
+use Rattle.std.proofs.Common.{◌∙◌, ◌≡◌, sym, ap, subst, arith, ℕ, ◌<◌, length, List, take, min, None, Some}
 use Rattle.log_extents.specs.Chains.{count_of}
-use Rattle.log_room.specs.Contents.{joined, extents_of}
+use Rattle.log_room.specs.Contents.{joined}
 use Rattle.log_room.proofs.Joins.{extents_within, count_within, some_count}
 use Rattle.log_store.specs.Values.{LogStoreValue}
 use Rattle.log_store.specs.Pumps.{group_size, Begins}
