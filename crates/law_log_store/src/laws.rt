@@ -1,0 +1,28 @@
+//! Laws of the disk of a store whose log lies in the heap.
+ghost use Rattle.law_log_store.specs.Laws.{GroupBegins, GroupGoesOn, GroupJoins, StandingStops, SubmitKeeps};
+
+/// The next commits are a group of the log: their records over the versions in memory are those over what
+/// the log says, and their bytes joined are the bytes of the group's chain.
+pub fn group_joins()
+    ensures { GroupJoins }
+{}
+
+/// A group's way to the disk, call by call: what a crash leaves stands for what is published, or, from the
+/// write of the gate on, for that or for it with the whole group, also where the call is refused. Once the
+/// last call is made the disk stands for what is published then.
+pub fn group_goes_on()
+    ensures stops { StandingStops }
+    ensures call { GroupGoesOn }
+{}
+
+/// A group begins: its chain begins where the log ends and takes free extents, and with it the heap keeps its
+/// shares. The disk stands for what it did.
+pub fn group_begins()
+    ensures { GroupBegins }
+{}
+
+/// A commit that may follow the commit order, and has room, is queued with its bytes. The disk stands for what it
+/// did, and the states behind the queue have room for their anchors.
+pub fn submit_keeps()
+    ensures { SubmitKeeps }
+{}
