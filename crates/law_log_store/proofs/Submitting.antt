@@ -63,16 +63,12 @@ values-with_commit time label m ws key o range rising =
 
 -- ---- tests
 
-is-true : (b : Bool) → IsTrue b → b ≡ true
-is-true true yes = refl
-is-true false yes = absurd yes
-
 both-true : (a b : Bool) → IsTrue (a && b) → IsTrue a × IsTrue b
-both-true true b yes = (tt, yes)
-both-true false b yes = absurd yes
+both-true true b both = (refl, both)
+both-true false b both = absurd (let no : false ≡ true = both in cc)
 
 is-upto : (a b : ℕ) → IsTrue (nat_le a b) → a ≤ b
-is-upto a b yes = let test = is-true (nat_le a b) yes in grind (arith, nat_tests)
+is-upto a b within = let test : nat_le a b ≡ true = within in grind (arith, nat_tests)
 
 -- ---- the store with one commit more
 
