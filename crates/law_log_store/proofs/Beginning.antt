@@ -294,6 +294,13 @@ module _ (old : LogStoreValue) (h queue : History Value) (floors : ℕ → ℕ) 
       room = is-room;
     }
 
+    -- its chain is in the writing, and the store works as before
+    pub begun-turn : begun.turn ≡ Some writer
+    begun-turn = ap (λ (v : LogStoreValue). v.turn) begun-is
+
+    pub begun-works : begun.commits.failed ≡ old.commits.failed
+    begun-works = ap (λ (v : LogStoreValue). v.commits.failed) begun-is
+
     pub begun-stands : StandsOnHeap begun h queue floors
     begun-stands = subst (λ (v : LogStoreValue). StandsOnHeap v h queue floors) (sym begun-is) (record {
       l = s.l;
@@ -313,8 +320,25 @@ module _ (old : LogStoreValue) (h queue : History Value) (floors : ℕ → ℕ) 
       turn = on-way;
     })
 
+-- A group that has begun.
+pub record HasBegun (old begun : LogStoreValue) (h queue : History Value) (floors : ℕ → ℕ) : Type 0 where
+  pub stands : StandsOnHeap begun h queue floors
+  pub writer : WriterState
+  pub turn : begun.turn ≡ Some writer
+  pub works : begun.commits.failed ≡ old.commits.failed
+
+pub has-begun : (old begun : LogStoreValue) (h queue : History Value) (floors : ℕ → ℕ) → IsInStep old → old.turn ≡ None → 0 < length old.commits.queue
+    → StandsOnHeap old h queue floors → Begins old begun → HasBegun old begun h queue floors
+has-begun old begun h queue floors step at_rest some s b =
+    let rest = subst (λ (t : Option WriterState). HasTurn old queue s.l s.reading h t) at_rest s.turn in
+    let none = subst (λ (t : Option WriterState). stores.HasTurn old.commits.group t) at_rest step.turn in
+    record {
+      stands = begun-stands old h queue floors s rest none step some begun b;
+      writer = writer old h queue floors s rest none step some begun b;
+      turn = begun-turn old h queue floors s rest none step some begun b;
+      works = begun-works old h queue floors s rest none step some begun b;
+    }
+
 pub group-begins : (old begun : LogStoreValue) (h queue : History Value) (floors : ℕ → ℕ) → IsInStep old → old.turn ≡ None → 0 < length old.commits.queue
     → StandsOnHeap old h queue floors → Begins old begun → StandsOnHeap begun h queue floors
-group-begins old begun h queue floors step at_rest some s b =
-    begun-stands old h queue floors s (subst (λ (t : Option WriterState). HasTurn old queue s.l s.reading h t) at_rest s.turn)
-    (subst (λ (t : Option WriterState). stores.HasTurn old.commits.group t) at_rest step.turn) step some begun b
+group-begins old begun h queue floors step at_rest some s b = (has-begun old begun h queue floors step at_rest some s b).stands

@@ -6,3 +6,5 @@ pub mod Going
 pub mod Flags
 pub mod Beginning
 pub mod Submitting
+pub mod Calls
+pub mod Pumping

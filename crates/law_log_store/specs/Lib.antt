@@ -1,3 +1,4 @@
 pub mod Members
 pub mod Standing
 pub mod Laws
+pub mod Calls

@@ -1,4 +1,5 @@
 //! Laws of the disk of a store whose log lies in the heap.
+ghost use Rattle.law_log_store.specs.Calls.{AbortKeeps, BeginKeeps, FailedQueuesNone, FailedRests, PumpSteps, RedeemKeeps, SubmitSteps};
 ghost use Rattle.law_log_store.specs.Laws.{GroupBegins, GroupGoesOn, GroupJoins, StandingStops, SubmitKeeps};
 
 /// The next commits are a group of the log: their records over the versions in memory are those over what
@@ -25,4 +26,25 @@ pub fn group_begins()
 /// did, and the states behind the queue have room for their anchors.
 pub fn submit_keeps()
     ensures { SubmitKeeps }
+{}
+
+/// A step of a group of a store that works: as many of the first commits of the queue are published as it says,
+/// and the disk stands for that; or nothing has changed for want of memory; or the store has failed, and what a
+/// crash leaves stands for what is published, or for that with the whole group.
+pub fn pump_steps()
+    ensures steps { PumpSteps }
+    ensures failed { FailedRests }
+{}
+
+/// Transactions that begin or are given up, and tickets that are shown, change nothing of that.
+pub fn memory_keeps()
+    ensures begin { BeginKeeps }
+    ensures abort { AbortKeeps }
+    ensures redeem { RedeemKeeps }
+{}
+
+/// A submit queues one commit or none. The disk stands for what it did, and the queue has it at its end.
+pub fn submit_steps()
+    ensures steps { SubmitSteps }
+    ensures failed { FailedQueuesNone }
 {}
