@@ -21,12 +21,9 @@ use Rattle.law_image.specs.StandsFor.{StandsFor, reclaimed_upto}
 use Rattle.law_image.proofs.GroupStep.{group-stands_for}
 use Rattle.law_image.proofs.Recent.{latest-is}
 use Rattle.chains.specs.KeyWrites.{KeyWrites}
-use Rattle.deltas.specs.Extents.{extent_start}
-use Rattle.log_extents.specs.Chains.{count_of, IsNumberOf, IsNew, AreDistinct, first_or, chain_of}
+use Rattle.log_extents.specs.Chains.{count_of, IsNumberOf, IsNew, AreDistinct, chain_of}
 use Rattle.log_entries.specs.declared.entry.Member.{Member}
-use Rattle.log_entries.specs.declared.entry.Entry.TheVariants.{Group}
-use Rattle.log_entries.specs.Spelling.{entry_bytes}
-use Rattle.log_writer.specs.Turns.{open_gate, written_parts, Part, Writing, chain_turn}
+use Rattle.log_writer.specs.Turns.{open_gate, written_parts, Writing, chain_turn}
 use Rattle.log_writer.specs.Writer.{WriterState}
 use Rattle.log_space.specs.Uses.{IsFree, all_used}
 use Rattle.log_roots.specs.Roots.{root_of}
@@ -44,7 +41,7 @@ use Rattle.log_store.specs.Values.{LogStoreValue, IsInStep}
 use Rattle.log_store.specs.Values as stores
 use Rattle.log_store.specs.Pumps.{Begins, group_size, group_content}
 use Rattle.law_log_store.specs.Members.{AreTold, AreContents, members_over}
-use Rattle.law_log_store.specs.Standing.{StandsOnHeap, HasTurn, IsAtRest, IsOnWay, IsRoomOf, HasCommits, HasAnchors, counted}
+use Rattle.law_log_store.specs.Standing.{StandsOnHeap, HasTurn, IsAtRest, IsOnWay, IsRoomOf, HasAnchors, counted}
 use Rattle.law_log_store.specs.Laws.{AreNext}
 use Rattle.law_log_store.proofs.Members.{members-told}
 use Rattle.law_log_store.proofs.Joining.{in-heap, group-joins}
@@ -245,7 +242,7 @@ module _ (old : LogStoreValue) (h queue : History Value) (floors : ℕ → ℕ) 
           let one = one-or-none (nat_lt (archive_mark then.log) (told_time then.log)) in
           let log = is-room.log in
           let spare = spare-then old.roots.extents s.l old.room b.room (count_of (length (group_content old))) (extents_of contents) b.numbers b.link rest.room
-              s.is_log.next s.is_log.apart b.takes chain refl refl refl few enough in
+          s.is_log.next s.is_log.apart b.takes chain refl refl refl few enough in
           omega (arith, one, log, spare);
       anchors =
           (bounds-same (reclaimed_upto then) then (standing-ordered then (h ++ next) floors stands-then) ((3 * old.roots.extents) / 16)).1 sizes-fit;

@@ -1,5 +1,5 @@
 -- The calls in memory, and submits, as the disk has them.
-use Rattle.std.proofs.Common.{◌≡◌, ℕ, ◌==◌, Bool, true, false, cond, List, [], ◌∷◌, ◌++◌, map, take, drop, Option, None, Some, Result, Ok, Err, refl, ap, sym, subst, ◌∙◌}
+use Rattle.std.proofs.Common.{◌≡◌, ℕ, ◌==◌, Bool, true, false, cond, List, [], ◌∷◌, ◌++◌, Option, None, Some, Result, Ok, Err, refl, ap, sym, subst, ◌∙◌}
 use Rattle.std.proofs.Common.{append-nil}
 use Rattle.std.specs.Prelude.{IsTrue, MatchBool}
 use Rattle.history.specs.declared.key.Key.{Key}
@@ -9,7 +9,7 @@ use Rattle.law_image.specs.Values.{Value, IsValue}
 use Rattle.snapshot.specs.OpenTable.{with_opened}
 use Rattle.snapshot.specs.Txn.{TxnValue}
 use Rattle.group.specs.CommitOrder as orders
-use Rattle.group.specs.Submits.{Verdict, Reads, Conflicts, HeapIsFull, Queues, verdict_on_clock, first_conflict}
+use Rattle.group.specs.Submits.{Reads, Conflicts, HeapIsFull, Queues, verdict_on_clock, first_conflict}
 use Rattle.group.specs.Tickets.{TicketValue}
 use Rattle.group.specs.declared.commit_order.CommitHead.{CommitHead}
 use Rattle.group.specs.declared.commit_order.TicketState.{TicketState}
@@ -29,8 +29,8 @@ use Rattle.commits.specs.Calls as commits
 use Rattle.log_store.specs.Values.{LogStoreValue, IsInStep}
 use Rattle.log_store.specs.Calls as calls
 use Rattle.log_store.specs.Calls.{InMemory, with_commits}
-use Rattle.log_store.specs.Submits.{Submits, SubmitsOwn, AnswersSubmit, verdict, verdict_on_conflict, has_room, with_queued, spent}
-use Rattle.law_log_store.specs.Standing.{StandsOnHeap, HasTurn, StopsOnHeap}
+use Rattle.log_store.specs.Submits.{Submits, SubmitsOwn, AnswersSubmit, verdict, verdict_on_conflict, has_room, spent}
+use Rattle.law_log_store.specs.Standing.{StandsOnHeap, HasTurn}
 use Rattle.law_log_store.specs.Calls.{KeepsDisk, queued_by}
 use Rattle.law_log_store.proofs.Submitting.{queued-stands}
 
@@ -200,8 +200,10 @@ failed-queues-none old new txn label now answer failed is = by-own (is_own old.c
         let own : (answer ≡ Err refused.Failed) × (new ≡ spent old txn.number) =
         subst (λ (b : Bool). MatchBool b ((answer ≡ Err refused.Failed) × (new ≡ spent old txn.number)) (AnswersSubmit (spent old txn.number) txn label now answer new)) failed is in
         (ap (queued_by txn label) own.0, subst (λ (x : LogStoreValue). KeepsDisk old x) (sym own.1) (spent-keeps old txn.number))
-    by-own false is =
-        (ap (queued_by txn label) is.0, subst (λ (x : LogStoreValue). KeepsDisk old x) (sym is.1) (record {
-          stands = λ h queue floors s. s;
-          stops = λ h queue floors s. s;
-        }))
+    by-own false is = (
+      ap (queued_by txn label) is.0,
+      subst (λ (x : LogStoreValue). KeepsDisk old x) (sym is.1) (record {
+        stands = λ h queue floors s. s;
+        stops = λ h queue floors s. s;
+      }),
+    )

@@ -1,5 +1,5 @@
 -- The extents that a chain takes, each the least free one, and the flags behind them.
-use Rattle.std.proofs.Common.{◌≡◌, ◌≢◌, ℕ, ◌+◌, ◌-◌, ◌<◌, ◌≤◌, ◌↔◌, Bool, true, false, List, [], ◌∷◌, ◌++◌, length, get_or, slice_set, refl, arith, ap, sym, subst, ◌∙◌}
+use Rattle.std.proofs.Common.{◌≡◌, ◌≢◌, ℕ, ◌-◌, ◌<◌, ◌≤◌, ◌↔◌, Bool, true, false, List, [], ◌∷◌, ◌++◌, length, get_or, slice_set, refl, arith, sym, subst, ◌∙◌}
 use Rattle.std.proofs.Common.{inl, inr}
 use Rattle.std.specs.List.{AllByRecursion}
 use Rattle.std.proofs.lemmas.Bool.{cases_lt}
@@ -11,7 +11,6 @@ use Rattle.log_space.specs.Uses.{IsFree, with_use, all_used}
 use Rattle.log_room.specs.Rooms.{AreLeastFree}
 use Rattle.law_log_layout.specs.HeapLog.{HeapLog, live_numbers}
 use Rattle.law_log_layout.proofs.Places.{new-front, new-back}
-use Rattle.law_log_store.specs.Standing.{IsRoomOf}
 
 -- ---- one extent more
 
@@ -145,17 +144,17 @@ is-taken most l used others link many next distinct free least = record {
   many = all-used-length used taken ∙ many;
   free = λ m. (
     λ f.
-    let before = free-before used taken m low f in
-    let known = facts m before.0 in
-    let last = new-back m others (link ∷ []) before.1 in (
-      known.0,
-      (last.0, AllByRecursion-append (λ (n : ℕ). n ≢ m) live (l.next ∷ others) (known.1).1 ((known.1).0, new-front m others (link ∷ []) before.1)),
-    ),
+        let before = free-before used taken m low f in
+        let known = facts m before.0 in
+        let last = new-back m others (link ∷ []) before.1 in (
+          known.0,
+          (last.0, AllByRecursion-append (λ (n : ℕ). n ≢ m) live (l.next ∷ others) (known.1).1 ((known.1).0, new-front m others (link ∷ []) before.1)),
+        ),
     λ is.
-    let first = new-front m live (l.next ∷ others) (is.1).1 in
-    let second = new-back m live (l.next ∷ others) (is.1).1 in
-    free-behind used taken m low ((free m).1 (is.0, (second.0, first)))
-    (AllByRecursion-append (λ (n : ℕ). n ≢ m) others (link ∷ []) second.1 ((is.1).0, tt)),
+        let first = new-front m live (l.next ∷ others) (is.1).1 in
+        let second = new-back m live (l.next ∷ others) (is.1).1 in
+        free-behind used taken m low ((free m).1 (is.0, (second.0, first)))
+        (AllByRecursion-append (λ (n : ℕ). n ≢ m) others (link ∷ []) second.1 ((is.1).0, tt)),
   );
 }
   where

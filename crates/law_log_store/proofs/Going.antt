@@ -1,9 +1,9 @@
 -- The way of a store's group to the disk, call by call.
-use Rattle.std.proofs.Common.{◌≡◌, ℕ, Bool, true, false, List, [], ◌∷◌, ◌++◌, map, take, drop, Option, None, Some, Result, Ok, Err, refl, ap, sym, subst, ◌∙◌}
+use Rattle.std.proofs.Common.{◌≡◌, ℕ, Bool, true, false, List, [], ◌∷◌, ◌++◌, map, take, drop, Option, None, Some, Result, Ok, Err, refl, ap, sym, subst}
 use Rattle.std.specs.Prelude.{IsTrue, MatchBool, MatchResult}
 use Rattle.history.specs.Histories.{History, MayAllFollow}
 use Rattle.history.proofs.Histories.{may_follow-behind, may_follow-front}
-use Rattle.disk.specs.Areas.{AreaState, Areas, Image, AreSound, LeavesImage}
+use Rattle.disk.specs.Areas.{Areas, Image, AreSound, LeavesImage}
 use Rattle.disk.specs.declared.area.DeviceFault.{DeviceFault}
 use Rattle.law_image.specs.Values.{Value, IsValue}
 use Rattle.law_image.specs.Reading.{Reading}
@@ -19,7 +19,7 @@ use Rattle.log_writer.specs.Turns.{open_gate, written_parts, Turn, Stage, Writin
 use Rattle.log_writer.specs.Writer.{WriterState, turn}
 use Rattle.log_writer.specs.Writer as writers
 use Rattle.law_log_layout.specs.HeapLog.{HeapLog, PlacedChain, heap_parts, member_told, IsLogOf, with_chain, placed_group, turn_of}
-use Rattle.law_log_layout.specs.Laws.{KeepsArchive, KeepsLog, IsEntryWay}
+use Rattle.law_log_layout.specs.Laws.{KeepsArchive, IsEntryWay}
 use Rattle.law_log_layout.specs.Turns.{IsAt, MayBe, MayBecome}
 use Rattle.law_log_layout.proofs.Parts.{all-left, closed-left}
 use Rattle.law_log_layout.proofs.GroupJoins.{room, group-is_log}
@@ -27,12 +27,11 @@ use Rattle.law_log_layout.proofs.GroupGoes.{group-goes, rolls-left, runs-left}
 use Rattle.group.specs.declared.answers.PumpFault.{PumpFault}
 use Rattle.group.specs.declared.answers.PumpFault.TheVariants as faults
 use Rattle.log_roots.specs.Roots.{root_of}
-use Rattle.commits.specs.Values.{versions_after}
 use Rattle.commits.specs.Steps.{members}
 use Rattle.log_store.specs.Values.{LogStoreValue}
 use Rattle.log_store.specs.Pumps.{Advances, at_next, after_call, with_published, with_failure, did_of, disk_answer}
 use Rattle.log_store.specs.declared.answers.Did.{Did}
-use Rattle.law_log_store.specs.Standing.{StandsOnHeap, HasTurn, IsAtRest, IsOnWay, HasCommits, HasAnchors, MayStand, IsImageOf, StopsOnHeap}
+use Rattle.law_log_store.specs.Standing.{StandsOnHeap, HasTurn, IsOnWay, HasAnchors, MayStand, IsImageOf, StopsOnHeap}
 use Rattle.law_log_store.specs.Laws.{LeadsTo, GoesOn}
 use Rattle.law_log_store.proofs.Joining.{in-heap}
 use Rattle.law_log_store.proofs.Queues.{taken-and-rest, told-front, told-ordered, told-rest, values-told}

@@ -1,6 +1,6 @@
 -- The steps of a store's groups.
-use Rattle.std.proofs.Common.{◌≡◌, ℕ, ◌==◌, ◌<◌, Bool, true, false, List, [], ◌∷◌, ◌++◌, length, take, drop, Option, None, Some, Result, Ok, Err, refl, arith, ap, sym, subst}
-use Rattle.std.proofs.Common.{◌∙◌, append-nil, ◌⊎◌, inl, inr}
+use Rattle.std.proofs.Common.{◌≡◌, ℕ, ◌==◌, ◌<◌, Bool, true, false, [], ◌∷◌, ◌++◌, length, take, drop, Option, None, Some, Result, Ok, Err, refl, arith, ap, sym, subst}
+use Rattle.std.proofs.Common.{◌∙◌, append-nil, inl, inr}
 use Rattle.std.specs.Prelude.{IsTrue, MatchBool, MatchResult}
 use Rattle.std.proofs.lemmas.Bool.Decides.{nat_tests}
 use Rattle.history.specs.Histories.{History}
@@ -12,12 +12,12 @@ use Rattle.log_writer.specs.Turns.{Stage, Writing, Syncing, Opening, Settling, D
 use Rattle.log_writer.specs.Writer.{WriterState}
 use Rattle.log_writer.specs.Writer as writers
 use Rattle.log_store.specs.Values.{LogStoreValue, IsInStep}
-use Rattle.log_store.specs.Pumps.{Pumps, TakesStep, BeginsGroup, AdvancesGroup, Begins, Advances, after_call, with_failure, did_of}
+use Rattle.log_store.specs.Pumps.{Pumps, TakesStep, BeginsGroup, AdvancesGroup, Advances, after_call, with_failure, did_of}
 use Rattle.log_store.specs.declared.answers.Did.{Did}
 use Rattle.log_store.specs.declared.answers.Did.TheVariants as did
 use Rattle.law_log_store.specs.Standing.{StandsOnHeap, StopsOnHeap}
 use Rattle.law_log_store.specs.Laws.{LeadsTo, GoesOn}
-use Rattle.law_log_store.specs.Calls.{count_in, StepsTo, HasFailed}
+use Rattle.law_log_store.specs.Calls.{count_in, StepsTo}
 use Rattle.law_log_store.proofs.Beginning.{has-begun}
 use Rattle.law_log_store.proofs.Going.{call-goes}
 

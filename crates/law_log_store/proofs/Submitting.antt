@@ -2,14 +2,13 @@
 use Rattle.std.proofs.Common.{◌≡◌, ℕ, ◌+◌, ◌-◌, ◌*◌, ◌/◌, ◌<◌, ◌≤◌, ◌^◌, ◌&&◌, nat_le, Bool, true, false, cond, List, [], ◌∷◌, ◌++◌, length, map, take, drop}
 use Rattle.std.proofs.Common.{Option, None, Some, refl, arith, ap, sym, subst, ◌∙◌}
 use Rattle.std.specs.Prelude.{IsTrue, unwrap_or, option_map, option_to_list}
-use Rattle.std.specs.List.{AllByRecursion}
 use Rattle.std.specs.List.Sorted.{IsStrictlySortedBy}
 use Rattle.std.proofs.lemmas.Bool.Decides.{nat_tests}
 use mathlib.Core.Path.{fun_ext}
 use Rattle.history.specs.declared.key.Key.{Key}
 use Rattle.history.specs.declared.key.KeyWrite.{KeyWrite}
 use Rattle.history.specs.Key.{key_cmp, write_in}
-use Rattle.history.specs.Time.{value_at, value_after}
+use Rattle.history.specs.Time.{value_after}
 use Rattle.history.specs.Histories.{Commit, History, MayFollow}
 use Rattle.history.specs.Queries.{values_after, applied}
 use Rattle.history.proofs.Orders.{is_le}
@@ -20,12 +19,10 @@ use Rattle.chains.specs.KeyWrites.{KeyWrites, writes_of, IsOrdered, with_write, 
 use Rattle.chains.specs.Writes.{written}
 use Rattle.chains.proofs.Commits.{writes_of-with_commit}
 use Rattle.chains.proofs.Order.{ordered-with_write}
-use Rattle.law_refinement.specs.OnDisk as told
 use Rattle.log_extents.specs.Chains.{count_of}
 use Rattle.log_writer.specs.Writer.{WriterState}
 use Rattle.law_log_sizes.specs.Sizes.{len_behind, len_from, size_now}
 use Rattle.log_sizes.specs.Counted.{values_in}
-use Rattle.log_room.specs.Rooms.{RoomValue, fits, promised_to}
 use Rattle.log_room.specs.Contents.{content_over, extents_over}
 use Rattle.commits.specs.Values.{WaitingValue, versions_after, ordered}
 use Rattle.commits.specs.Steps.{members, waiting_as}
@@ -169,7 +166,7 @@ module _ (v : LogStoreValue) (label time : ℕ) (writes : List (KeyWrite Value))
       let whole : versions_after (versions_after v.commits.versions front) rest ≡ ordered v.commits =
       sym (versions-split v.commits.versions front rest) ∙ ap (versions_after v.commits.versions) (taken-and-rest v.commits.group v.commits.queue) in
       let one = contents-more (versions_after v.commits.versions front) v.contents rest (drop v.commits.group queue) bytes waiting commit s.commits.contents
-          (ap (λ (versions : List KeyWrites). content_over versions label time writes) (sym whole)) in
+      (ap (λ (versions : List KeyWrites). content_over versions label time writes) (sym whole)) in
       subst (λ (ws : List WaitingValue). AreContents (versions_after v.commits.versions ws) more.contents (drop v.commits.group more.commits.queue)
       (drop v.commits.group (queue ++ commit ∷ []))) (sym (take-more v.commits.group v.commits.queue (waiting ∷ []) within))
       (subst (λ (ws : List WaitingValue). AreContents (versions_after v.commits.versions front) more.contents ws

@@ -1,5 +1,5 @@
 -- The calls of a store whose log lies in the heap, as its disk has them.
-use Rattle.std.specs.Prelude.{ℕ, ◌≡◌, ◌≤◌, Bool, true, false, IsTrue, List, [], ◌∷◌, ◌++◌, take, drop, Option, Result, Ok, Err}
+use Rattle.std.specs.Prelude.{ℕ, ◌≡◌, Bool, true, false, IsTrue, [], ◌∷◌, ◌++◌, take, drop, Result, Ok, Err}
 use Rattle.history.specs.Histories.{History, MayAllFollow}
 use Rattle.disk.specs.Areas.{AreSound}
 use Rattle.law_image.specs.Values.{Value, IsValue}

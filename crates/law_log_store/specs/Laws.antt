@@ -1,5 +1,5 @@
 -- Laws of the disk of a store whose log lies in the heap.
-use Rattle.std.specs.Prelude.{ℕ, ◌≡◌, ◌<◌, ◌≤◌, Bool, false, IsTrue, List, [], ◌∷◌, ◌++◌, length, map, take, drop, Option, None, Some, Result, MatchResult}
+use Rattle.std.specs.Prelude.{ℕ, ◌≡◌, ◌<◌, ◌≤◌, Bool, false, IsTrue, List, [], ◌∷◌, ◌++◌, length, map, take, drop, None, Some, Result, MatchResult}
 use Rattle.disk.specs.Areas.{Areas, Image, AreSound, LeavesImage}
 use Rattle.disk.specs.declared.area.DeviceFault.{DeviceFault}
 use Rattle.group.specs.declared.answers.PumpFault.{PumpFault}

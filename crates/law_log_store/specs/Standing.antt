@@ -1,5 +1,5 @@
 -- What the disk of a store whose log lies in the heap stands for, and what a stop may leave of it.
-use Rattle.std.specs.Prelude.{ℕ, ◌≡◌, ◌+◌, ◌*◌, ◌/◌, ◌<◌, ◌≤◌, ◌↔◌, Bool, MatchBool, List, [], ◌∷◌, ◌++◌, length, map, flat_map, take, drop, Option, None, Some}
+use Rattle.std.specs.Prelude.{ℕ, ◌≡◌, ◌+◌, ◌*◌, ◌/◌, ◌<◌, ◌≤◌, ◌↔◌, Bool, MatchBool, List, ◌∷◌, ◌++◌, length, map, flat_map, take, drop, Option, None, Some}
 use Rattle.std.specs.List.{AllByRecursion}
 use Rattle.history.specs.declared.key.Key.{Key}
 use Rattle.history.specs.Histories.{History, MayAllFollow}
@@ -15,7 +15,6 @@ use Rattle.log_extents.specs.Chains.{count_of, IsNumberOf, IsNew}
 use Rattle.log_entries.specs.declared.entry.Member.{Member}
 use Rattle.log_entries.specs.declared.entry.Entry.TheVariants.{Group}
 use Rattle.log_entries.specs.Spelling.{entry_bytes}
-use Rattle.log_writer.specs.Turns.{Stage}
 use Rattle.log_writer.specs.Writer.{WriterState}
 use Rattle.law_log_layout.specs.HeapLog.{PlacedChain, HeapLog, heap_parts, live_numbers, counted_of, IsLogOf, HeapStandsFor, KeepsShares, member_told}
 use Rattle.law_log_layout.specs.HeapLog.{MayJoin, placed_group, turn_of, with_chain}
