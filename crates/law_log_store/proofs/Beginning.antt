@@ -1,5 +1,6 @@
 -- A group begins behind the log.
-use Rattle.std.proofs.Common.{◌≡◌, ℕ, zero, suc, ◌+◌, ◌-◌, ◌*◌, ◌/◌, ◌<◌, ◌≤◌, ◌↔◌, ◌==◌, ◌&&◌, Bool, true, false, cond, nat_lt, List, [], ◌∷◌, ◌++◌, length, map, take, drop}
+use Rattle.std.proofs.Common.{◌≡◌, ℕ, zero, suc, ◌+◌, ◌-◌, ◌*◌, ◌/◌, ◌<◌, ◌≤◌, ◌↔◌, ◌==◌, ◌&&◌, Bool, true, false, cond, nat_lt, List, [], ◌∷◌, ◌++◌, length}
+use Rattle.std.proofs.Common.{map, take, drop}
 use Rattle.std.proofs.Common.{Option, None, Some, refl, arith, ap, sym, subst, ◌∙◌, length-append}
 use Rattle.std.specs.Prelude.{min, flat_map}
 use Rattle.std.specs.List.{AllByRecursion}
@@ -27,7 +28,8 @@ use Rattle.log_writer.specs.Turns.{open_gate, written_parts, Writing, chain_turn
 use Rattle.log_writer.specs.Writer.{WriterState}
 use Rattle.log_space.specs.Uses.{IsFree, all_used}
 use Rattle.log_roots.specs.Roots.{root_of}
-use Rattle.law_log_layout.specs.HeapLog.{HeapLog, PlacedChain, live_numbers, counted_of, member_told, IsBaseSmall, KeepsShares, with_chain, placed_group, MayJoin}
+use Rattle.law_log_layout.specs.HeapLog.{HeapLog, PlacedChain, live_numbers, counted_of, member_told, IsBaseSmall, KeepsShares, with_chain, placed_group}
+use Rattle.law_log_layout.specs.HeapLog.{MayJoin}
 use Rattle.law_log_layout.proofs.GroupJoins.{room, live-more}
 use Rattle.law_log_sizes.specs.Sizes.{lens_behind, sizes, size_now}
 use Rattle.law_log_sizes.proofs.Orders.{standing-ordered}

@@ -179,11 +179,22 @@ standing-stops v h queue floors works s image left = by-turn v.turn s.turn
 
 -- ---- a call
 
+-- within a call and after it, whatever its answer
+pub call-within : (w : WriterState) (old : LogStoreValue) (h queue : History Value) (floors : ℕ → ℕ) → old.turn ≡ Some w → StandsOnHeap old h queue floors
+    → (result : Result (Unit {0}) DeviceFault) (areas : Areas) (image : Image) → IsCallOf (turn w) w.stage result old.disk.areas areas
+    → LeavesImage areas image
+    → MayBecome w.stage (IsImageOf old image h floors) (IsImageOf old image (h ++ take old.commits.group queue) floors)
+call-within w old h queue floors standing s result areas image call left =
+    let o : IsOnWay old queue s.l s.reading h w = subst (λ (t : Option WriterState). HasTurn old queue s.l s.reading h t) standing s.turn in
+    let on = way old h queue floors s w o in
+    on.within result areas image
+    (subst (λ (t : Turn). IsCallOf t w.stage result old.disk.areas areas) (same-turn old h queue floors s w o) call) left
+
 pub call-goes : (tells : Bool) (w : WriterState) (old new : LogStoreValue) (answer : Result Did PumpFault) (h queue : History Value) (floors : ℕ → ℕ)
     → IsTrue tells → old.commits.failed ≡ false → old.turn ≡ Some w → StandsOnHeap old h queue floors
     → Advances tells w old answer new → AreSound new.disk.areas → GoesOn w old answer new h queue floors
 call-goes tells w old new answer h queue floors tell works standing s advances sound =
-    record { within = within; leads = by-answer answer (advances.call tell) advances.answer }
+    record { within = call-within w old h queue floors standing s; leads = by-answer answer (advances.call tell) advances.answer }
   where
     o : IsOnWay old queue s.l s.reading h w
     o = subst (λ (t : Option WriterState). HasTurn old queue s.l s.reading h t) standing s.turn
@@ -192,11 +203,6 @@ call-goes tells w old new answer h queue floors tell works standing s advances s
         → IsCallOf (turn_of s.l.next (placed_group w.numbers w.link o.group)) w.stage result old.disk.areas areas
     chain-call result areas call =
         subst (λ (t : Turn). IsCallOf t w.stage result old.disk.areas areas) (same-turn old h queue floors s w o) call
-
-    within : (result : Result (Unit {0}) DeviceFault) (areas : Areas) (image : Image) → IsCallOf (turn w) w.stage result old.disk.areas areas
-        → LeavesImage areas image
-        → MayBecome w.stage (IsImageOf old image h floors) (IsImageOf old image (h ++ take old.commits.group queue) floors)
-    within result areas image call left = let on = way old h queue floors s w o in on.within result areas image (chain-call result areas call) left
 
     by-stage : (stage : Stage) → w.stage ≡ stage → new ≡ record (after_call old w stage) { disk = new.disk }
         → IsCallOf (turn w) w.stage (Ok tt) old.disk.areas new.disk.areas → LeadsTo stage old.commits.group new h queue floors
@@ -229,4 +235,4 @@ call-goes tells w old new answer h queue floors tell works standing s advances s
         subst (λ (x : LogStoreValue). MayStand x.commits.failed x.turn (IsImageOf x image h floors) (IsImageOf x image (h ++ take x.commits.group queue) floors))
         (sym is.1)
         (subst (λ (t : Option WriterState). MayStand true t (IsImageOf old image h floors) (IsImageOf old image (h ++ take old.commits.group queue) floors))
-        (sym standing) (within (disk_answer (Err why)) new.disk.areas image call left))
+        (sym standing) (call-within w old h queue floors standing s (disk_answer (Err why)) new.disk.areas image call left))

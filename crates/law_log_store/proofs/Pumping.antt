@@ -1,25 +1,29 @@
 -- The steps of a store's groups.
-use Rattle.std.proofs.Common.{◌≡◌, ℕ, ◌==◌, ◌<◌, Bool, true, false, [], ◌∷◌, ◌++◌, length, take, drop, Option, None, Some, Result, Ok, Err, refl, arith, ap, sym, subst}
-use Rattle.std.proofs.Common.{◌∙◌, append-nil, inl, inr}
-use Rattle.std.specs.Prelude.{IsTrue, MatchBool, MatchResult}
+use Rattle.std.proofs.Common.{◌≡◌, ℕ, ◌==◌, ◌<◌, ◌&&◌, Bool, true, false, cond, nat_lt, List, [], ◌∷◌, ◌++◌, length, take, drop, Option, None, Some}
+use Rattle.std.proofs.Common.{Result, Ok, Err, refl, arith, ap, sym, subst, ◌∙◌, append-nil, ◌⊎◌, inl, inr}
+use Rattle.std.specs.Prelude.{IsTrue, MatchBool, MatchResult, min}
 use Rattle.std.proofs.lemmas.Bool.Decides.{nat_tests}
 use Rattle.history.specs.Histories.{History}
-use Rattle.disk.specs.Areas.{AreSound}
+use Rattle.disk.specs.Areas.{Image, AreSound, LeavesImage}
 use Rattle.law_image.specs.Values.{Value}
 use Rattle.group.specs.declared.answers.PumpFault.{PumpFault}
 use Rattle.group.specs.declared.answers.PumpFault.TheVariants as fault
 use Rattle.log_writer.specs.Turns.{Stage, Writing, Syncing, Opening, Settling, Done}
 use Rattle.log_writer.specs.Writer.{WriterState}
 use Rattle.log_writer.specs.Writer as writers
+use Rattle.law_log_layout.specs.Turns.{MayBe, MayBecome}
+use Rattle.commits.specs.Values.{CommitsValue}
+use Rattle.commits.specs.Steps.{grouped}
 use Rattle.log_store.specs.Values.{LogStoreValue, IsInStep}
-use Rattle.log_store.specs.Pumps.{Pumps, TakesStep, BeginsGroup, AdvancesGroup, Advances, after_call, with_failure, did_of}
+use Rattle.log_store.specs.Values as stores
+use Rattle.log_store.specs.Pumps.{Pumps, TakesStep, BeginsGroup, AdvancesGroup, Advances, after_call, with_failure, did_of, disk_answer}
 use Rattle.log_store.specs.declared.answers.Did.{Did}
 use Rattle.log_store.specs.declared.answers.Did.TheVariants as did
-use Rattle.law_log_store.specs.Standing.{StandsOnHeap, StopsOnHeap}
+use Rattle.law_log_store.specs.Standing.{StandsOnHeap, IsImageOf, MayStand, StopsOnHeap}
 use Rattle.law_log_store.specs.Laws.{LeadsTo, GoesOn}
-use Rattle.law_log_store.specs.Calls.{count_in, StepsTo}
+use Rattle.law_log_store.specs.Calls.{count_in, StepsTo, HasFailed, IsFront}
 use Rattle.law_log_store.proofs.Beginning.{has-begun}
-use Rattle.law_log_store.proofs.Going.{call-goes}
+use Rattle.law_log_store.proofs.Going.{standing-stops, call-within, call-goes}
 
 -- nothing is published
 unpublished : (v : LogStoreValue) (h queue : History Value) (floors : ℕ → ℕ) → StandsOnHeap v h queue floors
@@ -91,3 +95,91 @@ pub failed-rests : (tells : Bool) (old new : LogStoreValue) (answer : Result Did
     → (answer ≡ Err fault.Failed) × (new ≡ old)
 failed-rests tells old new answer failed pumps =
     subst (λ (b : Bool). MatchBool b ((answer ≡ Err fault.Failed) × (new ≡ old)) (TakesStep tells old old.turn answer new)) failed pumps
+
+-- ---- stops
+
+-- what holds of one of two claims by the stage holds of either
+either-old : (stage : Stage) (A B : Type 0) → MayBe stage A B → A ⊎ B
+either-old (Writing done rest) A B is = inl is
+either-old Syncing A B is = inl is
+either-old Opening A B is = inl is
+either-old Settling A B is = is
+either-old Done A B is = inr is
+
+either-new : (stage : Stage) (A B : Type 0) → MayBecome stage A B → A ⊎ B
+either-new (Writing done rest) A B is = inl is
+either-new Syncing A B is = inl is
+either-new Opening A B is = is
+either-new Settling A B is = is
+either-new Done A B is = inr is
+
+-- a front of what stands before a call, and after it
+module _ (v : LogStoreValue) (h queue : History Value) (floors : ℕ → ℕ) (works : v.commits.failed ≡ false) (s : StandsOnHeap v h queue floors)
+    (image : Image) where
+  abbrev Fronts : ℕ → Type 0
+  Fronts n = IsImageOf v image h floors ⊎ IsImageOf v image (h ++ take n queue) floors
+
+  front-before : LeavesImage v.disk.areas image → Fronts v.commits.group
+  front-before left = by-turn v.turn (standing-stops v h queue floors works s image left)
+    where
+      by-turn : (t : Option WriterState) → MayStand v.commits.failed t (IsImageOf v image h floors) (IsImageOf v image (h ++ take v.commits.group queue) floors)
+          → Fronts v.commits.group
+      by-turn None is = inl is
+      by-turn (Some w) is =
+          either-old w.stage (IsImageOf v image h floors) (IsImageOf v image (h ++ take v.commits.group queue) floors)
+          (subst (λ (b : Bool). MatchBool b (MayBecome w.stage (IsImageOf v image h floors) (IsImageOf v image (h ++ take v.commits.group queue) floors))
+          (MayBe w.stage (IsImageOf v image h floors) (IsImageOf v image (h ++ take v.commits.group queue) floors))) works is)
+
+  front-after : (tells : Bool) (w : WriterState) (new : LogStoreValue) (answer : Result Did PumpFault) → IsTrue tells → v.turn ≡ Some w
+      → Advances tells w v answer new → LeavesImage new.disk.areas image → Fronts v.commits.group
+  front-after tells w new answer tell standing advances left =
+      either-new w.stage (IsImageOf v image h floors) (IsImageOf v image (h ++ take v.commits.group queue) floors)
+      (call-within w v h queue floors standing s (disk_answer answer) new.disk.areas image (advances.call tell) left)
+
+-- where a group stands none begins
+grouped-stays : (v : CommitsValue) → 0 < v.group → grouped 1024 v ≡ v
+grouped-stays v some =
+    let it : CommitsValue = record v { group = min 1024 (length v.queue) } in
+    let no : (v.group == 0) ≡ false = grind (arith, nat_tests) in
+    ap (λ (b : Bool). cond (b && nat_lt 0 (length v.queue)) it v) no
+
+pub pump-leaves : (tells : Bool) (old new : LogStoreValue) (answer : Result Did PumpFault) (h queue : History Value) (floors : ℕ → ℕ) (image : Image)
+    → IsTrue tells → old.commits.failed ≡ false → IsInStep old → StandsOnHeap old h queue floors → Pumps tells old answer new
+    → LeavesImage old.disk.areas image ⊎ LeavesImage new.disk.areas image → IsFront old image h queue floors
+pump-leaves tells old new answer h queue floors image tell works step s pumps left =
+    by-turn old.turn refl
+    (subst (λ (b : Bool). MatchBool b ((answer ≡ Err fault.Failed) × (new ≡ old)) (TakesStep tells old old.turn answer new)) works pumps) left
+  where
+    old-front : old.turn ≡ None → LeavesImage old.disk.areas image → IsFront old image h queue floors
+    old-front at_rest l =
+        inl (subst (λ (t : Option WriterState). MayStand old.commits.failed t (IsImageOf old image h floors)
+        (IsImageOf old image (h ++ take old.commits.group queue) floors)) at_rest (standing-stops old h queue floors works s image l))
+
+    standing-front : (w : WriterState) → old.turn ≡ Some w → Fronts old h queue floors works s image old.commits.group → IsFront old image h queue floors
+    standing-front w standing front =
+        let some = (subst (λ (t : Option WriterState). stores.HasTurn old.commits.group t) standing step.turn).0 in
+        subst (λ (n : ℕ). IsImageOf old image h floors ⊎ IsImageOf old image (h ++ take n queue) floors)
+        (ap (λ (v : CommitsValue). v.group) (sym (grouped-stays old.commits some))) front
+
+    begins : old.turn ≡ None → 0 < length old.commits.queue → BeginsGroup tells old answer new → LeavesImage new.disk.areas image
+        → IsFront old image h queue floors
+    begins at_rest some (inl none) l = old-front at_rest (subst (λ (x : LogStoreValue). LeavesImage x.disk.areas image) none.1 l)
+    begins at_rest some (inr begun) l =
+        let has = has-begun old begun.0 h queue floors step at_rest some s begun.1 in
+        let advances : Advances tells has.writer begun.0 answer new =
+        subst (λ (t : Option WriterState). AdvancesGroup tells begun.0 t answer new) has.turn begun.2 in
+        let front = front-after begun.0 h queue floors (has.works ∙ works) has.stands image tells has.writer new answer tell has.turn advances l in
+        subst (λ (v : LogStoreValue). IsImageOf v image h floors ⊎ IsImageOf v image (h ++ take v.commits.group queue) floors) (begun.1).new_is front
+
+    by-queue : (b : Bool) → (length old.commits.queue == 0) ≡ b → old.turn ≡ None
+        → MatchBool b ((answer ≡ Ok did.Idle) × (new ≡ old)) (BeginsGroup tells old answer new) → LeavesImage new.disk.areas image
+        → IsFront old image h queue floors
+    by-queue true none at_rest is l = old-front at_rest (subst (λ (x : LogStoreValue). LeavesImage x.disk.areas image) is.1 l)
+    by-queue false some at_rest is l = begins at_rest (grind (arith, nat_tests)) is l
+
+    by-turn : (t : Option WriterState) → old.turn ≡ t → TakesStep tells old t answer new
+        → LeavesImage old.disk.areas image ⊎ LeavesImage new.disk.areas image → IsFront old image h queue floors
+    by-turn None at_rest is (inl l) = old-front at_rest l
+    by-turn None at_rest is (inr l) = by-queue (length old.commits.queue == 0) refl at_rest is l
+    by-turn (Some w) standing is (inl l) = standing-front w standing (front-before old h queue floors works s image l)
+    by-turn (Some w) standing is (inr l) = standing-front w standing (front-after old h queue floors works s image tells w new answer tell standing is l)

@@ -1,5 +1,6 @@
 -- The first commits of a queue, and those behind them.
-use Rattle.std.proofs.Common.{◌≡◌, ℕ, zero, suc, ◌≤◌, ◌<◌, ◌^◌, nat_le, true, cond, List, [], ◌∷◌, ◌++◌, length, take, drop, Option, None, Some, refl, arith, ap}
+use Rattle.std.proofs.Common.{◌≡◌, ℕ, zero, suc, ◌≤◌, ◌<◌, ◌^◌, nat_le, true, cond, List, [], ◌∷◌, ◌++◌, length, take, drop, Option, None, Some, refl, arith}
+use Rattle.std.proofs.Common.{ap}
 use Rattle.std.proofs.Common.{sym, subst, ◌∙◌, append_assoc, append-nil}
 use Rattle.std.specs.Prelude.{unwrap_or, option_map}
 use Rattle.std.specs.List.{cons_option}

@@ -32,7 +32,8 @@ use Rattle.log_store.specs.Values.{LogStoreValue, IsInStep}
 use Rattle.log_store.specs.Submits.{anchors_behind, has_room, with_queued}
 use Rattle.law_log_store.specs.Members.{IsTold, AreContents}
 use Rattle.law_log_store.specs.Standing.{StandsOnHeap, HasTurn, IsRoomOf}
-use Rattle.law_log_store.proofs.Queues.{taken-and-rest, told-many, told-more, contents-more, may-more, told-ordered, take-more, drop-more, versions-split, values-told}
+use Rattle.law_log_store.proofs.Queues.{taken-and-rest, told-many, told-more, contents-more, may-more, told-ordered, take-more, drop-more, versions-split}
+use Rattle.law_log_store.proofs.Queues.{values-told}
 use Rattle.law_log_store.proofs.Queues.{applied-told}
 use Rattle.law_log_store.proofs.Anchors.{now-is, len-more, fit-more}
 

@@ -1,7 +1,8 @@
 -- The calls of a store whose log lies in the heap, as its disk has them.
-use Rattle.std.specs.Prelude.{ℕ, ◌≡◌, Bool, true, false, IsTrue, [], ◌∷◌, ◌++◌, take, drop, Result, Ok, Err}
+use Rattle.std.specs.Prelude.{ℕ, ◌≡◌, ◌⊎◌, Bool, true, false, IsTrue, [], ◌∷◌, ◌++◌, take, drop, Result, Ok, Err}
 use Rattle.history.specs.Histories.{History, MayAllFollow}
-use Rattle.disk.specs.Areas.{AreSound}
+use Rattle.disk.specs.Areas.{Image, AreSound, LeavesImage}
+use Rattle.commits.specs.Steps.{grouped}
 use Rattle.law_image.specs.Values.{Value, IsValue}
 use Rattle.snapshot.specs.Txn.{TxnValue}
 use Rattle.group.specs.Tickets.{TicketValue}
@@ -18,7 +19,7 @@ use Rattle.log_store.specs.Submits.{Submits}
 use Rattle.log_store.specs.Pumps.{Pumps}
 use Rattle.log_store.specs.declared.answers.Did.{Did}
 use Rattle.log_store.specs.declared.answers.Did.TheVariants as did
-use Rattle.law_log_store.specs.Standing.{StandsOnHeap, StopsOnHeap}
+use Rattle.law_log_store.specs.Standing.{StandsOnHeap, IsImageOf, StopsOnHeap}
 
 -- ---- steps of a group
 
@@ -49,6 +50,18 @@ PumpSteps =
     (tells : Bool) (old new : LogStoreValue) (answer : Result Did PumpFault) (h queue : History Value) (floors : ℕ → ℕ)
     → IsTrue tells → old.commits.failed ≡ false → IsInStep old → AreSound new.disk.areas → StandsOnHeap old h queue floors
     → Pumps tells old answer new → StepsTo answer old new h queue floors
+
+-- The image stands for what is published, or for that with the whole group: the one that stands, or the next one where none does. Part of a group is no front,
+-- nor is a commit that no group has.
+abbrev pub IsFront : LogStoreValue → Image → History Value → History Value → (ℕ → ℕ) → Type 0
+IsFront v image h queue floors = IsImageOf v image h floors ⊎ IsImageOf v image (h ++ take (grouped 1024 v.commits).group queue) floors
+
+-- whatever a stop may leave before a step is a front, and after it whatever its answer
+abbrev pub PumpLeaves : Type 0
+PumpLeaves =
+    (tells : Bool) (old new : LogStoreValue) (answer : Result Did PumpFault) (h queue : History Value) (floors : ℕ → ℕ) (image : Image)
+    → IsTrue tells → old.commits.failed ≡ false → IsInStep old → StandsOnHeap old h queue floors → Pumps tells old answer new
+    → LeavesImage old.disk.areas image ⊎ LeavesImage new.disk.areas image → IsFront old image h queue floors
 
 -- a store that has failed makes no step
 abbrev pub FailedRests : Type 0

@@ -1,5 +1,5 @@
 //! Laws of the disk of a store whose log lies in the heap.
-ghost use Rattle.law_log_store.specs.Calls.{AbortKeeps, BeginKeeps, FailedQueuesNone, FailedRests, PumpSteps, RedeemKeeps, SubmitSteps};
+ghost use Rattle.law_log_store.specs.Calls.{AbortKeeps, BeginKeeps, FailedQueuesNone, FailedRests, PumpLeaves, PumpSteps, RedeemKeeps, SubmitSteps};
 ghost use Rattle.law_log_store.specs.Laws.{GroupBegins, GroupGoesOn, GroupJoins, StandingStops, SubmitKeeps};
 
 /// The next commits are a group of the log: their records over the versions in memory are those over what
@@ -30,9 +30,11 @@ pub fn submit_keeps()
 
 /// A step of a group of a store that works: as many of the first commits of the queue are published as it says,
 /// and the disk stands for that; or nothing has changed for want of memory; or the store has failed, and what a
-/// crash leaves stands for what is published, or for that with the whole group.
+/// crash leaves stands for what is published, or for that with the whole group. So does what a crash leaves
+/// before the step and after it, whatever its answer.
 pub fn pump_steps()
     ensures steps { PumpSteps }
+    ensures leaves { PumpLeaves }
     ensures failed { FailedRests }
 {}
 
