@@ -61,7 +61,7 @@ free-behind : (used : List Bool) (ns : List ℕ) (m : ℕ) → AreLow ns → IsF
 free-behind used [] m low free new = free
 free-behind used (n ∷ ns) m low free new = free-behind (with_use used n true) ns m low.1 (free-still used n m low.0 free new.0) new.1
 
-all-used-length : (used : List Bool) (ns : List ℕ) → length (all_used used ns) ≡ length used
+pub all-used-length : (used : List Bool) (ns : List ℕ) → length (all_used used ns) ≡ length used
 all-used-length used [] = refl
 all-used-length used (n ∷ ns) = all-used-length (with_use used n true) ns ∙ length-set used (n - 1) true
 
@@ -87,7 +87,7 @@ are-low used (n ∷ ns) all = ((all.0).low, are-low used ns all.1)
 
 -- ---- numbers
 
-distinct-join : (xs ys : List ℕ) → AreDistinct xs → AreDistinct ys → AllByRecursion (λ (y : ℕ). IsNew y xs) ys → AreDistinct (xs ++ ys)
+pub distinct-join : (xs ys : List ℕ) → AreDistinct xs → AreDistinct ys → AllByRecursion (λ (y : ℕ). IsNew y xs) ys → AreDistinct (xs ++ ys)
 distinct-join [] ys first second new = second
 distinct-join (x ∷ xs) ys first second new =
     (AllByRecursion-append (λ (n : ℕ). n ≢ x) xs ys first.0 (heads ys new), distinct-join xs ys first.1 second (tails ys new))

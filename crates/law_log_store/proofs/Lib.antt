@@ -8,3 +8,4 @@ pub mod Beginning
 pub mod Submitting
 pub mod Calls
 pub mod Pumping
+pub mod Opened

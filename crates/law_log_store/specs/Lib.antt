@@ -2,3 +2,4 @@ pub mod Members
 pub mod Standing
 pub mod Laws
 pub mod Calls
+pub mod Opened

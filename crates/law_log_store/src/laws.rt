@@ -1,6 +1,14 @@
 //! Laws of the disk of a store whose log lies in the heap.
 ghost use Rattle.law_log_store.specs.Calls.{AbortKeeps, BeginKeeps, FailedQueuesNone, FailedRests, PumpLeaves, PumpSteps, RedeemKeeps, SubmitSteps};
+ghost use Rattle.law_log_store.specs.Opened.{OpenedStands, RoomOpens};
 ghost use Rattle.law_log_store.specs.Laws.{GroupBegins, GroupGoesOn, GroupJoins, StandingStops, SubmitKeeps};
+
+/// A store that is opened on a log that stands for a history stands for that history: the heap has the room that
+/// an opened one is to have, and all is on the disk.
+pub fn opened_stands()
+    ensures room { RoomOpens }
+    ensures stands { OpenedStands }
+{}
 
 /// The next commits are a group of the log: their records over the versions in memory are those over what
 /// the log says, and their bytes joined are the bytes of the group's chain.
