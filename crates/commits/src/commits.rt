@@ -88,8 +88,7 @@ impl Commits {
           heads = heads.items;
           published = length heads.items;
           versions = versions;
-          queue =
-              [];
+          queue = [];
           group = 0;
           floors = floors;
           reclaimed = reclaimed;
@@ -176,8 +175,7 @@ impl Commits {
           floors = self.now.floors;
           reclaimed = 0;
           runs = [];
-          state =
-              self.now.versions;
+          state = self.now.versions;
         }) }
     {
         let state = self.versions.share()?;

@@ -1,5 +1,5 @@
 -- The bytes of commits that wait, and of a group of them.
-use Rattle.std.specs.Prelude.{ℕ, ◌+◌, List, [], ◌∷◌, ◌++◌, length, map}
+use Rattle.std.specs.Prelude.{ℕ, ◌+◌, List, [], ◌∷◌, length, map}
 use Rattle.std.specs.List.{flat_map}
 use Rattle.history.specs.declared.key.KeyWrite.{KeyWrite}
 use Rattle.law_image.specs.Facts.{latest}

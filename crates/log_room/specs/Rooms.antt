@@ -63,10 +63,10 @@ pub record TakesLeast (old : List Bool) (count : ℕ) (taken : List ℕ) (new : 
   pub new_is : new ≡ all_used old taken
 
 -- an opened heap may be given room: the extent where the log ends is free, and the shares are kept
-pub record MayOpen (used : List Bool) (next log anchors : ℕ) : Type 0 where
+pub record MayOpen (used : List Bool) (next log bytes : ℕ) : Type 0 where
   pub low : 64 ≤ length used
   pub high : length used ≤ 2 ^ 20
   pub free : IsFree used next
   pub few : used_count used + 1 ≤ log + length used / 4
   pub half : log ≤ length used / 2
-  pub anchors : count_of anchors ≤ (3 * length used) / 16
+  pub anchors : count_of bytes ≤ (3 * length used) / 16

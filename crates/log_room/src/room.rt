@@ -1,5 +1,6 @@
 //! The room in a heap: which extents the log has, and which it will take.
-ghost use Rattle.std.specs.Prelude.{◌≡◌, ◌≤◌, ◌<◌, ◌+◌, ◌^◌, true, IsTrue, IfOk, OnErr, length};
+ghost use Rattle.std.specs.Prelude.{◌≡◌, ◌≤◌, ◌<◌, ◌+◌, ◌*◌, ◌/◌, true, IfOk, OnErr, length};
+ghost use Rattle.log_extents.specs.Chains.{count_of};
 ghost use Rattle.log_space.specs.Uses.{with_use};
 ghost use Rattle.law_log_sizes.specs.Sizes.{len_behind};
 ghost use Rattle.log_sizes.specs.Counted.{values_in};
@@ -97,10 +98,12 @@ impl HeapRoom {
 
     /// A commit is promised so many extents; behind it the anchors have so many bytes.
     pub fn promise(&mut self, count: usize, anchors: u64)
-        requires { IsTrue (fits self.old count anchors) }
+        requires log { self.old.log + self.old.promised + count ≤ length self.old.used / 2 }
+        requires share { count_of anchors ≤ (3 * length self.old.used) / 16 }
         ensures { self.new ≡ promised_to self.old count anchors }
     {
-        self.promised += count as u32;
+        let promised = self.promised;
+        self.promised = promised + count as u32;
         self.anchors = anchors;
     }
 

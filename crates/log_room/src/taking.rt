@@ -1,6 +1,5 @@
 //! Extents taken into use one after the other.
-ghost use Rattle.std.specs.Prelude.{◌≡◌, ◌≤◌, ◌+◌, ◌++◌, IfOk, OnErr, length};
-ghost use Rattle.std.specs.Vec.{vec_capacity, vec_len};
+ghost use Rattle.std.specs.Prelude.{◌≡◌, ◌≤◌, ◌+◌, ◌∷◌, ℕ, List, IfOk, OnErr, length};
 ghost use Rattle.log_space.specs.Uses.{used_count};
 ghost use Rattle.log_room.specs.Rooms.{TakesLeast};
 

@@ -3,7 +3,7 @@ use Rattle.chains.specs.KeyWrites.{KeyWrites, latest}
 use Rattle.group.specs.CommitOrder.{last_time}
 use Rattle.commits.specs.Values.{CommitsValue, ordered, last_assigned}
 use Rattle.commits.proofs.Kept.{by-last, versions_after-last}
-use Rattle.commits.proofs.submit.Commits.ordered.Goals as goal
+use Rattle.commits.proofs.commits.Commits.ordered.Goals as goal
 
 pub returns-in-Some-clause-is : goal.returns-in-Some-clause-is
 returns-in-Some-clause-is c =

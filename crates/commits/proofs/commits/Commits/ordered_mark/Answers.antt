@@ -1,7 +1,7 @@
 use Rattle.std.proofs.Common.{refl, ap, ◌∙◌, arith}
 use Rattle.commits.specs.Values.{CommitsValue, ordered_mark}
 use Rattle.commits.proofs.Kept.{mark_after-last}
-use Rattle.commits.proofs.submit.Commits.ordered_mark.Goals as goal
+use Rattle.commits.proofs.commits.Commits.ordered_mark.Goals as goal
 
 pub returns-in-Some : goal.returns-in-Some
 returns-in-Some c =

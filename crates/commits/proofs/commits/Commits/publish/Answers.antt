@@ -1,7 +1,7 @@
 use Rattle.std.proofs.Common.{ap}
 use Rattle.commits.specs.Values.{CommitsValue}
 use Rattle.commits.proofs.Kept.{keeps-published}
-use Rattle.commits.proofs.groups.Commits.publish.Goals as goal
+use Rattle.commits.proofs.commits.Commits.publish.Goals as goal
 
 pub invariant_of-self : goal.invariant_of-self
 invariant_of-self c =

@@ -4,7 +4,7 @@ use Rattle.group.specs.declared.commit_order.CommitHead.{CommitHead}
 use Rattle.commits.specs.Values.{CommitsValue, WaitingValue, ordered, ordered_mark, last_assigned}
 use Rattle.commits.specs.Steps.{waiting_as}
 use Rattle.commits.proofs.Kept.{keeps-waiting, waiting-is}
-use Rattle.commits.proofs.submit.Commits.enqueue.Goals as goal
+use Rattle.commits.proofs.commits.Commits.enqueue.Goals as goal
 
 pub invariant_of-self-2 : goal.invariant_of-self-2
 invariant_of-self-2 c =
