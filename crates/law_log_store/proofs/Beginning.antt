@@ -307,6 +307,7 @@ module _ (old : LogStoreValue) (h queue : History Value) (floors : ℕ → ℕ) 
       is_log = s.is_log;
       stands = s.stands;
       archive = s.archive;
+      status = s.status;
       sound = s.sound;
       commits = record {
         ordered = s.commits.ordered;

@@ -53,6 +53,7 @@ module _ (v : LogStoreValue) (opened : List (Option ℕ)) (heads : List CommitHe
     is_log = s.is_log;
     stands = s.stands;
     archive = s.archive;
+    status = s.status;
     sound = s.sound;
     commits = record {
       ordered = s.commits.ordered;

@@ -33,6 +33,7 @@ use Rattle.log_entries.specs.Spelling.{entry_bytes}
 use Rattle.log_space.specs.Uses.{IsFree, with_use, all_used, used_count}
 use Rattle.log_space.proofs.Uses.{others_are_free, used_are_counted, used_in_turn}
 use Rattle.log_writer.specs.Writer.{WriterState}
+use Rattle.log_recovery.specs.Opening.{ReadsRoots}
 use Rattle.log_roots.specs.Roots.{root_of}
 use Rattle.law_log_layout.specs.HeapLog.{PlacedChain, PlacedRoll, HeapLog, heap_parts, live_numbers, name_bytes, HoldsRoll, IsPlaced, chain_told, chains_told}
 use Rattle.law_log_layout.specs.HeapLog.{counted_of, IsBaseSmall, IsLogOf, HoldsLog}
@@ -48,7 +49,7 @@ use Rattle.log_room.specs.Rooms.{RoomValue, MayOpen}
 use Rattle.commits.specs.Values.{WaitingValue, versions_after}
 use Rattle.log_store.specs.Values.{LogStoreValue}
 use Rattle.law_log_store.specs.Members.{AreTold, AreContents}
-use Rattle.law_log_store.specs.Standing.{StandsOnHeap, IsAtRest, HasTurn, HasCommits, HasAnchors, IsRoomOf, counted}
+use Rattle.law_log_store.specs.Standing.{StandsOnHeap, IsAtRest, HasTurn, HasCommits, HasAnchors, IsRoomOf, KeepsRoots, counted}
 use Rattle.law_log_store.specs.Opened.{live_uses, opened_room, LeavesRoom, IsOpenedOn}
 use Rattle.law_log_store.proofs.Flags.{all-used-length, distinct-join}
 
@@ -307,9 +308,9 @@ settled-runs [] bytes held = tt
 settled-runs (s ∷ runs) bytes held = (settled-part s.entry.start (run_bytes s.records) bytes held.0, settled-runs runs bytes held.1)
 
 pub opened-stands : (v : LogStoreValue) (image : Image) (l : HeapLog) (reading : Reading) (h : History Value) (floors : ℕ → ℕ)
-    → v.disk.areas ≡ settled_on image → AreSound v.disk.areas → IsLogOf v.roots.extents (root_of v.roots) l reading
+    → v.disk.areas ≡ settled_on image → AreSound v.disk.areas → ReadsRoots image.status v.roots → IsLogOf v.roots.extents (root_of v.roots) l reading
     → HoldsLog l image.heap image.archive → StandsFor reading h floors → IsOpenedOn v l reading → StandsOnHeap v h [] floors
-opened-stands v image l reading h floors same sound is held stands opened = record {
+opened-stands v image l reading h floors same sound reads is held stands opened = record {
   l = l;
   reading = reading;
   is_log = is;
@@ -318,6 +319,8 @@ opened-stands v image l reading h floors same sound is held stands opened = reco
     rolls = settled-rolls l.rolls image.archive held.rolls;
     runs = settled-runs l.runs image.archive held.runs;
   });
+  status = subst (λ (areas : Areas). KeepsRoots v.roots areas.status) (sym same)
+      (λ content left. subst (λ (bytes : List ℕ). ReadsRoots bytes v.roots) (sym (left.settled refl)) reads);
   sound = sound;
   commits = record {
     ordered = opened.ordered;

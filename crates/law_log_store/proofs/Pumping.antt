@@ -117,23 +117,23 @@ either-new Done A B is = inr is
 module _ (v : LogStoreValue) (h queue : History Value) (floors : ℕ → ℕ) (works : v.commits.failed ≡ false) (s : StandsOnHeap v h queue floors)
     (image : Image) where
   abbrev Fronts : ℕ → Type 0
-  Fronts n = IsImageOf v image h floors ⊎ IsImageOf v image (h ++ take n queue) floors
+  Fronts n = IsImageOf v.roots image h floors ⊎ IsImageOf v.roots image (h ++ take n queue) floors
 
   front-before : LeavesImage v.disk.areas image → Fronts v.commits.group
   front-before left = by-turn v.turn (standing-stops v h queue floors works s image left)
     where
-      by-turn : (t : Option WriterState) → MayStand v.commits.failed t (IsImageOf v image h floors) (IsImageOf v image (h ++ take v.commits.group queue) floors)
+      by-turn : (t : Option WriterState) → MayStand v.commits.failed t (IsImageOf v.roots image h floors) (IsImageOf v.roots image (h ++ take v.commits.group queue) floors)
           → Fronts v.commits.group
       by-turn None is = inl is
       by-turn (Some w) is =
-          either-old w.stage (IsImageOf v image h floors) (IsImageOf v image (h ++ take v.commits.group queue) floors)
-          (subst (λ (b : Bool). MatchBool b (MayBecome w.stage (IsImageOf v image h floors) (IsImageOf v image (h ++ take v.commits.group queue) floors))
-          (MayBe w.stage (IsImageOf v image h floors) (IsImageOf v image (h ++ take v.commits.group queue) floors))) works is)
+          either-old w.stage (IsImageOf v.roots image h floors) (IsImageOf v.roots image (h ++ take v.commits.group queue) floors)
+          (subst (λ (b : Bool). MatchBool b (MayBecome w.stage (IsImageOf v.roots image h floors) (IsImageOf v.roots image (h ++ take v.commits.group queue) floors))
+          (MayBe w.stage (IsImageOf v.roots image h floors) (IsImageOf v.roots image (h ++ take v.commits.group queue) floors))) works is)
 
   front-after : (tells : Bool) (w : WriterState) (new : LogStoreValue) (answer : Result Did PumpFault) → IsTrue tells → v.turn ≡ Some w
       → Advances tells w v answer new → LeavesImage new.disk.areas image → Fronts v.commits.group
   front-after tells w new answer tell standing advances left =
-      either-new w.stage (IsImageOf v image h floors) (IsImageOf v image (h ++ take v.commits.group queue) floors)
+      either-new w.stage (IsImageOf v.roots image h floors) (IsImageOf v.roots image (h ++ take v.commits.group queue) floors)
       (call-within w v h queue floors standing s (disk_answer answer) new.disk.areas image (advances.call tell) left)
 
 -- where a group stands none begins
@@ -152,13 +152,13 @@ pump-leaves tells old new answer h queue floors image tell works step s pumps le
   where
     old-front : old.turn ≡ None → LeavesImage old.disk.areas image → IsFront old image h queue floors
     old-front at_rest l =
-        inl (subst (λ (t : Option WriterState). MayStand old.commits.failed t (IsImageOf old image h floors)
-        (IsImageOf old image (h ++ take old.commits.group queue) floors)) at_rest (standing-stops old h queue floors works s image l))
+        inl (subst (λ (t : Option WriterState). MayStand old.commits.failed t (IsImageOf old.roots image h floors)
+        (IsImageOf old.roots image (h ++ take old.commits.group queue) floors)) at_rest (standing-stops old h queue floors works s image l))
 
     standing-front : (w : WriterState) → old.turn ≡ Some w → Fronts old h queue floors works s image old.commits.group → IsFront old image h queue floors
     standing-front w standing front =
         let some = (subst (λ (t : Option WriterState). stores.HasTurn old.commits.group t) standing step.turn).0 in
-        subst (λ (n : ℕ). IsImageOf old image h floors ⊎ IsImageOf old image (h ++ take n queue) floors)
+        subst (λ (n : ℕ). IsImageOf old.roots image h floors ⊎ IsImageOf old.roots image (h ++ take n queue) floors)
         (ap (λ (v : CommitsValue). v.group) (sym (grouped-stays old.commits some))) front
 
     begins : old.turn ≡ None → 0 < length old.commits.queue → BeginsGroup tells old answer new → LeavesImage new.disk.areas image
@@ -169,7 +169,7 @@ pump-leaves tells old new answer h queue floors image tell works step s pumps le
         let advances : Advances tells has.writer begun.0 answer new =
         subst (λ (t : Option WriterState). AdvancesGroup tells begun.0 t answer new) has.turn begun.2 in
         let front = front-after begun.0 h queue floors (has.works ∙ works) has.stands image tells has.writer new answer tell has.turn advances l in
-        subst (λ (v : LogStoreValue). IsImageOf v image h floors ⊎ IsImageOf v image (h ++ take v.commits.group queue) floors) (begun.1).new_is front
+        subst (λ (v : LogStoreValue). IsImageOf v.roots image h floors ⊎ IsImageOf v.roots image (h ++ take v.commits.group queue) floors) (begun.1).new_is front
 
     by-queue : (b : Bool) → (length old.commits.queue == 0) ≡ b → old.turn ≡ None
         → MatchBool b ((answer ≡ Ok did.Idle) × (new ≡ old)) (BeginsGroup tells old answer new) → LeavesImage new.disk.areas image

@@ -182,6 +182,7 @@ module _ (v : LogStoreValue) (label time : ℕ) (writes : List (KeyWrite Value))
     is_log = s.is_log;
     stands = s.stands;
     archive = s.archive;
+    status = s.status;
     sound = s.sound;
     commits = record {
       ordered = s.commits.ordered;

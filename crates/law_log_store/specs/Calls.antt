@@ -54,7 +54,7 @@ PumpSteps =
 -- The image stands for what is published, or for that with the whole group: the one that stands, or the next one where none does. Part of a group is no front,
 -- nor is a commit that no group has.
 abbrev pub IsFront : LogStoreValue → Image → History Value → History Value → (ℕ → ℕ) → Type 0
-IsFront v image h queue floors = IsImageOf v image h floors ⊎ IsImageOf v image (h ++ take (grouped 1024 v.commits).group queue) floors
+IsFront v image h queue floors = IsImageOf v.roots image h floors ⊎ IsImageOf v.roots image (h ++ take (grouped 1024 v.commits).group queue) floors
 
 -- whatever a stop may leave before a step is a front, and after it whatever its answer
 abbrev pub PumpLeaves : Type 0

@@ -68,7 +68,7 @@ pub record GoesOn (w : WriterState) (old : LogStoreValue) (answer : Result Did P
   -- within the call and after it, whatever its answer is to be
   pub within : (result : Result (Unit {0}) DeviceFault) (areas : Areas) (image : Image) → IsCallOf (turn w) w.stage result old.disk.areas areas
       → LeavesImage areas image
-      → MayBecome w.stage (IsImageOf old image h floors) (IsImageOf old image (h ++ take old.commits.group queue) floors)
+      → MayBecome w.stage (IsImageOf old.roots image h floors) (IsImageOf old.roots image (h ++ take old.commits.group queue) floors)
   -- and where it leads: a store whose call was refused has failed
   pub leads : MatchResult answer (λ what. LeadsTo w.stage old.commits.group new h queue floors) (λ why. StopsOnHeap new h queue floors)
 

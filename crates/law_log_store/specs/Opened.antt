@@ -10,6 +10,7 @@ use Rattle.law_image.specs.StandsFor.{StandsFor}
 use Rattle.chains.specs.KeyWrites.{IsOrdered}
 use Rattle.law_log_layout.specs.HeapLog.{PlacedChain, HeapLog, IsLogOf, HoldsLog}
 use Rattle.law_log_sizes.specs.Sizes.{size_now}
+use Rattle.log_recovery.specs.Opening.{ReadsRoots}
 use Rattle.log_roots.specs.Roots.{root_of}
 use Rattle.log_sizes.specs.Counted.{values_in}
 use Rattle.log_space.specs.Uses.{with_use, all_used}
@@ -50,5 +51,5 @@ pub record IsOpenedOn (v : LogStoreValue) (l : HeapLog) (reading : Reading) : Ty
 abbrev pub OpenedStands : Type 0
 OpenedStands =
     (v : LogStoreValue) (image : Image) (l : HeapLog) (reading : Reading) (h : History Value) (floors : ℕ → ℕ)
-    → v.disk.areas ≡ settled_on image → AreSound v.disk.areas → IsLogOf v.roots.extents (root_of v.roots) l reading
+    → v.disk.areas ≡ settled_on image → AreSound v.disk.areas → ReadsRoots image.status v.roots → IsLogOf v.roots.extents (root_of v.roots) l reading
     → HoldsLog l image.heap image.archive → StandsFor reading h floors → IsOpenedOn v l reading → StandsOnHeap v h [] floors

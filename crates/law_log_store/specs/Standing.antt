@@ -3,7 +3,7 @@ use Rattle.std.specs.Prelude.{ℕ, ◌≡◌, ◌+◌, ◌*◌, ◌/◌, ◌<◌
 use Rattle.std.specs.List.{AllByRecursion}
 use Rattle.history.specs.declared.key.Key.{Key}
 use Rattle.history.specs.Histories.{History, MayAllFollow}
-use Rattle.disk.specs.Areas.{Image, AreSound, LeavesImage}
+use Rattle.disk.specs.Areas.{AreaState, Image, AreSound, LeavesImage, MayLeave}
 use Rattle.law_image.specs.Values.{Value, IsValue}
 use Rattle.law_image.specs.Reading.{Reading}
 use Rattle.law_image.specs.Facts.{values_now}
@@ -21,6 +21,8 @@ use Rattle.law_log_layout.specs.HeapLog.{MayJoin, placed_group, turn_of, with_ch
 use Rattle.law_log_layout.specs.Laws.{KeepsArchive, KeepsLog}
 use Rattle.law_log_layout.specs.Turns.{IsAt, MayBe, MayBecome}
 use Rattle.law_log_sizes.specs.Sizes.{len_from, lens_behind, size_now}
+use Rattle.log_recovery.specs.Opening.{ReadsRoots}
+use Rattle.log_roots.specs.declared.roots.Roots.{Roots}
 use Rattle.log_roots.specs.Roots.{root_of}
 use Rattle.log_sizes.specs.Counted.{values_in}
 use Rattle.log_space.specs.Uses.{IsFree}
@@ -61,6 +63,12 @@ pub record HasAnchors (most : ℕ) (reading : Reading) (queue : History Value) (
   pub len : anchors ≡ len_from (size_now reading) (values_now reading) (stored_members (values_now reading) queue)
   pub fit : AllByRecursion (λ n. count_of n ≤ (3 * most) / 16) (lens_behind (size_now reading) (values_now reading) (stored_members (values_now reading) queue))
 
+-- ---- the status area
+
+-- whatever a stop may leave of it begins with the header of these roots
+abbrev pub KeepsRoots : Roots → AreaState → Type 0
+KeepsRoots roots a = (content : List ℕ) → MayLeave a content → ReadsRoots content roots
+
 -- ---- the log, and the group on its way behind it
 
 -- no group stands, and the log is at rest
@@ -91,6 +99,7 @@ pub record StandsOnHeap (v : LogStoreValue) (h queue : History Value) (floors : 
   pub is_log : IsLogOf v.roots.extents (root_of v.roots) l reading
   pub stands : StandsFor reading h floors
   pub archive : KeepsArchive l v.disk.areas.archive
+  pub status : KeepsRoots v.roots v.disk.areas.status
   pub sound : AreSound v.disk.areas
   pub commits : HasCommits v h queue
   pub anchors : HasAnchors v.roots.extents reading queue v.room.anchors
@@ -98,9 +107,10 @@ pub record StandsOnHeap (v : LogStoreValue) (h queue : History Value) (floors : 
 
 -- ---- stops
 
--- heap and archive of an image stand for a history, where the store's root counts
-abbrev pub IsImageOf : LogStoreValue → Image → History Value → (ℕ → ℕ) → Type 0
-IsImageOf v image h floors = HeapStandsFor v.roots.extents (root_of v.roots) image.heap image.archive h floors
+-- An image stands for a history with these floors: its status area has these roots, and heap and archive stand for it where that root counts.
+pub record IsImageOf (roots : Roots) (image : Image) (h : History Value) (floors : ℕ → ℕ) : Type 0 where
+  pub status : ReadsRoots image.status roots
+  pub heap : HeapStandsFor roots.extents (root_of roots) image.heap image.archive h floors
 
 -- Of two claims, which holds of what a stop may leave: where no group stands the first, else by the stage of its chain. Of a store that has failed it is the
 -- stage whose call was refused.
@@ -112,4 +122,4 @@ MayStand failed (Some w) Old New = MatchBool failed (MayBecome w.stage Old New) 
 abbrev pub StopsOnHeap : LogStoreValue → History Value → History Value → (ℕ → ℕ) → Type 0
 StopsOnHeap v h queue floors =
     (image : Image) → LeavesImage v.disk.areas image
-    → MayStand v.commits.failed v.turn (IsImageOf v image h floors) (IsImageOf v image (h ++ take v.commits.group queue) floors)
+    → MayStand v.commits.failed v.turn (IsImageOf v.roots image h floors) (IsImageOf v.roots image (h ++ take v.commits.group queue) floors)
