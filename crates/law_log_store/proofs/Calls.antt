@@ -181,7 +181,8 @@ submit-steps old new txn label now answer h queue floors step s may is = by-own 
     stands : StandsOnHeap (spent old txn.number) h queue floors
     stands = (spent-keeps old txn.number).stands h queue floors s
 
-    by-failed : (b : Bool) → MatchBool b ((answer ≡ Err refused.Failed) × (new ≡ spent old txn.number)) (AnswersSubmit (spent old txn.number) txn label now answer new)
+    by-failed : (b : Bool)
+        → MatchBool b ((answer ≡ Err refused.Failed) × (new ≡ spent old txn.number)) (AnswersSubmit (spent old txn.number) txn label now answer new)
         → StandsOnHeap new h (queue ++ queued_by txn label answer) floors
     by-failed true is = none-more new (spent old txn.number) h queue (queued_by txn label answer) floors is.1 (ap (queued_by txn label) is.0) stands
     by-failed false is = answer-stands (spent old txn.number) new txn label now answer h queue floors (spent-in-step old txn.number step) stands may is
@@ -199,7 +200,8 @@ failed-queues-none old new txn label now answer failed is = by-own (is_own old.c
         → (queued_by txn label answer ≡ []) × KeepsDisk old new
     by-own true is =
         let own : (answer ≡ Err refused.Failed) × (new ≡ spent old txn.number) =
-        subst (λ (b : Bool). MatchBool b ((answer ≡ Err refused.Failed) × (new ≡ spent old txn.number)) (AnswersSubmit (spent old txn.number) txn label now answer new)) failed is in
+        subst (λ (b : Bool). MatchBool b ((answer ≡ Err refused.Failed) × (new ≡ spent old txn.number))
+        (AnswersSubmit (spent old txn.number) txn label now answer new)) failed is in
         (ap (queued_by txn label) own.0, subst (λ (x : LogStoreValue). KeepsDisk old x) (sym own.1) (spent-keeps old txn.number))
     by-own false is = (
       ap (queued_by txn label) is.0,

@@ -1,6 +1,6 @@
 -- The way of a store's group to the disk, call by call.
 use Rattle.std.proofs.Common.{◌≡◌, ℕ, Bool, true, false, List, [], ◌∷◌, ◌++◌, map, take, drop, Option, None, Some, Result, Ok, Err, refl, ap, sym, subst}
-use Rattle.std.proofs.Common.{◌≤◌, ⊎_elim, inl, inr}
+use Rattle.std.proofs.Common.{⊎_elim, inl, inr}
 use Rattle.std.specs.Prelude.{IsTrue, MatchBool, MatchResult}
 use Rattle.history.specs.Histories.{History, MayAllFollow}
 use Rattle.history.proofs.Histories.{may_follow-behind, may_follow-front}
@@ -284,7 +284,8 @@ call-goes tells w old new answer h queue floors tell works standing s advances s
         by-case Opening e same = further same
         by-case Settling e same =
             published-stands old h queue floors s w o new same sound archive status
-            (subst (λ (k : Stage). IsAt (heap_parts s.l) (turn_of s.l.next (placed_group w.numbers w.link o.group)) k new.disk.areas.heap) (ap stage_after e) at)
+            (subst (λ (k : Stage). IsAt (heap_parts s.l) (turn_of s.l.next (placed_group w.numbers w.link o.group)) k new.disk.areas.heap)
+            (ap stage_after e) at)
         by-case Done e same = subst (λ (k : Stage). IsCallOf (turn w) k (Ok tt) old.disk.areas new.disk.areas) e call
 
     by-answer : (a : Result Did PumpFault) → IsCallOf (turn w) w.stage (disk_answer a) old.disk.areas new.disk.areas
@@ -293,7 +294,9 @@ call-goes tells w old new answer h queue floors tell works standing s advances s
         → MatchResult a (λ what. LeadsTo w.stage old.commits.group new h queue floors) (λ why. StopsOnHeap new h queue floors)
     by-answer (Ok what) call is = by-stage w.stage refl is.1 call
     by-answer (Err why) call is = λ image left.
-        subst (λ (x : LogStoreValue). MayStand x.commits.failed x.turn (IsImageOf x.roots image h floors) (IsImageOf x.roots image (h ++ take x.commits.group queue) floors))
+        subst (λ (x : LogStoreValue). MayStand x.commits.failed x.turn (IsImageOf x.roots image h floors)
+        (IsImageOf x.roots image (h ++ take x.commits.group queue) floors))
         (sym is.1)
-        (subst (λ (t : Option WriterState). MayStand true t (IsImageOf old.roots image h floors) (IsImageOf old.roots image (h ++ take old.commits.group queue) floors))
+        (subst (λ (t : Option WriterState). MayStand true t (IsImageOf old.roots image h floors)
+        (IsImageOf old.roots image (h ++ take old.commits.group queue) floors))
         (sym standing) (call-within w old h queue floors standing s (disk_answer (Err why)) new.disk.areas image call left))

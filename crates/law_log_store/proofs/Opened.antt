@@ -1,6 +1,6 @@
 -- A store that is opened stands for what it is opened on.
-use Rattle.std.proofs.Common.{◌≡◌, ℕ, ◌+◌, ◌*◌, ◌/◌, ◌<◌, ◌≤◌, ◌-◌, ◌↔◌, Bool, true, false, cond, nat_lt, List, [], ◌∷◌, ◌++◌, length, map, take, drop, replicate, ◌≢◌}
-use Rattle.std.proofs.Common.{Option, None, Some, refl, arith, ap, sym, subst, ◌∙◌, length-append}
+use Rattle.std.proofs.Common.{◌≡◌, ℕ, ◌+◌, ◌*◌, ◌/◌, ◌<◌, ◌≤◌, ◌-◌, Bool, true, false, List, [], ◌∷◌, ◌++◌, length, map, take, drop, replicate, ◌≢◌}
+use Rattle.std.proofs.Common.{Option, refl, arith, ap, sym, subst, ◌∙◌, length-append}
 use Rattle.std.specs.Prelude.{flat_map}
 use Rattle.std.specs.List.{AllByRecursion}
 use Rattle.std.proofs.lemmas.List.{length-replicate}
@@ -9,15 +9,15 @@ use Rattle.history.specs.declared.key.Key.{Key}
 use Rattle.history.specs.Histories.{History}
 use Rattle.history.specs.Queries.{values_after}
 use Rattle.history.proofs.Filters.{AllByRecursion-append}
-use Rattle.disk.specs.Areas.{AreaState, Areas, Image, AreSound, settled_on, settled_area}
+use Rattle.disk.specs.Areas.{Areas, Image, AreSound, settled_on, settled_area}
 use Rattle.disk.specs.Parts.{HoldsPart, KeepsPart}
 use Rattle.disk.proofs.Parts.{synced_part}
 use Rattle.law_image.specs.Values.{Value}
 use Rattle.law_image.specs.Reading.{Member, Reading, Slot, Archived}
 use Rattle.law_image.specs.Reading as slots
 use Rattle.law_image.specs.HeapPlans.{marks_of, first_runs}
-use Rattle.law_image.specs.Facts.{commit_read, values_at_mark, values_now}
-use Rattle.law_image.specs.Log.{archive_mark, told_time, last_time_after, is_in_heap}
+use Rattle.law_image.specs.Facts.{commit_read, values_at_mark}
+use Rattle.law_image.specs.Log.{last_time_after, is_in_heap}
 use Rattle.law_image.specs.StandsFor.{StandsFor, IsHeapLog, reclaimed_upto}
 use Rattle.law_image.proofs.Forms.{in-heap}
 use Rattle.law_image.proofs.Recent.{latest-is}
@@ -25,7 +25,7 @@ use Rattle.law_log.specs.Chains.{LogChain, OfBase, OfGroup, OfRun, OfFloor, IsNo
 use Rattle.law_log.specs.Chains as logs
 use Rattle.law_layout.specs.Runs.{StoredRun, HoldsRun, run_bytes}
 use Rattle.deltas.specs.Extents.{extent_start}
-use Rattle.log_extents.specs.Chains.{count_of, IsNumberOf, IsNew, AreDistinct}
+use Rattle.log_extents.specs.Chains.{count_of, IsNumberOf, IsNew}
 use Rattle.log_entries.specs.declared.entry.Entry.{Entry}
 use Rattle.log_entries.specs.declared.entry.Entry.TheVariants.{Group, Archived as ArchivedEntry, Floor}
 use Rattle.log_entries.specs.declared.entry.Entry.TheVariants as entries
@@ -35,7 +35,7 @@ use Rattle.log_space.proofs.Uses.{others_are_free, used_are_counted, used_in_tur
 use Rattle.log_writer.specs.Writer.{WriterState}
 use Rattle.log_recovery.specs.Opening.{ReadsRoots}
 use Rattle.log_roots.specs.Roots.{root_of}
-use Rattle.law_log_layout.specs.HeapLog.{PlacedChain, PlacedRoll, HeapLog, heap_parts, live_numbers, name_bytes, HoldsRoll, IsPlaced, chain_told, chains_told}
+use Rattle.law_log_layout.specs.HeapLog.{PlacedChain, PlacedRoll, HeapLog, heap_parts, name_bytes, HoldsRoll, IsPlaced, chain_told, chains_told}
 use Rattle.law_log_layout.specs.HeapLog.{counted_of, IsBaseSmall, IsLogOf, HoldsLog}
 use Rattle.law_log_layout.specs.Laws.{KeepsArchive, KeepsLog}
 use Rattle.law_log_layout.specs.Turns.{IsClosed, KeepsClosed}
@@ -44,13 +44,12 @@ use Rattle.law_log_layout.proofs.Places.{AreNew, ArePart, new-front, new-back, d
 use Rattle.law_log_sizes.specs.Sizes.{anchors_len, len_after, len_from, lens_behind, sizes, size_now}
 use Rattle.law_log_sizes.proofs.Orders.{standing-ordered}
 use Rattle.law_log_sizes.proofs.Told.{bounds-same}
-use Rattle.log_sizes.specs.Counted.{values_in}
-use Rattle.log_room.specs.Rooms.{RoomValue, MayOpen}
+use Rattle.log_room.specs.Rooms.{RoomValue}
 use Rattle.commits.specs.Values.{WaitingValue, versions_after}
 use Rattle.log_store.specs.Values.{LogStoreValue}
 use Rattle.law_log_store.specs.Members.{AreTold, AreContents}
-use Rattle.law_log_store.specs.Standing.{StandsOnHeap, IsAtRest, HasTurn, HasCommits, HasAnchors, IsRoomOf, KeepsRoots, counted}
-use Rattle.law_log_store.specs.Opened.{live_uses, opened_room, LeavesRoom, IsOpenedOn}
+use Rattle.law_log_store.specs.Standing.{StandsOnHeap, HasTurn, IsRoomOf, KeepsRoots}
+use Rattle.law_log_store.specs.Opened.{live_uses, LeavesRoom, IsOpenedOn}
 use Rattle.law_log_store.proofs.Flags.{all-used-length, distinct-join}
 
 -- ---- a log has one base at the most, its first chain
@@ -273,16 +272,16 @@ module _ (most root : ℕ) (l : HeapLog) (reading : Reading) (h : History Value)
           AllByRecursion-append (IsNumberOf most) (chain_numbers ++ anchor_numbers) (l.next ∷ []) in_range (is.next, tt) in
           let both = others_are_free most ((chain_numbers ++ anchor_numbers) ++ l.next ∷ []) m all in (
             λ f.
-            let known = both.0 (subst (λ (used : List Bool). IsFree used m) room-uses f) in
-            let last = new-back m (chain_numbers ++ anchor_numbers) (l.next ∷ []) known.1 in
-            (known.0, (last.0, swapped m chain_numbers anchor_numbers (new-front m (chain_numbers ++ anchor_numbers) (l.next ∷ []) known.1))),
+                let known = both.0 (subst (λ (used : List Bool). IsFree used m) room-uses f) in
+                let last = new-back m (chain_numbers ++ anchor_numbers) (l.next ∷ []) known.1 in
+                (known.0, (last.0, swapped m chain_numbers anchor_numbers (new-front m (chain_numbers ++ anchor_numbers) (l.next ∷ []) known.1))),
             λ known.
-            subst (λ (used : List Bool). IsFree used m) (sym room-uses)
-            (both.1 (
-              known.0,
-              AllByRecursion-append (λ (n : ℕ). n ≢ m) (chain_numbers ++ anchor_numbers) (l.next ∷ [])
-                  (swapped m anchor_numbers chain_numbers (known.1).1) ((known.1).0, tt),
-            )),
+                subst (λ (used : List Bool). IsFree used m) (sym room-uses)
+                (both.1 (
+                  known.0,
+                  AllByRecursion-append (λ (n : ℕ). n ≢ m) (chain_numbers ++ anchor_numbers) (l.next ∷ [])
+                      (swapped m anchor_numbers chain_numbers (known.1).1) ((known.1).0, tt),
+                )),
           );
       log = refl;
       spare = λ some. absurd (omega (arith, some));

@@ -1,5 +1,5 @@
 -- The steps of a store's groups.
-use Rattle.std.proofs.Common.{◌≡◌, ℕ, ◌==◌, ◌<◌, ◌&&◌, Bool, true, false, cond, nat_lt, List, [], ◌∷◌, ◌++◌, length, take, drop, Option, None, Some}
+use Rattle.std.proofs.Common.{◌≡◌, ℕ, ◌==◌, ◌<◌, ◌&&◌, Bool, true, false, cond, nat_lt, [], ◌∷◌, ◌++◌, length, take, drop, Option, None, Some}
 use Rattle.std.proofs.Common.{Result, Ok, Err, refl, arith, ap, sym, subst, ◌∙◌, append-nil, ◌⊎◌, inl, inr}
 use Rattle.std.specs.Prelude.{IsTrue, MatchBool, MatchResult, min}
 use Rattle.std.proofs.lemmas.Bool.Decides.{nat_tests}
@@ -21,7 +21,7 @@ use Rattle.log_store.specs.declared.answers.Did.{Did}
 use Rattle.log_store.specs.declared.answers.Did.TheVariants as did
 use Rattle.law_log_store.specs.Standing.{StandsOnHeap, IsImageOf, MayStand, StopsOnHeap}
 use Rattle.law_log_store.specs.Laws.{LeadsTo, GoesOn}
-use Rattle.law_log_store.specs.Calls.{count_in, StepsTo, HasFailed, IsFront}
+use Rattle.law_log_store.specs.Calls.{count_in, StepsTo, IsFront}
 use Rattle.law_log_store.proofs.Beginning.{has-begun}
 use Rattle.law_log_store.proofs.Going.{standing-stops, call-within, call-goes}
 
@@ -122,12 +122,14 @@ module _ (v : LogStoreValue) (h queue : History Value) (floors : ℕ → ℕ) (w
   front-before : LeavesImage v.disk.areas image → Fronts v.commits.group
   front-before left = by-turn v.turn (standing-stops v h queue floors works s image left)
     where
-      by-turn : (t : Option WriterState) → MayStand v.commits.failed t (IsImageOf v.roots image h floors) (IsImageOf v.roots image (h ++ take v.commits.group queue) floors)
+      by-turn : (t : Option WriterState)
+          → MayStand v.commits.failed t (IsImageOf v.roots image h floors) (IsImageOf v.roots image (h ++ take v.commits.group queue) floors)
           → Fronts v.commits.group
       by-turn None is = inl is
       by-turn (Some w) is =
           either-old w.stage (IsImageOf v.roots image h floors) (IsImageOf v.roots image (h ++ take v.commits.group queue) floors)
-          (subst (λ (b : Bool). MatchBool b (MayBecome w.stage (IsImageOf v.roots image h floors) (IsImageOf v.roots image (h ++ take v.commits.group queue) floors))
+          (subst (λ (b : Bool). MatchBool b (MayBecome w.stage (IsImageOf v.roots image h floors)
+          (IsImageOf v.roots image (h ++ take v.commits.group queue) floors))
           (MayBe w.stage (IsImageOf v.roots image h floors) (IsImageOf v.roots image (h ++ take v.commits.group queue) floors))) works is)
 
   front-after : (tells : Bool) (w : WriterState) (new : LogStoreValue) (answer : Result Did PumpFault) → IsTrue tells → v.turn ≡ Some w
@@ -169,7 +171,8 @@ pump-leaves tells old new answer h queue floors image tell works step s pumps le
         let advances : Advances tells has.writer begun.0 answer new =
         subst (λ (t : Option WriterState). AdvancesGroup tells begun.0 t answer new) has.turn begun.2 in
         let front = front-after begun.0 h queue floors (has.works ∙ works) has.stands image tells has.writer new answer tell has.turn advances l in
-        subst (λ (v : LogStoreValue). IsImageOf v.roots image h floors ⊎ IsImageOf v.roots image (h ++ take v.commits.group queue) floors) (begun.1).new_is front
+        subst (λ (v : LogStoreValue). IsImageOf v.roots image h floors ⊎ IsImageOf v.roots image (h ++ take v.commits.group queue) floors)
+        (begun.1).new_is front
 
     by-queue : (b : Bool) → (length old.commits.queue == 0) ≡ b → old.turn ≡ None
         → MatchBool b ((answer ≡ Ok did.Idle) × (new ≡ old)) (BeginsGroup tells old answer new) → LeavesImage new.disk.areas image
