@@ -1,6 +1,6 @@
 -- The calls in memory, and submits, as the disk has them.
 use Rattle.std.proofs.Common.{◌≡◌, ℕ, ◌==◌, Bool, true, false, cond, List, [], ◌∷◌, ◌++◌, Option, None, Some, Result, Ok, Err, refl, ap, sym, subst, ◌∙◌}
-use Rattle.std.proofs.Common.{append-nil}
+use Rattle.std.proofs.Common.{append-nil, ◌≤◌, length}
 use Rattle.std.specs.Prelude.{IsTrue, MatchBool}
 use Rattle.history.specs.declared.key.Key.{Key}
 use Rattle.history.specs.declared.key.KeyWrite.{KeyWrite}
@@ -32,7 +32,7 @@ use Rattle.log_store.specs.Calls.{InMemory, with_commits}
 use Rattle.log_store.specs.Submits.{Submits, SubmitsOwn, AnswersSubmit, verdict, verdict_on_conflict, has_room, spent}
 use Rattle.law_log_store.specs.Standing.{StandsOnHeap, HasTurn}
 use Rattle.law_log_store.specs.Calls.{KeepsDisk, queued_by}
-use Rattle.law_log_store.proofs.Submitting.{queued-stands}
+use Rattle.law_log_store.proofs.Submitting.{group-within, queued-stands}
 
 -- ---- which transactions are open, and which commits are awaited
 
@@ -153,9 +153,6 @@ spent-keeps : (old : LogStoreValue) (number : ℕ) → KeepsDisk old (spent old 
 spent-keeps old number =
     alone-keeps old (over old.commits number) (record { opened = (over old.commits number).opened; heads = old.commits.heads; new_is = refl })
 
-spent-in-step : (old : LogStoreValue) (number : ℕ) → IsInStep old → IsInStep (spent old number)
-spent-in-step old number is = record { contents = is.contents; bytes = is.bytes; promised = is.promised; turn = is.turn }
-
 -- nothing is queued
 none-more : (new v : LogStoreValue) (h queue more : History Value) (floors : ℕ → ℕ) → new ≡ v → more ≡ [] → StandsOnHeap v h queue floors
     → StandsOnHeap new h (queue ++ more) floors
@@ -164,13 +161,13 @@ none-more new v h queue more floors is none s =
     (subst (λ (x : LogStoreValue). StandsOnHeap x h queue floors) (sym is) s)
 
 answer-stands : (v new : LogStoreValue) (txn : TxnValue) (label now : ℕ) (answer : Result Submitted SubmitFault) (h queue : History Value) (floors : ℕ → ℕ)
-    → IsInStep v → StandsOnHeap v h queue floors → MayAllFollow IsValue (h ++ queue) (queued_by txn label answer)
+    → v.commits.group ≤ length v.commits.queue → StandsOnHeap v h queue floors → MayAllFollow IsValue (h ++ queue) (queued_by txn label answer)
     → AnswersSubmit v txn label now answer new → StandsOnHeap new h (queue ++ queued_by txn label answer) floors
-answer-stands v new txn label now (Ok (submitted.ReadOnly snapshot)) h queue floors step s may is = none-more new v h queue [] floors is.2 refl s
-answer-stands v new txn label now (Ok (submitted.Queued ticket)) h queue floors step s may is =
+answer-stands v new txn label now (Ok (submitted.ReadOnly snapshot)) h queue floors within s may is = none-more new v h queue [] floors is.2 refl s
+answer-stands v new txn label now (Ok (submitted.Queued ticket)) h queue floors within s may is =
     subst (λ (x : LogStoreValue). StandsOnHeap x h (queue ++ queued_by txn label (Ok (submitted.Queued ticket))) floors) (sym is.2)
-    (queued-stands v label ticket.time txn.writes h queue floors step may.0 (has-room v txn.snapshot txn.writes now ticket.time is.0) s)
-answer-stands v new txn label now (Err why) h queue floors step s may is = none-more new v h queue [] floors is.1 refl s
+    (queued-stands v label ticket.time txn.writes h queue floors within may.0 (has-room v txn.snapshot txn.writes now ticket.time is.0) s)
+answer-stands v new txn label now (Err why) h queue floors within s may is = none-more new v h queue [] floors is.1 refl s
 
 pub submit-steps : (old new : LogStoreValue) (txn : TxnValue) (label now : ℕ) (answer : Result Submitted SubmitFault) (h queue : History Value)
     (floors : ℕ → ℕ)
@@ -185,7 +182,7 @@ submit-steps old new txn label now answer h queue floors step s may is = by-own 
         → MatchBool b ((answer ≡ Err refused.Failed) × (new ≡ spent old txn.number)) (AnswersSubmit (spent old txn.number) txn label now answer new)
         → StandsOnHeap new h (queue ++ queued_by txn label answer) floors
     by-failed true is = none-more new (spent old txn.number) h queue (queued_by txn label answer) floors is.1 (ap (queued_by txn label) is.0) stands
-    by-failed false is = answer-stands (spent old txn.number) new txn label now answer h queue floors (spent-in-step old txn.number step) stands may is
+    by-failed false is = answer-stands (spent old txn.number) new txn label now answer h queue floors (group-within old step) stands may is
 
     by-own : (b : Bool) → MatchBool b (SubmitsOwn (spent old txn.number) txn label now answer new) ((answer ≡ Err refused.Stranger) × (new ≡ old))
         → StandsOnHeap new h (queue ++ queued_by txn label answer) floors

@@ -68,9 +68,14 @@ both-true false b both = absurd (let no : false ≡ true = both in cc)
 is-upto : (a b : ℕ) → IsTrue (nat_le a b) → a ≤ b
 is-upto a b within = let test : nat_le a b ≡ true = within in grind (arith, nat_tests)
 
+-- the group is of commits that wait
+pub group-within : (v : LogStoreValue) → IsInStep v → v.commits.group ≤ length v.commits.queue
+group-within v step = let all = step.contents in omega (arith, all)
+
 -- ---- the store with one commit more
 
-module _ (v : LogStoreValue) (label time : ℕ) (writes : List (KeyWrite Value)) (h queue : History Value) (floors : ℕ → ℕ) (step : IsInStep v)
+module _ (v : LogStoreValue) (label time : ℕ) (writes : List (KeyWrite Value)) (h queue : History Value) (floors : ℕ → ℕ)
+    (within : v.commits.group ≤ length v.commits.queue)
     (may : MayFollow IsValue (h ++ queue) (record { time = time; label = label; writes = writes })) (fit : IsTrue (has_room v writes))
     (s : StandsOnHeap v h queue floors) where
   abbrev commit : Commit Value
@@ -84,9 +89,6 @@ module _ (v : LogStoreValue) (label time : ℕ) (writes : List (KeyWrite Value))
 
   abbrev bytes : List ℕ
   bytes = content_over (ordered v.commits) label time writes
-
-  within : v.commits.group ≤ length v.commits.queue
-  within = let all = step.contents in omega (arith, all)
 
   within-queue : v.commits.group ≤ length queue
   within-queue = let all = told-many v.commits.versions v.commits.queue queue s.commits.told in omega (arith, all, within)
