@@ -297,6 +297,9 @@ module _ (old : LogStoreValue) (h queue : History Value) (floors : ℕ → ℕ) 
     pub begun-turn : begun.turn ≡ Some writer
     begun-turn = ap (λ (v : LogStoreValue). v.turn) begun-is
 
+    pub begun-commits : begun.commits ≡ record old.commits { group = size }
+    begun-commits = ap (λ (v : LogStoreValue). v.commits) begun-is
+
     pub begun-works : begun.commits.failed ≡ old.commits.failed
     begun-works = ap (λ (v : LogStoreValue). v.commits.failed) begun-is
 
@@ -326,6 +329,7 @@ pub record HasBegun (old begun : LogStoreValue) (h queue : History Value) (floor
   pub writer : WriterState
   pub turn : begun.turn ≡ Some writer
   pub works : begun.commits.failed ≡ old.commits.failed
+  pub commits : begun.commits ≡ record old.commits { group = group_size old }
 
 pub has-begun : (old begun : LogStoreValue) (h queue : History Value) (floors : ℕ → ℕ) → IsInStep old → old.turn ≡ None → 0 < length old.commits.queue
     → StandsOnHeap old h queue floors → Begins old begun → HasBegun old begun h queue floors
@@ -337,6 +341,7 @@ has-begun old begun h queue floors step at_rest some s b =
       writer = writer old h queue floors s rest none step some begun b;
       turn = begun-turn old h queue floors s rest none step some begun b;
       works = begun-works old h queue floors s rest none step some begun b;
+      commits = begun-commits old h queue floors s rest none step some begun b;
     }
 
 pub group-begins : (old begun : LogStoreValue) (h queue : History Value) (floors : ℕ → ℕ) → IsInStep old → old.turn ≡ None → 0 < length old.commits.queue

@@ -91,19 +91,19 @@ alone-keeps old commits alone =
 same-alone : (old new : CommitsValue) → new ≡ old → AreNamesAlone old new
 same-alone old new is = record { opened = old.opened; heads = old.heads; new_is = is }
 
-begin-alone : (old new : CommitsValue) (answer : Result TxnValue BeginFault) → commits.Begins old answer new → AreNamesAlone old new
+pub begin-alone : (old new : CommitsValue) (answer : Result TxnValue BeginFault) → commits.Begins old answer new → AreNamesAlone old new
 begin-alone old new (Ok txn) is = record { opened = with_opened old.opened txn.number txn.snapshot; heads = old.heads; new_is = is.new_is }
 begin-alone old new (Err begin.NoMemory) is = same-alone old new is.1
 begin-alone old new (Err begin.Failed) is = same-alone old new is.1
 
-abort-alone : (old new : CommitsValue) (txn : TxnValue) → commits.Aborts old txn new → AreNamesAlone old new
+pub abort-alone : (old new : CommitsValue) (txn : TxnValue) → commits.Aborts old txn new → AreNamesAlone old new
 abort-alone old new txn is = by-test (is_own old txn) is
   where
     by-test : (b : Bool) → new ≡ cond b (over old txn.number) old → AreNamesAlone old new
     by-test true is = record { opened = (over old txn.number).opened; heads = old.heads; new_is = is }
     by-test false is = same-alone old new is
 
-redeem-alone : (old new : CommitsValue) (ticket : TicketValue) (answer : Redeemed) → commits.Redeems old ticket answer new → AreNamesAlone old new
+pub redeem-alone : (old new : CommitsValue) (ticket : TicketValue) (answer : Redeemed) → commits.Redeems old ticket answer new → AreNamesAlone old new
 redeem-alone old new ticket answer is = by-test (ticket.mark == old.mark) is
   where
     by-state : (state : TicketState) → commits.AnswersTicket old ticket state answer new → AreNamesAlone old new

@@ -1,0 +1,29 @@
+//! Laws of the calls of a store whose log lies in the heap.
+ghost use Rattle.law_log_steps.specs.Laws.{AbortStands, BeginStands, PumpStands, RedeemStands, SubmitStands};
+
+/// A begin takes the last published time as its snapshot.
+pub fn begin_stands()
+    ensures { BeginStands }
+{}
+
+/// A transaction that is aborted gives its snapshot up.
+pub fn abort_stands()
+    ensures { AbortStands }
+{}
+
+/// A ticket is answered as the machine says, or is a stranger's.
+pub fn redeem_stands()
+    ensures { RedeemStands }
+{}
+
+/// A submit answers a conflict exactly where a later commit in the commit order wrote a key of its write set, and
+/// else queues the writes at a time later than all before, where they have room.
+pub fn submit_stands()
+    ensures { SubmitStands }
+{}
+
+/// A step of a group publishes as many of the first commits of the queue as it says, and changes nothing else of
+/// the machine's; or the machine fails.
+pub fn pump_stands()
+    ensures { PumpStands }
+{}
