@@ -29,13 +29,10 @@ use Rattle.law_log_store.specs.Calls.{count_in, StepsTo}
 use Rattle.law_log_store.proofs.Beginning.{has-begun}
 use Rattle.law_log_store.proofs.Pumping.{pump-steps, failed-rests}
 use Rattle.law_log_store.proofs.Submitting.{group-within}
-use Rattle.law_log_steps.specs.Store.{AreFresh, IsStoreOf}
+use Rattle.law_log_steps.specs.Store.{HaveMark, AreFresh, IsStoreOf}
 use Rattle.law_log_steps.specs.Laws.{PumpsTo}
 
 -- ---- marks
-
-abbrev HaveMark : ℕ → List WaitingValue → Type 0
-HaveMark mark ws = AllByRecursion (λ (w : WaitingValue). w.reclaimed ≡ mark) ws
 
 pub marks-after : (mark own : ℕ) (ws : List WaitingValue) → own ≡ mark → HaveMark mark ws → mark_after own ws ≡ mark
 marks-after mark own [] same all = same

@@ -1,11 +1,14 @@
 -- The calls of a store whose log lies in the heap are steps of the machine.
 use Rattle.std.specs.Prelude.{ℕ, ◌≡◌, ◌<◌, ◌^◌, Bool, true, false, IsTrue, Result, Ok, Err, MatchBool}
-use Rattle.history.specs.Machine.{Machine}
+use Rattle.history.specs.Histories.{History}
+use Rattle.history.specs.Machine.{Machine, opened}
 use Rattle.history.specs.Answers as answers
 use Rattle.history.specs.Steps.{Event, Step, Began, BeginRefused, Aborted, begun}
 use Rattle.history.specs.Steps as steps
-use Rattle.disk.specs.Areas.{AreSound}
+use Rattle.disk.specs.Areas.{Image, AreSound, LeavesImage, settled_on}
 use Rattle.law_image.specs.Values.{Value, IsValue}
+use Rattle.law_image.specs.Reading.{Reading}
+use Rattle.law_image.specs.StandsFor.{StandsFor}
 use Rattle.snapshot.specs.Txn.{TxnValue, AreTxnWrites}
 use Rattle.group.specs.Tickets.{TicketValue}
 use Rattle.group.specs.declared.answers.BeginFault.{BeginFault}
@@ -21,10 +24,30 @@ use Rattle.log_store.specs.Calls as calls
 use Rattle.log_store.specs.Submits.{Submits}
 use Rattle.log_store.specs.Pumps.{Pumps}
 use Rattle.log_store.specs.declared.answers.Did.{Did}
+use Rattle.log_recovery.specs.Opening.{ReadsRoots}
+use Rattle.log_roots.specs.Roots.{root_of}
+use Rattle.law_log_layout.specs.HeapLog.{HeapLog, IsLogOf, HoldsLog}
 use Rattle.law_refinement.specs.Laws.{submission_of, event_of, RedeemsAs}
+use Rattle.law_commits.specs.Standing.{StandsInMemory}
 use Rattle.law_commits.specs.Laws.{with_published}
-use Rattle.law_log_store.specs.Calls.{count_in}
+use Rattle.law_log_store.specs.Calls.{IsFront, count_in}
+use Rattle.law_log_store.specs.Opened.{IsOpenedOn}
 use Rattle.law_log_steps.specs.Store.{IsStoreOf}
+
+-- ---- opening, and stops
+
+-- A store that is opened on an image all of which is synced, and whose memory stands for a machine opened on its history, stands for that.
+abbrev pub OpenedStands : Type 0
+OpenedStands =
+    (v : LogStoreValue) (image : Image) (l : HeapLog) (reading : Reading) (h : History Value) (floors : ℕ → ℕ)
+    → v.disk.areas ≡ settled_on image → AreSound v.disk.areas → ReadsRoots image.status v.roots → IsLogOf v.roots.extents (root_of v.roots) l reading
+    → HoldsLog l image.heap image.archive → StandsFor reading h floors → IsOpenedOn v l reading → v.commits.failed ≡ false
+    → StandsInMemory v.commits (opened h floors) → IsStoreOf v (opened h floors)
+
+-- at every moment, of a store that works or has failed, whatever a stop may leave is a front
+abbrev pub RestsOnFront : Type 0
+RestsOnFront = (v : LogStoreValue) (m : Machine Value) (image : Image) → IsInStep v → IsStoreOf v m → LeavesImage v.disk.areas image
+    → IsFront v image m.published m.queue m.floors
 
 -- ---- transactions and tickets
 

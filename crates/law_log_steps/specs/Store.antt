@@ -14,9 +14,13 @@ use Rattle.law_log_store.specs.Standing.{StandsOnHeap, StopsOnHeap}
 abbrev pub OnDisk : LogStoreValue → History Value → History Value → (ℕ → ℕ) → Type 0
 OnDisk v h queue floors = MatchBool v.commits.failed (StopsOnHeap v h queue floors) (StandsOnHeap v h queue floors)
 
+-- the versions after these have forgotten what ended by this mark
+abbrev pub HaveMark : ℕ → List WaitingValue → Type 0
+HaveMark mark ws = AllByRecursion (λ (w : WaitingValue). w.reclaimed ≡ mark) ws
+
 -- no reclaim was made since they began to wait
 abbrev pub AreFresh : CommitsValue → Type 0
-AreFresh v = AllByRecursion (λ (w : WaitingValue). w.reclaimed ≡ v.reclaimed) v.queue
+AreFresh v = HaveMark v.reclaimed v.queue
 
 -- Memory and disk stand for one state of the machine. How many commits the store's group has, the machine does not say: it allows fewer.
 pub record IsStoreOf (v : LogStoreValue) (m : Machine Value) : Type 0 where

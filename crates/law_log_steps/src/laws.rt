@@ -1,5 +1,16 @@
 //! Laws of the calls of a store whose log lies in the heap.
-ghost use Rattle.law_log_steps.specs.Laws.{AbortStands, BeginStands, PumpStands, RedeemStands, SubmitStands};
+ghost use Rattle.law_log_steps.specs.Laws.{AbortStands, BeginStands, OpenedStands, PumpStands, RedeemStands, RestsOnFront, SubmitStands};
+
+/// A store that is opened on an image that stands for a history stands for a machine that is opened on it.
+pub fn opened_stands()
+    ensures { OpenedStands }
+{}
+
+/// Whatever a crash leaves between two calls, also after a refused one, stands for what is published, or for that
+/// with the whole group that is being written.
+pub fn rests_on_front()
+    ensures { RestsOnFront }
+{}
 
 /// A begin takes the last published time as its snapshot.
 pub fn begin_stands()

@@ -99,14 +99,14 @@ failed-rests tells old new answer failed pumps =
 -- ---- stops
 
 -- what holds of one of two claims by the stage holds of either
-either-old : (stage : Stage) (A B : Type 0) → MayBe stage A B → A ⊎ B
+pub either-old : (stage : Stage) (A B : Type 0) → MayBe stage A B → A ⊎ B
 either-old (Writing done rest) A B is = inl is
 either-old Syncing A B is = inl is
 either-old Opening A B is = inl is
 either-old Settling A B is = is
 either-old Done A B is = inr is
 
-either-new : (stage : Stage) (A B : Type 0) → MayBecome stage A B → A ⊎ B
+pub either-new : (stage : Stage) (A B : Type 0) → MayBecome stage A B → A ⊎ B
 either-new (Writing done rest) A B is = inl is
 either-new Syncing A B is = inl is
 either-new Opening A B is = is
@@ -139,7 +139,7 @@ module _ (v : LogStoreValue) (h queue : History Value) (floors : ℕ → ℕ) (w
       (call-within w v h queue floors standing s (disk_answer answer) new.disk.areas image (advances.call tell) left)
 
 -- where a group stands none begins
-grouped-stays : (v : CommitsValue) → 0 < v.group → grouped 1024 v ≡ v
+pub grouped-stays : (v : CommitsValue) → 0 < v.group → grouped 1024 v ≡ v
 grouped-stays v some =
     let it : CommitsValue = record v { group = min 1024 (length v.queue) } in
     let no : (v.group == 0) ≡ false = grind (arith, nat_tests) in
