@@ -1,10 +1,10 @@
 -- Calls that change only which transactions are open and which commits are awaited.
-use Rattle.std.proofs.Common.{◌≡◌, ℕ, Bool, true, false, List, Option, Result, Ok, Err, refl, ap, sym, subst, ◌∙◌}
+use Rattle.std.proofs.Common.{◌≡◌, ℕ, Bool, true, false, List, Result, Ok, Err, refl, ap, sym, subst, ◌∙◌}
 use Rattle.std.specs.Prelude.{MatchBool}
 use Rattle.history.specs.Histories.{History}
 use Rattle.history.specs.Machine.{Machine, IsMachine}
 use Rattle.history.specs.Answers as answers
-use Rattle.history.specs.Steps.{Began, Aborted, Step, begun}
+use Rattle.history.specs.Steps.{Began, Aborted, begun}
 use Rattle.history.proofs.Machines.{step-machine}
 use Rattle.law_image.specs.Values.{Value, IsValue}
 use Rattle.snapshot.specs.Txn.{TxnValue}
@@ -84,16 +84,15 @@ begin-stands old new answer m is begins = by-answer answer (begin-step old.commi
         store-keeps old new m n is (begin-keeps old new answer begins) (begin-alone old.commits new.commits answer begins.is) stands machine alike
 
     by-answer : (a : Result TxnValue BeginFault) → memory.BeginsTo m a new.commits → BeginsTo m a new
-    by-answer (Ok txn) to =
-        (
-          to.0,
-          keeps (begun m) to.1 (step-machine IsValue m (begun m) (Began txn.snapshot) is.machine to.0) (record {
-            published = refl;
-            queue = refl;
-            floors = refl;
-            group = refl;
-          }),
-        )
+    by-answer (Ok txn) to = (
+      to.0,
+      keeps (begun m) to.1 (step-machine IsValue m (begun m) (Began txn.snapshot) is.machine to.0) (record {
+        published = refl;
+        queue = refl;
+        floors = refl;
+        group = refl;
+      }),
+    )
     by-answer (Err fault.NoMemory) to = (to.0, keeps m to.1 is.machine (itself m))
     by-answer (Err fault.Failed) to = (to.0, keeps m to.1 is.machine (itself m))
 
@@ -107,12 +106,11 @@ abort-stands old new txn m is aborts = by-own (is_own old.commits txn) (abort-st
 
     by-own : (b : Bool) → MatchBool b (memory.Goes new.commits m (Aborted txn.snapshot)) (StandsInMemory new.commits m)
         → MatchBool b (Goes new m (Aborted txn.snapshot)) (IsStoreOf new m)
-    by-own true to =
-        (
-          to.0,
-          to.1,
-          keeps to.0 to.2 (step-machine IsValue m to.0 (Aborted txn.snapshot) is.machine to.1) (other-snapshots m to.0 (to.1).0 (to.1).2),
-        )
+    by-own true to = (
+      to.0,
+      to.1,
+      keeps to.0 to.2 (step-machine IsValue m to.0 (Aborted txn.snapshot) is.machine to.1) (other-snapshots m to.0 (to.1).0 (to.1).2),
+    )
     by-own false to = keeps m to is.machine (itself m)
 
 pub redeem-stands : (old new : LogStoreValue) (ticket : TicketValue) (answer : Redeemed) (m : Machine Value) → IsStoreOf old m

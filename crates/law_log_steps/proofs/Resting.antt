@@ -1,5 +1,5 @@
 -- What a stop may leave between two calls, and what an opened store stands for.
-use Rattle.std.proofs.Common.{◌≡◌, ◌⊎◌, ℕ, ◌<◌, Bool, true, false, List, [], ◌++◌, take, Option, None, Some, refl, ap, sym, subst, inl, inr}
+use Rattle.std.proofs.Common.{◌≡◌, ◌⊎◌, ℕ, Bool, true, false, List, [], ◌++◌, take, Option, None, Some, refl, ap, sym, subst, inl}
 use Rattle.std.specs.Prelude.{MatchBool}
 use Rattle.history.specs.Histories.{History}
 use Rattle.history.specs.Machine.{Machine, opened}
@@ -25,7 +25,7 @@ use Rattle.law_log_store.specs.Opened.{IsOpenedOn}
 use Rattle.law_log_store.proofs.Going.{standing-stops}
 use Rattle.law_log_store.proofs.Pumping.{either-old, either-new, grouped-stays}
 use Rattle.law_log_store.proofs.Opened as rooms
-use Rattle.law_log_steps.specs.Store.{OnDisk, HaveMark, AreFresh, IsStoreOf}
+use Rattle.law_log_steps.specs.Store.{HaveMark, IsStoreOf}
 
 module _ (v : LogStoreValue) (m : Machine Value) (image : Image) (step : IsInStep v) (is : IsStoreOf v m) where
   abbrev Old : Type 0

@@ -1,34 +1,31 @@
 -- A submit is a step of the machine.
-use Rattle.std.proofs.Common.{◌≡◌, ◌≢◌, ℕ, ◌+◌, ◌<◌, ◌≤◌, ◌^◌, ◌≡◌, nat_lt, Bool, true, false, cond, max, List, [], ◌∷◌, ◌++◌, length, Option, None, Some}
+use Rattle.std.proofs.Common.{◌≡◌, ◌≢◌, ℕ, ◌<◌, ◌≤◌, ◌^◌, ◌≡◌, nat_lt, Bool, true, false, cond, List, [], ◌∷◌, ◌++◌, length, Option, None, Some}
 use Rattle.std.proofs.Common.{Result, Ok, Err, refl, arith, ap, sym, subst, ◌∙◌, append-nil, append_assoc}
 use Rattle.std.specs.Prelude.{MatchBool}
-use Rattle.std.specs.List.{AllByRecursion}
 use Rattle.std.proofs.lemmas.Bool.Decides.{nat_tests}
 use Rattle.history.specs.declared.key.Key.{Key}
 use Rattle.history.specs.declared.key.KeyWrite.{KeyWrite}
-use Rattle.history.specs.Histories.{Commit, History, MayAllFollow}
+use Rattle.history.specs.Histories.{History, MayAllFollow}
 use Rattle.history.specs.Machine.{Machine, IsMachine, commit_order}
 use Rattle.history.specs.Submissions as submissions
 use Rattle.history.specs.Submissions.{Submission, commit_made}
-use Rattle.history.specs.Steps.{Event, Step}
-use Rattle.history.specs.Steps as steps
+use Rattle.history.specs.Steps.{Step}
 use Rattle.history.proofs.Filters.{AllByRecursion-append}
 use Rattle.history.proofs.Histories.{may_follow-behind}
 use Rattle.history.proofs.Machines.{step-machine}
 use Rattle.law_image.specs.Values.{Value, IsValue}
 use Rattle.clock.specs.Commit.{next_time}
-use Rattle.snapshot.specs.OpenTable.{with_closed}
 use Rattle.snapshot.specs.Txn.{TxnValue, AreTxnWrites}
 use Rattle.group.specs.Submits.{Verdict, Reads, Conflicts, HeapIsFull, StatusIsFull, ClockEnds, Queues, verdict_on_clock, IsRefusalOf, first_conflict}
 use Rattle.group.specs.declared.answers.Submitted.{Submitted}
 use Rattle.group.specs.declared.answers.Submitted.TheVariants as submitted
 use Rattle.group.specs.declared.answers.SubmitFault.{SubmitFault}
 use Rattle.group.specs.declared.answers.SubmitFault.TheVariants as refused
-use Rattle.commits.specs.Values.{CommitsValue, WaitingValue, is_own, over, ordered, ordered_mark, last_assigned}
+use Rattle.commits.specs.Values.{CommitsValue, WaitingValue, is_own, over, ordered, ordered_mark}
 use Rattle.chains.specs.KeyWrites.{with_commit}
 use Rattle.commits.specs.Steps.{time_now, with_waiting}
 use Rattle.log_store.specs.Values.{LogStoreValue, IsInStep}
-use Rattle.log_store.specs.Submits.{Submits, SubmitsOwn, AnswersSubmit, verdict, verdict_on_conflict, has_room, with_queued, spent}
+use Rattle.log_store.specs.Submits.{Submits, SubmitsOwn, AnswersSubmit, verdict, verdict_on_conflict, has_room, spent}
 use Rattle.law_refinement.specs.Laws.{submission_of, event_of}
 use Rattle.law_commits.specs.Standing.{StandsInMemory}
 use Rattle.law_commits.specs.Laws as memory
@@ -39,7 +36,6 @@ use Rattle.law_log_store.specs.Calls.{queued_by}
 use Rattle.law_log_store.proofs.Calls.{submit-steps, failed-queues-none}
 use Rattle.law_log_steps.specs.Store.{OnDisk, AreFresh, IsStoreOf}
 use Rattle.law_log_steps.specs.Laws.{Goes}
-use Rattle.law_log_steps.proofs.Keeping.{on-disk}
 use Rattle.law_log_steps.proofs.Pumping.{marks-after}
 
 -- ---- what a verdict says
@@ -214,7 +210,8 @@ module _ (old new : LogStoreValue) (txn : TxnValue) (label now : ℕ) (answer : 
       subst (λ (b : Bool). MatchBool b (StopsOnHeap new m.published (m.queue ++ queued) m.floors) (StandsOnHeap new m.published (m.queue ++ queued) m.floors))
       (sym same) (by-failed old.commits.failed refl is.disk)
     where
-      by-failed : (b : Bool) → old.commits.failed ≡ b → MatchBool b (StopsOnHeap old m.published m.queue m.floors) (StandsOnHeap old m.published m.queue m.floors)
+      by-failed : (b : Bool) → old.commits.failed ≡ b
+          → MatchBool b (StopsOnHeap old m.published m.queue m.floors) (StandsOnHeap old m.published m.queue m.floors)
           → MatchBool b (StopsOnHeap new m.published (m.queue ++ queued) m.floors) (StandsOnHeap new m.published (m.queue ++ queued) m.floors)
       by-failed true failed stops =
           let none = failed-queues-none old new txn label now answer failed submits in

@@ -1,5 +1,5 @@
 -- The calls of a store whose log lies in the heap are steps of the machine.
-use Rattle.std.specs.Prelude.{ℕ, ◌≡◌, ◌<◌, ◌^◌, Bool, true, false, IsTrue, Result, Ok, Err, MatchBool}
+use Rattle.std.specs.Prelude.{ℕ, ◌≡◌, ◌<◌, ◌^◌, Bool, false, IsTrue, Result, Ok, Err, MatchBool}
 use Rattle.history.specs.Histories.{History}
 use Rattle.history.specs.Machine.{Machine, opened}
 use Rattle.history.specs.Answers as answers
