@@ -1,7 +1,8 @@
 -- Extents taken into use one after the other.
-use Rattle.std.proofs.Common.{◌≡◌, ℕ, zero, suc, ◌+◌, ◌-◌, ◌*◌, ◌/◌, ◌<◌, ◌≤◌, Bool, true, false, List, [], ◌∷◌, ◌++◌, length, drop, get_or, refl, sym, ap, subst, ◌∙◌, arith}
+use Rattle.std.proofs.Common.{◌≡◌, ℕ, zero, suc, ◌+◌, ◌-◌, ◌*◌, ◌/◌, ◌^◌, ◌<◌, ◌≤◌, Bool, true, false, List, [], ◌∷◌, ◌++◌, length, drop, get_or, refl, sym, ap, subst, ◌∙◌, arith}
 use Rattle.std.proofs.lemmas.List.{length-append}
 use Rattle.std.proofs.lemmas.List.Sums.{sum_by-cons}
+use Rattle.std.specs.List.{AllByRecursion}
 use Rattle.log_space.specs.Uses.{IsFree, with_use, all_used, one_if_used, used_count, IsLeastFree}
 use Rattle.log_space.proofs.Uses.{is_one_more, all_used_len}
 use Rattle.log_extents.specs.Chains.{count_of, first_or, IsNumberOf}
@@ -132,3 +133,29 @@ chain_taken old count promised taken all numbers link used some all_are least po
       new_is = ap (λ (u : List Bool). record old { used = u; next = link; log = old.log + count; promised = old.promised - promised })
           (least.new_is ∙ ap (λ (xs : List ℕ). all_used old.used xs) ends.taken_are);
     }
+
+-- ---- the numbers
+
+in_heap : (most : ℕ) (used : List Bool) (ns : List ℕ) → length used ≤ most → AreLeastFree used ns → AllByRecursion (IsNumberOf most) ns
+in_heap most used [] len least = tt
+in_heap most used (n ∷ ns) len least =
+    let high = least.0.free.high in
+    let same = used_len used (n ∷ []) in
+    ((least.0.free.low, omega (arith, high, len)), in_heap most (with_use used n true) ns (omega (arith, same, len)) least.1)
+
+others_of : (P : ℕ → Type 0) (ns : List ℕ) (n : ℕ) → AllByRecursion P (ns ++ n ∷ []) → P n × AllByRecursion P ns
+others_of P [] n each = (each.0, tt)
+others_of P (m ∷ ms) n each = let rest = others_of P ms n each.1 in (rest.0, (each.0, rest.1))
+
+-- those of a chain, and the one behind it, are numbers of any heap
+pub chain_in_range : (old : RoomValue) (count promised : ℕ) (numbers : List ℕ) (link : ℕ) (new : RoomValue) → IsRoom old
+    → TakesChain old count promised numbers link new → AllByRecursion (IsNumberOf (2 ^ 20)) (link ∷ numbers)
+chain_in_range old count promised numbers link new room takes =
+    let high = room.high in
+    let next_low = room.next.0 in
+    let next_high = room.next.1 in
+    let each = others_of (IsNumberOf (2 ^ 20)) takes.others link (in_heap (2 ^ 20) old.used (takes.others ++ link ∷ []) high takes.least) in (
+      each.0,
+      subst (λ (ns : List ℕ). AllByRecursion (IsNumberOf (2 ^ 20)) ns) (sym takes.numbers_are)
+          ((next_low, omega (arith, next_high, high)), each.1),
+    )

@@ -1,6 +1,7 @@
 //! The room in a heap: which extents the log has, and which it will take.
-ghost use Rattle.std.specs.Prelude.{◌≡◌, ◌≤◌, ◌<◌, ◌+◌, ◌*◌, ◌/◌, true, IfOk, OnErr, length};
-ghost use Rattle.log_extents.specs.Chains.{count_of};
+ghost use Rattle.std.specs.Prelude.{◌≡◌, ◌≤◌, ◌<◌, ◌+◌, ◌*◌, ◌/◌, ◌^◌, ◌∷◌, true, IfOk, OnErr, length};
+ghost use Rattle.std.specs.List.{AllByRecursion};
+ghost use Rattle.log_extents.specs.Chains.{count_of, IsNumberOf};
 ghost use Rattle.log_space.specs.Uses.{with_use};
 ghost use Rattle.law_log_sizes.specs.Sizes.{len_behind};
 ghost use Rattle.log_sizes.specs.Counted.{values_in};
@@ -100,7 +101,8 @@ impl HeapRoom {
     pub fn promise(&mut self, count: usize, anchors: u64)
         requires log { self.old.log + self.old.promised + count ≤ length self.old.used / 2 }
         requires share { count_of anchors ≤ (3 * length self.old.used) / 16 }
-        ensures { self.new ≡ promised_to self.old count anchors }
+        ensures is { self.new ≡ promised_to self.old count anchors }
+        ensures few { self.new.promised ≤ 2 ^ 20 }
     {
         let promised = self.promised;
         self.promised = promised + count as u32;
@@ -119,6 +121,7 @@ impl HeapRoom {
         requires within { count ≤ promised }
         requires promised { promised ≤ self.old.promised }
         ensures ok { IfOk result (λ chain. TakesChain self.old count promised chain.numbers.items chain.link self.new) }
+        ensures in_range { IfOk result (λ chain. AllByRecursion (IsNumberOf (2 ^ 20)) (chain.link ∷ chain.numbers.items)) }
         ensures err { OnErr result (self.new ≡ self.old) }
     {
         let mut numbers = take_least(alloc, &mut self.space, self.next, count)?;

@@ -1,5 +1,5 @@
 -- What a clause sees of a store whose log lies in the heap.
-use Rattle.std.specs.Prelude.{ℕ, ◌≡◌, ◌+◌, ◌≤◌, ◌<◌, List, [], ◌∷◌, length, Option, None, Some, MatchOption}
+use Rattle.std.specs.Prelude.{ℕ, ◌≡◌, ◌+◌, ◌^◌, ◌≤◌, ◌<◌, List, length, Option, None, Some}
 use Rattle.std.specs.List.{AllByRecursion}
 use Rattle.disk.specs.Calls.{DiskState}
 use Rattle.log_roots.specs.declared.roots.Roots.{Roots}
@@ -35,4 +35,5 @@ pub record IsInStep (v : LogStoreValue) : Type 0 where
   pub bytes : AllByRecursion HasBytes v.contents
   -- they are promised just the extents that each takes alone
   pub promised : v.room.promised ≡ extents_of v.contents
+  pub few : v.room.promised ≤ 2 ^ 20
   pub turn : HasTurn v.commits.group v.turn

@@ -1,5 +1,5 @@
 //! The steps of a group to the disk.
-ghost use Rattle.std.specs.Prelude.{◌≡◌, ◌<◌, ◌==◌, false, IsTrue, OnErr, OnOk, length, None, Option};
+ghost use Rattle.std.specs.Prelude.{◌≡◌, ◌<◌, false, IsTrue, IsSome, OnErr, OnOk, length, None};
 ghost use Rattle.disk.specs.Areas.{AreSound};
 ghost use Rattle.log_store.specs.Pumps.{Pumps, Begins, AdvancesGroup, did_of};
 
@@ -56,7 +56,7 @@ impl<D: Disk> LogStore<D> {
         ensures ok { OnOk result (Begins self.old self.new) }
         ensures err { OnErr result (self.new ≡ self.old) }
     {
-        let size = self.commits.waiting().min(MOST_IN_GROUP);
+        let size = MOST_IN_GROUP.min(self.commits.waiting());
         let group = join(self.alloc, &self.contents, size)?;
         let count = count_extents(group.bytes.len());
         let chain = self.room.take_chain(self.alloc, count, group.count)?;
@@ -69,6 +69,7 @@ impl<D: Disk> LogStore<D> {
     // The next device call of the group's chain.
     fn advance(&mut self) -> Result<Did, PumpFault>
         requires works { self.old.commits.failed ≡ false }
+        requires some { IsSome self.old.turn }
         ensures is { AdvancesGroup D.tells self.old self.old.turn result self.new }
         ensures sound { IsTrue D.tells → AreSound self.new.disk.areas }
     {
