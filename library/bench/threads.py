@@ -2,7 +2,7 @@
 
 OUT is the folder of libtimestore.a, FOLDER one on the file system that is meant. In each round all are measured one behind
 the other, so that what else the machine does meets all alike; each number is the median of the rounds. What cannot be built
-here is left out.
+here is left out. bench/peers/slow_sync.c, preloaded, makes syncs that take the same time each.
 """
 
 import os

@@ -1,6 +1,6 @@
 /* timestore: a store of records that keeps every version, in the process of its user.
  *
- * The library opens no file, starts no thread and holds no lock. Where the store is to write or sync, its
+ * What stands here opens no file, starts no thread and holds no lock. Where the store is to write or sync, its
  * user, the host, makes that device call: where ts_pump or ts_job_pump tells TS_CALL_DUE it asks ts_call, makes
  * what is told, and says so by ts_called, which tells what the step did. Until then every call answers TS_PENDING
  * but ts_call, ts_called, ts_close, the reads and writes of open transactions, the queries of views, ts_abort,

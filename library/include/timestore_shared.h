@@ -17,9 +17,8 @@
  * thread ended stays open until another thread ends it or the store is closed. A number that was given back names
  * nothing.
  *
- * In the child of a fork all calls answer TS_CLOSED, and ts_shared_free gives back its memory there; the parent goes
- * on. A thread that is cancelled (pthread_cancel) within a call ends behind it. No call is made from a signal
- * handler.
+ * In the child of a fork all calls but ts_shared_free answer TS_CLOSED; the parent goes on. A thread that is cancelled
+ * (pthread_cancel) within a call ends behind it. No call is made from a signal handler.
  */
 #ifndef TIMESTORE_SHARED_H
 #define TIMESTORE_SHARED_H
