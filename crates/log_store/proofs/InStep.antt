@@ -23,7 +23,8 @@ use Rattle.log_store.specs.Pumps.{group_size, group_content, Begins}
 
 -- ---- bytes
 
-all-push : (contents : List (List ℕ)) (content : List ℕ) → AllByRecursion HasBytes contents → HasBytes content → AllByRecursion HasBytes (contents ++ content ∷ [])
+all-push : (contents : List (List ℕ)) (content : List ℕ) → AllByRecursion HasBytes contents → HasBytes content
+    → AllByRecursion HasBytes (contents ++ content ∷ [])
 all-push [] content each some = (some, tt)
 all-push (c ∷ cs) content each some = (each.0, all-push cs content each.1 some)
 

@@ -11,7 +11,8 @@ overflow_add-extents c =
     let more = extents_more contents c.loop-place.place content within c.in-Some.ensures.lookup in
     let all = extents_within contents (c.loop-place.place + 1) in
     let counted : c.count_extents-extents.result ≡ count_of (length content) =
-    c.count_extents-extents.ensures ∙ ap count_of (c.len.ensures ∙ sym c.deref.ensures.len ∙ ap (λ (bytes : List ℕ). length bytes) (c.deref.ensures.value ∙ c.content.view_is)) in
+    c.count_extents-extents.ensures ∙ ap count_of (c.len.ensures ∙ sym c.deref.ensures.len
+    ∙ ap (λ (bytes : List ℕ). length bytes) (c.deref.ensures.value ∙ c.content.view_is)) in
     omega (arith, more, all, c.requires.few, c.loop-place.invariant.count, counted)
 
 pub loop-place-preserved : goal.loop-place-preserved
@@ -20,7 +21,8 @@ loop-place-preserved c =
     let content = c.in-Some.content.now in
     let within : c.loop-place.place < length contents = omega (arith, c.requires.within, c.loop-place-test.true) in
     let counted : c.count_extents-extents.result ≡ count_of (length content) =
-    c.count_extents-extents.ensures ∙ ap count_of (c.len.ensures ∙ sym c.deref.ensures.len ∙ ap (λ (bytes : List ℕ). length bytes) (c.deref.ensures.value ∙ c.content.view_is)) in
+    c.count_extents-extents.ensures ∙ ap count_of (c.len.ensures ∙ sym c.deref.ensures.len
+    ∙ ap (λ (bytes : List ℕ). length bytes) (c.deref.ensures.value ∙ c.content.view_is)) in
     record {
       bytes = c.in_ok-extend_from_slice-in-Some.ensures.items
           ∙ ap (λ (bytes : List ℕ). c.loop-place.bytes.items ++ bytes) (c.deref.ensures.value ∙ c.content.view_is)

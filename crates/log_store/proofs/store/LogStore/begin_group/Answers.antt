@@ -26,7 +26,8 @@ take_chain-requires-clause-some g c =
     let bytes = some_joined old.contents c.min-size.result (subst (λ (n : ℕ). 0 < n) (sym size) (size_some (length old.commits.queue) some))
     (omega (arith, waits.1, some)) c.self.invariant.bytes in
     subst (λ (n : ℕ). 0 < n)
-    (sym (c.count_extents-count.ensures ∙ ap count_of (c.len.ensures ∙ (let same = c.in_ok-group.group.bytes.ok.0 in omega (arith, same)) ∙ ap (λ (xs : List ℕ). length xs) c.in_ok-group.ensures.bytes)))
+    (sym (c.count_extents-count.ensures ∙ ap count_of (c.len.ensures ∙ (let same = c.in_ok-group.group.bytes.ok.0 in omega (arith, same))
+    ∙ ap (λ (xs : List ℕ). length xs) c.in_ok-group.ensures.bytes)))
     (some_count (length (joined (take c.min-size.result old.contents))) bytes)
 
 pub take_chain-requires-clause-within : goal.take_chain-requires-clause-within
@@ -34,7 +35,8 @@ take_chain-requires-clause-within g c =
     let contents = c.self.inside.contents.items in
     let within = count_within (take c.min-size.result contents) in
     let count : c.count_extents-count.result ≡ count_of (length (joined (take c.min-size.result contents))) =
-    c.count_extents-count.ensures ∙ ap count_of (c.len.ensures ∙ (let same = c.in_ok-group.group.bytes.ok.0 in omega (arith, same)) ∙ ap (λ (xs : List ℕ). length xs) c.in_ok-group.ensures.bytes) in
+    c.count_extents-count.ensures ∙ ap count_of (c.len.ensures ∙ (let same = c.in_ok-group.group.bytes.ok.0 in omega (arith, same))
+    ∙ ap (λ (xs : List ℕ). length xs) c.in_ok-group.ensures.bytes) in
     omega (arith, within, count, c.in_ok-group.ensures.count)
 
 pub take_chain-requires-clause-promised : goal.take_chain-requires-clause-promised
