@@ -1,10 +1,17 @@
 -- What a format leaves.
-use Rattle.std.specs.Prelude.{ℕ, ◌≡◌, ◌≤◌, ◌⊎◌, false, List, length, take, replicate}
+use Rattle.std.specs.Prelude.{ℕ, ◌≡◌, ◌≤◌, ◌⊎◌, ◌↔◌, Bool, false, true, IsTrue, List, [], length, take, replicate, None, Err}
 use Rattle.disk.specs.Areas.{AreaState, Areas, written, synced}
 use Rattle.status.specs.declared.header.Header.{Header}
 use Rattle.status.specs.Header.{IsFront}
 use Rattle.log_roots.specs.declared.roots.Roots.{Roots}
-use Rattle.log_roots.specs.Roots.{HasRoots, roots_bytes}
+use Rattle.log_roots.specs.Roots.{HasRoots, IsHeapSize, roots_bytes}
+use Rattle.disk.specs.Calls.{DiskState}
+use Rattle.floors.specs.Floors.{no_floors}
+use Rattle.recovery.specs.declared.fault.FormatFault.{FormatFault}
+use Rattle.recovery.specs.declared.fault.FormatFault.TheVariants as faults
+use Rattle.recovery.specs.Format.{refusals_after}
+use Rattle.log_space.specs.Uses.{with_use}
+use Rattle.log_store.specs.Values.{LogStoreValue}
 
 -- the header of a new store: its log begins in the first extent
 abbrev pub new_roots : ℕ → Roots
@@ -38,3 +45,40 @@ formatted extents areas = record areas { heap = zeroed areas.heap; status = head
 -- A format that the disk cut short: the status area is as it was, or the first extent is zeros already.
 abbrev pub FormatStops : Areas → Areas → Type 0
 FormatStops old new = (new ≡ record old { heap = new.heap }) ⊎ (new ≡ record old { heap = zeroed old.heap; status = new.status })
+
+-- ---- a new store
+
+-- nothing is committed, the log ends in the first extent, and all others are free
+abbrev pub created_on : ℕ → ℕ → DiskState → LogStoreValue
+created_on mark extents disk = record {
+  roots = new_roots extents;
+  commits = record {
+    mark = mark;
+    opened = [];
+    heads = [];
+    published = 0;
+    versions = [];
+    queue = [];
+    group = 0;
+    floors = no_floors;
+    reclaimed = 0;
+    failed = false;
+  };
+  contents = [];
+  room = record { used = with_use (replicate extents false) 1 true; next = 1; log = 1; promised = 0; anchors = 0 };
+  turn = None;
+  disk = disk;
+}
+
+-- the disk is formatted, and the store has nothing yet
+pub record Creates (tells : Bool) (old : DiskState) (mark extents : ℕ) (v : LogStoreValue) : Type 0 where
+  pub new_is : v ≡ created_on mark extents v.disk
+  pub formatted : IsTrue tells → v.disk.areas ≡ formatted extents old.areas
+  pub refused : v.disk.refused ≡ old.refused
+
+-- why no store is made, and what the disk holds then
+pub record CreateRefuses (tells : Bool) (old : DiskState) (extents : ℕ) (why : FormatFault) (new : DiskState) : Type 0 where
+  pub bad_size : (why ≡ faults.BadSlots) ↔ ¬ IsHeapSize extents
+  pub occupied : IsTrue tells → why ≡ faults.Occupied → IsOccupied old.areas.status.bytes
+  pub stop : IsTrue tells → FormatStops old.areas new.areas
+  pub refused : new.refused ≡ refusals_after {T = Unit {0}} (Err why) old.refused

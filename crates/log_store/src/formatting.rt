@@ -3,7 +3,7 @@ ghost use Rattle.std.specs.Prelude.{◌≡◌, ◌↔◌, IsTrue, IfOk, OnOk, On
 ghost use Rattle.disk.specs.Calls.{looked, refusals};
 ghost use Rattle.recovery.specs.Format.{IsTakenAnswer, refusals_after};
 ghost use Rattle.log_roots.specs.Roots.{IsHeapSize};
-ghost use Rattle.log_store.specs.Formats.{IsLogHeader, IsAnyHeader, IsOccupied, zeroed, headed, formatted, FormatStops};
+ghost use Rattle.log_store.specs.Formats.{IsLogHeader, IsAnyHeader, IsOccupied, new_roots, zeroed, headed, formatted, FormatStops};
 
 use deltas::EXTENT_LEN;
 use disk::{Area, DeviceFault, Disk};
@@ -55,6 +55,18 @@ fn zero_first<D: Disk>(disk: &mut D) -> Result<(), DeviceFault>
     Ok(())
 }
 
+/// What the header of a new store says.
+pub(crate) fn new_roots(extents: u32) -> Roots
+    ensures { result ≡ new_roots extents }
+{
+    Roots {
+        extents,
+        turned: false,
+        root_0: 1,
+        root_1: 0,
+    }
+}
+
 // The header, on the disk.
 fn put_header<D: Disk>(disk: &mut D, extents: u32) -> Result<(), DeviceFault>
     ensures headed { IsTrue D.tells → OnOk result ((D.state disk.new).areas
@@ -62,13 +74,7 @@ fn put_header<D: Disk>(disk: &mut D, extents: u32) -> Result<(), DeviceFault>
     ensures stop { IsTrue D.tells → (D.state disk.new).areas ≡ record (D.state disk.old).areas { status = (D.state disk.new).areas.status } }
     ensures refused { (D.state disk.new).refused ≡ refusals result (D.state disk.old).refused }
 {
-    let roots = Roots {
-        extents,
-        turned: false,
-        root_0: 1,
-        root_1: 0,
-    };
-    disk.write_at(Area::Status, 0, &encode(&roots))?;
+    disk.write_at(Area::Status, 0, &encode(&new_roots(extents)))?;
     disk.sync(Area::Status)?;
     Ok(())
 }

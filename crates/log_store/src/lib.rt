@@ -2,6 +2,7 @@
 #![tactic(auto)]
 
 mod answers;
+mod creating;
 mod formatting;
 mod pump;
 mod store;
