@@ -32,21 +32,23 @@ fn a_commit_takes_five_calls(rt: HostRuntime) -> Result<(), Fail> {
     assert!(rt; disk.len(Area::Status) == Ok(512));
     assert!(rt; disk.len(Area::Heap) == Ok(8193));
     assert!(rt; disk.len(Area::Archive) == Ok(0));
-    has_bytes(
-        &rt,
-        &mut disk,
-        Area::Status,
-        0,
-        b"NOOVER01\x04\0\0\0\x40\0\0\0\0\0\0\0\x01\0\0\0\0\0\0\0",
+    assert!(rt;
+        has_bytes(
+            &mut disk,
+            Area::Status,
+            0,
+            b"NOOVER01\x04\0\0\0\x40\0\0\0\0\0\0\0\x01\0\0\0\0\0\0\0",
+        )
     );
-    has_bytes(
-        &rt,
-        &mut disk,
-        Area::Heap,
-        0,
-        b"\xc7\0\0\0\x01\0\0\0\0\0\0\0\x21\0\0\0\x02\0\0\0\0\0\0\0\x05\x09\0\0\0\0\0\0\0\x64\0\0\0\0\0\0\0\x01\0\x01\x01\0\x07\0\0\0\0\0\0\0\x01\x01a",
+    assert!(rt;
+        has_bytes(
+            &mut disk,
+            Area::Heap,
+            0,
+            b"\xc7\0\0\0\x01\0\0\0\0\0\0\0\x21\0\0\0\x02\0\0\0\0\0\0\0\x05\x09\0\0\0\0\0\0\0\x64\0\0\0\0\0\0\0\x01\0\x01\x01\0\x07\0\0\0\0\0\0\0\x01\x01a",
+        )
     );
-    has_run(&rt, &mut disk, 57, 8193, 0);
+    assert!(rt; has_run(&mut disk, 57, 8193, 0));
     Ok(())
 }
 
@@ -70,58 +72,60 @@ fn seventeen_commits_share_an_extent(rt: HostRuntime) -> Result<(), Fail> {
         ],
     );
     let mut disk = store.close();
-    has_bytes(
-        &rt,
-        &mut disk,
-        Area::Heap,
-        0,
-        b"\xc7\0\0\0\x01\0\0\0\0\0\0\0\x31\x02\0\0\x02\0\0\0\0\0\0\0",
+    assert!(rt;
+        has_bytes(
+            &mut disk,
+            Area::Heap,
+            0,
+            b"\xc7\0\0\0\x01\0\0\0\0\0\0\0\x31\x02\0\0\x02\0\0\0\0\0\0\0",
+        )
     );
     for member in 0..17 {
         let place = 24 + 33 * u64::from(member);
-        has_bytes(
-            &rt,
-            &mut disk,
-            Area::Heap,
-            place,
-            &[
-                5,
-                member,
-                0,
-                0,
-                0,
-                0,
-                0,
-                0,
-                0,
-                100 + member,
-                0,
-                0,
-                0,
-                0,
-                0,
-                0,
-                0,
-                1,
-                0,
-                1,
-                1,
-                0,
-                member,
-                0,
-                0,
-                0,
-                0,
-                0,
-                0,
-                0,
-                1,
-                1,
-                b'a',
-            ],
+        assert!(rt;
+            has_bytes(
+                &mut disk,
+                Area::Heap,
+                place,
+                &[
+                    5,
+                    member,
+                    0,
+                    0,
+                    0,
+                    0,
+                    0,
+                    0,
+                    0,
+                    100 + member,
+                    0,
+                    0,
+                    0,
+                    0,
+                    0,
+                    0,
+                    0,
+                    1,
+                    0,
+                    1,
+                    1,
+                    0,
+                    member,
+                    0,
+                    0,
+                    0,
+                    0,
+                    0,
+                    0,
+                    0,
+                    1,
+                    1,
+                    b'a',
+                ],
+            )
         );
     }
-    has_run(&rt, &mut disk, 585, 8193, 0);
+    assert!(rt; has_run(&mut disk, 585, 8193, 0));
     Ok(())
 }
 
@@ -145,21 +149,23 @@ fn a_record_runs_on_into_the_next_extent(rt: HostRuntime) -> Result<(), Fail> {
     );
     let mut disk = store.close();
     assert!(rt; disk.len(Area::Heap) == Ok(16385));
-    has_bytes(
-        &rt,
-        &mut disk,
-        Area::Heap,
-        0,
-        b"\xc7\0\0\0\x01\0\0\0\x02\0\0\0\xe8\x1f\0\0\x03\0\0\0\0\0\0\0\x05\x01\0\0\0\0\0\0\0\x64\0\0\0\0\0\0\0\x02\0\x01\x01\0\x01\0\0\0\0\0\0\0\x10\xffxxxxxxxx",
+    assert!(rt;
+        has_bytes(
+            &mut disk,
+            Area::Heap,
+            0,
+            b"\xc7\0\0\0\x01\0\0\0\x02\0\0\0\xe8\x1f\0\0\x03\0\0\0\0\0\0\0\x05\x01\0\0\0\0\0\0\0\x64\0\0\0\0\0\0\0\x02\0\x01\x01\0\x01\0\0\0\0\0\0\0\x10\xffxxxxxxxx",
+        )
     );
-    has_bytes(
-        &rt,
-        &mut disk,
-        Area::Heap,
-        8192,
-        b"\0\0\0\0\x02\0\0\0\0\0\0\0\x43\0\0\0\0\0\0\0\0\0\0\0",
+    assert!(rt;
+        has_bytes(
+            &mut disk,
+            Area::Heap,
+            8192,
+            b"\0\0\0\0\x02\0\0\0\0\0\0\0\x43\0\0\0\0\0\0\0\0\0\0\0",
+        )
     );
-    has_run(&rt, &mut disk, 8216, 8283, b'x');
-    has_run(&rt, &mut disk, 8283, 16385, 0);
+    assert!(rt; has_run(&mut disk, 8216, 8283, b'x'));
+    assert!(rt; has_run(&mut disk, 8283, 16385, 0));
     Ok(())
 }

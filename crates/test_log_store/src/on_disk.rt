@@ -49,19 +49,25 @@ pub fn pumps(rt: &impl Abort, store: &mut LogStore<MemDisk>, steps: &[Did]) {
     assert!(rt; store.pump() == Ok(Did::Idle));
 }
 
-/// These bytes are there.
-pub fn has_bytes(rt: &impl Abort, disk: &mut MemDisk, area: Area, place: u64, bytes: &[u8]) {
+/// Whether these bytes, 64 at the most, are there.
+pub fn has_bytes(disk: &mut MemDisk, area: Area, place: u64, bytes: &[u8]) -> bool {
     let mut found = [0; 64];
-    let found = &mut found[..bytes.len().min(64)];
-    assert!(rt; disk.read(area, place, found).is_ok());
-    assert!(rt; *found == *bytes);
+    let Ok(len) = disk.len(area) else {
+        return false;
+    };
+    if bytes.len() > 64 || len < place || len - place < bytes.len() as u64 {
+        return false;
+    }
+    let found = &mut found[..bytes.len()];
+    disk.read(area, place, found).is_ok() && *found == *bytes
 }
 
-/// From one place to another all bytes are this one.
-pub fn has_run(rt: &impl Abort, disk: &mut MemDisk, from: u64, to: u64, byte: u8) {
-    let mut one = [0];
+/// Whether all bytes of the heap from one place to another are this one.
+pub fn has_run(disk: &mut MemDisk, from: u64, to: u64, byte: u8) -> bool {
     for place in from..to {
-        assert!(rt; disk.read(Area::Heap, place, &mut one).is_ok());
-        assert!(rt; one[0] == byte);
+        if !has_bytes(disk, Area::Heap, place, &[byte]) {
+            return false;
+        }
     }
+    true
 }
