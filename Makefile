@@ -100,7 +100,6 @@ bench: build
 	bench/rates.py $(PROGRAM) $(if $(FOLDER),--folder $(FOLDER))
 	bench/status_growth.py $(PROGRAM) $(if $(FOLDER),--folder $(FOLDER))
 	bench/copies.py $(PROGRAM)
-	$(BENCH) leaves
 
 # The store in the process of its user, docs/LIBRARY.md: `make lib` proves and builds it, the others take it as it was built.
 lib:

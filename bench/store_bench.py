@@ -1,16 +1,17 @@
 #!/usr/bin/env python3
 """Measures the store on real files, round after round, and prints medians as a table.
 
-    bench/store_bench.py BENCH [--rounds N] [--folder FOLDER] [--verbs w1,w4] [--share S]
+    bench/store_bench.py BENCH [--rounds N] [--folder FOLDER] [--verbs w1,w4] [--share S] [--versions N]
                          [--vacuums 100000,1000000x10] [--program TIMESTORE] [--alone]
 
 BENCH is the built program of crates/bench, which says what each verb does. FOLDER is where stores
 are made (a temporary folder if left out: name one on the disk that you mean to measure, since /tmp may be
-memory). S makes each count smaller or larger. Each vacuum is so many ended versions, in so many runs (one if
-left out), of 1,000 keys, or, with a k behind, one of each key; `--verbs= ` or `--vacuums= ` leaves the verbs
-or the vacuums out. TIMESTORE is the built program, of which the memory of an
-opened version is measured. Where a C compiler and the libraries are there, SQLite and LMDB run the same
-workloads in the same rounds (bench/peers); --alone leaves them out.
+memory). S makes each count smaller or larger. Each of the 1,000 keys that w4 to w6 and w8 ask has N versions
+(100 if left out, 1,000 at most). Each vacuum is so many ended versions, in so many runs (one if left out), of
+1,000 keys, or, with a k behind, one of each key; `--verbs= ` or `--vacuums= ` leaves the verbs or the vacuums
+out. TIMESTORE is the built program, of which the memory of an opened version is measured. Where a C compiler
+and the libraries are there, SQLite and LMDB run the same workloads in the same rounds (bench/peers); --alone
+leaves them out.
 """
 import argparse
 import json
@@ -43,6 +44,9 @@ LEAST = {"w3": 500_000, "w4": 2_000_000, "w5": 20_000_000, "w5w": 20_000_000, "w
 # Of a vacuum: megabytes a second, where a plain copy of the file reaches as much.
 LEAST_MB = 200
 VACUUMS = "100000x1,100000x10,100000x100,1000000x1,1000000x10,1000000x100,100000k,500000k"
+# How many versions each key has that is asked, and the verbs that ask.
+VERSIONS = 100
+ASKING = ("w4", "w5", "w5w", "w6", "w8")
 # What a peer is asked that has one verb for both.
 PEERS_VERBS = {"w5w": "w5"}
 PEERS = {"SQLite": ("sqlite.c", "-lsqlite3"), "LMDB": ("lmdb.c", "-llmdb")}
@@ -71,15 +75,15 @@ def called(program, verb, folder, *numbers):
     return json.loads(done.stdout)
 
 
-def measured(program, verb, count, base):
+def measured(program, verb, numbers, base):
     """What one call prints, in a folder of its own."""
     folder = tempfile.mkdtemp(dir=base)
-    answer = called(program, verb, folder, count)
+    answer = called(program, verb, folder, *numbers)
     shutil.rmtree(folder)
     return answer
 
 
-def all_rounds(contenders, verbs, share, rounds, base):
+def all_rounds(contenders, verbs, share, rounds, base, versions=VERSIONS):
     """Of each contender and verb the answers of all rounds; every second round goes backwards."""
     found = {(name, verb): [] for name in contenders for verb in verbs}
     for turn in range(rounds):
@@ -87,7 +91,8 @@ def all_rounds(contenders, verbs, share, rounds, base):
         for name, verb in calls if turn % 2 == 0 else reversed(calls):
             count = max(1, int(VERBS[verb][1] * share))
             asked = verb if name == "timestore" else PEERS_VERBS.get(verb, verb)
-            found[name, verb].append(measured(contenders[name], asked, count, base))
+            numbers = (count, versions) if verb in ASKING else (count,)
+            found[name, verb].append(measured(contenders[name], asked, numbers, base))
     return found
 
 
@@ -232,20 +237,19 @@ def held_memory(program, folder):
     return [int(fields[name].split()[0]) * 1024 for name in ("VmRSS", "VmHWM")]
 
 
-def print_memory(bench, program, base):
-    """The memory of a version: of a store with 100,000 beside an empty one."""
+def print_memory(bench, program, base, versions):
+    """The memory of a version, where 1,000 keys have so many: of that store beside an empty one."""
     folder = tempfile.mkdtemp(dir=base)
     empty = os.path.join(folder, "empty")
     os.mkdir(empty)
     subprocess.run([program, "format", empty], stdout=subprocess.DEVNULL, check=True)
     full = os.path.join(folder, "full")
     os.mkdir(full)
-    made = subprocess.run([bench, "w8", full], stdout=subprocess.PIPE, check=True)
-    versions = json.loads(made.stdout)["versions"]
+    count = called(bench, "w8", full, 1, versions)["versions"]
     pairs = zip(held_memory(program, os.path.join(full, "store")), held_memory(program, empty))
-    held, most = [(with_all - with_none) / versions for with_all, with_none in pairs]
+    held, most = [(with_all - with_none) / count for with_all, with_none in pairs]
     shutil.rmtree(folder)
-    print(f"\nAn opened store of {versions:,} versions of 64 bytes holds {held:,.0f} bytes of memory a version, "
+    print(f"\nAn opened store of {count:,} versions of 64 bytes holds {held:,.0f} bytes of memory a version, "
           f"and {most:,.0f} at the most while it is opened.")
 
 
@@ -274,6 +278,7 @@ def arguments():
     parser.add_argument("--verbs", default=",".join(VERBS))
     parser.add_argument("--vacuums", default=VACUUMS)
     parser.add_argument("--share", type=float, default=1.0)
+    parser.add_argument("--versions", type=int, default=VERSIONS)
     parser.add_argument("--program")
     parser.add_argument("--alone", action="store_true")
     return parser.parse_args()
@@ -304,12 +309,12 @@ def main():
         print(f"{os.cpu_count()} cores ({processor()}), Linux {platform.release()}, {medium(base)}; "
               f"load {load()} at the beginning; medians of {asked.rounds} rounds")
         if verbs:
-            print_verbs(all_rounds(contenders, verbs, asked.share, asked.rounds, base), verbs, asked.share)
+            print_verbs(all_rounds(contenders, verbs, asked.share, asked.rounds, base, asked.versions), verbs, asked.share)
         if asked.vacuums.strip():
             print_vacuums(bench, asked.vacuums, asked.share, asked.rounds, base)
         print(f"\nload {load()} at the end")
         if asked.program:
-            print_memory(bench, os.path.abspath(asked.program), base)
+            print_memory(bench, os.path.abspath(asked.program), base, asked.versions)
 
 
 if __name__ == "__main__":

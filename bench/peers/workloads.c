@@ -1,5 +1,5 @@
-/* The workloads of crates/bench with one caller, on another store: PEER VERB FOLDER [COUNT], with one line of JSON. The store
-   is made in FOLDER, which is there and empty. Keys, versions, values and counts are those of crates/bench.
+/* The workloads of crates/bench with one caller, on another store: PEER VERB FOLDER [COUNT [VERSIONS]], with one line of JSON.
+   The store is made in FOLDER, which is there and empty. Keys, versions, values and counts are those of crates/bench.
 
    w1   commits a second of one record, one at a time
    w2g  commits a second of one record, 16 in one transaction, as an application does that gathers its writers
@@ -19,8 +19,9 @@
 #include <time.h>
 #include <unistd.h>
 
-enum { KEYS = 1000, VERSIONS = 100, FIELDS = 4, FIELD = 16, BATCH = 1024, GROUP = 16, VALUE = 1 + FIELDS * (1 + FIELD) };
+enum { KEYS = 1000, FIELDS = 4, FIELD = 16, BATCH = 1024, GROUP = 16, VALUE = 1 + FIELDS * (1 + FIELD) };
 static const int64_t FIRST = 1700000000LL * 1000000, STEP = 15625;
+static long versions = 100; /* of each key, where it is asked */
 
 void die(const char *format, ...) {
   va_list a; va_start(a, format); vfprintf(stderr, format, a); va_end(a); fputc('\n', stderr); exit(1);
@@ -71,7 +72,7 @@ static void write_groups(const char *dir, int batch, long count) {
 }
 
 /* ---- w4, w5, w6, w8 ---- */
-static void load(conn *c) { for (int v = 0; v < VERSIONS; v++) commit_all(c, KEYS, v, FIRST + v * STEP); }
+static void load(conn *c) { for (long v = 0; v < versions; v++) commit_all(c, KEYS, v, FIRST + v * STEP); }
 struct seen { uint64_t record, version, count; };
 static void see_version(void *a, uint64_t record, const unsigned char *v, int len) {
   struct seen *s = a; if (version_of(v, len, record) != s->count++) die("history of %lu: wrong version", (unsigned long)record);
@@ -80,13 +81,13 @@ static void see_record(void *a, uint64_t record, const unsigned char *v, int len
   struct seen *s = a; if (record != s->count++ || version_of(v, len, record) != s->version) die("scan: wrong record %lu", (unsigned long)record);
 }
 static void ask(conn *c, char verb) {
-  uint64_t record = any() % KEYS; int64_t after = any() % ((VERSIONS - 1) * STEP + 1);
+  uint64_t record = any() % KEYS; int64_t after = any() % ((versions - 1) * STEP + 1);
   struct seen s = { record, after / STEP, 0 }; unsigned char b[VALUE_MAX];
   if (verb == '4') {
     int len = peer_as_of(c, record, FIRST + after, b);
     if (len < 0 || version_of(b, len, record) != s.version) die("record %lu: wrong value", (unsigned long)record);
   } else if (verb == '5') {
-    if (peer_history(c, record, FIRST, FIRST + VERSIONS * STEP, see_version, &s) != VERSIONS) die("history: wrong count");
+    if (peer_history(c, record, FIRST, FIRST + versions * STEP, see_version, &s) != versions) die("history: wrong count");
   } else if (peer_scan(c, FIRST + after, see_record, &s) != KEYS) die("scan: wrong count");
 }
 static void ask_often(const char *dir, char verb, long count) {
@@ -94,14 +95,14 @@ static void ask_often(const char *dir, char verb, long count) {
   c = peer_open(dir); for (int i = 0; i < 20; i++) ask(c, verb);
   double start = now(); for (long n = 0; n < count; n++) ask(c, verb);
   double time = now() - start; peer_close(c);
-  printf("{\"value\": %.1f, \"count\": %ld}\n", (double)count * (verb == '5' ? VERSIONS : 1) / time, count);
+  printf("{\"value\": %.1f, \"count\": %ld}\n", (double)count * (verb == '5' ? versions : 1) / time, count);
 }
 static void size(const char *dir) {
   peer_create(dir); conn *c = peer_open(dir); load(c); peer_close(c);
   DIR *d = opendir(dir); if (!d) die("%s is not read", dir);
   double bytes = 0; struct dirent *e; struct stat s; char path[8192];
   while ((e = readdir(d))) { snprintf(path, sizeof path, "%s/%s", dir, e->d_name); if (!stat(path, &s) && S_ISREG(s.st_mode)) bytes += s.st_blocks * 512.0; }
-  closedir(d); printf("{\"value\": %.1f, \"versions\": %d}\n", bytes / (KEYS * VERSIONS), KEYS * VERSIONS);
+  closedir(d); printf("{\"value\": %.1f, \"versions\": %ld}\n", bytes / (KEYS * versions), KEYS * versions);
 }
 
 /* ---- w7: a child commits and ends; then this process opens and asks ---- */
@@ -121,9 +122,10 @@ static void open_after(const char *dir, long count) {
 }
 
 int main(int argc, char **argv) {
-  if (argc != 3 && argc != 4) die("usage: %s VERB FOLDER [COUNT]", argv[0]);
+  if (argc < 3 || argc > 5) die("usage: %s VERB FOLDER [COUNT [VERSIONS]]", argv[0]);
   const char *verb = argv[1], *dir = argv[2]; long count = argc > 3 ? atol(argv[3]) : 0;
   if (count < 0) die("a count below 0");
+  if (argc > 4 && (versions = atol(argv[4])) < 1) die("fewer versions than 1");
   if (!strcmp(verb, "w1")) write_groups(dir, 1, count ? count : 2000);
   else if (!strcmp(verb, "w2g")) write_groups(dir, GROUP, count ? count : 500);
   else if (!strcmp(verb, "w3")) write_groups(dir, BATCH, count ? count : 200);

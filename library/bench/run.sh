@@ -1,8 +1,8 @@
 #!/usr/bin/env bash
 # Times the library that stands in a folder: run.sh OUT [FOLDER..]; each FOLDER's file system in turn, /dev/shm
 # and the one of TMPDIR where none is named. From C, Python and Rust; where the program is built, or named by
-# TIMESTORE_PROGRAM, by its script too; and then the workloads of bench/store_bench.py beside SQLite and LMDB.
-# COMMITS, GROUPS_OF_16, QUERIES, ROUNDS and SHARE (of the workloads' counts) make it longer or shorter.
+# TIMESTORE_PROGRAM, by its script too; and then the workloads of bench/store_bench.py beside SQLite and LMDB, and threads over one store.
+# COMMITS, GROUPS_OF_16, QUERIES, ROUNDS and SHARE (of the workloads' counts, and of a second for threads) make it longer or shorter.
 set -eu
 here=$(cd "$(dirname "$0")" && pwd)
 top=$(dirname "$here")
@@ -29,5 +29,6 @@ for folder in "$@"; do
     if [ -n "$rust" ]; then mkdir "$place/rust"; "$rust" "$place/rust" "${COMMITS:-2000}" 1000000; fi
     if [ -x "$program" ]; then python3 "$here/script.py" "$program" "$place/script" "${COMMITS:-2000}" 100000; fi
     python3 "$here/peers.py" "$out" "$place" "${ROUNDS:-3}" "${SHARE:-1}"
+    python3 "$here/threads.py" "$out" "$place" "${ROUNDS:-3}" "${SHARE:-1}"
     rm -rf "$place"
 done

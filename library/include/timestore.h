@@ -1,6 +1,6 @@
 /* timestore: a store of records that keeps every version, in the process of its user.
  *
- * The library opens no file, starts no thread and holds no lock. Where the store is to write or sync, its
+ * What stands here opens no file, starts no thread and holds no lock. Where the store is to write or sync, its
  * user, the host, makes that device call: where ts_pump or ts_job_pump tells TS_CALL_DUE it asks ts_call, makes
  * what is told, and says so by ts_called, which tells what the step did. Until then every call answers TS_PENDING
  * but ts_call, ts_called, ts_close, the reads and writes of open transactions, the queries of views, ts_abort,
@@ -19,9 +19,9 @@
  *   2. A write goes to that area and place whole, and a gap before it reads as zeros. A sync returns once
  *      what was written to that area outlasts a stop (fdatasync). They are made in the order told, each
  *      before ts_called says that it was. Of a write that was refused any part may have been made.
- *   3. A handle begins as TS_EMPTY, is not copied, and stays on the thread that opened it, which makes one
- *      call at a time. Several threads have one of them own it and serve the others by a queue (owner.c
- *      of the examples).
+ *   3. A handle begins as TS_EMPTY, is not copied, and one call of it is made at a time: by the thread that
+ *      opened it, or by several, each call under one lock. timestore_shared.h is such a host for files; owner.c
+ *      of the examples has one thread own the handle and serve the others by a queue.
  *   4. No pointer is null, also where the length beside it is 0; memory that is written to lies apart from
  *      all else that the call is given, and lengths are those of the memory.
  *   5. Stores that are open in one process have marks whose lowest 15 bits differ. Then a number of one names

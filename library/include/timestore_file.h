@@ -1,5 +1,6 @@
 /* A host of timestore for three files of a folder, status, heap and archive, as the program `timestore`
- * has them: under a lock, written by pwrite and fdatasync, and read by pread into memory of its own. */
+ * has them: under a lock, written by pwrite and fdatasync, and read by pread into memory of its own. For one
+ * thread; timestore_shared.h has the same for any. */
 #ifndef TIMESTORE_FILE_H
 #define TIMESTORE_FILE_H
 #include "timestore.h"

@@ -1,5 +1,6 @@
 /* A host of timestore for three files of a folder. */
 #define _GNU_SOURCE
+#include "file_host.h"
 #include "files.h"
 #include "steps.h"
 #include <errno.h>
@@ -258,17 +259,23 @@ static void wrote_archive(ts_file *file, const ts_device *call) {
 
 /* ---- device calls and steps */
 
-static int32_t make_write(ts_file *file, const ts_device *call) {
-    int32_t code = tsi_write(&file->files, (int)call->area, file->host.bytes, (size_t)call->len, call->at);
-    if (code == TS_OK && call->area == TS_ARCHIVE) wrote_archive(file, call);
-    return code;
+int32_t tsi_file_make(const ts_file *file, const ts_device *call) {
+    if (call->kind == TS_SYNC) return tsi_sync(&file->files, (int)call->area);
+    return tsi_write(&file->files, (int)call->area, file->host.bytes, (size_t)call->len, call->at);
 }
+
+void tsi_file_made(ts_file *file, const ts_device *call, int32_t code) {
+    if (code != TS_OK) file->cause = *tsi_last_cause();
+    else if (call->kind == TS_WRITE && call->area == TS_ARCHIVE) wrote_archive(file, call);
+}
+
+tsi_host *tsi_file_host(ts_file *file) { return &file->host; }
 
 /* Makes a device call of the file that this is the host of. */
 static bool make(tsi_host *host, const ts_device *call) {
     ts_file *file = (ts_file *)host;
-    int32_t code = call->kind == TS_WRITE ? make_write(file, call) : tsi_sync(&file->files, (int)call->area);
-    if (code != TS_OK) file->cause = *tsi_last_cause();
+    int32_t code = tsi_file_make(file, call);
+    tsi_file_made(file, call, code);
     return code == TS_OK;
 }
 

@@ -6,6 +6,7 @@
 #include <errno.h>
 #include <fcntl.h>
 #include <stdarg.h>
+#include <stdatomic.h>
 #include <stdlib.h>
 #include <string.h>
 #include <sys/mman.h>
@@ -26,6 +27,8 @@ typedef struct page {
 
 static _Thread_local uint64_t made, refused_call;
 static _Thread_local int call_errno, read_errno;
+static atomic_uint_fast64_t made_by_all, refused_of_all; /* before the call that is refused of all threads' */
+static atomic_int errno_of_all;
 static bool loses, keeps, has_direct, is_direct[FDS_MOST];
 static page *pages[PAGES_MOST];
 
@@ -35,6 +38,12 @@ void faults_refuse(uint64_t call, int number) {
     made = 0;
     refused_call = call;
     call_errno = number;
+}
+
+void faults_refuse_of_all(uint64_t call, int number) {
+    atomic_store(&made_by_all, 0);
+    atomic_store(&errno_of_all, number);
+    atomic_store(&refused_of_all, call);
 }
 
 void faults_refuse_reads(int number) { read_errno = number; }
@@ -47,9 +56,10 @@ void faults_keep(bool direct) {
 }
 
 static bool is_refused(void) {
-    if (++made != refused_call) return false;
-    errno = call_errno;
-    return true;
+    bool is_of_all = atomic_fetch_add(&made_by_all, 1) + 1 == atomic_load(&refused_of_all);
+    bool is_of_thread = ++made == refused_call;
+    if (is_of_thread || is_of_all) errno = is_of_thread ? call_errno : atomic_load(&errno_of_all);
+    return is_of_thread || is_of_all;
 }
 
 /* ---- pages that the disk lacks */

@@ -8,6 +8,9 @@
    0 for none. */
 void faults_refuse(uint64_t call, int number);
 
+/* The same of all threads together. */
+void faults_refuse_of_all(uint64_t call, int number);
+
 /* All reads of this thread from now on are refused with this errno; 0 for none. */
 void faults_refuse_reads(int number);
 

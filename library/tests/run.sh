@@ -8,7 +8,7 @@ out=$(cd "$1" && pwd)
 program=${2:-$top/../crates/timestore/out/timestore}
 work=$(mktemp -d)
 trap 'umount "$work/stale/mounted" 2> /dev/null || true; rm -rf "$work"' EXIT
-warnings="-std=c11 -Wall -Wextra -pedantic -g -O1 -I$top/include"
+warnings="-std=c11 -Wall -Wextra -pedantic -g -O1 -pthread -I$top/include"
 
 say() { printf '%-60s ' "$1"; }
 
@@ -54,10 +54,10 @@ if ! { echo 'int main(void){return 0;}' | gcc -x c - $sanitized -o "$work/probe"
     echo "gcc's sanitizers do not run here: the tests run without"
     sanitized=""
 fi
-for test in rows worked refused memory lost reads forks; do
+for test in rows worked refused memory lost reads forks shared shared_memory; do
     say "C, $test${sanitized:+ (address, undefined, leak)}"
     wrapped=
-    [ "$test" != memory ] || wrapped="-Wl,--wrap=malloc,--wrap=calloc,--wrap=realloc"
+    case $test in *memory) wrapped="-Wl,--wrap=malloc,--wrap=calloc,--wrap=realloc" ;; esac
     # shellcheck disable=SC2086
     build "$test" $sanitized $wrapped "$here/$test.c"
     mkdir "$work/$test-folder"
@@ -84,6 +84,33 @@ elif unshare -rm mount -t tmpfs none "$work/small" 2> /dev/null; then
 else
     printf '(no full disk: no file system can be mounted here) '
     passes "$work/causes" "$work/causes-folder"
+fi
+
+say "C, sixteen threads beside a small machine"
+build shared_soak "$here/shared_soak.c"
+mkdir "$work/soak"
+soaked() { "$work/shared_soak" "$1" "${SOAK:-3000}" "${SEED:-1}" > "$work/said" && printf '%s ' "$(cat "$work/said")"; }
+passes soaked "$work/soak"
+say "C, a process that is killed amid the commits of sixteen threads"
+build shared_killed "$here/shared_killed.c"
+mkdir "$work/threads-killed"
+killed() { "$work/shared_killed" "$work/threads-killed" 8 > "$work/said" && printf '%s ' "$(cat "$work/said")"; }
+passes killed
+of_threads=-fsanitize=thread
+tsan= # where the machine's addresses are too random for the sanitizer, without that
+if ! { echo 'int main(void){return 0;}' | gcc -x c - $of_threads -o "$work/probe" && "$work/probe"; } > /dev/null 2>&1; then
+    tsan="setarch -R"
+fi
+if { echo 'int main(void){return 0;}' | gcc -x c - $of_threads -o "$work/probe" && $tsan "$work/probe"; } > /dev/null 2>&1; then
+    for test in shared shared_soak; do
+        say "C, $test (thread sanitizer)"
+        build "$test-threads" $of_threads "$here/$test.c"
+        mkdir "$work/$test-threads-folder"
+        watched_threads() { $tsan "$work/$test-threads" "$work/$test-threads-folder" "$@" > "$work/said" && printf '%s ' "$(cat "$work/said")"; }
+        if [ "$test" = shared ]; then passes watched_threads; else passes watched_threads "${SOAK:-3000}" 2; fi
+    done
+else
+    echo "gcc's thread sanitizer does not run here"
 fi
 
 if command -v valgrind > /dev/null; then
@@ -295,6 +322,9 @@ if command -v mypy > /dev/null; then
 fi
 say "Python, calls"
 passes env LD_PRELOAD="$work/faults.so" python3 "$here/calls.py" "$work"
+
+say "Python, a store that threads share"
+passes env LD_PRELOAD="$work/faults.so" python3 "$here/shared.py" "$work/shared-python"
 
 say "Python, random calls beside a machine and a plain reader"
 passes python3 "$here/play.py" "$work/play" "${SEED:-1}"

@@ -65,7 +65,8 @@ first_fails : (area : List ℕ) (run : RunEntry) (key : Key) (time : ℕ) (read 
 first_fails area run key time [] n is less = absurd (omega arith)
 first_fails area run key time (m ∷ read) n is less =
     by_test (λ before. first_fails area run key time read n before less) (precedes key time (nth_head area run m)) refl where
-      by_test : (n ≡ high_of area run key time read → precedes key time (nth_head area run n) ≡ false) → (b : Bool) → precedes key time (nth_head area run m) ≡ b
+      by_test : (n ≡ high_of area run key time read → precedes key time (nth_head area run n) ≡ false) → (b : Bool)
+          → precedes key time (nth_head area run m) ≡ b
           → precedes key time (nth_head area run n) ≡ false
       by_test rest true test = rest (is ∙ ap (λ (b : Bool). cond b (high_of area run key time read) m) test)
       by_test rest false test = let same : n ≡ m =

@@ -99,7 +99,8 @@ impl BlockReader {
     ) -> Result<bool, DeviceFault>
         requires part { skip + length out.old ≤ length block.old }
         ensures disk { D.state disk.new ≡ looked result (D.state disk.old) }
-        ensures kept { Keeps (start + length block.old) D.tells (archive_of (D.state disk.old)) (parts_in self.old.cache.blocks) (parts_in self.new.cache.blocks) }
+        ensures kept { Keeps (start + length block.old) D.tells (archive_of (D.state disk.old)) (parts_in self.old.cache.blocks)
+            (parts_in self.new.cache.blocks) }
         ensures bytes { IsTrue D.tells
             → IfOk result (λ there. IsTrue there → out.new ≡ slice_range (archive_of (D.state disk.old)) (start + skip) (start + skip + length out.old)) }
         ensures there { IsTrue D.tells → start + length block.old ≤ length (archive_of (D.state disk.old)) → IfOk result (λ there. IsTrue there) }

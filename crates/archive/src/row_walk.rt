@@ -14,7 +14,8 @@ impl ArchiveReader {
     ghost use Rattle.archive.specs.Answers.{is_wanted, row_of, rows_in};
     ghost use Rattle.archive.specs.Readers.{kept_of};
     ghost use Rattle.archive.specs.declared.head.Placed.{Placed};
-    ghost use Rattle.archive.specs.Searches.{archive_of, after_query, LooksInto, Reads, Answers, IsFaultIn, IsPlaced, IsSeen, IsPlace, AreSkipped, heads_to_find};
+    ghost use Rattle.archive.specs.Searches.{archive_of, after_query, LooksInto, Reads, Answers, IsFaultIn, IsPlaced, IsSeen, IsPlace, AreSkipped};
+    ghost use Rattle.archive.specs.Searches.{heads_to_find};
     ghost use Rattle.archive.specs.Damages.{placed_at, IsHeadSound, IsValueBroken, IfDamaged};
     ghost use Rattle.archive.specs.Traces.{IsOneKey, HasPart, GivesRow, GoesOn, IsSkipBroken, IsWalked, IsWalkBroken, IsOfRuns, IsDamagedRun};
 
@@ -37,7 +38,8 @@ impl ArchiveReader {
             → IsPlaced records r placed.now → Answers result (λ _. rows.new.items ≡ rows.old.items ++ row_of R.shown wanted.now r) }
         ensures exact { IsTrue D.tells → IsRight (kept_of self.old) (archive_of (D.state disk.old))
             → placed.now ≡ placed_at (archive_of (D.state disk.old)) run.now placed.now.number
-            → MatchResult result (λ _. (row : List R) × GivesRow R.shown (archive_of (D.state disk.old)) wanted.now run.now placed.now.number row × (rows.new.items ≡ rows.old.items ++ row))
+            → MatchResult result (λ _. (row : List R) × GivesRow R.shown (archive_of (D.state disk.old)) wanted.now run.now placed.now.number row
+            × (rows.new.items ≡ rows.old.items ++ row))
             (IfDamaged (λ _. HasPart wanted.now placed.now.head × IsValueBroken (archive_of (D.state disk.old)) run.now placed.now.number)) }
     {
         let from = placed.head.from.max(wanted.a);
@@ -66,9 +68,11 @@ impl ArchiveReader {
         ensures behind { IfOk result (λ bound. placed.now.number < bound.number) }
         ensures few { IfOk result (λ bound. bound.number ≤ run.now.slot.records) }
         ensures only { (records : List ArchiveRecord) (r : ArchiveRecord) → Reads D.tells (kept_of self.old) (D.state disk.old) run.now records
-            → IsPlaced records r placed.now → Answers result (λ bound. AreSkipped records wanted.now placed.now.number bound.number × IsSeen records bound.last) }
+            → IsPlaced records r placed.now → Answers result (λ bound. AreSkipped records wanted.now placed.now.number bound.number
+            × IsSeen records bound.last) }
         ensures exact { (last : Option Placed) → IsTrue D.tells → IsRight (kept_of self.old) (archive_of (D.state disk.old))
-            → (placed.now ≡ placed_at (archive_of (D.state disk.old)) run.now placed.now.number) × IsHeadSound (archive_of (D.state disk.old)) run.now last placed.now.number
+            → (placed.now ≡ placed_at (archive_of (D.state disk.old)) run.now placed.now.number)
+            × IsHeadSound (archive_of (D.state disk.old)) run.now last placed.now.number
             → MatchResult result (λ bound. GoesOn (archive_of (D.state disk.old)) wanted.now run.now placed.now.number bound.number bound.last)
             (IfDamaged (λ _. IsSkipBroken (archive_of (D.state disk.old)) wanted.now run.now placed.now.number)) }
     {
@@ -91,11 +95,13 @@ impl ArchiveReader {
     ) -> Result<(), ArchiveFault>
         ensures looks { LooksInto run.now D.tells (D.state disk.old) (D.state disk.new) (kept_of self.old) (kept_of self.new) result }
         ensures rises { self.old.heads ≤ self.new.heads }
-        ensures heads { IsOneKey wanted.now → OnOk result (self.new.heads + length rows.old.items ≤ self.old.heads + (digits run.now.slot.records + 1) + length rows.new.items) }
+        ensures heads { IsOneKey wanted.now → OnOk result (self.new.heads + length rows.old.items
+            ≤ self.old.heads + (digits run.now.slot.records + 1) + length rows.new.items) }
         ensures only { (records : List ArchiveRecord) → Reads D.tells (kept_of self.old) (D.state disk.old) run.now records
             → Answers result (λ _. rows.new.items ≡ rows.old.items ++ rows_in R.shown wanted.now records) }
         ensures exact { IsTrue D.tells → IsRight (kept_of self.old) (archive_of (D.state disk.old))
-            → MatchResult result (λ _. (found : List R) × IsWalked R.shown (archive_of (D.state disk.old)) wanted.now run.now found × (rows.new.items ≡ rows.old.items ++ found))
+            → MatchResult result (λ _. (found : List R) × IsWalked R.shown (archive_of (D.state disk.old)) wanted.now run.now found
+            × (rows.new.items ≡ rows.old.items ++ found))
             (IfDamaged (λ _. IsWalkBroken R.shown (archive_of (D.state disk.old)) wanted.now run.now)) }
     {
         let bound = self.count_before(disk, run, &wanted.first, wanted.a)?;
@@ -127,13 +133,15 @@ impl ArchiveReader {
         ensures kept { (limit : ℕ) → RunsEndBy limit runs.now → Keeps limit D.tells (archive_of (D.state disk.old)) (kept_of self.old) (kept_of self.new) }
         ensures damaged { IfErr result (IsFaultIn wanted.now.a runs.now) }
         ensures rises { self.old.heads ≤ self.new.heads }
-        ensures heads { IsOneKey wanted.now → IfOk result (λ found. self.new.heads ≤ self.old.heads + heads_to_find wanted.now.a runs.now + length found.items) }
+        ensures heads { IsOneKey wanted.now → IfOk result (λ found. self.new.heads
+            ≤ self.old.heads + heads_to_find wanted.now.a runs.now + length found.items) }
         ensures only { (lists : List (List ArchiveRecord)) → IsTrue D.tells → IsRight (kept_of self.old) (archive_of (D.state disk.old))
             → HoldRuns (archive_of (D.state disk.old)) runs.now lists
             → Answers result (λ found. found.items ≡ flat_map (rows_in R.shown wanted.now) lists) }
         ensures exact { IsTrue D.tells → IsRight (kept_of self.old) (archive_of (D.state disk.old))
             → MatchResult result (λ found. IsOfRuns (IsWalked R.shown (archive_of (D.state disk.old)) wanted.now) wanted.now.a runs.now found.items)
-            (IfDamaged (IsDamagedRun (IsWalked R.shown (archive_of (D.state disk.old)) wanted.now) (IsWalkBroken R.shown (archive_of (D.state disk.old)) wanted.now) wanted.now.a runs.now)) }
+            (IfDamaged (IsDamagedRun (IsWalked R.shown (archive_of (D.state disk.old)) wanted.now)
+            (IsWalkBroken R.shown (archive_of (D.state disk.old)) wanted.now) wanted.now.a runs.now)) }
     {
         let mut rows = Vec::new(self.alloc);
         for run in runs {

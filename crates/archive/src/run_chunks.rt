@@ -63,7 +63,8 @@ impl<W: RecordWalk> RunChunks<W> {
         requires place { self.old.place ≡ Some at }
         requires size { 4123 ≤ length out.old }
         ensures some { IfSome result (λ n. index_chunks at (W.left self.old.walk) ≡ take n out.new ∷ drop 1 (index_chunks at (W.left self.old.walk))) }
-        ensures passed { IfSome result (λ n. n ≤ room → chunks_left self.new.place (W.all self.new.walk) (W.left self.new.walk) ≡ drop 1 (index_chunks at (W.left self.old.walk))) }
+        ensures passed { IfSome result (λ n. n ≤ room → chunks_left self.new.place (W.all self.new.walk) (W.left self.new.walk)
+            ≡ drop 1 (index_chunks at (W.left self.old.walk))) }
         ensures kept { IfSome result (λ n. room < n → self.new ≡ self.old) }
         ensures short { IfSome result (λ n. n ≤ 4123) }
         ensures none { IfNone result (W.left self.old.walk ≡ []) }

@@ -20,7 +20,8 @@ const SHORT_SPELLED: usize = 256;
 /// The place, if records leave room for it as that of the n-th.
 fn check_place(run: &RunEntry, n: u64, place: u64) -> Result<u64, ArchiveFault>
     requires { n ≤ run.now.slot.records }
-    ensures { MatchResult result (λ found. (found ≡ place) × IsPlace run.now n place) (λ fault. (fault ≡ ArchiveFault.Damaged run.now.slot.start) × ¬ IsPlace run.now n place) }
+    ensures { MatchResult result (λ found. (found ≡ place) × IsPlace run.now n place)
+        (λ fault. (fault ≡ ArchiveFault.Damaged run.now.slot.start) × ¬ IsPlace run.now n place) }
 {
     if !is_place(run, n, place) {
         return Err(ArchiveFault::Damaged(run.slot.start));
@@ -36,7 +37,8 @@ fn is_record_room(place: u64, end: u64) -> bool
 }
 
 impl ArchiveReader {
-    ghost use Rattle.std.specs.Prelude.{◌⊎◌, ◌≢◌, MatchResult, ◌≡◌, ℕ, ◌+◌, ◌-◌, ◌^◌, ◌<◌, ◌≤◌, List, IsTrue, Some, IfOk, OnOk, min, length, slice_get, slice_range};
+    ghost use Rattle.std.specs.Prelude.{◌⊎◌, ◌≢◌, MatchResult, ◌≡◌, ℕ, ◌+◌, ◌-◌, ◌^◌, ◌<◌, ◌≤◌, List, IsTrue, Some, IfOk, OnOk, min, length, slice_get};
+    ghost use Rattle.std.specs.Prelude.{slice_range};
     ghost use Rattle.law_image.specs.Reading.{ArchiveRecord};
     ghost use Rattle.wire.specs.Values.{IsValue, value_bytes};
     ghost use Rattle.archive.specs.Parts.{IsRight};
@@ -60,7 +62,8 @@ impl ArchiveReader {
         ensures only { (records : List ArchiveRecord) → Reads D.tells (kept_of self.old) (D.state disk.old) run.now records
             → Answers result (λ _. buf.new ≡ slice_range (archive_of (D.state disk.old)) (run.now.slot.start + at) (run.now.slot.start + at + length buf.old)) }
         ensures exact { IsTrue D.tells → IsRight (kept_of self.old) (archive_of (D.state disk.old))
-            → MatchResult result (λ _. buf.new ≡ slice_range (archive_of (D.state disk.old)) (run.now.slot.start + at) (run.now.slot.start + at + length buf.old)) (IfDamaged (λ _. length (archive_of (D.state disk.old)) < run_end run.now)) }
+            → MatchResult result (λ _. buf.new ≡ slice_range (archive_of (D.state disk.old)) (run.now.slot.start + at)
+            (run.now.slot.start + at + length buf.old)) (IfDamaged (λ _. length (archive_of (D.state disk.old)) < run_end run.now)) }
     {
         self.blocks.read(disk, run, at, buf)?;
         Ok(())
@@ -80,7 +83,8 @@ impl ArchiveReader {
         ensures only { (records : List ArchiveRecord) → Reads D.tells (kept_of self.old) (D.state disk.old) run.now records
             → Answers result (λ place. place ≡ place_of records n) }
         ensures exact { IsTrue D.tells → IsRight (kept_of self.old) (archive_of (D.state disk.old))
-            → MatchResult result (λ place. (place ≡ entry_at (archive_of (D.state disk.old)) run.now n) × IsEntryThere (archive_of (D.state disk.old)) run.now n) (IfDamaged (λ _. IsEntryBroken (archive_of (D.state disk.old)) run.now n)) }
+            → MatchResult result (λ place. (place ≡ entry_at (archive_of (D.state disk.old)) run.now n)
+            × IsEntryThere (archive_of (D.state disk.old)) run.now n) (IfDamaged (λ _. IsEntryBroken (archive_of (D.state disk.old)) run.now n)) }
     {
         let index = run.slot.len - 8 * run.slot.records;
         if n == run.slot.records {
@@ -111,7 +115,9 @@ impl ArchiveReader {
         ensures only { (records : List ArchiveRecord) (r : ArchiveRecord) → Reads D.tells (kept_of self.old) (D.state disk.old) run.now records
             → slice_get records n ≡ Some r → IsSeen records last.now → Answers result (IsPlaced records r) }
         ensures exact { IsTrue D.tells → IsRight (kept_of self.old) (archive_of (D.state disk.old))
-            → MatchResult result (λ placed. (placed ≡ placed_at (archive_of (D.state disk.old)) run.now n) × IsHeadSound (archive_of (D.state disk.old)) run.now last.now n) (IfDamaged (λ _. IsHeadBroken (archive_of (D.state disk.old)) run.now last.now n)) }
+            → MatchResult result (λ placed. (placed ≡ placed_at (archive_of (D.state disk.old)) run.now n)
+            × IsHeadSound (archive_of (D.state disk.old)) run.now last.now n)
+            (IfDamaged (λ _. IsHeadBroken (archive_of (D.state disk.old)) run.now last.now n)) }
     {
         let place = self.read_place(disk, run, n)?;
         let mut bytes = [0; HEAD_LEN];
@@ -143,11 +149,15 @@ impl ArchiveReader {
         ensures looks { LooksInto run.now D.tells (D.state disk.old) (D.state disk.new) (kept_of self.old) (kept_of self.new) result }
         ensures heads { self.new.heads ≡ self.old.heads }
         ensures only { (records : List ArchiveRecord) (value : List (List ℕ)) (len : ℕ) → Reads D.tells (kept_of self.old) (D.state disk.old) run.now records
-            → len ≡ length buf.old → IsValue value → slice_range (archive_of (D.state disk.old)) (run.now.slot.start + at) (run.now.slot.start + at + len) ≡ value_bytes value
+            → len ≡ length buf.old → IsValue value → slice_range (archive_of (D.state disk.old)) (run.now.slot.start + at) (run.now.slot.start + at + len)
+            ≡ value_bytes value
             → Answers result (λ found. found ≡ value) }
         ensures exact { IsTrue D.tells → IsRight (kept_of self.old) (archive_of (D.state disk.old))
-            → MatchResult result (λ value. IsValue value × (slice_range (archive_of (D.state disk.old)) (run.now.slot.start + at) (run.now.slot.start + at + length buf.old) ≡ value_bytes value))
-            (IfDamaged (λ _. (length (archive_of (D.state disk.old)) < run_end run.now) ⊎ ((value : List (List ℕ)) → IsValue value → slice_range (archive_of (D.state disk.old)) (run.now.slot.start + at) (run.now.slot.start + at + length buf.old) ≢ value_bytes value))) }
+            → MatchResult result (λ value. IsValue value × (slice_range (archive_of (D.state disk.old)) (run.now.slot.start + at)
+            (run.now.slot.start + at + length buf.old) ≡ value_bytes value))
+            (IfDamaged (λ _. (length (archive_of (D.state disk.old)) < run_end run.now)
+            ⊎ ((value : List (List ℕ)) → IsValue value → slice_range (archive_of (D.state disk.old)) (run.now.slot.start + at)
+            (run.now.slot.start + at + length buf.old) ≢ value_bytes value))) }
     {
         self.read_part(disk, run, at, buf)?;
         decode_value(self.alloc, run, buf)
@@ -168,7 +178,8 @@ impl ArchiveReader {
             → IsPlaced records r placed.now → Answers result (λ value. value ≡ r.version.value) }
         ensures exact { IsTrue D.tells → IsRight (kept_of self.old) (archive_of (D.state disk.old))
             → placed.now ≡ placed_at (archive_of (D.state disk.old)) run.now placed.now.number
-            → MatchResult result (IsValueAt (archive_of (D.state disk.old)) run.now placed.now.number) (IfDamaged (λ _. IsValueBroken (archive_of (D.state disk.old)) run.now placed.now.number)) }
+            → MatchResult result (IsValueAt (archive_of (D.state disk.old)) run.now placed.now.number)
+            (IfDamaged (λ _. IsValueBroken (archive_of (D.state disk.old)) run.now placed.now.number)) }
     {
         let end = self.read_place(disk, run, placed.number + 1)?;
         if !is_record_room(placed.place, end) {
@@ -194,8 +205,11 @@ impl ArchiveReader {
             → IsValue value → slice_range (archive_of (D.state disk.old)) (run.now.slot.start + at) (run.now.slot.start + at + len) ≡ value_bytes value
             → Answers result (λ found. found ≡ value) }
         ensures exact { IsTrue D.tells → IsRight (kept_of self.old) (archive_of (D.state disk.old))
-            → MatchResult result (λ value. IsValue value × (slice_range (archive_of (D.state disk.old)) (run.now.slot.start + at) (run.now.slot.start + at + len) ≡ value_bytes value))
-            (IfDamaged (λ _. (length (archive_of (D.state disk.old)) < run_end run.now) ⊎ ((value : List (List ℕ)) → IsValue value → slice_range (archive_of (D.state disk.old)) (run.now.slot.start + at) (run.now.slot.start + at + len) ≢ value_bytes value))) }
+            → MatchResult result (λ value. IsValue value × (slice_range (archive_of (D.state disk.old)) (run.now.slot.start + at)
+            (run.now.slot.start + at + len) ≡ value_bytes value))
+            (IfDamaged (λ _. (length (archive_of (D.state disk.old)) < run_end run.now)
+            ⊎ ((value : List (List ℕ)) → IsValue value → slice_range (archive_of (D.state disk.old)) (run.now.slot.start + at)
+            (run.now.slot.start + at + len) ≢ value_bytes value))) }
     {
         if len <= SHORT_SPELLED {
             let mut bytes = [0; SHORT_SPELLED];
@@ -222,8 +236,11 @@ impl ArchiveReader {
             → IsValue value → slice_range (archive_of (D.state disk.old)) (run.now.slot.start + at) (run.now.slot.start + at + len) ≡ value_bytes value
             → Answers result (λ found. found ≡ value) }
         ensures exact { IsTrue D.tells → IsRight (kept_of self.old) (archive_of (D.state disk.old))
-            → MatchResult result (λ value. IsValue value × (slice_range (archive_of (D.state disk.old)) (run.now.slot.start + at) (run.now.slot.start + at + len) ≡ value_bytes value))
-            (IfDamaged (λ _. (length (archive_of (D.state disk.old)) < run_end run.now) ⊎ ((value : List (List ℕ)) → IsValue value → slice_range (archive_of (D.state disk.old)) (run.now.slot.start + at) (run.now.slot.start + at + len) ≢ value_bytes value))) }
+            → MatchResult result (λ value. IsValue value × (slice_range (archive_of (D.state disk.old)) (run.now.slot.start + at)
+            (run.now.slot.start + at + len) ≡ value_bytes value))
+            (IfDamaged (λ _. (length (archive_of (D.state disk.old)) < run_end run.now)
+            ⊎ ((value : List (List ℕ)) → IsValue value → slice_range (archive_of (D.state disk.old)) (run.now.slot.start + at)
+            (run.now.slot.start + at + len) ≢ value_bytes value))) }
     {
         let mut bytes = [0; MOST_SPELLED];
         self.read_fields(disk, run, at, &mut bytes[..len])

@@ -39,7 +39,8 @@ impl ArchiveReader {
         ensures only { (records : List ArchiveRecord) → Reads D.tells (kept_of self.old) (D.state disk.old) run.now records
             → Answers result (λ bound. IsBound records key.now time bound.number × IsSeen records bound.last) }
         ensures exact { IsTrue D.tells → IsRight (kept_of self.old) (archive_of (D.state disk.old))
-            → MatchResult result (λ bound. (read : List ℕ) × IsSearched (archive_of (D.state disk.old)) run.now key.now time read bound.number × (bound.last ≡ last_of (archive_of (D.state disk.old)) run.now read))
+            → MatchResult result (λ bound. (read : List ℕ) × IsSearched (archive_of (D.state disk.old)) run.now key.now time read bound.number
+            × (bound.last ≡ last_of (archive_of (D.state disk.old)) run.now read))
             (IfDamaged (λ _. IsSearchBroken (archive_of (D.state disk.old)) run.now key.now time)) }
     {
         let mut low = 0;
@@ -78,8 +79,10 @@ impl ArchiveReader {
         ensures only { (records : List ArchiveRecord) (r : ArchiveRecord) → Reads D.tells (kept_of self.old) (D.state disk.old) run.now records
             → IsPlaced records r from.now → Answers result (λ bound. IsBound records key.now time bound.number × IsSeen records bound.last) }
         ensures exact { IsTrue D.tells → IsRight (kept_of self.old) (archive_of (D.state disk.old))
-            → from.now ≡ placed_at (archive_of (D.state disk.old)) run.now from.now.number → IsHeadSound (archive_of (D.state disk.old)) run.now None from.now.number
-            → MatchResult result (λ bound. (read : List ℕ) × IsSearched (archive_of (D.state disk.old)) run.now key.now time (read ++ from.now.number ∷ []) bound.number
+            → from.now ≡ placed_at (archive_of (D.state disk.old)) run.now from.now.number
+            → IsHeadSound (archive_of (D.state disk.old)) run.now None from.now.number
+            → MatchResult result (λ bound. (read : List ℕ) × IsSearched (archive_of (D.state disk.old)) run.now key.now time
+            (read ++ from.now.number ∷ []) bound.number
             × (bound.last ≡ last_of (archive_of (D.state disk.old)) run.now (read ++ from.now.number ∷ [])))
             (IfDamaged (λ _. IsSearchBrokenFrom (archive_of (D.state disk.old)) run.now key.now time from.now.number)) }
     {
@@ -117,7 +120,8 @@ impl ArchiveReader {
         ensures only { (records : List ArchiveRecord) → Reads D.tells (kept_of self.old) (D.state disk.old) run.now records
             → Answers result (λ found. found ≡ standing_at (run_versions key.now records) time) }
         ensures exact { IsTrue D.tells → IsRight (kept_of self.old) (archive_of (D.state disk.old))
-            → MatchResult result (IsFoundIn (archive_of (D.state disk.old)) run.now key.now time) (IfDamaged (λ _. IsFindBroken (archive_of (D.state disk.old)) run.now key.now time)) }
+            → MatchResult result (IsFoundIn (archive_of (D.state disk.old)) run.now key.now time)
+            (IfDamaged (λ _. IsFindBroken (archive_of (D.state disk.old)) run.now key.now time)) }
     {
         let bound = self.count_before(disk, run, key, time)?;
         if bound.number == run.slot.records {

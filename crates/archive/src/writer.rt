@@ -31,7 +31,8 @@ impl<W: RecordWalk> Model for RunWriter<W> {
       records = w.records;
     } };
 
-    ghost invariant = { λ w. (w.left ≡ length (rest_of w.packer.skip (chunks_left w.packer.chunks.place (W.all w.packer.chunks.walk) (W.left w.packer.chunks.walk))))
+    ghost invariant = { λ w. (w.left ≡ length (rest_of w.packer.skip
+        (chunks_left w.packer.chunks.place (W.all w.packer.chunks.walk) (W.left w.packer.chunks.walk))))
         × (w.at + w.left < 2 ^ 63) };
 }
 

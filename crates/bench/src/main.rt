@@ -1,12 +1,10 @@
 //! Measures the store, beside what the files and the memory can do themselves, and soaks one.
 //!
 //! `bench VERB FOLDER [COUNT [NUMBER]]` makes its stores in FOLDER, which is there and empty, and prints one
-//! line of JSON, of a soak a line for each answer. `bench leaves` times the crates that hold the store's
-//! data, and `bench trial` does a little of that. Without words it prints how it is called.
+//! line of JSON, of a soak a line for each answer. Without words it prints how it is called.
 #![tactic(auto)]
 
 mod fault;
-mod leaves;
 mod many_callers;
 mod numbers;
 mod one_caller;
@@ -21,14 +19,12 @@ use std::process::ExitCode;
 use words::Asked;
 
 /// How the program is called.
-const USAGE: &str = "usage: bench VERB FOLDER [COUNT [NUMBER]], or bench leaves, or bench trial
+const USAGE: &str = "usage: bench VERB FOLDER [COUNT [NUMBER]]
 FOLDER is there and empty; COUNT says how often
-leaves of extents, records, runs and versions in memory a line each: a name, a number and its unit
-trial a little of that, without numbers
 w1   commits a second of one record each, one at a time
 w2g  commits a second of one record each, 16 under one gate
 w3   records a second, in commits of 1,024
-w4   values a second, each of a key as of a random time
+w4   values a second, each of a key as of a random time; for w4 to w6 and w8 each key has NUMBER versions
 w5   rows a second, of all versions of a key
 w5w  the same, walked over in a loan
 w6   scans a second of 1,000 records as of a random time
@@ -76,7 +72,6 @@ fn main(rt: HostRuntime) -> io::Result<ExitCode> {
             eprint!(rt; "{USAGE}")?;
             Ok(ExitCode::from(MISUSED))
         }
-        Asked::Leaves(scale) => status_of(&rt, leaves::measure(&rt, alloc, scale)),
         Asked::OneCaller(verb, request) => {
             status_of(&rt, one_caller::measure(&rt, alloc, verb, &request))
         }

@@ -5,7 +5,7 @@ use std::time::{Clock, Instant};
 use std::{fmt, io};
 
 /// A number with three digits behind the point.
-#[derive(Clone, Copy, Debug)]
+#[derive(Clone, Copy)]
 pub(crate) struct Thousandths(u128);
 
 impl fmt::Display for Thousandths {

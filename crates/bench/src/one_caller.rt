@@ -16,6 +16,7 @@ mod verb;
 mod writing;
 
 use crate::fault::Fault;
+use crate::records::VERSIONS;
 use crate::words::Request;
 use std::alloc::Global;
 use std::fs::File;
@@ -32,13 +33,15 @@ pub(crate) fn measure(
 ) -> Result<(), Fault> {
     let folder = request.folder;
     let count = request.count;
+    let versions = request.number.unwrap_or(VERSIONS);
+    let runs = request.number.unwrap_or(1);
     match verb {
         Verb::Commits(shape) => writing::measure(rt, alloc, folder, shape, count),
-        Verb::Queries(question) => asking::measure(rt, alloc, folder, question, count),
+        Verb::Queries(question) => asking::measure(rt, alloc, folder, question, count, versions),
         Verb::Opening => opening::measure(rt, alloc, folder, count),
-        Verb::Size => asking::measure_size(rt, alloc, folder),
+        Verb::Size => asking::measure_size(rt, alloc, folder, versions),
         Verb::Preparing(breadth) => preparing::measure(rt, alloc, folder, breadth, count),
-        Verb::Vacuum(task) => vacuuming::measure(rt, alloc, folder, task, count, request.number),
+        Verb::Vacuum(task) => vacuuming::measure(rt, alloc, folder, task, count, runs),
         Verb::Past(question) => past::measure(rt, alloc, folder, question, count),
         Verb::Reopening => reopening::measure(rt, alloc, folder, count),
         Verb::Memory => memory::measure(rt, alloc, folder, count),

@@ -1,16 +1,16 @@
 //! What the words ask for.
 
-use crate::leaves::Scale;
 use crate::{many_callers, one_caller};
 
 /// Where the files of a measurement are, and how much of it is done.
-#[derive(Clone, Copy, Debug)]
+#[derive(Clone, Copy)]
 pub(crate) struct Request<'a> {
     pub(crate) folder: &'a str,
     /// How often it is done, or of how many versions.
     pub(crate) count: u64,
-    /// In how many runs, or where the numbers of a soak come from.
-    pub(crate) number: u64,
+    /// How many versions each key has, in how many runs, or where the numbers of a soak come from; none where
+    /// no number is given.
+    pub(crate) number: Option<u64>,
 }
 
 pub(crate) enum Asked<'a> {
@@ -18,25 +18,14 @@ pub(crate) enum Asked<'a> {
     Usage,
     /// The words are none that the program knows.
     Nothing,
-    /// The crates that hold the store's data.
-    Leaves(Scale),
     /// A store with one caller.
     OneCaller(one_caller::Verb, Request<'a>),
     /// A store that threads share.
     ManyCallers(many_callers::Verb, Request<'a>),
 }
 
-/// What needs no folder.
-fn without_files<'a>(name: &str) -> Asked<'a> {
-    match name {
-        "leaves" => Asked::Leaves(Scale::Whole),
-        "trial" => Asked::Leaves(Scale::Trial),
-        _ => Asked::Nothing,
-    }
-}
-
 /// The measurement of this name, if there is one; the count is that of the name, where none is given.
-fn named<'a>(name: &str, folder: &'a str, count: Option<u64>, number: u64) -> Asked<'a> {
+fn named<'a>(name: &str, folder: &'a str, count: Option<u64>, number: Option<u64>) -> Asked<'a> {
     if let Some((verb, often)) = one_caller::known(name) {
         let count = count.unwrap_or(often);
         return Asked::OneCaller(
@@ -66,14 +55,13 @@ fn named<'a>(name: &str, folder: &'a str, count: Option<u64>, number: u64) -> As
 pub(crate) fn read<'a>(words: &[&'a str]) -> Asked<'a> {
     match words {
         [] | [_] => Asked::Usage,
-        [_, name] => without_files(name),
-        [_, name, folder] => named(name, folder, None, 1),
+        [_, name, folder] => named(name, folder, None, None),
         [_, name, folder, count] => match count.parse::<u64>() {
-            Ok(count) => named(name, folder, Some(count), 1),
+            Ok(count) => named(name, folder, Some(count), None),
             Err(_) => Asked::Nothing,
         },
         [_, name, folder, count, number] => match (count.parse::<u64>(), number.parse::<u64>()) {
-            (Ok(count), Ok(number)) => named(name, folder, Some(count), number),
+            (Ok(count), Ok(number)) => named(name, folder, Some(count), Some(number)),
             _ => Asked::Nothing,
         },
         _ => Asked::Nothing,

@@ -4,7 +4,9 @@
 ghost use Rattle.std.specs.Prelude.{◌≡◌, Some};
 ghost use Rattle.history.specs.Key.{key_of};
 ghost use Rattle.c_engine.specs.Codes.{code_number, AnswersOn};
-ghost use Rattle.c_engine.specs.Engines.{OnHandle, StaysSame, HasCalled, OpensHandle, ClosesHandle, BeginsEngine, Writes, SubmitsEngine, AbortsEngine, RedeemsEngine, GivesUp, GivesView, EndsView, PumpsEngine, PumpsJobOf, ArchivesEngine, ReclaimsEngine, RaisesEngine, RaisesFloorOf, GrowsEngine, TellsTimes, TellsCall, TellsLabels};
+ghost use Rattle.c_engine.specs.Engines.{OnHandle, StaysSame, HasCalled, OpensHandle, ClosesHandle, BeginsEngine, Writes, SubmitsEngine, AbortsEngine};
+ghost use Rattle.c_engine.specs.Engines.{RedeemsEngine, GivesUp, GivesView, EndsView, PumpsEngine, PumpsJobOf, ArchivesEngine, ReclaimsEngine, RaisesEngine};
+ghost use Rattle.c_engine.specs.Engines.{RaisesFloorOf, GrowsEngine, TellsTimes, TellsCall, TellsLabels};
 ghost use Rattle.c_engine.specs.Formats.{AnswersFormat};
 ghost use Rattle.c_engine.specs.Queries.{Sees, SeesScan, AsksRecent, AsksAt, AsksScanAt, AsksRows, AsksScanRows};
 ghost use Rattle.c_engine.specs.Writes.{Puts, Deletes};
@@ -377,7 +379,8 @@ pub extern "C" fn ts_between(
     info: &mut Info,
 ) -> i32
     ensures same { StaysSame handle.old.engine handle.new.engine }
-    ensures answers { AnswersOn (λ e said. AsksRows archive.now view (key_of relation «record») from upto e said info.new rows.new out.new) handle.old.engine result }
+    ensures answers { AnswersOn (λ e said. AsksRows archive.now view (key_of relation «record») from upto e said info.new rows.new out.new) handle.old.engine
+        result }
 {
     let Some(engine) = handle.take(alloc) else {
         return Code::Closed.number();

@@ -16,13 +16,20 @@ last_before = omega (arith, signed_arith, known_days.1, days_from_civil-day_coun
 -- a date from 1970 on has a day number of 0 or more
 pub day-from_1970 : (y : ℤ) (m d : ℕ) → pos 1970 ≤ℤ y → 1 ≤ d → pos 0 ≤ℤ days_from_civil y m d
 day-from_1970 y m d year day =
-    let civil : IsCivilDate (pos 1969) 12 31 = ((omega (arith, signed_arith), omega (arith, signed_arith)), (omega arith, omega arith), (omega arith, omega arith)) in
+    let civil : IsCivilDate (pos 1969) 12 31 =
+    ((omega (arith, signed_arith), omega (arith, signed_arith)), (omega arith, omega arith), (omega arith, omega arith)) in
     omega (arith, signed_arith, last_before, days_from_civil-day_count y m d, day_count-lt_year (pos 1969) 12 31 y m d civil day (omega (arith, signed_arith)))
 
 -- and the other way round
 pub year-from_1970 : (y : ℤ) (m d : ℕ) → IsCivilDate y m d → pos 0 ≤ℤ days_from_civil y m d → pos 1970 ≤ℤ y
 year-from_1970 y m d civil day =
-    by_lt_z y (pos 1970) (λ early. absurd (omega (arith, signed_arith, day_count-epoch, days_from_civil-day_count y m d, day_count-lt_year y m d (pos 1970) 1 1 civil (omega arith) early)))
+    by_lt_z y (pos 1970) (λ early. absurd (omega (
+      arith,
+      signed_arith,
+      day_count-epoch,
+      days_from_civil-day_count y m d,
+      day_count-lt_year y m d (pos 1970) 1 1 civil (omega arith) early,
+    )))
     (λ late. late)
 
 pub back_from_1970 : (y : ℤ) (n : ℕ) → pos 1970 ≤ℤ y → n ≡ unsigned_abs y → (y ≡ pos n) × (1970 ≤ n)
@@ -51,7 +58,14 @@ date_of m real = record {
 pub instant-upto : (m : Moment) → IsMoment m → instant_of m < 253_402_300_800_000_000
 unfolding date_of
 instant-upto m real =
-    let day : day_number m ≤ 2_932_896 = omega (arith, signed_arith, day_of m real, day_count-epoch, days_from_civil-day_count (pos m.year) m.month m.day, (day_count_bounds (pos m.year) m.month m.day ((date_of m real).year_in, real.month, real.day)).1) in
+    let day : day_number m ≤ 2_932_896 = omega (
+      arith,
+      signed_arith,
+      day_of m real,
+      day_count-epoch,
+      days_from_civil-day_count (pos m.year) m.month m.day,
+      (day_count_bounds (pos m.year) m.month m.day ((date_of m real).year_in, real.month, real.day)).1,
+    ) in
     omega (arith, day, real.hour, real.minute, real.second)
 
 -- two moments of one instant are spelled alike

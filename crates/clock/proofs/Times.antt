@@ -34,4 +34,5 @@ rising last (now ∷ nows) =
 pub times_rise_lem : TimesRise
 unfolding IsStrictlySortedBy
 times_rise_lem last nows =
-    AllPairs-from_increasing (last ∷ times_given last nows) (IsStrictlyIncreasing-from_sorted (last ∷ times_given last nows) (above last last nows (omega arith), rising last nows))
+    AllPairs-from_increasing (last ∷ times_given last nows)
+    (IsStrictlyIncreasing-from_sorted (last ∷ times_given last nows) (above last last nows (omega arith), rising last nows))

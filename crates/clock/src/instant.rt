@@ -1,5 +1,6 @@
 //! The text of an instant, `YYYY-MM-DDTHH:MM:SSZ`.
-ghost use Rattle.std.specs.Prelude.{◌≡◌, ℕ, List, [], ◌∷◌, ◌++◌, OnOk, ◌+◌, ◌*◌, ◌<◌, ◌≤◌, ◌↔◌, IfOk, IfSome, IfNone, IsSome, IsNone, Ok, None, Some, string_bytes};
+ghost use Rattle.std.specs.Prelude.{◌≡◌, ℕ, List, [], ◌∷◌, ◌++◌, OnOk, ◌+◌, ◌*◌, ◌<◌, ◌≤◌, ◌↔◌, IfOk, IfSome, IfNone, IsSome, IsNone, Ok, None, Some};
+ghost use Rattle.std.specs.Prelude.{string_bytes};
 ghost use Rattle.clock.specs.declared.instant.Moment.{Moment};
 ghost use Rattle.clock.specs.Instant.{IsMoment, FitsText, Spells, date_spelling, instant_of, second_at, spelling, time_spelling, two_digits};
 

@@ -39,7 +39,8 @@ no_key_between rows none (action.Grow dir) asked = asked
 no_key_between rows none (action.Dump dir) asked = asked
 no_key_between rows none (action.Stress writers readers rounds) asked = asked
 
-pub no_stress : (rows : List Row) → ((writers readers rounds : ℕ) → AsksStress rows (action.Stress writers readers rounds) → ⊥) → (a : Action) → AsksStress rows a → ⊥
+pub no_stress : (rows : List Row) → ((writers readers rounds : ℕ) → AsksStress rows (action.Stress writers readers rounds) → ⊥) → (a : Action)
+    → AsksStress rows a → ⊥
 no_stress rows none action.Example asked = asked
 no_stress rows none (action.Format dir slots) asked = asked
 no_stress rows none (action.Run dir) asked = asked

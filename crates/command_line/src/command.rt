@@ -120,7 +120,8 @@ fn with_arg<'a>(
     arg: Arg<'a>,
 ) -> Result<Command<'a>, AllocError>
     requires { arg.global ≡ false }
-    ensures { (app : App) (rule : Rule) → IfOk command.entry (λ c. told.IsCommand c app) → told.IsArg arg.entry rule → IfOk result (λ c. told.IsCommand c (with_rule app rule)) }
+    ensures { (app : App) (rule : Rule) → IfOk command.entry (λ c. told.IsCommand c app) → told.IsArg arg.entry rule
+        → IfOk result (λ c. told.IsCommand c (with_rule app rule)) }
 {
     command?.arg(arg)
 }
@@ -208,7 +209,8 @@ fn with_command<'a>(
     sub: Result<Command<'a>, AllocError>,
 ) -> Result<Command<'a>, AllocError>
     requires { IfOk sub (λ c. (fields_of c).has_globals ≡ false) }
-    ensures { (app below : App) → IfOk command.entry (λ c. told.IsCommand c app) → IfOk sub.entry (λ c. told.IsCommand c below) → IfOk result (λ c. told.IsCommand c (with_subcommand app below.top)) }
+    ensures { (app below : App) → IfOk command.entry (λ c. told.IsCommand c app) → IfOk sub.entry (λ c. told.IsCommand c below)
+        → IfOk result (λ c. told.IsCommand c (with_subcommand app below.top)) }
 {
     command?.subcommand(sub?)
 }

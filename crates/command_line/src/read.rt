@@ -5,7 +5,8 @@ ghost use Rattle.history.specs.declared.key.Key.{Key as AnyKey};
 ghost use Rattle.script.specs.Lines.{time_in};
 ghost use Rattle.command_line.specs.declared.action.Action.{Action as Asked};
 ghost use Rattle.command_line.specs.Commands as told;
-ghost use Rattle.command_line.specs.Asked.{HasKey, HasNumber, Asks, AsksFormat, AsksNothing, AsksRun, AsksAt, AsksBetween, AsksVacuum, AsksGrow, AsksDump, AsksStress};
+ghost use Rattle.command_line.specs.Asked.{HasKey, HasNumber, Asks, AsksFormat, AsksNothing, AsksRun, AsksAt, AsksBetween, AsksVacuum, AsksGrow, AsksDump};
+ghost use Rattle.command_line.specs.Asked.{AsksStress};
 ghost use Rattle.command_line.specs.Refused.{IsRefusal};
 
 use crate::action::Action;

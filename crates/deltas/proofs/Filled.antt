@@ -1,5 +1,6 @@
 -- An extent that is filled with one record after the other.
-use Rattle.std.proofs.Common.{◌≡◌, ◌≢◌, ℕ, ◌+◌, ◌-◌, ◌≤◌, ◌<◌, nat_le, true, false, Some, None, List, [], ◌∷◌, ◌++◌, length, take, drop, replicate, map, refl, sym, ◌∙◌, ap, subst, arith, append_assoc, length-append, length-drop, inl, inr}
+use Rattle.std.proofs.Common.{◌≡◌, ◌≢◌, ℕ, ◌+◌, ◌-◌, ◌≤◌, ◌<◌, nat_le, true, false, Some, None, List, [], ◌∷◌, ◌++◌, length, take, drop, replicate, map, refl}
+use Rattle.std.proofs.Common.{sym, ◌∙◌, ap, subst, arith, append_assoc, length-append, length-drop, inl, inr}
 use Rattle.std.specs.List.{flat_map}
 use borrow.Rule.Slice.PartMut.{put_mid, post_of}
 use Rattle.std.proofs.lemmas.Bool.{cases_lt, cases_eq}
@@ -31,7 +32,8 @@ flat_map-push [] r = append-nil (spelling r)
 flat_map-push (x ∷ xs) r = ap (λ (l : List ℕ). spelling x ++ l) (flat_map-push xs r) ∙ sym (append_assoc (spelling x) (flat_map spelling xs) (spelling r))
 
 -- what the test of the next record says
-there_is : (room : ℕ) (left : List Record) (r : Record) → first_within room left ≡ Some r → (rest : List Record) × (left ≡ r ∷ rest) × (length (spelling r) ≤ room)
+there_is : (room : ℕ) (left : List Record) (r : Record) → first_within room left ≡ Some r
+    → (rest : List Record) × (left ≡ r ∷ rest) × (length (spelling r) ≤ room)
 there_is room [] r is = cc
 there_is room (x ∷ xs) r is = elim (cases_lt room (length (spelling x))) [
   | inl over ↦ absurd (let no : nat_le (length (spelling x)) room ≡ false = grind (arith, nat_tests) in let none : None ≡ Some r = rw no at is in cc)
@@ -43,7 +45,8 @@ there_is room (x ∷ xs) r is = elim (cases_lt room (length (spelling x))) [
 ]
 
 -- one more record
-next_filled : (before rest : List Record) (count used : ℕ) (body written : List ℕ) (r : Record) → length (spelling r) ≤ 8176 - used → take (used + length (spelling r)) written ≡ take used body ++ spelling r
+next_filled : (before rest : List Record) (count used : ℕ) (body written : List ℕ) (r : Record) → length (spelling r) ≤ 8176 - used
+    → take (used + length (spelling r)) written ≡ take used body ++ spelling r
     → length written ≡ length body → IsFilling before (r ∷ rest) count used body → IsFilling before rest (count + 1) (used + length (spelling r)) written
 next_filled before rest count used body written r room front same so_far =
     let used_is = so_far.used_is in
@@ -65,18 +68,22 @@ next_filled before rest count used body written r room front same so_far =
         | inl none ↦
             let taken : so_far.taken ≡ [] = nil_from_length so_far.taken (omega (arith, counted, none)) in
             let all : before ≡ r ∷ rest = so_far.all ∙ ap (λ (l : List Record). l ++ r ∷ rest) taken in
-            let body_is : spelling r ≡ flat_map spelling (so_far.taken ++ r ∷ []) = sym (more ∙ ap (λ (l : List Record). flat_map spelling l ++ spelling r) taken) in
+            let body_is : spelling r ≡ flat_map spelling (so_far.taken ++ r ∷ []) =
+            sym (more ∙ ap (λ (l : List Record). flat_map spelling l ++ spelling r) taken) in
             ap (λ (l : List Record). bodies (map spelling l)) all ∙ ap (λ (l : List ℕ). bodies_from l (map spelling rest)) body_is
         | inr some_before ↦
             let room' : length (flat_map spelling so_far.taken) + length (spelling r) ≤ 8176 = omega (arith, used_is, fits, room) in
             let yes : nat_le (length (flat_map spelling so_far.taken) + length (spelling r)) 8176 ≡ true = grind (arith, nat_tests) in
-            let step : bodies_from (flat_map spelling so_far.taken) (spelling r ∷ map spelling rest) ≡ bodies_from (flat_map spelling so_far.taken ++ spelling r) (map spelling rest) = rw yes refl in
+            let step : bodies_from (flat_map spelling so_far.taken) (spelling r ∷ map spelling rest)
+            ≡ bodies_from (flat_map spelling so_far.taken ++ spelling r) (map spelling rest) = rw yes refl in
             so_far.packed (omega (arith, some_before)) ∙ step ∙ ap (λ (l : List ℕ). bodies_from l (map spelling rest)) (sym more)
       ];
     }
 
-pub one_filled : (before left after : List Record) (count used end : ℕ) (body written : List ℕ) (r : Record) → first_within (8176 - used) left ≡ Some r → after ≡ drop 1 left → end ≡ used + length (spelling r)
-    → take end written ≡ take used body ++ spelling r → length written ≡ length body → IsFilling before left count used body → IsFilling before after (count + 1) end written
+pub one_filled : (before left after : List Record) (count used end : ℕ) (body written : List ℕ) (r : Record) → first_within (8176 - used) left ≡ Some r
+    → after ≡ drop 1 left → end ≡ used + length (spelling r)
+    → take end written ≡ take used body ++ spelling r → length written ≡ length body → IsFilling before left count used body
+    → IsFilling before after (count + 1) end written
 one_filled before left after count used end body written r next behind end_is front same so_far =
     let there = there_is (8176 - used) left r next in
     let rest : after ≡ there.0 = behind ∙ ap (λ (l : List Record). drop 1 l) there.1 in
@@ -95,7 +102,8 @@ over room x xs none = elim (cases_lt room (length (spelling x))) [
 abbrev IsShort : List Record → Type 0
 IsShort left = (first : Record) (rest : List Record) → left ≡ first ∷ rest → length (spelling first) ≤ 4116
 
-packed_whole : (before left : List Record) (count used : ℕ) (body : List ℕ) → first_within (8176 - used) left ≡ None → IsShort left → (so_far : IsFilling before left count used body) → before ≢ []
+packed_whole : (before left : List Record) (count used : ℕ) (body : List ℕ) → first_within (8176 - used) left ≡ None → IsShort left
+    → (so_far : IsFilling before left count used body) → before ≢ []
     → bodies (map spelling before) ≡ flat_map spelling so_far.taken ∷ bodies (map spelling left)
 packed_whole before [] count used body none short so_far some =
     let counted = so_far.counted in
@@ -118,11 +126,14 @@ packed_whole before (x ∷ xs) count used body none short so_far some =
     ] in
     let past : 8176 < length (flat_map spelling so_far.taken) + length (spelling x) = omega (arith, used_is, long) in
     let no : nat_le (length (flat_map spelling so_far.taken) + length (spelling x)) 8176 ≡ false = grind (arith, nat_tests) in
-    let step : bodies_from (flat_map spelling so_far.taken) (spelling x ∷ map spelling xs) ≡ flat_map spelling so_far.taken ∷ bodies_from (spelling x) (map spelling xs) = rw no refl in
+    let step : bodies_from (flat_map spelling so_far.taken) (spelling x ∷ map spelling xs)
+    ≡ flat_map spelling so_far.taken ∷ bodies_from (spelling x) (map spelling xs) = rw no refl in
     so_far.packed positive ∙ step
 
-pub body_filled : (before left : List Record) (count used : ℕ) (body written : List ℕ) → first_within (8176 - used) left ≡ None → IsShort left → IsFilling before left count used body
-    → written ≡ take used body ++ replicate (8176 - used) 0 → (bytes : List ℕ) × IsFirstBody before bytes (record { records = count; used = used }) left × (written ≡ bytes ++ replicate (8176 - length bytes) 0)
+pub body_filled : (before left : List Record) (count used : ℕ) (body written : List ℕ) → first_within (8176 - used) left ≡ None → IsShort left
+    → IsFilling before left count used body
+    → written ≡ take used body ++ replicate (8176 - used) 0
+    → (bytes : List ℕ) × IsFirstBody before bytes (record { records = count; used = used }) left × (written ≡ bytes ++ replicate (8176 - length bytes) 0)
 body_filled before left count used body written none short so_far written_is =
     let used_is = so_far.used_is in
     let fits = so_far.fits in (
@@ -136,20 +147,27 @@ body_filled before left count used body written none short so_far written_is =
         used = used_is;
         fits = omega (arith, used_is, fits);
       },
-      written_is ∙ ap (λ (l : List ℕ). l ++ replicate (8176 - used) 0) so_far.bytes ∙ ap (λ n. flat_map spelling so_far.taken ++ replicate (8176 - n) 0) used_is,
+      written_is ∙ ap (λ (l : List ℕ). l ++ replicate (8176 - used) 0) so_far.bytes
+          ∙ ap (λ n. flat_map spelling so_far.taken ++ replicate (8176 - n) 0) used_is,
     )
 
 -- zeros written behind the records
-pub zeros_behind : (used : ℕ) (body zeros : List ℕ) → length body ≡ 8176 → used ≤ 8176 → zeros ≡ replicate (length (take (length body - used) (drop used body))) 0
+pub zeros_behind : (used : ℕ) (body zeros : List ℕ) → length body ≡ 8176 → used ≤ 8176
+    → zeros ≡ replicate (length (take (length body - used) (drop used body))) 0
     → put_mid used (length body - used) body zeros ≡ take used body ++ replicate (8176 - used) 0
 zeros_behind used body zeros len fits is =
-    let behind : post_of used (length body - used) body ≡ [] = nil_from_length (post_of used (length body - used) body) (omega (arith, length-drop (length body - used) (drop used body), length-drop used body)) in
-    let count : length (take (length body - used) (drop used body)) ≡ 8176 - used = omega (arith, length-take (length body - used) (drop used body), length-drop used body) in
-    ap (λ (l : List ℕ). take used body ++ (zeros ++ l)) behind ∙ ap (λ (l : List ℕ). take used body ++ l) (append-nil zeros ∙ is ∙ ap (λ n. replicate n 0) count)
+    let behind : post_of used (length body - used) body ≡ [] =
+    nil_from_length (post_of used (length body - used) body) (omega (arith, length-drop (length body - used) (drop used body), length-drop used body)) in
+    let count : length (take (length body - used) (drop used body)) ≡ 8176 - used =
+    omega (arith, length-take (length body - used) (drop used body), length-drop used body) in
+    ap (λ (l : List ℕ). take used body ++ (zeros ++ l)) behind
+    ∙ ap (λ (l : List ℕ). take used body ++ l) (append-nil zeros ∙ is ∙ ap (λ n. replicate n 0) count)
 
 -- the header written in front of them
-pub header_in_front : (number next used : ℕ) (old body image bytes : List ℕ) → length old ≡ 8192 → length bytes ≤ 8176 → used ≡ length bytes → body ≡ bytes ++ replicate (8176 - length bytes) 0
-    → image ≡ u32_bytes number ++ u32_bytes next ++ u32_bytes used ++ u32_bytes 0 ++ drop 16 (put_mid 16 8176 old body) → image ≡ extent_bytes (record { number = number; next = next; body = bytes })
+pub header_in_front : (number next used : ℕ) (old body image bytes : List ℕ) → length old ≡ 8192 → length bytes ≤ 8176 → used ≡ length bytes
+    → body ≡ bytes ++ replicate (8176 - length bytes) 0
+    → image ≡ u32_bytes number ++ u32_bytes next ++ u32_bytes used ++ u32_bytes 0 ++ drop 16 (put_mid 16 8176 old body)
+    → image ≡ extent_bytes (record { number = number; next = next; body = bytes })
 unfolding extent_bytes
 header_in_front number next used old body image bytes len fits used_is body_is image_is =
     let part : drop 16 (put_mid 16 8176 old body) ≡ body = behind_header old body len in

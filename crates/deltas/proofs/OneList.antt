@@ -29,7 +29,9 @@ one_list (r ∷ a) (s ∷ b) are_a are_b same =
     let tail : a ≡ b = one_list a b are_a.1 are_b.1 (sym first.behind ∙ ap behind_record same ∙ second.behind) in
     λ i. head i ∷ tail i
 
-pub one_packing : (name other : ChainName) (kinds others : Kinds) (images : List (List ℕ)) (a b : List Record) → HoldsRecords name kinds images a → HoldsRecords other others images b → a ≡ b
+pub one_packing : (name other : ChainName) (kinds others : Kinds) (images : List (List ℕ)) (a b : List Record) → HoldsRecords name kinds images a
+    → HoldsRecords other others images b → a ≡ b
 one_packing name other kinds others images a b holds_a holds_b =
     one_list a b holds_a.are_records.each holds_b.are_records.each
-    (spelled_in images a holds_a.are_records.each (are_packed name kinds images a holds_a) ∙ sym (spelled_in images b holds_b.are_records.each (are_packed other others images b holds_b)))
+    (spelled_in images a holds_a.are_records.each (are_packed name kinds images a holds_a)
+    ∙ sym (spelled_in images b holds_b.are_records.each (are_packed other others images b holds_b)))

@@ -1,12 +1,14 @@
 -- A record that was read is spelled by the bytes that stand there.
-use Rattle.std.proofs.Common.{◌≡◌, ℕ, zero, suc, ◌+◌, ◌≤◌, List, [], ◌∷◌, ◌++◌, length, drop, count_ones, slice_index, refl, sym, ◌∙◌, ap, subst, arith, append_assoc}
+use Rattle.std.proofs.Common.{◌≡◌, ℕ, zero, suc, ◌+◌, ◌≤◌, List, [], ◌∷◌, ◌++◌, length, drop, count_ones, slice_index, refl, sym, ◌∙◌, ap, subst, arith}
+use Rattle.std.proofs.Common.{append_assoc}
 use Rattle.std.proofs.lemmas.List.{length-drop, drop-drop}
 use Rattle.byteorder.specs.Endian.{little_number}
 use Rattle.wire.specs.Numbers.{u16_bytes, u64_bytes}
 use Rattle.wire.specs.Fields.{fields_bytes, fields_at, rest_at}
 use Rattle.wire.specs.Values.{value_bytes}
 use Rattle.deltas.specs.Records.{kind_of, rest_of, spelling}
-use Rattle.deltas.specs.Reading.{key_at, mask_at, from_at, count_at, HasValue, value_at, behind_value, HasContent, content_at, behind_content, HasRecord, record_at, behind_record}
+use Rattle.deltas.specs.Reading.{key_at, mask_at, from_at, count_at, HasValue, value_at, behind_value, HasContent, content_at, behind_content, HasRecord}
+use Rattle.deltas.specs.Reading.{record_at, behind_record}
 use Rattle.wire.proofs.Zeros.{AreBytes, AreBytes-drop}
 use Rattle.wire.proofs.FieldsRead.{fields_back, length-fields_at}
 use Rattle.deltas.proofs.NumbersBack.{then_2, then_8}

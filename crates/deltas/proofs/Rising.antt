@@ -41,7 +41,8 @@ unfolding IsStrictlySortedBy
 none_rise [] none = tt
 none_rise (r ∷ records) none = absurd (omega (arith, none))
 
-pub first_rises : (records rest : List Record) (first : Record) → records ≡ first ∷ rest → RisesAfter first.key rest ↔ IsStrictlySortedBy key_cmp (map (λ r. r.key) records)
+pub first_rises : (records rest : List Record) (first : Record) → records ≡ first ∷ rest
+    → RisesAfter first.key rest ↔ IsStrictlySortedBy key_cmp (map (λ r. r.key) records)
 first_rises records rest first is = (
   λ rises. subst (λ (l : List Record). IsStrictlySortedBy key_cmp (map (λ r. r.key) l)) (sym is) (sorted_from_rising first.key rest rises),
   λ sorted. rising_from_sorted first.key rest (subst (λ (l : List Record). IsStrictlySortedBy key_cmp (map (λ r. r.key) l)) is sorted),

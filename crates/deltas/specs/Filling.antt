@@ -36,7 +36,8 @@ abbrev pub AreFilled : List ℕ → List Record → List (List ℕ) → Type 0
 AreFilled [] records [] = records ≡ []
 AreFilled [] records (image ∷ images) = ⊥
 AreFilled (n ∷ ns) records [] = ⊥
-AreFilled (n ∷ ns) records (image ∷ images) = (filled : FilledExtent) × (after : List Record) × (records ≢ []) × IsFilled n (first_number ns) records image filled after × AreFilled ns after images
+AreFilled (n ∷ ns) records (image ∷ images) =
+    (filled : FilledExtent) × (after : List Record) × (records ≢ []) × IsFilled n (first_number ns) records image filled after × AreFilled ns after images
 
 -- how many extents and records
 pub record IsCountOf (left : List Record) (count : ExtentCount) : Type 0 where

@@ -1,6 +1,7 @@
 //! Floors that several may hold.
 ghost use Rattle.std.specs.Prelude.{◌≡◌, ◌↔◌, ◌&&◌, nat_lt, [], IfOk, IsTrue, None, IsOk, length};
-ghost use Rattle.floors.specs.Floors.{floor_at, floor_or, behind, with_own, raised_in, no_floors, same_floor, same_own, same_floors, all_below, AreBelow, AreRising};
+ghost use Rattle.floors.specs.Floors.{floor_at, floor_or, behind, with_own, raised_in, no_floors, same_floor, same_own, same_floors, all_below, AreBelow};
+ghost use Rattle.floors.specs.Floors.{AreRising};
 
 use std::alloc::{AllocError, Global};
 use std::marker::Model;

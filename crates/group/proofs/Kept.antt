@@ -1,5 +1,6 @@
 -- What each step keeps of the order of the transactions.
-use Rattle.std.proofs.Common.{◌≡◌, ℕ, zero, suc, ◌+◌, ◌-◌, ◌<◌, ◌≤◌, ◌==◌, nat_lt, min, cond, true, false, List, [], ◌∷◌, ◌++◌, length, take, drop, slice_get, Option, None, Some, MatchOption, refl, arith, ap, subst, inl, inr}
+use Rattle.std.proofs.Common.{◌≡◌, ℕ, zero, suc, ◌+◌, ◌-◌, ◌<◌, ◌≤◌, ◌==◌, nat_lt, min, cond, true, false, List, [], ◌∷◌, ◌++◌, length, take, drop, slice_get}
+use Rattle.std.proofs.Common.{Option, None, Some, MatchOption, refl, arith, ap, subst, inl, inr}
 use Rattle.std.specs.List.{AllByRecursion, flat_map}
 use Rattle.std.proofs.lemmas.Bool.{cases_lt}
 use Rattle.std.proofs.lemmas.Bool.Decides.{nat_tests}
@@ -31,7 +32,8 @@ pub all-push : (queue : List QueuedValue) (q : QueuedValue) → AllByRecursion H
 all-push [] q all last = (last, tt)
 all-push (x ∷ xs) q all last = (all.0, all-push xs q all.1 last)
 
-pub by-rest : (n time : ℕ) (versions : List KeyWrites) (qs : List QueuedValue) → AreBy time versions qs → AreBy time (versions_after versions (take n qs)) (drop n qs)
+pub by-rest : (n time : ℕ) (versions : List KeyWrites) (qs : List QueuedValue) → AreBy time versions qs
+    → AreBy time (versions_after versions (take n qs)) (drop n qs)
 by-rest zero time versions qs by = by
 by-rest (suc n) time versions [] by = by
 by-rest (suc n) time versions (x ∷ xs) by = by-rest n time x.after xs (by.1.0, by.1.1)
@@ -40,18 +42,22 @@ pub by-last : (time : ℕ) (versions : List KeyWrites) (qs : List QueuedValue) �
 by-last time versions [] by = by.0
 by-last time versions (x ∷ xs) by = by-last time x.after xs (by.1.0, by.1.1)
 
-all-later : (time later : ℕ) (qs : List QueuedValue) → time ≤ later → AllByRecursion (λ (q : QueuedValue). latest q.after ≤ time) qs → AllByRecursion (λ (q : QueuedValue). latest q.after ≤ later) qs
+all-later : (time later : ℕ) (qs : List QueuedValue) → time ≤ later → AllByRecursion (λ (q : QueuedValue). latest q.after ≤ time) qs
+    → AllByRecursion (λ (q : QueuedValue). latest q.after ≤ later) qs
 all-later time later [] le all = tt
 all-later time later (x ∷ xs) le all = (let first = all.0 in omega (arith, first, le), all-later time later xs le all.1)
 
-all-with : (time : ℕ) (qs : List QueuedValue) (q : QueuedValue) → AllByRecursion (λ (q : QueuedValue). latest q.after ≤ time) qs → latest q.after ≤ time → AllByRecursion (λ (q : QueuedValue). latest q.after ≤ time) (qs ++ q ∷ [])
+all-with : (time : ℕ) (qs : List QueuedValue) (q : QueuedValue) → AllByRecursion (λ (q : QueuedValue). latest q.after ≤ time) qs → latest q.after ≤ time
+    → AllByRecursion (λ (q : QueuedValue). latest q.after ≤ time) (qs ++ q ∷ [])
 all-with time [] q all last = (last, tt)
 all-with time (x ∷ xs) q all last = (all.0, all-with time xs q all.1 last)
 
-pub by-push : (time later : ℕ) (versions : List KeyWrites) (qs : List QueuedValue) (q : QueuedValue) → time ≤ later → AreBy time versions qs → latest q.after ≤ later → AreBy later versions (qs ++ q ∷ [])
+pub by-push : (time later : ℕ) (versions : List KeyWrites) (qs : List QueuedValue) (q : QueuedValue) → time ≤ later → AreBy time versions qs
+    → latest q.after ≤ later → AreBy later versions (qs ++ q ∷ [])
 by-push time later versions qs q le by last = (let first = by.0 in omega (arith, first, le), all-with later qs q (all-later time later qs le by.1) last)
 
-pub pending-later : (time later : ℕ) (o : Option (List KeyWrites)) → time ≤ later → MatchOption o (Unit {0}) (λ versions. latest versions ≤ time) → MatchOption o (Unit {0}) (λ versions. latest versions ≤ later)
+pub pending-later : (time later : ℕ) (o : Option (List KeyWrites)) → time ≤ later → MatchOption o (Unit {0}) (λ versions. latest versions ≤ time)
+    → MatchOption o (Unit {0}) (λ versions. latest versions ≤ later)
 pending-later time later None le by = tt
 pending-later time later (Some versions) le by = omega (arith, le, by)
 
@@ -61,11 +67,15 @@ pending-later time later (Some versions) le by = omega (arith, le, by)
 step-write : (member extent group : ℕ) → step_of (Storing member extent) group ≡ steps.WriteExtent → member < group
 step-write member extent group asks = elim (cases_lt member group) [
   | inl less ↦ less
-  | inr behind ↦ let no : nat_lt member group ≡ false = grind (arith, nat_tests) in let other : step_of (Storing member extent) group ≡ steps.SyncHeap = rw no refl in absurd cc
+  | inr behind ↦
+      let no : nat_lt member group ≡ false = grind (arith, nat_tests) in
+      let other : step_of (Storing member extent) group ≡ steps.SyncHeap = rw no refl in
+      absurd cc
 ]
 
 -- the next place fits too
-place_behind-fits : (group : ℕ) (queue : List QueuedValue) (member extent : ℕ) (o : Option QueuedValue) → slice_get queue member ≡ o → AllByRecursion HasExtent queue → 0 < group → member < group → StageFits (place_behind o member extent) group queue
+place_behind-fits : (group : ℕ) (queue : List QueuedValue) (member extent : ℕ) (o : Option QueuedValue) → slice_get queue member ≡ o
+    → AllByRecursion HasExtent queue → 0 < group → member < group → StageFits (place_behind o member extent) group queue
 place_behind-fits group queue member extent None found all some less = (some, omega arith, λ low q there. has_extent queue (member + 1) q all there)
 place_behind-fits group queue member extent (Some q) found all some less = elim (cases_lt (extent + 1) (length q.stored)) [
   | inl more ↦
@@ -76,16 +86,19 @@ place_behind-fits group queue member extent (Some q) found all some less = elim 
       rw test (some, omega arith, λ low p there. has_extent queue (member + 1) p all there)
 ]
 
-wrote-fits : (s : GroupStage) (group : ℕ) (queue : List QueuedValue) → AllByRecursion HasExtent queue → StageFits s group queue → step_of s group ≡ steps.WriteExtent → StageFits (stage_behind queue s) group queue
+wrote-fits : (s : GroupStage) (group : ℕ) (queue : List QueuedValue) → AllByRecursion HasExtent queue → StageFits s group queue
+    → step_of s group ≡ steps.WriteExtent → StageFits (stage_behind queue s) group queue
 wrote-fits NoGroup group queue all fits asks = absurd cc
 wrote-fits Stored group queue all fits asks = absurd cc
 wrote-fits Turning group queue all fits asks = absurd cc
-wrote-fits (Storing member extent) group queue all fits asks = place_behind-fits group queue member extent (slice_get queue member) refl all fits.0 (step-write member extent group asks)
+wrote-fits (Storing member extent) group queue all fits asks =
+    place_behind-fits group queue member extent (slice_get queue member) refl all fits.0 (step-write member extent group asks)
 
 claimed-place : (o : Option QueuedValue) (member extent group waiting : ℕ) → claimed_by (place_behind o member extent) group waiting ≡ waiting
 claimed-place None member extent group waiting = refl
 claimed-place (Some q) member extent group waiting =
-    elim (nat_lt (extent + 1) (length q.stored)) as (λ b. claimed_by (cond b (Storing member (extent + 1)) (Storing (member + 1) 0)) group waiting ≡ waiting) [ true ↦ refl | false ↦ refl ]
+    elim (nat_lt (extent + 1) (length q.stored)) as (λ b. claimed_by (cond b (Storing member (extent + 1)) (Storing (member + 1) 0)) group waiting
+    ≡ waiting) [ true ↦ refl | false ↦ refl ]
 
 claimed-behind : (queue : List QueuedValue) (s : GroupStage) (group waiting : ℕ) → claimed_by (stage_behind queue s) group waiting ≡ claimed_by s group waiting
 claimed-behind queue NoGroup group waiting = refl
@@ -111,8 +124,14 @@ begin-is Stored group asks = refl
 begin-is Turning group asks = absurd cc
 begin-is (Storing member extent) group asks =
     elim (cases_lt member group) [
-      | inl less ↦ let test : nat_lt member group ≡ true = grind (arith, nat_tests) in let other : step_of (Storing member extent) group ≡ steps.WriteExtent = rw test refl in absurd cc
-      | inr behind ↦ let test : nat_lt member group ≡ false = grind (arith, nat_tests) in let other : step_of (Storing member extent) group ≡ steps.SyncHeap = rw test refl in absurd cc
+      | inl less ↦
+          let test : nat_lt member group ≡ true = grind (arith, nat_tests) in
+          let other : step_of (Storing member extent) group ≡ steps.WriteExtent = rw test refl in
+          absurd cc
+      | inr behind ↦
+          let test : nat_lt member group ≡ false = grind (arith, nat_tests) in
+          let other : step_of (Storing member extent) group ≡ steps.SyncHeap = rw test refl in
+          absurd cc
     ]
 
 pub advance-is : (s : GroupStage) (group : ℕ) → step_of s group ≡ steps.AdvanceSlot → s ≡ Turning
@@ -121,19 +140,27 @@ advance-is Stored group asks = absurd cc
 advance-is Turning group asks = refl
 advance-is (Storing member extent) group asks =
     elim (cases_lt member group) [
-      | inl less ↦ let test : nat_lt member group ≡ true = grind (arith, nat_tests) in let other : step_of (Storing member extent) group ≡ steps.WriteExtent = rw test refl in absurd cc
-      | inr behind ↦ let test : nat_lt member group ≡ false = grind (arith, nat_tests) in let other : step_of (Storing member extent) group ≡ steps.SyncHeap = rw test refl in absurd cc
+      | inl less ↦
+          let test : nat_lt member group ≡ true = grind (arith, nat_tests) in
+          let other : step_of (Storing member extent) group ≡ steps.WriteExtent = rw test refl in
+          absurd cc
+      | inr behind ↦
+          let test : nat_lt member group ≡ false = grind (arith, nat_tests) in
+          let other : step_of (Storing member extent) group ≡ steps.SyncHeap = rw test refl in
+          absurd cc
     ]
 
 -- ---- the steps
 
-no_group-claims : (s : GroupStage) (group : ℕ) (queue : List QueuedValue) → StageFits s group queue → group ≡ 0 → claimed_by s group (length queue) ≡ length queue
+no_group-claims : (s : GroupStage) (group : ℕ) (queue : List QueuedValue) → StageFits s group queue → group ≡ 0
+    → claimed_by s group (length queue) ≡ length queue
 no_group-claims NoGroup group queue fits none = refl
 no_group-claims Stored group queue fits none = refl
 no_group-claims Turning group queue fits none = absurd (omega (arith, fits, none))
 no_group-claims (Storing member extent) group queue fits none = refl
 
-group_begins : (v : TransactionsValue) → IsInOrder v → v.group ≡ 0 → 0 < length v.queue → IsInOrder (record v { group = min (length v.queue) 16; stage = Storing 0 0 })
+group_begins : (v : TransactionsValue) → IsInOrder v → v.group ≡ 0 → 0 < length v.queue
+    → IsInOrder (record v { group = min (length v.queue) 16; stage = Storing 0 0 })
 group_begins v order none some =
     let claims = no_group-claims v.stage v.group v.queue order.stage_fits none in record {
       split = order.split;
@@ -155,7 +182,9 @@ keeps-grouped v order =
       | inr none ↦
           let test : (v.group == 0) ≡ true = grind (arith, nat_tests) in
           elim (cases_lt 0 (length v.queue)) [
-            | inl waits ↦ let waiting : nat_lt 0 (length v.queue) ≡ true = grind (arith, nat_tests) in rw (test, waiting) (group_begins v order (omega arith) waits)
+            | inl waits ↦
+                let waiting : nat_lt 0 (length v.queue) ≡ true = grind (arith, nat_tests) in
+                rw (test, waiting) (group_begins v order (omega arith) waits)
             | inr idle ↦ let empty : nat_lt 0 (length v.queue) ≡ false = grind (arith, nat_tests) in rw (test, empty) order
           ]
     ]
@@ -207,7 +236,8 @@ keeps-begun v order asks =
       slots_few = order.slots_few;
     }
 
-pub keeps-published : (v : TransactionsValue) → IsInOrder v → due v ≡ steps.AdvanceSlot → AreOut (published v).usages (flat_map numbers_of (drop v.group v.queue) ++ v.reserved) → IsInOrder (published v)
+pub keeps-published : (v : TransactionsValue) → IsInOrder v → due v ≡ steps.AdvanceSlot
+    → AreOut (published v).usages (flat_map numbers_of (drop v.group v.queue) ++ v.reserved) → IsInOrder (published v)
 keeps-published v order asks out =
     let is : v.stage ≡ Turning = advance-is v.stage v.group asks in
     let claims : claimed v ≡ 1 + (length v.queue - v.group) = ap (λ (s : GroupStage). claimed_by s v.group (length v.queue)) is in

@@ -7,7 +7,8 @@ use Rattle.group.specs.Queued.{QueuedValue}
 use Rattle.group.proofs.Heads.{length-redeemed}
 use Rattle.group.specs.Values.{versions_after, mark_after}
 
-pub versions_after-last : (v : List KeyWrites) (qs : List QueuedValue) (n : ℕ) (q : QueuedValue) → suc n ≡ length qs → q ≡ get_or qs n q → q.after ≡ versions_after v qs
+pub versions_after-last : (v : List KeyWrites) (qs : List QueuedValue) (n : ℕ) (q : QueuedValue) → suc n ≡ length qs → q ≡ get_or qs n q
+    → q.after ≡ versions_after v qs
 versions_after-last v [] n q e is = absurd (omega arith)
 versions_after-last v (x ∷ []) zero q e is = ap (λ (z : QueuedValue). z.after) is
 versions_after-last v (x ∷ []) (suc n) q e is = absurd (omega arith)

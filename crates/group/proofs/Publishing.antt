@@ -1,5 +1,6 @@
 -- Commits published one after another, and extents that change together.
-use Rattle.std.proofs.Common.{◌≡◌, ◌≢◌, ℕ, zero, suc, ◌-◌, ◌≤◌, List, [], ◌∷◌, ◌++◌, length, take, drop, map, get_or, slice_set, refl, arith, ap, sym, subst, ◌∙◌}
+use Rattle.std.proofs.Common.{◌≡◌, ◌≢◌, ℕ, zero, suc, ◌-◌, ◌≤◌, List, [], ◌∷◌, ◌++◌, length, take, drop, map, get_or, slice_set, refl, arith, ap, sym, subst}
+use Rattle.std.proofs.Common.{◌∙◌}
 use Rattle.std.specs.List.{AllByRecursion, flat_map}
 use Rattle.std.proofs.lemmas.List.{append_assoc, append-nil, get_or-set_other}
 use Rattle.std.proofs.lemmas.List.Concat.{flat_map-cons}
@@ -17,7 +18,8 @@ use Rattle.extents.specs.Times.{with_times}
 
 -- ---- usages of many
 
-pub with_usages-append : (usages : List Usage) (xs ys : List ℕ) (usage : Usage) → with_usages usages (xs ++ ys) usage ≡ with_usages (with_usages usages xs usage) ys usage
+pub with_usages-append : (usages : List Usage) (xs ys : List ℕ) (usage : Usage)
+    → with_usages usages (xs ++ ys) usage ≡ with_usages (with_usages usages xs usage) ys usage
 with_usages-append usages [] ys usage = refl
 with_usages-append usages (x ∷ xs) ys usage = with_usages-append (with_usage usages x usage) xs ys usage
 
@@ -86,7 +88,8 @@ pub out-beside : (usages : List Usage) (xs ys zs : List ℕ) (usage : Usage) →
 out-beside usages xs ys zs usage out = out-rest usages xs (ys ++ zs) usage (subst (λ (ns : List ℕ). AreOut usages ns) (append_assoc xs ys zs) out)
 
 -- more are out for those that wait
-pub out-joined : (usages : List Usage) (xs zs ns : List ℕ) → AreOut usages (xs ++ zs) → AreLeastFree usages ns → AreOut (with_usages usages ns Out) ((xs ++ ns) ++ zs)
+pub out-joined : (usages : List Usage) (xs zs ns : List ℕ) → AreOut usages (xs ++ zs) → AreLeastFree usages ns
+    → AreOut (with_usages usages ns Out) ((xs ++ ns) ++ zs)
 out-joined usages xs zs ns out least =
     let taken : AreOut (with_usages usages ns Out) ((zs ++ xs) ++ ns) = out-taken usages (zs ++ xs) ns (out-swapped usages xs zs out) least in
     out-swapped (with_usages usages ns Out) zs (xs ++ ns) (subst (λ (ks : List ℕ). AreOut (with_usages usages ns Out) ks) (append_assoc zs xs ns) taken)
@@ -96,7 +99,8 @@ pub out-reserved : (usages : List Usage) (xs zs ns : List ℕ) → AreOut usages
     → AreOut (with_usages usages ns Out) zs × AreOut (with_usages (with_usages usages ns Out) zs Free) (xs ++ ns)
 out-reserved usages xs zs ns out least =
     let taken : AreOut (with_usages usages ns Out) ((zs ++ xs) ++ ns) = out-taken usages (zs ++ xs) ns (out-swapped usages xs zs out) least in
-    let apart : AreOut (with_usages usages ns Out) (zs ++ (xs ++ ns)) = subst (λ (ks : List ℕ). AreOut (with_usages usages ns Out) ks) (append_assoc zs xs ns) taken in
+    let apart : AreOut (with_usages usages ns Out) (zs ++ (xs ++ ns)) =
+    subst (λ (ks : List ℕ). AreOut (with_usages usages ns Out) ks) (append_assoc zs xs ns) taken in
     (out-front (with_usages usages ns Out) zs (xs ++ ns) apart, out-rest (with_usages usages ns Out) zs (xs ++ ns) Free apart)
 
 -- what is out stays out where no such usage changes
@@ -122,7 +126,8 @@ set-swap (x ∷ xs) (suc i) zero a b apart = refl
 set-swap (x ∷ xs) (suc i) (suc j) a b apart = ap (λ zs. x ∷ zs) (set-swap xs i j a b (λ e. apart (ap suc e)))
 
 -- a change of another extent may come before
-change-swap : (usages : List Usage) (ns : List ℕ) (n : ℕ) (a b : Usage) → 1 ≤ n → AllByRecursion (λ m. 1 ≤ m) ns → IsNoneOf n ns → with_usage (with_usages usages ns a) n b ≡ with_usages (with_usage usages n b) ns a
+change-swap : (usages : List Usage) (ns : List ℕ) (n : ℕ) (a b : Usage) → 1 ≤ n → AllByRecursion (λ m. 1 ≤ m) ns → IsNoneOf n ns
+    → with_usage (with_usages usages ns a) n b ≡ with_usages (with_usage usages n b) ns a
 change-swap usages [] n a b low lows apart = refl
 change-swap usages (m ∷ ms) n a b low lows apart =
     change-swap (with_usage usages m a) ms n a b low lows.1 apart.1
@@ -149,7 +154,8 @@ free-before usages n m free later =
     let places : m - 1 ≢ n - 1 = λ e. apart (omega arith) in
     (record { low = later.low; high = later.high; is = sym (get_or-set_other usages (n - 1) (m - 1) Out Kept places) ∙ later.is }, apart)
 
-all-before : (usages : List Usage) (n : ℕ) (ms : List ℕ) → IsFree usages n → AllByRecursion (IsFree (with_usage usages n Out)) ms → AllByRecursion (IsFree usages) ms × IsNoneOf n ms
+all-before : (usages : List Usage) (n : ℕ) (ms : List ℕ) → IsFree usages n → AllByRecursion (IsFree (with_usage usages n Out)) ms
+    → AllByRecursion (IsFree usages) ms × IsNoneOf n ms
 all-before usages n [] free all = (tt, tt)
 all-before usages n (m ∷ ms) free all =
     let one = free-before usages n m free all.0 in
@@ -171,7 +177,8 @@ now_out usages ns least = out-taken usages [] ns (record { each = tt; distinct =
 
 -- ---- commits that are still to be published
 
-pub record AreLeft (versions : List KeyWrites) (usages : List Usage) (queue : List QueuedValue) (left : ℕ) (times all_times : List ℕ) (all_versions : List KeyWrites) (all_usages : List Usage) (rest : List QueuedValue) : Type 0 where
+pub record AreLeft (versions : List KeyWrites) (usages : List Usage) (queue : List QueuedValue) (left : ℕ) (times all_times : List ℕ)
+    (all_versions : List KeyWrites) (all_usages : List Usage) (rest : List QueuedValue) : Type 0 where
   pub within : left ≤ length queue
   pub queue_is : drop left queue ≡ rest
   pub versions_are : versions_after versions (take left queue) ≡ all_versions
@@ -180,13 +187,17 @@ pub record AreLeft (versions : List KeyWrites) (usages : List Usage) (queue : Li
   pub out : AreOut usages (flat_map numbers_of queue)
 
 -- the extents of the first one are out
-pub first-out : {versions : List KeyWrites} {usages : List Usage} {q : QueuedValue} {qs : List QueuedValue} {left : ℕ} {times all_times : List ℕ} {all_versions : List KeyWrites} {all_usages : List Usage} {rest : List QueuedValue}
+pub first-out : {versions : List KeyWrites} {usages : List Usage} {q : QueuedValue} {qs : List QueuedValue} {left : ℕ} {times all_times : List ℕ}
+    {all_versions : List KeyWrites} {all_usages : List Usage} {rest : List QueuedValue}
     → AreLeft versions usages (q ∷ qs) left times all_times all_versions all_usages rest → AreOut usages (numbers_of q)
-first-out {versions} {usages} {q} {qs} are = out-front usages (numbers_of q) (flat_map numbers_of qs) (subst (λ (ns : List ℕ). AreOut usages ns) (flat_map-cons numbers_of q qs) are.out)
+first-out {versions} {usages} {q} {qs} are =
+    out-front usages (numbers_of q) (flat_map numbers_of qs) (subst (λ (ns : List ℕ). AreOut usages ns) (flat_map-cons numbers_of q qs) are.out)
 
 -- one of them is published
-pub one_less : {versions : List KeyWrites} {usages : List Usage} {q : QueuedValue} {qs : List QueuedValue} (left : ℕ) {times all_times : List ℕ} {all_versions : List KeyWrites} {all_usages : List Usage} {rest : List QueuedValue}
-    → AreLeft versions usages (q ∷ qs) (suc left) times all_times all_versions all_usages rest → AreLeft q.after (with_usages usages (numbers_of q) Kept) qs left (with_times times (numbers_of q) q.entry.time) all_times all_versions all_usages rest
+pub one_less : {versions : List KeyWrites} {usages : List Usage} {q : QueuedValue} {qs : List QueuedValue} (left : ℕ) {times all_times : List ℕ}
+    {all_versions : List KeyWrites} {all_usages : List Usage} {rest : List QueuedValue}
+    → AreLeft versions usages (q ∷ qs) (suc left) times all_times all_versions all_usages rest
+    → AreLeft q.after (with_usages usages (numbers_of q) Kept) qs left (with_times times (numbers_of q) q.entry.time) all_times all_versions all_usages rest
 one_less {versions} {usages} {q} {qs} left are = record {
   within = omega (arith, are.within);
   queue_is = are.queue_is;

@@ -45,9 +45,11 @@ Aborts old txn new = new ≡ (if is_own old txn then over old txn.number else ol
 -- the answer to a ticket whose commit stands so
 abbrev pub AnswersTicket : TransactionsValue → TicketValue → TicketState → Redeemed → TransactionsValue → Type 0
 AnswersTicket old ticket ticket_state.Unknown result new = (result ≡ redeemed.Stranger) × (new ≡ old)
-AnswersTicket old ticket ticket_state.Published result new = (result ≡ redeemed.Done ticket.time) × (new ≡ record old { heads = orders.redeemed ticket.time old.heads })
+AnswersTicket old ticket ticket_state.Published result new =
+    (result ≡ redeemed.Done ticket.time) × (new ≡ record old { heads = orders.redeemed ticket.time old.heads })
 AnswersTicket old ticket ticket_state.Waiting result new = (result ≡ (if old.failed then redeemed.InDoubt else redeemed.Waiting ticket)) × (new ≡ old)
 
 -- what redeeming a ticket answers; one of another store is a stranger
 abbrev pub Redeems : TransactionsValue → TicketValue → Redeemed → TransactionsValue → Type 0
-Redeems old ticket result new = MatchBool (ticket.mark == old.mark) (AnswersTicket old ticket (orders.state_of_ticket ticket.time (order_of old)) result new) ((result ≡ redeemed.Stranger) × (new ≡ old))
+Redeems old ticket result new = MatchBool (ticket.mark == old.mark) (AnswersTicket old ticket (orders.state_of_ticket ticket.time (order_of old)) result new)
+    ((result ≡ redeemed.Stranger) × (new ≡ old))

@@ -1,5 +1,6 @@
 -- The commits in their order: those that are published, and then those that wait.
-use Rattle.std.specs.Prelude.{ℕ, ◌≡◌, ◌<◌, ◌≤◌, ◌^◌, ◌==◌, ◌&&◌, Bool, false, List, [], ◌∷◌, length, map, filter, take, if◌then◌else◌, nat_le, ◌≢◌, slice_index_or}
+use Rattle.std.specs.Prelude.{ℕ, ◌≡◌, ◌<◌, ◌≤◌, ◌^◌, ◌==◌, ◌&&◌, Bool, false, List, [], ◌∷◌, length, map, filter, take, if◌then◌else◌, nat_le, ◌≢◌}
+use Rattle.std.specs.Prelude.{slice_index_or}
 use Rattle.group.specs.declared.commit_order.CommitHead.{CommitHead}
 use Rattle.group.specs.declared.commit_order.TicketState.{TicketState}
 use Rattle.group.specs.declared.commit_order.TicketState.TheVariants.{Unknown, Waiting, Published}

@@ -12,7 +12,8 @@ use Rattle.group.specs.Values.{TransactionsValue, claimed}
 -- the place of the next extent is one of the group's extents, or behind its last member
 abbrev pub StageFits : GroupStage → ℕ → List QueuedValue → Type 0
 StageFits NoGroup group queue = group ≡ 0
-StageFits (Storing member extent) group queue = (0 < group) × (member ≤ group) × (member < group → (q : QueuedValue) → slice_get queue member ≡ Some q → extent < length q.stored)
+StageFits (Storing member extent) group queue =
+    (0 < group) × (member ≤ group) × (member < group → (q : QueuedValue) → slice_get queue member ≡ Some q → extent < length q.stored)
 StageFits Stored group queue = 0 < group
 StageFits Turning group queue = 0 < group
 

@@ -50,7 +50,8 @@ abbrev pub versions_once : Option (List KeyWrites) → List KeyWrites → List K
 versions_once None versions = versions
 versions_once (Some made) versions = made
 
--- The reclaim is done: the chains of the commits up to the mark and that of the anchors before are free, the extents that were out for it are kept, and what was made of the versions stands.
+-- The reclaim is done: the chains of the commits up to the mark and that of the anchors before are free, the extents
+-- that were out for it are kept, and what was made of the versions stands.
 abbrev pub reclaimed_to : TransactionsValue → ℕ → TransactionsValue
 reclaimed_to v mark = record v {
   versions = versions_once v.pending v.versions;

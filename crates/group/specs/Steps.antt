@@ -1,5 +1,6 @@
 -- The steps of a group.
-use Rattle.std.specs.Prelude.{ℕ, ◌≡◌, ◌+◌, ◌-◌, ◌==◌, ◌&&◌, Bool, true, false, nat_lt, min, List, [], ◌∷◌, length, map, take, drop, slice_get, slice_set, Option, Some, None, if◌then◌else◌}
+use Rattle.std.specs.Prelude.{ℕ, ◌≡◌, ◌+◌, ◌-◌, ◌==◌, ◌&&◌, Bool, true, false, nat_lt, min, List, [], ◌∷◌, length, map, take, drop, slice_get, slice_set}
+use Rattle.std.specs.Prelude.{Option, Some, None, if◌then◌else◌}
 use Rattle.std.specs.List.{flat_map}
 use Rattle.wire.specs.declared.slot.Body.{Body}
 use Rattle.wire.specs.declared.slot.Body.TheVariants.{Commit, Archived, Reclaimed, Floor}
@@ -74,7 +75,8 @@ wrote_extent v = record v { stage = stage_behind v.queue v.stage }
 -- of the commit at this place, where its versions were made before the mark was raised, they forget what ended by it
 abbrev pub fresh_at : ℕ → ℕ → List QueuedValue → Option QueuedValue → List QueuedValue
 fresh_at mark place queue None = queue
-fresh_at mark place queue (Some q) = if nat_lt q.reclaimed mark then slice_set queue place (record q { after = forgotten mark q.after; reclaimed = mark }) else queue
+fresh_at mark place queue (Some q) =
+    if nat_lt q.reclaimed mark then slice_set queue place (record q { after = forgotten mark q.after; reclaimed = mark }) else queue
 
 -- whether they were made before the mark was raised
 abbrev pub is_older : ℕ → Option QueuedValue → Bool

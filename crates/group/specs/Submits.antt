@@ -1,5 +1,6 @@
 -- What becomes of a submit.
-use Rattle.std.specs.Prelude.{ℕ, ◌≡◌, ◌+◌, ◌-◌, ◌^◌, true, nat_lt, nat_le, List, [], ◌∷◌, ◌++◌, length, map, find, Option, Some, None, Result, Ok, Err, MatchBool, if◌then◌else◌}
+use Rattle.std.specs.Prelude.{ℕ, ◌≡◌, ◌+◌, ◌-◌, ◌^◌, true, nat_lt, nat_le, List, [], ◌∷◌, ◌++◌, length, map, find, Option, Some, None, Result, Ok, Err}
+use Rattle.std.specs.Prelude.{MatchBool, if◌then◌else◌}
 use Rattle.history.specs.declared.key.Key.{Key}
 use Rattle.history.specs.declared.key.KeyWrite.{KeyWrite}
 use Rattle.law_image.specs.Facts.{latest}
@@ -133,7 +134,8 @@ pub record JoinsQueue (old : TransactionsValue) (label time : ℕ) (writes : Lis
 -- the answer to a submit of the store's own transaction, which is over by then
 abbrev pub AnswersSubmit : TransactionsValue → TxnValue → ℕ → ℕ → Result Submitted SubmitFault → TransactionsValue → Type 0
 AnswersSubmit v txn label now (Ok (ReadOnly snapshot)) new = (verdict v txn.snapshot txn.writes now ≡ Reads) × (snapshot ≡ txn.snapshot) × (new ≡ v)
-AnswersSubmit v txn label now (Ok (Queued ticket)) new = (verdict v txn.snapshot txn.writes now ≡ Queues ticket.time) × (ticket.mark ≡ v.mark) × JoinsQueue v label ticket.time txn.writes new
+AnswersSubmit v txn label now (Ok (Queued ticket)) new =
+    (verdict v txn.snapshot txn.writes now ≡ Queues ticket.time) × (ticket.mark ≡ v.mark) × JoinsQueue v label ticket.time txn.writes new
 AnswersSubmit v txn label now (Err fault) new = IsRefusalOf (verdict v txn.snapshot txn.writes now) fault × (new ≡ v)
 
 -- a failed store refuses its own transactions too
@@ -142,4 +144,5 @@ SubmitsOwn v txn label now result new = MatchBool v.failed ((result ≡ Err faul
 
 -- a stranger is only spent
 abbrev pub Submits : TransactionsValue → TxnValue → ℕ → ℕ → Result Submitted SubmitFault → TransactionsValue → Type 0
-Submits old txn label now result new = MatchBool (is_own old txn) (SubmitsOwn (over old txn.number) txn label now result new) ((result ≡ Err fault.Stranger) × (new ≡ old))
+Submits old txn label now result new =
+    MatchBool (is_own old txn) (SubmitsOwn (over old txn.number) txn label now result new) ((result ≡ Err fault.Stranger) × (new ≡ old))

@@ -1,5 +1,6 @@
 //! The steps of a group, between the device calls.
-ghost use Rattle.std.specs.Prelude.{◌≡◌, ◌≤◌, ◌<◌, IsSome, length, map, take, drop, option_copied, ℕ, List, ◌++◌, Some, true, OnOk, OnErr, slice_get, slice_set};
+ghost use Rattle.std.specs.Prelude.{◌≡◌, ◌≤◌, ◌<◌, IsSome, length, map, take, drop, option_copied, ℕ, List, ◌++◌, Some, true, OnOk, OnErr, slice_get};
+ghost use Rattle.std.specs.Prelude.{slice_set};
 ghost use Rattle.std.specs.List.{flat_map};
 ghost use Rattle.extents.specs.Usages.{AreOut, with_usages};
 ghost use Rattle.extents.specs.declared.usage.Usage.TheVariants.{Kept};
@@ -213,7 +214,8 @@ fn queued_at(queue: &VecDeque<Queued>, place: usize) -> Option<&Queued>
 
 // The versions after the commit at this place are these, which have forgotten what ended by the mark.
 fn put_versions(queue: &mut VecDeque<Queued>, place: usize, after: Frozen, mark: u64)
-    ensures { (q : QueuedValue) → slice_get queue.old.items place ≡ Some q → queue.new.items ≡ slice_set queue.old.items place (record q { after = after; reclaimed = mark }) }
+    ensures { (q : QueuedValue) → slice_get queue.old.items place ≡ Some q
+        → queue.new.items ≡ slice_set queue.old.items place (record q { after = after; reclaimed = mark }) }
 {
     if let Some(queued) = queue.get_mut(place) {
         queued.forget(after, mark);
@@ -234,7 +236,8 @@ fn publish_first(
     ensures versions { versions.new ≡ versions_after versions.old (take count queue.old.items) }
     ensures extents { extents.new ≡ with_usages extents.old (flat_map numbers_of (take count queue.old.items)) Kept }
     ensures times { times.new ≡ steps.with_chains times.old (take count queue.old.items) }
-    ensures still_out { (others : List ℕ) → AreOut extents.old (flat_map numbers_of queue.old.items ++ others) → AreOut extents.new (flat_map numbers_of queue.new.items ++ others) }
+    ensures still_out { (others : List ℕ) → AreOut extents.old (flat_map numbers_of queue.old.items ++ others)
+        → AreOut extents.new (flat_map numbers_of queue.new.items ++ others) }
 {
     for _ in 0..count {
         match queue.pop_front() {

@@ -72,7 +72,8 @@ impl Transactions {
         writes: &[KeyWrite<SharedValue>],
         now: u64,
     ) -> Result<Accepted, SubmitFault>
-        ensures is { MatchResult result (λ a. (verdict_on_writes self.now snapshot writes.now now ≡ Queues a.time) × (a.bodies.items ≡ bodies_for self.now writes.now)) (IsRefusalOf (verdict_on_writes self.now snapshot writes.now now)) }
+        ensures is { MatchResult result (λ a. (verdict_on_writes self.now snapshot writes.now now ≡ Queues a.time)
+            × (a.bodies.items ≡ bodies_for self.now writes.now)) (IsRefusalOf (verdict_on_writes self.now snapshot writes.now now)) }
         ensures later { IfOk result (λ a. last_time self.now.heads < a.time) }
         ensures in_range { IfOk result (λ a. a.time < 2 ^ 63) }
         ensures extents { IfOk result (λ a. used_count self.now.usages + length a.bodies.items ≤ 65536) }

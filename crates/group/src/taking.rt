@@ -15,7 +15,8 @@ pub fn take_extents(
     count: usize,
 ) -> Result<Vec<Extent>, AllocError>
     requires { used_count extents.old + count ≤ 65536 }
-    ensures { MatchResult result (λ taken. (length taken.items ≡ count) × AreLeastFree extents.old taken.items × (extents.new ≡ with_usages extents.old taken.items Out)) (λ _. extents.new ≡ extents.old) }
+    ensures { MatchResult result (λ taken. (length taken.items ≡ count) × AreLeastFree extents.old taken.items
+        × (extents.new ≡ with_usages extents.old taken.items Out)) (λ _. extents.new ≡ extents.old) }
 {
     let mut taken = Vec::with_capacity(alloc, count)?;
     for _ in 0..count {

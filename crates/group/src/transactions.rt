@@ -53,9 +53,47 @@ impl Model for Transactions {
 
     ghost Value = { TransactionsValue };
 
-    ghost view = { λ t. record { mark = t.mark; opened = t.opened; heads = t.order.heads; published = t.order.published; versions = t.versions; pending = t.pending; queue = t.queue.items; usages = t.extents; times = t.times; reserved = t.reserved.items; slots = t.slots; used = t.used; group = t.group; stage = t.stage; floors = t.floors; reclaimed = t.reclaimed; failed = t.failed } };
+    ghost view = { λ t. record {
+      mark = t.mark;
+      opened = t.opened;
+      heads = t.order.heads;
+      published = t.order.published;
+      versions = t.versions;
+      pending =
+          t.pending;
+      queue = t.queue.items;
+      usages = t.extents;
+      times = t.times;
+      reserved = t.reserved.items;
+      slots = t.slots;
+      used = t.used;
+      group = t.group;
+      stage = t.stage;
+      floors = t.floors;
+      reclaimed = t.reclaimed;
+      failed = t.failed;
+    } };
 
-    ghost invariant = { λ t. IsInOrder (record { mark = t.mark; opened = t.opened; heads = t.order.heads; published = t.order.published; versions = t.versions; pending = t.pending; queue = t.queue.items; usages = t.extents; times = t.times; reserved = t.reserved.items; slots = t.slots; used = t.used; group = t.group; stage = t.stage; floors = t.floors; reclaimed = t.reclaimed; failed = t.failed }) };
+    ghost invariant = { λ t. IsInOrder (record {
+      mark = t.mark;
+      opened = t.opened;
+      heads = t.order.heads;
+      published = t.order.published;
+      versions = t.versions;
+      pending =
+          t.pending;
+      queue = t.queue.items;
+      usages = t.extents;
+      times = t.times;
+      reserved = t.reserved.items;
+      slots = t.slots;
+      used = t.used;
+      group = t.group;
+      stage = t.stage;
+      floors = t.floors;
+      reclaimed = t.reclaimed;
+      failed = t.failed;
+    }) };
 }
 
 impl Transactions {
@@ -79,7 +117,26 @@ impl Transactions {
         requires latest { latest versions ≤ last_time heads.items }
         requires room { used ≤ slots }
         requires slots { slots ≤ 65536 }
-        ensures { result ≡ record { mark = mark; opened = []; heads = heads.items; published = length heads.items; versions = versions; pending = None; queue = []; usages = extents; times = times; reserved = []; slots = slots; used = used; group = 0; stage = NoGroup; floors = floors; reclaimed = reclaimed; failed = false } }
+        ensures { result ≡ record {
+          mark = mark;
+          opened = [];
+          heads = heads.items;
+          published = length heads.items;
+          versions = versions;
+          pending = None;
+          queue =
+              [];
+          usages = extents;
+          times = times;
+          reserved = [];
+          slots = slots;
+          used = used;
+          group = 0;
+          stage = NoGroup;
+          floors = floors;
+          reclaimed = reclaimed;
+          failed = false;
+        } }
     {
         Transactions {
             mark,
@@ -198,7 +255,15 @@ impl Transactions {
 
     /// A view of what is published now.
     pub fn view(&self) -> Result<View, AllocError>
-        ensures { IfOk result (λ v. v ≡ record { mark = self.now.mark; last = last self.now; floors = self.now.floors; reclaimed = 0; runs = []; state = self.now.versions }) }
+        ensures { IfOk result (λ v. v ≡ record {
+          mark = self.now.mark;
+          last = last self.now;
+          floors = self.now.floors;
+          reclaimed = 0;
+          runs = [];
+          state =
+              self.now.versions;
+        }) }
     {
         let state = self.versions.share()?;
         let floors = self.floors.share()?;

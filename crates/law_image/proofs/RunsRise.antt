@@ -91,7 +91,8 @@ run-by : (mark : ℕ) (floors : ℕ → ℕ) (upto : ℕ) (key : Key) (run : Lis
     → AllByRecursion (λ v. v.to ≤ upto) (run_versions key run)
 run-by mark floors upto key [] each = tt
 run-by mark floors upto key (r ∷ rest) each =
-    elim (same_key r.key key) as (λ b. AllByRecursion (λ (v : Version Value). v.to ≤ upto) (cons_option (cond b (Some r.version) None) (run_versions key rest))) [
+    elim (same_key r.key key) as (λ b. AllByRecursion (λ (v : Version Value). v.to ≤ upto)
+    (cons_option (cond b (Some r.version) None) (run_versions key rest))) [
       | true ↦ ((each.0).by_upto, run-by mark floors upto key rest each.1)
       | false ↦ run-by mark floors upto key rest each.1
     ]

@@ -1,5 +1,8 @@
 //! Laws of images, each as a function with nothing to do.
-ghost use Rattle.law_image.specs.Laws.{EmptyStands, GroupStands, ArchiveStands, ReclaimStands, FloorStands, PieceStands, ArchiveIsPlanned, ReclaimIsPlanned, ArchivePlanStays, ReclaimPlanStays, RetiredAreGivenUp, KeptValues, KeptRows, ImageIsView, ImageAnswersAt, ImageAnswersBetween, ImageScansAt, ImageScansBetween, KeptIsSet, HeapIsSet, ArchiveIsSet, HeapVersionsAreSpans, SetsAreLists, StoredIsRead, RecentValues, RecentRows, StoredIsGroup, GroupPublishes, RaiseMayCome, FloorPublishes};
+ghost use Rattle.law_image.specs.Laws.{EmptyStands, GroupStands, ArchiveStands, ReclaimStands, FloorStands, PieceStands, ArchiveIsPlanned, ReclaimIsPlanned};
+ghost use Rattle.law_image.specs.Laws.{ArchivePlanStays, ReclaimPlanStays, RetiredAreGivenUp, KeptValues, KeptRows, ImageIsView, ImageAnswersAt};
+ghost use Rattle.law_image.specs.Laws.{ImageAnswersBetween, ImageScansAt, ImageScansBetween, KeptIsSet, HeapIsSet, ArchiveIsSet, HeapVersionsAreSpans};
+ghost use Rattle.law_image.specs.Laws.{SetsAreLists, StoredIsRead, RecentValues, RecentRows, StoredIsGroup, GroupPublishes, RaiseMayCome, FloorPublishes};
 
 /// The image of a new store stands for the empty history.
 pub fn empty_stands()

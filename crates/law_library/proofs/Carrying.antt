@@ -39,7 +39,8 @@ pub record SameDisk (old new : Engine) : Type 0 where
   pub state : new.state ≡ old.state
   pub before : new.before ≡ old.before
 
-was-carried : (m : HostMoment) (e : Engine) (xs : List Held) (w : World) (b : Moment) → WasBefore m b → Follows m.at.world.machine w.machine → e.before ≡ m.host.engine.before
+was-carried : (m : HostMoment) (e : Engine) (xs : List Held) (w : World) (b : Moment) → WasBefore m b → Follows m.at.world.machine w.machine
+    → e.before ≡ m.host.engine.before
     → WasBefore (moved_to m e xs w) b
 was-carried m e xs w b was follows before =
     let shown = run-shows IsValue m.at.world.machine w.machine follows.0 follows.1 in
@@ -53,7 +54,8 @@ was-carried m e xs w b was follows before =
       shown = subst (λ (o : Option Published). MatchOption o ⊥ (λ (p : Published). p.last ≡ last b.world.machine.published)) (sym before) was.shown;
     }
 
-stage-carried : (s : EngineState) (m : HostMoment) (e : Engine) (xs : List Held) (w : World) → SameDisk m.host.engine e → Follows m.at.world.machine w.machine → IsAtStage s m
+stage-carried : (s : EngineState) (m : HostMoment) (e : Engine) (xs : List Held) (w : World) → SameDisk m.host.engine e → Follows m.at.world.machine w.machine
+    → IsAtStage s m
     → IsAtStage s (moved_to m e xs w)
 stage-carried Settled m e xs w same follows st = record { none = st.none; areas = st.areas ∙ sym same.areas; sound = st.sound }
 stage-carried (Asks step) m e xs w same follows st = record {

@@ -201,7 +201,8 @@ made-moment m new = record { host = new; at = record { store = new.engine.store;
 
 -- and after one that was refused
 abbrev refused-moment : HostMoment → Host → HostMoment
-refused-moment m new = record { host = new; at = record { store = new.engine.store; held = m.at.held; world = m.at.world; done = m.at.done }; before = m.before }
+refused-moment m new =
+    record { host = new; at = record { store = new.engine.store; held = m.at.held; world = m.at.world; done = m.at.done }; before = m.before }
 
 pub makes : (r : Reply) (m : HostMoment) (new : Host) → IsHostMoment m → HostStep (Makes r) m.host new → HostLink (Makes r) m new
 makes r m new is step = by-state m.host.engine.state refl is.stage step.told step.done

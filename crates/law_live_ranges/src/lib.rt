@@ -1,7 +1,8 @@
 //! What the log names is not written: laws of every store that opened, each as a function with nothing to do.
 #![tactic(auto)]
 
-ghost use Rattle.law_live_ranges.specs.Laws.{OpenedWritesBehind, OpenedNames, CallLeavesNamed, NamedStays, StopLeavesNamed, PublishedNamed, ArchivedNamed, AnchorsNamed, FloorNamesNoMore, GrowthNamesPiece};
+ghost use Rattle.law_live_ranges.specs.Laws.{OpenedWritesBehind, OpenedNames, CallLeavesNamed, NamedStays, StopLeavesNamed, PublishedNamed, ArchivedNamed};
+ghost use Rattle.law_live_ranges.specs.Laws.{AnchorsNamed, FloorNamesNoMore, GrowthNamesPiece};
 
 /// A store that opened runs no job, and has all that the log of its image names.
 pub fn opened_names()

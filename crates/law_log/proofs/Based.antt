@@ -239,7 +239,8 @@ rest-follows old mark last names before after (OfGroup members ∷ chains) le be
     let same : last_time_after 0 (heads_in members) ≡ last_time_after last (heads_in members) = last-same 0 last (heads_in members) some in (
       (may.0.0, may.0.1, rising-lower 0 last (heads_in members) (omega arith) may.0.2, begins),
       subst (λ (t : ℕ). MayAllFollow mark t (told_behind mark after (OfGroup members)) chains) (sym same)
-          (all-later old mark (last_time_after last (heads_in members)) names (told_behind old before (OfGroup members)) (told_behind mark after (OfGroup members))
+          (all-later old mark (last_time_after last (heads_in members)) names (told_behind old before (OfGroup members))
+          (told_behind mark after (OfGroup members))
           chains le (omega (arith, begins, same)) none.1
           (based-behind old mark names before after (OfGroup members) le tt so) may.1),
     )

@@ -1,7 +1,9 @@
 //! What opening a store, formatting a disk and closing a store stand for: laws, each as a function with nothing to do.
 #![tactic(auto)]
 
-ghost use Rattle.law_opening.specs.Laws.{OpenStands, OpenAnswers, OpenRefusesFor, FormatStands, FormatStops, FormatOpens, CloseLeaves, ReopenStands, ReopenRefuses, OpeningStops, SecondStops, OpeningMoments, ClosedIsLeft, ReopenHasSlots, ImageHasHeader, StandsAnswers, KeptAnswers, AnswersStay, LabelsStay};
+ghost use Rattle.law_opening.specs.Laws.{OpenStands, OpenAnswers, OpenRefusesFor, FormatStands, FormatStops, FormatOpens, CloseLeaves, ReopenStands};
+ghost use Rattle.law_opening.specs.Laws.{ReopenRefuses, OpeningStops, SecondStops, OpeningMoments, ClosedIsLeft, ReopenHasSlots, ImageHasHeader, StandsAnswers};
+ghost use Rattle.law_opening.specs.Laws.{KeptAnswers, AnswersStay, LabelsStay};
 
 /// On an image that stands for a history an opened store stands for it, and there is one that
 /// opening answers. Where opening is refused, the device or memory gave out, the disk still holds the image, and a stop leaves nothing that it

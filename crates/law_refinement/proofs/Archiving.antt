@@ -108,7 +108,8 @@ filtered-in-range key after upto (v ∷ vs) low each =
     (map (archive_record key) (filter (ends_by upto) (cond b (v ∷ filter (ends_after after) vs) (filter (ends_after after) vs))))) [
       | true ↦ elim (nat_le v.to upto) as (λ (b : Bool). nat_le v.to upto ≡ b
           → AllByRecursion IsArchiveRecord
-          (map (archive_record key) (cond b (v ∷ filter (ends_by upto) (filter (ends_after after) vs)) (filter (ends_by upto) (filter (ends_after after) vs))))) [
+          (map (archive_record key) (cond b (v ∷ filter (ends_by upto) (filter (ends_after after) vs))
+          (filter (ends_by upto) (filter (ends_after after) vs))))) [
             | true ↦ λ by. (
               record { key = (each.0).0; to = (let at : v.to ≤ upto = grind (arith, nat_tests) in omega (arith, at, low)); value = (each.0).1 },
               rest,

@@ -1353,7 +1353,11 @@ module _ (tells : Bool) (v new : StoreValue) (m : Machine Value) (stands : Stand
       let was = stands.in_step.turns on in
       let gate : Gate = gate_on (slots.slot_stage_after t.stage) in
       let after : Option Job = Some (record j { stage = job.Turning (record t { stage = slots.slot_stage_after t.stage }) }) in
-      let in_step : IsInStep (record v { log = log; job = Some (record j { stage = job.Turning (record t { stage = slots.slot_stage_after t.stage }) }); disk = new.disk }) = record {
+      let in_step : IsInStep (record v {
+        log = log;
+        job = Some (record j { stage = job.Turning (record t { stage = slots.slot_stage_after t.stage }) });
+        disk = new.disk;
+      }) = record {
         slots = omega (arith, many, stands.in_step.slots, one, lends v m j.work j.stage kept-now);
         used = used ∙ stands.in_step.used;
         turns = λ _. record {

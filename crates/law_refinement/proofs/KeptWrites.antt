@@ -126,7 +126,8 @@ last-behind : (t mark : ℕ) (w : Write) (ws : List Write) → t ≤ w.time → 
 last-behind t mark w [] low up =
     elim (nat_le w.time mark && is_none w.write) as (λ (b : Bool). last_time_after t (cond b [] (w ∷ [])) ≤ w.time) [ true ↦ low | false ↦ omega arith ]
 last-behind t mark w (v ∷ vs) low up =
-    elim (nat_le v.time mark) as (λ (b : Bool). last_time_after t (cond b (kept_behind mark v vs) (from_standing mark w (v ∷ vs))) ≤ last_time_after v.time vs) [
+    elim (nat_le v.time mark) as (λ (b : Bool). last_time_after t (cond b (kept_behind mark v vs) (from_standing mark w (v ∷ vs)))
+    ≤ last_time_after v.time vs) [
       | true ↦ let first = up.0 in last-behind t mark v vs (omega (arith, low, first)) up.2
       | false ↦ elim (nat_le w.time mark && is_none w.write) as (λ (b : Bool). last_time_after t (cond b (v ∷ vs) (w ∷ v ∷ vs)) ≤ last_time_after v.time vs)
           [ true ↦ omega arith | false ↦ omega arith ]

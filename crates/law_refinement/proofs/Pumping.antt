@@ -608,7 +608,9 @@ module _ (v new : StoreValue) (m : Machine Value) (c : Working v m) where
         let named = joining.numbers v m c some in
         let many : length whole ≡ length (flat_map numbers_of (take v.transactions.group v.transactions.queue)) =
         sym (length-mapped (λ (e : Extent). e.number) whole) ∙ ap (λ (l : List ℕ). length l) named in
-        let same : length (flat_map numbers_of (take member v.transactions.queue)) ≡ length (flat_map numbers_of (take v.transactions.group v.transactions.queue)) = ap (λ (n : ℕ). length (flat_map numbers_of (take n v.transactions.queue))) past in
+        let same : length (flat_map numbers_of (take member v.transactions.queue))
+        ≡ length (flat_map numbers_of (take v.transactions.group v.transactions.queue)) =
+        ap (λ (n : ℕ). length (flat_map numbers_of (take n v.transactions.queue))) past in
         none-left at_end whole (omega (arith, many, same))
 
     abbrev synced-goes : Goes v m c answer old next

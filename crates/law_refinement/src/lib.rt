@@ -3,9 +3,14 @@
 #![tactic(auto)]
 
 ghost use Rattle.law_refinement.specs.Laws.{TimesAreOfLabel, ForgottenHolds};
-ghost use Rattle.law_refinement.specs.Views.{ViewIsOfHistory, ViewGoesOn, AtIsAnswered, ScanAtIsAnswered, BetweenIsAnswered, ScanBetweenIsAnswered, RecentIsAnswered, AtIsAnsweredRecently, ScanAtIsAnsweredRecently, BetweenIsAnsweredRecently, ScanBetweenIsAnsweredRecently, AtStands, ScanAtStands, BetweenStands, ScanBetweenStands, PumpGoesOn, JobPumpGoesOn, ArchiveStartGoesOn, ReclaimStartGoesOn, FloorStartGoesOn, GrowStartGoesOn, RestGoesOn};
-ghost use Rattle.law_refinement.specs.Leaving.{PumpLeaves, ArchiveStartLeaves, ReclaimStartLeaves, FloorStartLeaves, GrowStartLeaves, JobPumpLeaves, SubmitLeaves, TicketTells, RedeemLeaves, PumpPublishes};
-ghost use Rattle.law_refinement.specs.Calls.{BeginStands, AbortStands, SubmitStands, PumpStands, RedeemStands, ArchiveStartStands, ReclaimStartStands, FloorStartStands, GrowStartStands, JobPumpStands};
+ghost use Rattle.law_refinement.specs.Views.{ViewIsOfHistory, ViewGoesOn, AtIsAnswered, ScanAtIsAnswered, BetweenIsAnswered, ScanBetweenIsAnswered};
+ghost use Rattle.law_refinement.specs.Views.{RecentIsAnswered, AtIsAnsweredRecently, ScanAtIsAnsweredRecently, BetweenIsAnsweredRecently};
+ghost use Rattle.law_refinement.specs.Views.{ScanBetweenIsAnsweredRecently, AtStands, ScanAtStands, BetweenStands, ScanBetweenStands, PumpGoesOn};
+ghost use Rattle.law_refinement.specs.Views.{JobPumpGoesOn, ArchiveStartGoesOn, ReclaimStartGoesOn, FloorStartGoesOn, GrowStartGoesOn, RestGoesOn};
+ghost use Rattle.law_refinement.specs.Leaving.{PumpLeaves, ArchiveStartLeaves, ReclaimStartLeaves, FloorStartLeaves, GrowStartLeaves, JobPumpLeaves};
+ghost use Rattle.law_refinement.specs.Leaving.{SubmitLeaves, TicketTells, RedeemLeaves, PumpPublishes};
+ghost use Rattle.law_refinement.specs.Calls.{BeginStands, AbortStands, SubmitStands, PumpStands, RedeemStands, ArchiveStartStands, ReclaimStartStands};
+ghost use Rattle.law_refinement.specs.Calls.{FloorStartStands, GrowStartStands, JobPumpStands};
 
 /// A begin takes the last published time as its snapshot.
 pub fn begin_stands()

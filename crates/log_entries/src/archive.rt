@@ -10,7 +10,7 @@ use crate::entry::Archive;
 use crate::item::{Item, has_kind};
 use byteorder::{ByteOrder, LittleEndian};
 use std::alloc::{AllocError, Global};
-use wire::{Body, is_in_range};
+use wire::{Body, Profile, is_in_range};
 
 /// The byte that an ARCHIVED begins with.
 pub(crate) const ARCHIVED: u8 = 6;
@@ -37,7 +37,7 @@ fn is_archive(archive: &Archive) -> bool
 {
     // Any number of runs is one.
     let _runs = archive.runs;
-    is_in_range(3, &Body::Archived(archive.run()))
+    is_in_range(Profile::newest(), &Body::Archived(archive.run()))
 }
 
 impl Item for Archive {

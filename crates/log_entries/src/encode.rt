@@ -177,7 +177,8 @@ fn push_parts(out: &mut Vec<u8>, base: &Base) -> Result<(), AllocError>
 /// Appends a base: its BASE, then ROLLs, then ARCHIVEDs, then FLOORs.
 pub fn push_base(out: &mut Vec<u8>, base: &Base) -> Result<(), AllocError>
     ensures items { out.new.items ≡ (if is_ok result then out.old.items ++ base_bytes base.now else out.old.items) }
-    ensures len { OnOk result (length out.new.items ≡ length out.old.items + 21 + 17 * length base.now.rolls + 35 * length base.now.archives + 11 * length base.now.floors) }
+    ensures len { OnOk result (length out.new.items ≡ length out.old.items + 21 + 17 * length base.now.rolls + 35 * length base.now.archives + 11
+        * length base.now.floors) }
 {
     let len = out.len();
     match push_parts(out, base) {

@@ -52,7 +52,13 @@ impl Model for ChainWriter {
 
     ghost Value = { WriterState };
 
-    ghost view = { λ w. record { numbers = w.numbers.items; link = w.link; content = w.content.items; stage = stage_of (chain_turn w.numbers.items w.link w.content.items).parts w.step } };
+    ghost view = { λ w. record {
+      numbers = w.numbers.items;
+      link = w.link;
+      content = w.content.items;
+      stage =
+          stage_of (chain_turn w.numbers.items w.link w.content.items).parts w.step;
+    } };
 
     ghost invariant = { λ w. IsWriter w.numbers.items w.link w.content.items w.step };
 }
@@ -73,7 +79,13 @@ impl ChainWriter {
         requires in_range { AllByRecursion (IsNumberOf (2 ^ 20)) numbers.items }
         requires link_low { 0 < link }
         requires link_high { link ≤ 2 ^ 20 }
-        ensures { result ≡ record { numbers = numbers.items; link = link; content = content.items; stage = stage_of (chain_turn numbers.items link content.items).parts (Writing 0) } }
+        ensures { result ≡ record {
+          numbers = numbers.items;
+          link = link;
+          content = content.items;
+          stage =
+              stage_of (chain_turn numbers.items link content.items).parts (Writing 0);
+        } }
     {
         ChainWriter {
             numbers,
@@ -120,7 +132,8 @@ impl ChainWriter {
     // Writes the head, all but its gate.
     fn write_head<D: Disk>(&self, disk: &mut D) -> Result<(), DeviceFault>
         requires { 0 < length self.now.numbers }
-        ensures call { (p : Part) (rest : List Part) → (turn self.now).parts ≡ p ∷ rest → IsTrue D.tells → Writes Heap p.place p.bytes result (D.state disk.old).areas (D.state disk.new).areas }
+        ensures call { (p : Part) (rest : List Part) → (turn self.now).parts ≡ p ∷ rest → IsTrue D.tells
+            → Writes Heap p.place p.bytes result (D.state disk.old).areas (D.state disk.new).areas }
         ensures counts { Counts result (D.state disk.old) (D.state disk.new) }
     {
         let mut image = [0; EXTENT_LEN];
@@ -139,7 +152,8 @@ impl ChainWriter {
     fn write_other<D: Disk>(&self, index: usize, disk: &mut D) -> Result<(), DeviceFault>
         requires other { 0 < index }
         requires within { index < length self.now.numbers }
-        ensures call { (p : Part) (rest : List Part) → drop index (turn self.now).parts ≡ p ∷ rest → IsTrue D.tells → Writes Heap p.place p.bytes result (D.state disk.old).areas (D.state disk.new).areas }
+        ensures call { (p : Part) (rest : List Part) → drop index (turn self.now).parts ≡ p ∷ rest → IsTrue D.tells
+            → Writes Heap p.place p.bytes result (D.state disk.old).areas (D.state disk.new).areas }
         ensures counts { Counts result (D.state disk.old) (D.state disk.new) }
     {
         let mut image = [0; EXTENT_LEN];
@@ -175,7 +189,8 @@ impl ChainWriter {
     // Writes the extent of this index.
     fn write_extent<D: Disk>(&self, index: usize, disk: &mut D) -> Result<(), DeviceFault>
         requires { index < length self.now.numbers }
-        ensures call { (p : Part) (rest : List Part) → drop index (turn self.now).parts ≡ p ∷ rest → IsTrue D.tells → Writes Heap p.place p.bytes result (D.state disk.old).areas (D.state disk.new).areas }
+        ensures call { (p : Part) (rest : List Part) → drop index (turn self.now).parts ≡ p ∷ rest → IsTrue D.tells
+            → Writes Heap p.place p.bytes result (D.state disk.old).areas (D.state disk.new).areas }
         ensures counts { Counts result (D.state disk.old) (D.state disk.new) }
     {
         if index == 0 {
@@ -207,7 +222,8 @@ impl ChainWriter {
         requires { IsOnItsWay self.now.stage }
         ensures call { IsTrue D.tells → IsCallOf (turn self.now) self.now.stage (answer_of result) (D.state disk.old).areas (D.state disk.new).areas }
         ensures counts { Counts result (D.state disk.old) (D.state disk.new) }
-        ensures leads { IfOk result (λ r. (stage_of (turn self.now).parts r.0 ≡ stage_after self.now.stage) × (r.1 ≡ did self.now.stage) × IsStepOf (length self.now.numbers) r.0) }
+        ensures leads { IfOk result (λ r. (stage_of (turn self.now).parts r.0 ≡ stage_after self.now.stage) × (r.1 ≡ did self.now.stage)
+            × IsStepOf (length self.now.numbers) r.0) }
     {
         match self.step {
             Step::Writing(written) if written < self.numbers.len() => {

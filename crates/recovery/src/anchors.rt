@@ -74,7 +74,8 @@ pub fn read_anchors<D: Disk>(
     requires len { IsTrue D.tells → heap_len ≡ length (D.state disk.old).areas.heap.bytes }
     requires in_range { anchors.now.upto < 2 ^ 63 }
     ensures last { IfOk result (λ o. IfSome o (λ heap. heap.last ≡ anchors.now.upto)) }
-    ensures found { IsTrue D.tells → IfOk result (λ o. MatchOption o (HasNoAnchors (D.state disk.old).areas.heap.bytes anchors.now) (HoldsAnchors (D.state disk.old).areas.heap.bytes anchors.now)) }
+    ensures found { IsTrue D.tells → IfOk result (λ o. MatchOption o (HasNoAnchors (D.state disk.old).areas.heap.bytes anchors.now)
+        (HoldsAnchors (D.state disk.old).areas.heap.bytes anchors.now)) }
     ensures fault { IfErr result IsReadFault }
     ensures reads { D.state disk.new ≡ after_reads result (D.state disk.old) }
 {

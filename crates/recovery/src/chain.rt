@@ -86,7 +86,9 @@ pub fn read_chain<D: Disk>(
     count: u32,
 ) -> Result<Option<ReadChain>, OpenFault>
     requires { IsTrue D.tells → heap_len ≡ length (D.state disk.old).areas.heap.bytes }
-    ensures chain { IsTrue D.tells → IfOk result (λ o. MatchOption o (¬ AreClaimable heap_len extents.old (numbers_at (D.state disk.old).areas.heap.bytes first count)) (IsReadChain (D.state disk.old).areas.heap.bytes heap_len extents.old first count extents.new)) }
+    ensures chain { IsTrue D.tells → IfOk result (λ o. MatchOption o
+        (¬ AreClaimable heap_len extents.old (numbers_at (D.state disk.old).areas.heap.bytes first count))
+        (IsReadChain (D.state disk.old).areas.heap.bytes heap_len extents.old first count extents.new)) }
     ensures fault { IfErr result IsReadFault }
     ensures reads { D.state disk.new ≡ after_reads result (D.state disk.old) }
 {

@@ -4,14 +4,14 @@ ghost use Rattle.std.specs.Prelude.{◌≡◌, ◌↔◌, ℕ, ◌+◌, ◌^◌,
 ghost use Rattle.disk.specs.Calls.{refusals, looked};
 ghost use Rattle.status.specs.Header.{new_header, IsFront};
 ghost use Rattle.status.specs.Log.{slot_start};
-ghost use Rattle.recovery.specs.Format.{IsSlotCount, refusals_after, IsZeroed, KeepsFront, LeavesShut, HasZeroSlots, StopsShut, IsFormatted, IsOccupied, IsTakenAnswer, CountsFirst, FormatRefuses};
+ghost use Rattle.recovery.specs.Format.{IsSlotCount, refusals_after, IsZeroed, KeepsFront, LeavesShut, HasZeroSlots, StopsShut, IsFormatted, IsOccupied};
+ghost use Rattle.recovery.specs.Format.{IsTakenAnswer, CountsFirst, FormatRefuses};
 
 use crate::fault::FormatFault;
 use disk::{Area, DeviceFault, Disk};
 use status::{FRONT_LEN, LEAST_SLOTS, LogFault, MOST_SLOTS, SLOT_LEN, encode_header, read_header};
 use std::alloc::{AllocError, Global};
-
-const PROFILE: u32 = 3;
+use wire::Profile;
 
 // The zeros that one call writes.
 const ZEROS_LEN: usize = 65_536;
@@ -67,7 +67,8 @@ fn put_front<D: Disk>(disk: &mut D, slots: u32, front: &[u8]) -> Result<(), Devi
     requires long { length front.now ≡ 512 }
     requires is { IsFront (new_header 3 slots) front.now }
     requires behind { (k : ℕ) → 16 ≤ k → slice_index front.now k ≡ 0 }
-    ensures formatted { IsTrue D.tells → (before : _) → HasZeroSlots slots before (D.state disk.old).areas → OnOk result (IsFormatted slots before (D.state disk.new).areas) }
+    ensures formatted { IsTrue D.tells → (before : _) → HasZeroSlots slots before (D.state disk.old).areas
+        → OnOk result (IsFormatted slots before (D.state disk.new).areas) }
     ensures stop { IsTrue D.tells → (before : _) → HasZeroSlots slots before (D.state disk.old).areas → LeavesShut slots (D.state disk.new).areas.status }
     ensures others { IsTrue D.tells → (D.state disk.new).areas ≡ record (D.state disk.old).areas { status = (D.state disk.new).areas.status } }
     ensures first { CountsFirst (D.state disk.old) (D.state disk.new) }
@@ -82,13 +83,14 @@ fn put_front<D: Disk>(disk: &mut D, slots: u32, front: &[u8]) -> Result<(), Devi
 #[tactic(auto, using(crate::proofs::Formatted::has_numbers))]
 fn write_front<D: Disk>(disk: &mut D, slots: u32) -> Result<(), DeviceFault>
     requires slots { IsSlotCount slots }
-    ensures formatted { IsTrue D.tells → (before : _) → HasZeroSlots slots before (D.state disk.old).areas → OnOk result (IsFormatted slots before (D.state disk.new).areas) }
+    ensures formatted { IsTrue D.tells → (before : _) → HasZeroSlots slots before (D.state disk.old).areas
+        → OnOk result (IsFormatted slots before (D.state disk.new).areas) }
     ensures stop { IsTrue D.tells → (before : _) → HasZeroSlots slots before (D.state disk.old).areas → LeavesShut slots (D.state disk.new).areas.status }
     ensures others { IsTrue D.tells → (D.state disk.new).areas ≡ record (D.state disk.old).areas { status = (D.state disk.new).areas.status } }
     ensures first { CountsFirst (D.state disk.old) (D.state disk.new) }
     ensures refused { (D.state disk.new).refused ≡ refusals result (D.state disk.old).refused }
 {
-    put_front(disk, slots, &encode_header(PROFILE, slots))?;
+    put_front(disk, slots, &encode_header(Profile::newest(), slots))?;
     Ok(())
 }
 

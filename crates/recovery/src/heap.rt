@@ -64,8 +64,10 @@ pub fn read_heap<D: Disk>(
     requires slots { (profile : ℕ) × AreSlots profile slots.now }
     requires entries { entries.now ≡ entries_of slots.now }
     ensures last { IfOk result (λ heap. heap.last ≡ last_time_after 0 (map head_of (entries_of slots.now))) }
-    ensures read { IsTrue D.tells → IfOk result (HoldsEntries (D.state disk.old).areas.heap.bytes (mark_of slots.now) (anchors_after no_anchors slots.now) (later_than (mark_of slots.now) (entries_of slots.now))) }
-    ensures first { IsTrue D.tells → IfErr result (IsMembersFault (D.state disk.old).areas.heap.bytes (mark_of slots.now) (anchors_after no_anchors slots.now) (later_than (mark_of slots.now) (entries_of slots.now))) }
+    ensures read { IsTrue D.tells → IfOk result (HoldsEntries (D.state disk.old).areas.heap.bytes (mark_of slots.now) (anchors_after no_anchors slots.now)
+        (later_than (mark_of slots.now) (entries_of slots.now))) }
+    ensures first { IsTrue D.tells → IfErr result (IsMembersFault (D.state disk.old).areas.heap.bytes (mark_of slots.now) (anchors_after no_anchors slots.now)
+        (later_than (mark_of slots.now) (entries_of slots.now))) }
     ensures fault { IfErr result IsHeapFault }
     ensures reads { D.state disk.new ≡ after_reads result (D.state disk.old) }
 {

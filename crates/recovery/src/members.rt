@@ -39,7 +39,9 @@ pub fn with_records(
     requires records { AreRecordsOf OfCommit records.items }
     requires later { latest chains < time }
     requires in_range { time < 2 ^ 63 }
-    ensures found { IfOk result (λ o. MatchOption o (¬ AllByRecursion (IsStored (before_of chains)) (map heap_record records.items)) (λ next. AllByRecursion (IsStored (before_of chains)) (map heap_record records.items) × ((key : Key) → writes_of next key ≡ writes_of chains key ++ written time (map (write_of (before_of chains)) (map heap_record records.items)) key))) }
+    ensures found { IfOk result (λ o. MatchOption o (¬ AllByRecursion (IsStored (before_of chains)) (map heap_record records.items))
+        (λ next. AllByRecursion (IsStored (before_of chains)) (map heap_record records.items)
+        × ((key : Key) → writes_of next key ≡ writes_of chains key ++ written time (map (write_of (before_of chains)) (map heap_record records.items)) key))) }
     ensures latest { IfOk result (λ o. IfSome o (λ next. latest next ≤ time)) }
 {
     let Some(writes) = resolve(alloc, &chains, records)? else {
@@ -73,7 +75,8 @@ fn read_member<D: Disk>(
     requires later { heap.last < entry.now.time }
     requires in_range { entry.now.time < 2 ^ 63 }
     ensures last { IfOk result (λ o. IfSome o (λ next. next.last ≡ entry.now.time)) }
-    ensures found { IsTrue D.tells → IfOk result (λ o. MatchOption o (HasNoChain (D.state disk.old).areas.heap.bytes heap_len heap entry.now) (AddsChain (D.state disk.old).areas.heap.bytes heap_len entry.now heap)) }
+    ensures found { IsTrue D.tells → IfOk result (λ o. MatchOption o (HasNoChain (D.state disk.old).areas.heap.bytes heap_len heap entry.now)
+        (AddsChain (D.state disk.old).areas.heap.bytes heap_len entry.now heap)) }
     ensures fault { IfErr result IsReadFault }
     ensures reads { D.state disk.new ≡ after_reads result (D.state disk.old) }
 {

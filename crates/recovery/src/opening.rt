@@ -151,7 +151,8 @@ fn read_settled<D: Disk>(alloc: Global, disk: &mut D) -> Result<Recovered, OpenF
 ///
 /// # Errors
 ///
-/// Of the checks that fail, the first: `NotAStore` where no header stands in front; `Damaged` with the slot's number, the first extent of the chain or the start of the run. `Device` where the disk refused a call; `NoMemory`.
+/// Of the checks that fail, the first: `NotAStore` where no header stands in front; `Damaged` with the slot's number,
+/// the first extent of the chain or the start of the run. `Device` where the disk refused a call; `NoMemory`.
 pub fn read_image<D: Disk>(alloc: Global, disk: &mut D) -> Result<Recovered, OpenFault>
     ensures used { IfOk result (λ r. (r.used ≤ total r.header) × (total r.header ≤ 65536)) }
     ensures rising { IfOk result (λ r. AreRisingAfter 0 (map head_of r.commits.items)) }
@@ -164,7 +165,8 @@ pub fn read_image<D: Disk>(alloc: Global, disk: &mut D) -> Result<Recovered, Ope
 
     ensures found { IsTrue D.tells → IfOk result (IsReadFrom (image_of (D.state disk.old).areas)) }
     ensures fault { IsTrue D.tells → IfErr result (IsImageFault (image_of (D.state disk.old).areas)) }
-    ensures opens { IsTrue D.tells → (header : Header) (layout : Layout) (reading : Reading) → IsOpening header (image_of (D.state disk.old).areas) layout reading → IfErr result IsReadFault }
+    ensures opens { IsTrue D.tells → (header : Header) (layout : Layout) (reading : Reading)
+        → IsOpening header (image_of (D.state disk.old).areas) layout reading → IfErr result IsReadFault }
 
     ensures settled { IsTrue D.tells → OnOk result ((D.state disk.new).areas ≡ settled_on (image_of (D.state disk.old).areas)) }
     ensures read { IsTrue D.tells → image_of (D.state disk.new).areas ≡ image_of (D.state disk.old).areas }

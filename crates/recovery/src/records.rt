@@ -33,7 +33,8 @@ pub fn read_records<D: Disk>(
 ) -> Result<Option<ReadRecords>, OpenFault>
     requires { IsTrue D.tells → heap_len ≡ length (D.state disk.old).areas.heap.bytes }
     ensures of_kinds { IfOk result (λ o. IfSome o (λ read. AreRecordsOf kinds read.records.items)) }
-    ensures found { IsTrue D.tells → IfOk result (λ o. MatchOption o (HasNoRecords (D.state disk.old).areas.heap.bytes heap_len extents.old name kinds) (AreReadRecords (D.state disk.old).areas.heap.bytes heap_len extents.old name kinds extents.new)) }
+    ensures found { IsTrue D.tells → IfOk result (λ o. MatchOption o (HasNoRecords (D.state disk.old).areas.heap.bytes heap_len extents.old name kinds)
+        (AreReadRecords (D.state disk.old).areas.heap.bytes heap_len extents.old name kinds extents.new)) }
     ensures fault { IfErr result IsReadFault }
     ensures reads { D.state disk.new ≡ after_reads result (D.state disk.old) }
 {

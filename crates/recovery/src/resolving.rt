@@ -42,7 +42,8 @@ fn resolve_one(
     entry: Record,
 ) -> Result<Option<KeyWrite<SharedValue>>, AllocError>
     requires { IsPermitted OfCommit entry.content }
-    ensures { IfOk result (λ o. MatchOption o (¬ IsStored (before_of chains.now) (heap_record entry)) (λ w. IsStored (before_of chains.now) (heap_record entry) × (w ≡ write_of (before_of chains.now) (heap_record entry)))) }
+    ensures { IfOk result (λ o. MatchOption o (¬ IsStored (before_of chains.now) (heap_record entry))
+        (λ w. IsStored (before_of chains.now) (heap_record entry) × (w ≡ write_of (before_of chains.now) (heap_record entry)))) }
 {
     let Record { key, content } = entry;
     let Some(write) = apply_owned(alloc, value_before(chains, key), content)? else {
@@ -61,7 +62,9 @@ pub fn resolve(
     records: Vec<Record>,
 ) -> Result<Option<Vec<KeyWrite<SharedValue>>>, AllocError>
     requires { AllByRecursion (λ r. IsPermitted OfCommit r.content) records.items }
-    ensures { IfOk result (λ o. MatchOption o (¬ AllByRecursion (IsStored (before_of chains.now)) (map heap_record records.items)) (λ writes. AllByRecursion (IsStored (before_of chains.now)) (map heap_record records.items) × (writes.items ≡ map (write_of (before_of chains.now)) (map heap_record records.items)))) }
+    ensures { IfOk result (λ o. MatchOption o (¬ AllByRecursion (IsStored (before_of chains.now)) (map heap_record records.items))
+        (λ writes. AllByRecursion (IsStored (before_of chains.now)) (map heap_record records.items)
+        × (writes.items ≡ map (write_of (before_of chains.now)) (map heap_record records.items)))) }
 {
     let mut writes = Vec::with_capacity(alloc, records.len())?;
     for entry in records {

@@ -135,7 +135,8 @@ rewrite-leads tells v xs i t t' ws c a here is does w world = (
         places = push_nothing v.transactions w.machine.published (slice_set xs i (held.Transaction (record t { writes = ws })))
             (slice_set w.places i (Running t.snapshot ws))
             (rewritten-places v.transactions w.machine.published xs w.places i t ws here world.places);
-        views = reads-plain tells v (slice_set xs i (held.Transaction (record t { writes = ws }))) (slice_set w.places i (Running t.snapshot ws)) held.Nothing Free
+        views = reads-plain tells v (slice_set xs i (held.Transaction (record t { writes = ws })))
+            (slice_set w.places i (Running t.snapshot ws)) held.Nothing Free
             (rewritten-places v.transactions w.machine.published xs w.places i t ws here world.places).many tt
             (reads-set tells v xs w.places i (held.Transaction (record t { writes = ws })) (Running t.snapshot ws) tt world.views);
       }),

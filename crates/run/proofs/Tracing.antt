@@ -379,7 +379,8 @@ view-answers tells t i k key time said is =
     asks-view tells (moment_at t k).world key time (place_at (moment_at t k).world.places (place_of t i)) said (moment_at t (suc k)).world
     (calls-link tells t k (call.At (place_of t i) key time) (answer.At said) is).does in
     let by = given-by t i k (Views asked.0 asked.1 asked.2) tt (omega (arith, get-low t.calls k (call.At (place_of t i) key time) is.0)) asked.3 in
-    let gives : (by.asked ≡ call.View) × (by.said ≡ answer.View (Ok tt)) × (asked.0 ≡ (machine_at t i).published) × (asked.1 ≡ (machine_at t i).floors) × (asked.2 ≤ last (machine_at t i).published) = by.gives in (
+    let gives : (by.asked ≡ call.View) × (by.said ≡ answer.View (Ok tt)) × (asked.0 ≡ (machine_at t i).published) × (asked.1 ≡ (machine_at t i).floors)
+    × (asked.2 ≤ last (machine_at t i).published) = by.gives in (
       by.earlier,
       (by.is.0 ∙ ap Some gives.0, by.is.1 ∙ ap Some gives.1),
       (
@@ -405,7 +406,8 @@ recent-answers tells t i k key time said is =
     asks-recent (moment_at t k).world key time (place_at (moment_at t k).world.places (place_of t i)) said (moment_at t (suc k)).world
     (calls-link tells t k (call.Recent (place_of t i) key time) (answer.Recent said) is).does in
     let by = given-by t i k (Views asked.0 asked.1 asked.2) tt (omega (arith, get-low t.calls k (call.Recent (place_of t i) key time) is.0)) asked.3 in
-    let gives : (by.asked ≡ call.View) × (by.said ≡ answer.View (Ok tt)) × (asked.0 ≡ (machine_at t i).published) × (asked.1 ≡ (machine_at t i).floors) × (asked.2 ≤ last (machine_at t i).published) = by.gives in (
+    let gives : (by.asked ≡ call.View) × (by.said ≡ answer.View (Ok tt)) × (asked.0 ≡ (machine_at t i).published) × (asked.1 ≡ (machine_at t i).floors)
+    × (asked.2 ≤ last (machine_at t i).published) = by.gives in (
       by.earlier,
       (by.is.0 ∙ ap Some gives.0, by.is.1 ∙ ap Some gives.1),
       (

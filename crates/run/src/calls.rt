@@ -1,11 +1,9 @@
 //! Calls, and what they answer.
-use chains::SharedValue;
-use group::{BeginFault, Did, PumpFault, SubmitFault};
 use history::{Key, Version};
-use snapshot::TxnFault;
 use std::alloc::AllocError;
-use store::{JobDid, StartFault};
-use timequery::QueryFault;
+use store::{
+    BeginFault, Did, JobDid, PumpFault, QueryFault, SharedValue, StartFault, SubmitFault, TxnFault,
+};
 
 /// A call of a store, or of a transaction, a ticket or a view that it gave out. Such a value is
 /// named by the place in the list of the call that gave it. Times are in microseconds since 1970.

@@ -1,6 +1,8 @@
 //! Laws of lists of calls, each as a function with nothing to do. They speak of a `Trace`: a list of
 //! calls as it went from a moment of the store, in `specs/Traces.antt`.
-ghost use Rattle.run.specs.Laws.{FirstMoment, MomentSurvives, ImageIsKept, CommitHasItsTime, WriteStands, AsManyAnswers, GoesToItsEnd, CallsLink, StopsSurvive, MachineRuns, ListsGoOn, StepIsList, TimesStayKept, FloorsRise, TicketsStay, DoneNamesItsSubmit, PutIsSubmitted, DeleteIsSubmitted, WrittenIsFound, ViewsStay, ViewAnswersByItsMoment, RecentAnswersByItsMoment};
+ghost use Rattle.run.specs.Laws.{FirstMoment, MomentSurvives, ImageIsKept, CommitHasItsTime, WriteStands, AsManyAnswers, GoesToItsEnd, CallsLink, StopsSurvive};
+ghost use Rattle.run.specs.Laws.{MachineRuns, ListsGoOn, StepIsList, TimesStayKept, FloorsRise, TicketsStay, DoneNamesItsSubmit, PutIsSubmitted};
+ghost use Rattle.run.specs.Laws.{DeleteIsSubmitted, WrittenIsFound, ViewsStay, ViewAnswersByItsMoment, RecentAnswersByItsMoment};
 
 use history::laws::Stored;
 use std::marker::Model;

@@ -17,9 +17,8 @@ ghost use Rattle.law_opening.specs.Laws.{LeavesFronts};
 ghost use Rattle.run.specs.Promise.{Promise};
 
 use disk::Disk;
-use recovery::FormatFault;
 use std::alloc::Global;
-use store::{OpenFault, Store};
+use store::{FormatFault, OpenFault, Store};
 
 /// Makes the status area that of a new store with this many slots, 16 to 65,536.
 ///
@@ -28,7 +27,8 @@ use store::{OpenFault, Store};
 /// Those of `recovery::format`.
 pub fn format<D: Disk>(alloc: Global, disk: &mut D, slots: u32) -> Result<(), FormatFault>
     // Whatever a stop may leave of a formatted disk is an image of the empty history.
-    ensures stands { IsTrue D.tells → OnOk result ((image : Image) → LeavesImage (D.state disk.new).areas image → IsImageOf (new_header 3 slots) image [] (λ relation. 0)) }
+    ensures stands { IsTrue D.tells → OnOk result ((image : Image) → LeavesImage (D.state disk.new).areas image
+        → IsImageOf (new_header 3 slots) image [] (λ relation. 0)) }
     // So is what is read of it, which is what `open` speaks of.
     ensures reads { IsTrue D.tells → OnOk result (IsImageOf (new_header 3 slots) (image_of (D.state disk.new).areas) [] (λ relation. 0)) }
     ensures bad_slots { (result ≡ Err FormatFault.BadSlots) ↔ ¬ IsSlotCount slots }
@@ -49,11 +49,13 @@ pub fn open<D: Disk>(alloc: Global, disk: D, mark: u64) -> Result<Store<D>, (Ope
     ensures ok { IfOk result (λ s. Opens D.tells (D.state disk) mark s) }
     ensures err { IfErr result (λ e. OpenRefuses D.tells (D.state disk) e.0 (D.state e.1)) }
     // On an image that stands for a history the store stands for it. Nothing but the device or memory refuses it, and then the disk still holds the image.
-    ensures stands { (header : Header) (h : History Value) (floors : ℕ → ℕ) → IsTrue D.tells → IsImageOf header (image_of (D.state disk).areas) h floors → MatchResult result (λ s. Stands D.tells s (opened h floors)) (λ e. IsReadFault e.0 × (image_of (D.state e.1).areas ≡ image_of (D.state disk).areas)) }
+    ensures stands { (header : Header) (h : History Value) (floors : ℕ → ℕ) → IsTrue D.tells → IsImageOf header (image_of (D.state disk).areas) h floors
+        → MatchResult result (λ s. Stands D.tells s (opened h floors)) (λ e. IsReadFault e.0 × (image_of (D.state e.1).areas ≡ image_of (D.state disk).areas)) }
     // It makes three syncs and no write, or, where it is refused, at most three.
     ensures made { MatchResult result (λ s. CountsMore 3 (D.state disk) s.disk) (λ e. CountsAtMost 3 (D.state disk) (D.state e.1)) }
     // A stop while it opens, refused or not, leaves nothing that it might not have left before.
-    ensures stops { IsTrue D.tells → MatchResult result (λ s. LeavesNoMore (D.state disk).areas s.disk.areas) (λ e. LeavesNoMore (D.state disk).areas (D.state e.1).areas) }
+    ensures stops { IsTrue D.tells → MatchResult result (λ s. LeavesNoMore (D.state disk).areas s.disk.areas)
+        (λ e. LeavesNoMore (D.state disk).areas (D.state e.1).areas) }
     // So it does at each moment of it.
     ensures moments { MatchResult result (λ s. Settles D.tells (D.state disk) s.disk) (λ e. Settles D.tells (D.state disk) (D.state e.1)) }
 {

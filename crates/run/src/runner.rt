@@ -25,7 +25,10 @@ pub fn run<D: Disk>(
     store: &mut Store<D>,
     calls: &[Call<'_>],
 ) -> Result<Vec<Answer>, AllocError>
-    // From each moment of the store: the answers are those of a run of the machine, and whatever a stop may leave before, within or after any of the calls is kept as what is published then or, once the gate of the group may be open, as that with the whole group; it has every commit of which Done was answered. The places hold at the end what is given back.
+    // From each moment of the store: the answers are those of a run of the machine, and whatever a stop may leave
+    // before, within or after any of the calls is kept as what is published then or, once the gate of the group may be
+    // open, as that with the whole group; it has every commit of which Done was answered. The places hold at the end
+    // what is given back.
     ensures run { IfOk result (λ answers. (left : List Held) × KeepsPromise D.tells store.old [] calls.now answers.items store.new left) }
     // Each call makes at most one write or sync of the disk.
     ensures made { store.new.disk.made ≤ store.old.disk.made + length calls.now }

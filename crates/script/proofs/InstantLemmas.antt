@@ -69,7 +69,8 @@ instant_in-some : (text : List ℕ) (t : ℕ) → Spells text t → instant_in t
 instant_in-some text t spells =
     let back : moment_at text ≡ spells.moment = ap moment_at spells.spelled ∙ moment_at-spelling spells.moment in
     chosen _ _ (and_from _ _ (ap is_moment back ∙ is_moment-true spells.moment spells.real)
-    ((bytes_eq-Decides text (spelling (moment_at text))).1 (spells.spelled ∙ ap spelling (sym back)))) ∙ ap (λ (n : ℕ). Some n) (ap instant_of back ∙ sym spells.instant)
+    ((bytes_eq-Decides text (spelling (moment_at text))).1 (spells.spelled ∙ ap spelling (sym back))))
+    ∙ ap (λ (n : ℕ). Some n) (ap instant_of back ∙ sym spells.instant)
 
 instant_in-none : (text : List ℕ) → ((t : ℕ) → Spells text t → ⊥) → instant_in text ≡ None
 instant_in-none text none = left_out _ _ (λ e. let parts = both (is_moment (moment_at text)) (bytes_eq text (spelling (moment_at text))) e in

@@ -26,8 +26,10 @@ fn reopen<D: Disk, W: Write>(
     output: &mut Answers<W>,
 ) -> Result<Session<D>, (Ending, D)>
     ensures turned { MatchResult result
-        (λ new. (out : Text) × told.Answers D.tells session Reopen out (Ok new) × Appends (text_said W.contents output.old) (text_said W.contents output.new) out)
-        (λ e. (out : Text) × told.Answers D.tells session Reopen out (Err (e.0, D.state e.1)) × Appends (text_said W.contents output.old) (text_said W.contents output.new) out) }
+        (λ new. (out : Text) × told.Answers D.tells session Reopen out (Ok new)
+        × Appends (text_said W.contents output.old) (text_said W.contents output.new) out)
+        (λ e. (out : Text) × told.Answers D.tells session Reopen out (Err (e.0, D.state e.1))
+        × Appends (text_said W.contents output.old) (text_said W.contents output.new) out) }
     ensures refused { IfErr result (λ e. e.0 ≡ Ending.OutputRefused → is_output_refused output.new ≡ true) }
 {
     match session.reopen(alloc) {
@@ -57,7 +59,8 @@ fn turn<D: Disk, W: Write>(
     line: &[u8],
     output: &mut Answers<W>,
 ) -> Result<bool, Ending>
-    ensures turned { MatchResult result (λ some. told.Answered D.tells some number session.old line.now session.new (text_said W.contents output.old) (text_said W.contents output.new))
+    ensures turned { MatchResult result (λ some. told.Answered D.tells some number session.old line.now session.new (text_said W.contents output.old)
+        (text_said W.contents output.new))
         (λ ending. told.Ended D.tells number session.old line.now ending session.new (text_said W.contents output.old) (text_said W.contents output.new)) }
     ensures refused { IfErr result (λ ending. ending ≡ Ending.OutputRefused → is_output_refused output.new ≡ true) }
     ensures read { IfErr result (λ ending. ending ≢ Ending.InputRefused) }
@@ -124,7 +127,8 @@ pub fn answer_lines<D: Disk, R: LineInput, W: Write>(
     output: &mut Answers<W>,
 ) -> (Ending, D)
     ensures ran { (lines : List Text) × (out : Text) × AreLines (text_left R.remaining input.old) lines
-        × told.Run D.tells (lines_read input.old + 1) session lines out (result.0, D.state result.1) × Appends (text_said W.contents output.old) (text_said W.contents output.new) out }
+        × told.Run D.tells (lines_read input.old + 1) session lines out (result.0, D.state result.1)
+        × Appends (text_said W.contents output.old) (text_said W.contents output.new) out }
     ensures refused { IsToldOf result.0 input.new output.new }
 {
     let mut session = session;

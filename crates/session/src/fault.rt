@@ -1,10 +1,8 @@
 //! What a line or a command is refused with.
-use group::{BeginFault, PumpFault, SubmitFault};
-use recovery::{FormatFault, OpenFault};
-use snapshot::TxnFault;
-use store::StartFault;
+use store::{
+    BeginFault, FormatFault, OpenFault, PumpFault, QueryFault, StartFault, SubmitFault, TxnFault,
+};
 use thiserror::Error;
-use timequery::QueryFault;
 
 /// The faults of the crates below, and the session's own. How a script prints them is not said here:
 /// see [`crate::write_reply`].

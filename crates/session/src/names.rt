@@ -4,9 +4,8 @@ ghost use Rattle.session.specs.Session as told;
 
 use crate::session::Session;
 use disk::Disk;
-use group::Ticket;
 use script::Name;
-use snapshot::Txn;
+use store::{Ticket, Txn};
 
 /// At most so many names are in use.
 pub(crate) const MAX_NAMES: usize = 64;

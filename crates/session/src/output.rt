@@ -9,14 +9,15 @@ ghost use Rattle.session.specs.Texts as told;
 use crate::refused::Refused;
 use crate::reply::{Reply, spell_line};
 use crate::text::{spell_bad_line, spell_count, spell_numbered, spell_record, spell_row};
-use chains::SharedValue;
 use history::Version;
 use std::alloc::Global;
 use std::io::{ErrorKind, Write};
+use store::SharedValue;
 
 /// Writes a front of a text, and says what is left of it. Of none where the writer was interrupted.
 fn write_front<'a, W: Write>(writer: &mut W, text: &'a [u8]) -> Result<&'a [u8], Refused>
-    ensures { MatchResult result (λ left. Writes (W.contents writer.old) (W.contents writer.new) text.entry.now left.now) (λ _. AppendsFront (W.contents writer.old) (W.contents writer.new) text.entry.now) }
+    ensures { MatchResult result (λ left. Writes (W.contents writer.old) (W.contents writer.new) text.entry.now left.now)
+        (λ _. AppendsFront (W.contents writer.old) (W.contents writer.new) text.entry.now) }
 {
     match writer.write(text) {
         Ok(0) => Err(Refused),
@@ -32,7 +33,8 @@ fn write_front<'a, W: Write>(writer: &mut W, text: &'a [u8]) -> Result<&'a [u8],
 
 /// Writes a text. Where the writer refuses, it may have taken a front of it.
 fn write_text<W: Write>(writer: &mut W, text: &[u8]) -> Result<(), Refused>
-    ensures { MatchResult result (λ _. Appends (W.contents writer.old) (W.contents writer.new) text.now) (λ _. AppendsFront (W.contents writer.old) (W.contents writer.new) text.now) }
+    ensures { MatchResult result (λ _. Appends (W.contents writer.old) (W.contents writer.new) text.now)
+        (λ _. AppendsFront (W.contents writer.old) (W.contents writer.new) text.now) }
 {
     let mut rest = text;
     for _ in 0..u64::MAX {
@@ -170,7 +172,8 @@ fn say_record_lines<W: Write>(
     output: &mut Answers<W>,
     found: &[(u64, SharedValue)],
 ) -> Result<(), Refused>
-    ensures { Says (text_said W.contents output.old) (flat_map told.record_text found.now) result (text_said W.contents output.new) (is_output_refused output.new) }
+    ensures { Says (text_said W.contents output.old) (flat_map told.record_text found.now) result (text_said W.contents output.new)
+        (is_output_refused output.new) }
 {
     for pair in found {
         if let Err(refused) = say_record(output, pair) {
@@ -247,7 +250,8 @@ pub fn write_numbered<W: Write>(
     words: &str,
     number: u64,
 ) -> Result<(), Refused>
-    ensures { Says (text_said W.contents output.old) (words.now ++ (decimal number ++ codes "\n")) result (text_said W.contents output.new) (is_output_refused output.new) }
+    ensures { Says (text_said W.contents output.old) (words.now ++ (decimal number ++ codes "\n")) result (text_said W.contents output.new)
+        (is_output_refused output.new) }
 {
     output.text.clear();
     match spell_numbered(&mut output.text, words, number) {

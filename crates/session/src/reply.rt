@@ -7,12 +7,10 @@ use crate::fault::Fault;
 use crate::text::{
     spell_times, spell_value, write_job_step, write_refusal, write_step, write_words,
 };
-use chains::SharedValue;
-use group::Did;
 use history::Version;
 use std::io;
 use std::io::Write;
-use store::JobDid;
+use store::{Did, JobDid, SharedValue};
 
 /// The answer to a line. Times are microseconds since 1970.
 #[derive(Drop)]

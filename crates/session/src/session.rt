@@ -6,14 +6,10 @@ ghost use Rattle.session.specs.Session as told;
 use crate::names::{MAX_NAMES, OpenName, TicketName};
 use crate::reply::Reply;
 use disk::Disk;
-use recovery::OpenFault;
 use script::Line;
 use std::alloc::Global;
 use std::marker::Model;
-use store::Store;
-
-/// The profile whose relations have floors of their own.
-const BY_RELATION: u32 = 3;
+use store::{OpenFault, Store};
 
 /// The mark of a session's store.
 pub const MARK: u64 = 1;
@@ -138,7 +134,7 @@ impl<D: Disk> Session<D> {
     {
         let last = self.store.last();
         let floors = self.store.floors();
-        if self.store.profile() == BY_RELATION {
+        if self.store.profile().has_own_floors() {
             Reply::OpenedByRelation(last, floors.relations())
         } else {
             Reply::Opened(last, floors.every())

@@ -5,8 +5,7 @@ use crate::fault::Fault;
 use crate::reply::Reply;
 use crate::session::Session;
 use disk::Disk;
-use group::Did;
-use store::{JobDid, Store};
+use store::{Did, JobDid, Store};
 
 /// What a store takes steps of.
 #[derive(Clone, Copy)]

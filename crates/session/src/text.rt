@@ -6,18 +6,16 @@ ghost use Rattle.session.specs.Texts as told;
 
 use crate::digits::spell_hex;
 use crate::fault::Fault;
-use chains::SharedValue;
 use disk::Area;
-use group::{BeginFault, Did, PumpFault, SubmitFault};
 use history::Version;
 use itoa::Buffer;
-use recovery::{FormatFault, OpenFault};
-use snapshot::TxnFault;
 use std::alloc::AllocError;
 use std::io;
 use std::io::Write;
-use store::{JobDid, StartFault};
-use timequery::QueryFault;
+use store::{
+    BeginFault, Did, FormatFault, JobDid, OpenFault, PumpFault, QueryFault, SharedValue,
+    StartFault, SubmitFault, TxnFault,
+};
 
 /// Spells a field: its bytes in hexadecimal, the empty field as `-`.
 fn spell_field(text: &mut Vec<u8>, field: &[u8]) -> Result<(), AllocError>
@@ -228,7 +226,8 @@ fn write_refused<W: Write>(output: &mut W, words: &str) -> io::Result<()>
 
 /// Writes the line of a refusal by its words and a number.
 fn write_refused_number<W: Write>(output: &mut W, words: &str, number: u64) -> io::Result<()>
-    ensures { OnOk result (Appends (W.contents output.old) (W.contents output.new) (codes "refused: " ++ (words.now ++ (codes " " ++ (decimal number ++ codes "\n"))))) }
+    ensures { OnOk result (Appends (W.contents output.old) (W.contents output.new)
+        (codes "refused: " ++ (words.now ++ (codes " " ++ (decimal number ++ codes "\n"))))) }
 {
     writeln!(output, "refused: {words} {number}")
 }

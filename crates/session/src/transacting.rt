@@ -7,13 +7,11 @@ use crate::fault::Fault;
 use crate::names::{OpenName, TicketName};
 use crate::reply::Reply;
 use crate::session::Session;
-use chains::SharedValue;
 use disk::Disk;
-use group::{Redeemed, Submitted};
 use history::Key;
 use script::{Fields, Name};
-use snapshot::{Txn, TxnFault};
 use std::alloc::{AllocError, Global};
+use store::{Redeemed, SharedValue, Submitted, Txn, TxnFault};
 
 /// Puts the value of these fields; memory for their bytes may be refused too.
 fn put_fields(txn: &mut Txn, alloc: Global, key: Key, fields: Fields<'_>) -> Result<(), TxnFault>
@@ -77,7 +75,8 @@ impl<D: Disk> Session<D> {
     }
 
     pub(crate) fn put(&mut self, alloc: Global, name: &Name, key: Key, fields: Fields<'_>) -> Reply
-        ensures { MatchOption (told.txn_place name.now self.old) (told.RefusesName self.old result self.new) (λ i. told.PutStep self.old i key fields.entry result self.new) }
+        ensures { MatchOption (told.txn_place name.now self.old) (told.RefusesName self.old result self.new)
+            (λ i. told.PutStep self.old i key fields.entry result self.new) }
     {
         match self.txn_place(name) {
             Some(at) => {
@@ -91,7 +90,8 @@ impl<D: Disk> Session<D> {
     }
 
     pub(crate) fn delete(&mut self, name: &Name, key: Key) -> Reply
-        ensures { MatchOption (told.txn_place name.now self.old) (told.RefusesName self.old result self.new) (λ i. told.DeleteStep self.old i key result self.new) }
+        ensures { MatchOption (told.txn_place name.now self.old) (told.RefusesName self.old result self.new)
+            (λ i. told.DeleteStep self.old i key result self.new) }
     {
         match self.txn_place(name) {
             Some(at) => {
@@ -105,7 +105,8 @@ impl<D: Disk> Session<D> {
     }
 
     pub(crate) fn get(&mut self, name: &Name, key: Key) -> Reply
-        ensures { MatchOption (told.txn_place name.now self.old) (told.RefusesName self.old result self.new) (λ i. told.GetStep self.old i key result self.new) }
+        ensures { MatchOption (told.txn_place name.now self.old) (told.RefusesName self.old result self.new)
+            (λ i. told.GetStep self.old i key result self.new) }
     {
         match self.txn_place(name) {
             Some(at) => match seen(&self.opened[at].txn, key) {
@@ -132,7 +133,8 @@ impl<D: Disk> Session<D> {
     }
 
     pub(crate) fn submit(&mut self, name: &Name, label: u64, now: u64) -> Reply
-        ensures { MatchOption (told.txn_place name.now self.old) (told.RefusesName self.old result self.new) (λ i. told.SubmitStep self.old i label now result self.new) }
+        ensures { MatchOption (told.txn_place name.now self.old) (told.RefusesName self.old result self.new)
+            (λ i. told.SubmitStep self.old i label now result self.new) }
     {
         match self.txn_place(name) {
             Some(at) => {
@@ -153,7 +155,8 @@ impl<D: Disk> Session<D> {
     }
 
     pub(crate) fn redeem(&mut self, name: &Name) -> Reply
-        ensures { MatchOption (told.ticket_place name.now self.old) (told.RefusesName self.old result self.new) (λ i. told.RedeemStep self.old i result self.new) }
+        ensures { MatchOption (told.ticket_place name.now self.old) (told.RefusesName self.old result self.new)
+            (λ i. told.RedeemStep self.old i result self.new) }
     {
         match self.ticket_place(name) {
             Some(at) => {

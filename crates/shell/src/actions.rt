@@ -5,7 +5,8 @@ ghost use Rattle.script.specs.declared.line.Line.TheVariants.{At, Between, Grow,
 ghost use Rattle.session.specs.Streams.{Says, is_output_refused, text_said};
 ghost use Rattle.session.specs.Texts.{Text, open_line, refusal_line, text_of};
 ghost use Rattle.session.specs.declared.ending.Ending.TheVariants.{Whole};
-ghost use Rattle.shell.specs.Acts.{Acts, Asks, Dumps, GivesOut, Grows, IsRefused, IsTold, Makes, RefusesTime, RunsNew, RunsScript, SaysArchived, SaysBoth, SaysGrown, SaysSlots, SaysVacuum, Vacuums, given, open_fault_of, told};
+ghost use Rattle.shell.specs.Acts.{Acts, Asks, Dumps, GivesOut, Grows, IsRefused, IsTold, Makes, RefusesTime, RunsNew, RunsScript, SaysArchived, SaysBoth};
+ghost use Rattle.shell.specs.Acts.{SaysGrown, SaysSlots, SaysVacuum, Vacuums, given, open_fault_of, told};
 ghost use Rattle.shell.specs.Dump.{IsDump};
 ghost use Rattle.shell.specs.Keeps.{KeepsPromise};
 ghost use Rattle.shell.specs.Vacuums.{archived_line, reclaimed_line};
@@ -15,7 +16,6 @@ use crate::vacuuming::{Job, Vacuumed, do_job, do_jobs, is_refusal, log_of, recor
 use command_line::Action;
 use disk::{Area, Disk};
 use history::Key;
-use recovery::{OpenFault, format};
 use script::Line;
 use session::{
     Answers, Ending, Fault, LineInput, Lines, MARK, Refused, Reply, Session, answer_lines,
@@ -24,7 +24,7 @@ use session::{
 use status::{Header, LogFault, read_header, read_log};
 use std::alloc::Global;
 use std::io::Write;
-use store::Store;
+use store::{OpenFault, Store, format};
 use wire::Slot;
 
 /// The status of what was done and said in full.
@@ -87,7 +87,8 @@ fn run_script<D: Disk, R: LineInput, W: Write>(
 
 /// Says that an empty store was made.
 fn say_formatted<W: Write>(output: &mut Answers<W>, slots: u32) -> Result<(), Refused>
-    ensures { Says (text_said W.contents output.old) (codes "formatted " ++ (decimal slots ++ codes "\n")) result (text_said W.contents output.new) (is_output_refused output.new) }
+    ensures { Says (text_said W.contents output.old) (codes "formatted " ++ (decimal slots ++ codes "\n")) result (text_said W.contents output.new)
+        (is_output_refused output.new) }
 {
     write_numbered(output, "formatted ", u64::from(slots))
 }
@@ -203,7 +204,8 @@ fn say_archived<W: Write>(output: &mut Answers<W>, upto: u64, slots: &[Slot]) ->
 
 /// Says the records that were archived, and those that were written anew.
 fn say_both<W: Write>(output: &mut Answers<W>, upto: u64, slots: &[Slot]) -> Result<(), Refused>
-    ensures { Says (text_said W.contents output.old) (archived_line upto slots.now ++ reclaimed_line upto slots.now) result (text_said W.contents output.new) (is_output_refused output.new) }
+    ensures { Says (text_said W.contents output.old) (archived_line upto slots.now ++ reclaimed_line upto slots.now) result (text_said W.contents output.new)
+        (is_output_refused output.new) }
 {
     match say_archived(output, upto, slots) {
         Ok(()) => {
@@ -221,7 +223,8 @@ fn say_refused_after<W: Write>(
     slots: &[Slot],
     refusal: &Reply,
 ) -> Result<(), Refused>
-    ensures { Says (text_said W.contents output.old) (archived_line upto slots.now ++ text_of refusal.now) result (text_said W.contents output.new) (is_output_refused output.new) }
+    ensures { Says (text_said W.contents output.old) (archived_line upto slots.now ++ text_of refusal.now) result (text_said W.contents output.new)
+        (is_output_refused output.new) }
 {
     match say_archived(output, upto, slots) {
         Ok(()) => write_reply(output, refusal),
@@ -426,7 +429,8 @@ fn perform<D: Disk, R: LineInput, W: Write>(
     input: &mut Lines<R>,
     output: &mut Answers<W>,
 ) -> (u8, D)
-    ensures { Acts D.tells action.entry (D.state disk) (given R.remaining input.old input.new) (told W.contents result.0 output.old output.new) (D.state result.1) }
+    ensures { Acts D.tells action.entry (D.state disk) (given R.remaining input.old input.new) (told W.contents result.0 output.old output.new)
+        (D.state result.1) }
 {
     match action {
         Action::Example => run_example(alloc, disk, input, output),
@@ -453,7 +457,19 @@ fn perform<D: Disk, R: LineInput, W: Write>(
 
 /// Gives out what was said. What was not given out was not said.
 fn give_out<W: Write>(output: &mut Answers<W>, status: u8) -> u8
-    ensures { (before : Option Text) → GivesOut (record { status = status; before = before; after = text_said W.contents output.old; refused = is_output_refused output.old }) (record { status = result; before = before; after = text_said W.contents output.new; refused = is_output_refused output.new }) }
+    ensures { (before : Option Text) → GivesOut (record {
+      status = status;
+      before = before;
+      after = text_said W.contents output.old;
+      refused =
+          is_output_refused output.old;
+    }) (record {
+      status = result;
+      before = before;
+      after = text_said W.contents output.new;
+      refused =
+          is_output_refused output.new;
+    }) }
 {
     match output.give_out() {
         Ok(()) => status,
@@ -471,9 +487,16 @@ pub fn act<D: Disk, R: LineInput, W: Write>(
     input: &mut Lines<R>,
     output: &mut Answers<W>,
 ) -> (u8, D)
-    ensures acts { Acts D.tells action.entry (D.state disk) (given R.remaining input.old input.new) (told W.contents result.0 output.old output.new) (D.state result.1) }
-    // Of every action, on a disk that tells its bytes and whatever the status is. Of a script, and of the lines of a vacuum, of a growth and of a question: at every moment of its run whatever a stop may leave survives, with every commit of which a line `done` was written, and what is written is what a run of the machine answers. What is written of a question is what the write sets of the history say, or the refusal that they say, or that memory or the device gave out. An empty store that was made is kept as the empty history, with the slots that were asked for; a dump leaves the areas as they were.
-    ensures promise { IsTrue D.tells → KeepsPromise D.tells action.entry (D.state disk) (given R.remaining input.old input.new) (told W.contents result.0 output.old output.new) (D.state result.1) }
+    ensures acts { Acts D.tells action.entry (D.state disk) (given R.remaining input.old input.new) (told W.contents result.0 output.old output.new)
+        (D.state result.1) }
+    // Of every action, on a disk that tells its bytes and whatever the status is. Of a script, and of the lines of a
+    // vacuum, of a growth and of a question: at every moment of its run whatever a stop may leave survives, with every
+    // commit of which a line `done` was written, and what is written is what a run of the machine answers. What is
+    // written of a question is what the write sets of the history say, or the refusal that they say, or that memory or
+    // the device gave out. An empty store that was made is kept as the empty history, with the slots that were asked
+    // for; a dump leaves the areas as they were.
+    ensures promise { IsTrue D.tells → KeepsPromise D.tells action.entry (D.state disk) (given R.remaining input.old input.new)
+        (told W.contents result.0 output.old output.new) (D.state result.1) }
     ensures status { result.0 ≤ 1 }
 {
     let (status, disk) = perform(alloc, action, disk, input, output);

@@ -119,10 +119,10 @@ fn write_slots<W: Write>(alloc: Global, output: &mut W, slots: &[Slot]) -> Resul
 fn write_header<W: Write>(output: &mut W, header: &Header) -> io::Result<()>
     ensures { OnOk result (Appends (W.contents output.old) (W.contents output.new) (header_line header.now)) }
 {
-    if header.profile == 1 {
-        writeln!(output, "header {}", header.slots)
-    } else {
+    if header.profile.has_pieces() {
         writeln!(output, "header {} pieces {}", header.slots, header.pieces)
+    } else {
+        writeln!(output, "header {}", header.slots)
     }
 }
 

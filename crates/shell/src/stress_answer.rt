@@ -13,7 +13,8 @@ use std::io::Write;
 ///
 /// That of the output, of which a front of the answer may have been written.
 pub fn write_stress_answer<W: Write>(output: &mut W, commits: u64, last: u64) -> io::Result<()>
-    ensures { OnOk result (Appends (W.contents output.old) (W.contents output.new) (codes "commits " ++ (decimal commits ++ (codes " last " ++ (decimal last ++ codes "\n"))))) }
+    ensures { OnOk result (Appends (W.contents output.old) (W.contents output.new)
+        (codes "commits " ++ (decimal commits ++ (codes " last " ++ (decimal last ++ codes "\n"))))) }
 {
     writeln!(output, "commits {commits} last {last}")?;
     output.flush()

@@ -162,7 +162,8 @@ impl Txn {
     /// `TooManyKeys`, `BadValue` or `NoMemory`.
     pub fn put(&mut self, alloc: Global, key: Key, fields: &[&[u8]]) -> Result<(), TxnFault>
         ensures ok { OnOk result (self.new ≡ with_put self.old key (map (λ field. field.now) fields.now)) }
-        ensures by_key { OnOk result ((q : Key) → seen_by self.new q ≡ (if same_key key q then Some (map (λ field. field.now) fields.now) else seen_by self.old q)) }
+        ensures by_key { OnOk result ((q : Key) → seen_by self.new q
+            ≡ (if same_key key q then Some (map (λ field. field.now) fields.now) else seen_by self.old q)) }
         ensures missing { result ≢ Err TxnFault.Missing }
         ensures too_many { (result ≡ Err TxnFault.TooManyKeys) ↔ IsFullFor self.old.writes key }
         ensures bad { (result ≡ Err TxnFault.BadValue) ↔ ((¬ IsFullFor self.old.writes key) × (¬ HasSizes (map (λ field. field.now) fields.now))) }
@@ -221,7 +222,14 @@ impl Txn {
 
     /// The transaction is over.
     pub fn spend(self) -> TxnParts
-        ensures is { self ≡ record { mark = result.mark; number = result.number; snapshot = result.snapshot; state = result.frozen; writes = result.writes.items } }
+        ensures is { self ≡ record {
+          mark = result.mark;
+          number = result.number;
+          snapshot = result.snapshot;
+          state = result.frozen;
+          writes =
+              result.writes.items;
+        } }
         ensures are { AreTxnWrites result.frozen result.snapshot result.writes.items }
     {
         let Txn {

@@ -28,7 +28,8 @@ pub fn place_of<V>(writes: &[KeyWrite<V>], key: Key) -> Result<usize, usize>
 pub fn place_with_room<V>(writes: &[KeyWrite<V>], key: Key) -> Option<Result<usize, usize>>
     requires rising { AreRising writes.now }
     requires few { length writes.now ≤ 1024 }
-    ensures full { MatchOption result ((write_in writes.now key ≡ None) × (length writes.now ≡ 1024)) (λ place. (write_in writes.now key ≡ None → length writes.now < 1024)) }
+    ensures full { MatchOption result ((write_in writes.now key ≡ None) × (length writes.now ≡ 1024))
+        (λ place. (write_in writes.now key ≡ None → length writes.now < 1024)) }
     ensures place { MatchOption result (Unit {0}) (IsPlace key writes.now) }
 {
     match place_of(writes, key) {

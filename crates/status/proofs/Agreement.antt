@@ -1,5 +1,6 @@
 -- Contents that agree but within one slot hold the same log, but for that slot.
-use Rattle.std.proofs.Common.{◌≡◌, ◌≢◌, ◌⊎◌, inl, inr, ℕ, zero, suc, ◌+◌, ◌<◌, ◌≤◌, List, [], ◌∷◌, ◌++◌, length, get_or, take, drop, Some, refl, sym, ◌∙◌, ap, subst, arith}
+use Rattle.std.proofs.Common.{◌≡◌, ◌≢◌, ◌⊎◌, inl, inr, ℕ, zero, suc, ◌+◌, ◌<◌, ◌≤◌, List, [], ◌∷◌, ◌++◌, length, get_or, take, drop, Some, refl, sym, ◌∙◌, ap}
+use Rattle.std.proofs.Common.{subst, arith}
 use Rattle.std.specs.Prelude.{slice_get}
 use Rattle.std.proofs.lemmas.Bool.{cases_lt, cases_eq}
 use Rattle.std.proofs.lemmas.List.{length_push}
@@ -40,7 +41,8 @@ module _ (header : Header) (slots : List Slot) (old new : List ℕ) (log : IsLog
 
   body_kept : (n : ℕ) → n ≢ length slots → n < total header → body_at new n ≡ body_at old n
   body_kept n other within =
-      same_part (slot_start n + 1) 511 old new (omega (arith, room)) agrees.no_shorter (λ k low high. agrees.same k (omega (arith, room)) (out_of_slot n k other (omega arith) (omega arith)))
+      same_part (slot_start n + 1) 511 old new (omega (arith, room)) agrees.no_shorter
+      (λ k low high. agrees.same k (omega (arith, room)) (out_of_slot n k other (omega arith) (omega arith)))
 
   front_same : take 512 new ≡ take 512 old
   front_same = same_part 0 512 old new (omega (arith, room)) agrees.no_shorter (λ k low high. agrees.same k (omega (arith, room)) (inl (omega arith)))
@@ -76,7 +78,8 @@ module _ (header : Header) (slots : List Slot) (old new : List ℕ) (log : IsLog
   }
 
   -- with its gate open it is the last slot
-  pub then_new : (slot : Slot) → length slots < total header → IsOpen new (length slots) → IsSpelled header.profile (length slots) (body_at new (length slots)) slot
+  pub then_new : (slot : Slot) → length slots < total header → IsOpen new (length slots)
+      → IsSpelled header.profile (length slots) (body_at new (length slots)) slot
       → IsLog header new (slots ++ slot ∷ [])
   then_new slot within is_open spelled = record {
     header_is = header_kept;

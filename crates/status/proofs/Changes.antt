@@ -14,7 +14,8 @@ module _ (header : Header) (slots : List Slot) (within : length slots < total he
   -- the body may change behind its closed gate
   pub body_changes : Agrees (slot_start (length slots) + 1) 511 old new → IsLog header new slots
   body_changes agrees =
-      still_old header slots old new log (Agrees-wider (slot_start (length slots) + 1) 511 (slot_start (length slots)) 512 old new (omega arith) (omega arith) agrees)
+      still_old header slots old new log (Agrees-wider (slot_start (length slots) + 1) 511 (slot_start (length slots)) 512 old new (omega arith)
+      (omega arith) agrees)
       (λ _ is_open. log.closed (length slots) (omega arith) within
       (sym (agrees.same (slot_start (length slots)) (omega (arith, log.header_is.room)) (inl (omega arith))) ∙ is_open))
 
@@ -24,7 +25,8 @@ module _ (header : Header) (slots : List Slot) (within : length slots < total he
       (λ k low high. agrees.same k (omega (arith, log.header_is.room)) (inr (omega arith)))
 
   -- whatever the gate is, the log is the old one or has the slot
-  pub gate_changes : (slot : Slot) → IsSpelled header.profile (length slots) (body_at old (length slots)) slot → Agrees (slot_start (length slots)) 1 old new → IsOldOrNew header slots slot new
+  pub gate_changes : (slot : Slot) → IsSpelled header.profile (length slots) (body_at old (length slots)) slot → Agrees (slot_start (length slots)) 1 old new
+      → IsOldOrNew header slots slot new
   gate_changes slot spelled agrees =
       let wide = Agrees-wider (slot_start (length slots)) 1 (slot_start (length slots)) 512 old new (omega arith) (omega arith) agrees in
       elim (cases_eq (gate_at new (length slots)) 0xC7) [
@@ -33,7 +35,8 @@ module _ (header : Header) (slots : List Slot) (within : length slots < total he
       ]
 
   -- with the gate open it has the slot
-  pub gate_opens : (slot : Slot) → IsSpelled header.profile (length slots) (body_at old (length slots)) slot → Agrees (slot_start (length slots)) 1 old new → gate_at new (length slots) ≡ 0xC7
+  pub gate_opens : (slot : Slot) → IsSpelled header.profile (length slots) (body_at old (length slots)) slot → Agrees (slot_start (length slots)) 1 old new
+      → gate_at new (length slots) ≡ 0xC7
       → IsLog header new (slots ++ slot ∷ [])
   gate_opens slot spelled agrees is_open =
       let wide = Agrees-wider (slot_start (length slots)) 1 (slot_start (length slots)) 512 old new (omega arith) (omega arith) agrees in

@@ -51,15 +51,20 @@ ends_more : (before : List Slot) (s : Slot) (end now : LogEnd) → EndsAt before
     → now.floors ≡ kept_after end.floors (slot_of s.body ∷ []) → now.runs_end ≡ row_end end.runs_end (runs_in s.body) → EndsAt (before ++ s ∷ []) now
 unfolding last_in archived_in reclaimed_in
 ends_more before s end now ends last archived reclaimed floors runs_end = record {
-  last_is = last ∙ ap (λ (t : ℕ). last_time_after t (heads_of (slot_of s.body ∷ []))) ends.last_is ∙ sym (ap last_time (log-push before s) ∙ last_more (log_of before) (slot_of s.body));
-  archived_is = archived ∙ ap (λ (t : ℕ). archive_mark_after t (slot_of s.body ∷ [])) ends.archived_is ∙ sym (ap archive_mark (log-push before s) ∙ archive_mark-append 0 (log_of before) (slot_of s.body ∷ []));
-  reclaimed_is = reclaimed ∙ ap (λ (t : ℕ). reclaim_mark_after t (slot_of s.body ∷ [])) ends.reclaimed_is ∙ sym (ap reclaim_mark (log-push before s) ∙ reclaim_mark-append 0 (log_of before) (slot_of s.body ∷ []));
-  floors_are = floors ∙ ap (λ (f : FloorsValue). kept_after f (slot_of s.body ∷ [])) ends.floors_are ∙ sym (ap kept_of (log-push before s) ∙ kept-append no_floors (log_of before) (slot_of s.body ∷ []));
+  last_is = last ∙ ap (λ (t : ℕ). last_time_after t (heads_of (slot_of s.body ∷ []))) ends.last_is
+      ∙ sym (ap last_time (log-push before s) ∙ last_more (log_of before) (slot_of s.body));
+  archived_is = archived ∙ ap (λ (t : ℕ). archive_mark_after t (slot_of s.body ∷ [])) ends.archived_is
+      ∙ sym (ap archive_mark (log-push before s) ∙ archive_mark-append 0 (log_of before) (slot_of s.body ∷ []));
+  reclaimed_is = reclaimed ∙ ap (λ (t : ℕ). reclaim_mark_after t (slot_of s.body ∷ [])) ends.reclaimed_is
+      ∙ sym (ap reclaim_mark (log-push before s) ∙ reclaim_mark-append 0 (log_of before) (slot_of s.body ∷ []));
+  floors_are = floors ∙ ap (λ (f : FloorsValue). kept_after f (slot_of s.body ∷ [])) ends.floors_are
+      ∙ sym (ap kept_of (log-push before s) ∙ kept-append no_floors (log_of before) (slot_of s.body ∷ []));
   runs_end_is = runs_end ∙ ap (λ (t : ℕ). row_end t (runs_in s.body)) ends.runs_end_is ∙ sym (end-push before s);
 }
 
 pub commits_end : (before : List Slot) (s : Slot) (end now : LogEnd) (members : List Member) → s.body ≡ Commit (record { items = members }) → EndsAt before end
-    → now.last ≡ last_time_after end.last (map head_of members) → now.archived ≡ end.archived → now.reclaimed ≡ end.reclaimed → now.floors ≡ kept_after end.floors (slot_of s.body ∷ []) → now.runs_end ≡ end.runs_end → EndsAt (before ++ s ∷ []) now
+    → now.last ≡ last_time_after end.last (map head_of members) → now.archived ≡ end.archived → now.reclaimed ≡ end.reclaimed
+    → now.floors ≡ kept_after end.floors (slot_of s.body ∷ []) → now.runs_end ≡ end.runs_end → EndsAt (before ++ s ∷ []) now
 unfolding last_in archived_in reclaimed_in
 commits_end before s end now members is ends last archived reclaimed floors runs_end =
     ends_more before s end now ends
@@ -70,7 +75,8 @@ commits_end before s end now members is ends last archived reclaimed floors runs
     (runs_end ∙ sym (ap (λ (body : Body). row_end end.runs_end (runs_in body)) is))
 
 pub run_ends : (before : List Slot) (s : Slot) (end now : LogEnd) (run : Run) → s.body ≡ Archived run → EndsAt before end
-    → now.last ≡ end.last → now.archived ≡ run.upto → now.reclaimed ≡ end.reclaimed → now.floors ≡ kept_after end.floors (slot_of s.body ∷ []) → now.runs_end ≡ run.start + run.len → EndsAt (before ++ s ∷ []) now
+    → now.last ≡ end.last → now.archived ≡ run.upto → now.reclaimed ≡ end.reclaimed → now.floors ≡ kept_after end.floors (slot_of s.body ∷ [])
+    → now.runs_end ≡ run.start + run.len → EndsAt (before ++ s ∷ []) now
 unfolding last_in archived_in reclaimed_in
 run_ends before s end now run is ends last archived reclaimed floors runs_end =
     ends_more before s end now ends
@@ -81,7 +87,8 @@ run_ends before s end now run is ends last archived reclaimed floors runs_end =
     (runs_end ∙ sym (ap (λ (body : Body). row_end end.runs_end (runs_in body)) is))
 
 pub reclaim_ends : (before : List Slot) (s : Slot) (end now : LogEnd) (anchors : Anchors) → s.body ≡ Reclaimed anchors → EndsAt before end
-    → now.last ≡ end.last → now.archived ≡ end.archived → now.reclaimed ≡ anchors.upto → now.floors ≡ kept_after end.floors (slot_of s.body ∷ []) → now.runs_end ≡ end.runs_end → EndsAt (before ++ s ∷ []) now
+    → now.last ≡ end.last → now.archived ≡ end.archived → now.reclaimed ≡ anchors.upto → now.floors ≡ kept_after end.floors (slot_of s.body ∷ [])
+    → now.runs_end ≡ end.runs_end → EndsAt (before ++ s ∷ []) now
 unfolding last_in archived_in reclaimed_in
 reclaim_ends before s end now anchors is ends last archived reclaimed floors runs_end =
     ends_more before s end now ends
@@ -92,7 +99,8 @@ reclaim_ends before s end now anchors is ends last archived reclaimed floors run
     (runs_end ∙ sym (ap (λ (body : Body). row_end end.runs_end (runs_in body)) is))
 
 pub floor_ends : (before : List Slot) (s : Slot) (end now : LogEnd) (relation : Option ℕ) (floor : ℕ) → s.body ≡ Floor relation floor → EndsAt before end
-    → now.last ≡ end.last → now.archived ≡ end.archived → now.reclaimed ≡ end.reclaimed → now.floors ≡ kept_after end.floors (slot_of s.body ∷ []) → now.runs_end ≡ end.runs_end → EndsAt (before ++ s ∷ []) now
+    → now.last ≡ end.last → now.archived ≡ end.archived → now.reclaimed ≡ end.reclaimed → now.floors ≡ kept_after end.floors (slot_of s.body ∷ [])
+    → now.runs_end ≡ end.runs_end → EndsAt (before ++ s ∷ []) now
 unfolding last_in archived_in reclaimed_in
 floor_ends before s end now relation floor is ends last archived reclaimed floors runs_end =
     ends_more before s end now ends

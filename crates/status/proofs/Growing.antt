@@ -7,5 +7,6 @@ use Rattle.status.specs.declared.growth.GrowthStage.{GrowthStage}
 use Rattle.status.specs.declared.growth.GrowthStage.TheVariants.{Zeroing}
 use Rattle.status.specs.Growth.{WritesZeros, IsGrowthCall}
 
-pub zeros-are_call : (stage : GrowthStage) (parts many piece : ℕ) (result : Result (Unit {0}) DeviceFault) (old new : Areas) → stage ≡ Zeroing parts → parts < 16 → WritesZeros many parts result old new → IsGrowthCall stage many piece result old new
+pub zeros-are_call : (stage : GrowthStage) (parts many piece : ℕ) (result : Result (Unit {0}) DeviceFault) (old new : Areas) → stage ≡ Zeroing parts
+    → parts < 16 → WritesZeros many parts result old new → IsGrowthCall stage many piece result old new
 zeros-are_call stage parts many piece result old new is few call = let test : nat_lt parts 16 ≡ true = grind (arith, nat_tests) in rw (is, test) call

@@ -33,7 +33,8 @@ zeros_from-other profile other = grind (arith, nat_tests)
 
 -- the run of open gates at the front of the pieces
 pub gates_say : (front : List ℕ) (n : ℕ) → length front ≡ 512 → n ≤ length (take 255 (drop 16 front))
-    → ((i : ℕ) → i < n → slice_index (take 255 (drop 16 front)) i ≡ 0xC7) → (n < length (take 255 (drop 16 front)) → slice_index (take 255 (drop 16 front)) n ≢ 0xC7)
+    → ((i : ℕ) → i < n → slice_index (take 255 (drop 16 front)) i ≡ 0xC7) → (n < length (take 255 (drop 16 front))
+    → slice_index (take 255 (drop 16 front)) n ≢ 0xC7)
     → (n ≤ 255) × ((i : ℕ) → i < n → piece_gate front i ≡ 0xC7) × (n < 255 → piece_gate front n ≢ 0xC7)
 gates_say front n long few opened next =
     let part_long = length-part 16 255 front long (omega arith) in (

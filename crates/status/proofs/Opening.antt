@@ -42,10 +42,12 @@ same_slots (x ∷ a) (y ∷ b) long same =
     λ i. first i ∷ others i
 
 module _ (one_spelling : OneSpelling) (header : Header) (bytes : List ℕ) where
-  agree : (a b : List Slot) → OpensWith header bytes a → OpensWith header bytes b → (n : ℕ) (x y : Slot) → slice_get a n ≡ Some x → slice_get b n ≡ Some y → x ≡ y
+  agree : (a b : List Slot) → OpensWith header bytes a → OpensWith header bytes b → (n : ℕ) (x y : Slot) → slice_get a n ≡ Some x → slice_get b n ≡ Some y
+      → x ≡ y
   agree a b opens_a opens_b n x y is_x is_y =
       let within : n < length a = slice_get_within a n x is_x in
-      one_spelling header.profile n (body_at bytes n) x y (omega (arith, opens_a.fits, opens_a.has_room.few)) (opens_a.each_spelled n x is_x) (opens_b.each_spelled n y is_y)
+      one_spelling header.profile n (body_at bytes n) x y (omega (arith, opens_a.fits, opens_a.has_room.few)) (opens_a.each_spelled n x is_x)
+      (opens_b.each_spelled n y is_y)
 
   -- where other slots open, there is none behind the end of the log
   no_longer : (slots others : List Slot) → HoldsLog header bytes slots → OpensWith header bytes others → length slots < length others → ⊥
@@ -70,9 +72,11 @@ module _ (one_spelling : OneSpelling) (header : Header) (bytes : List ℕ) where
     | inr (inl before) ↦ no_longer slots bad.before log bad.opens (omega (arith, bad.number))
     | inr (inr within) ↦
         let slot = has_slot slots n within in
-        let front : take (length bad.before) slots ≡ bad.before = same_front bad.before slots (omega (arith, bad.number)) (agree bad.before slots bad.opens log.opens) in
+        let front : take (length bad.before) slots ≡ bad.before =
+        same_front bad.before slots (omega (arith, bad.number)) (agree bad.before slots bad.opens log.opens) in
         let may = log.rules n slot.0 slot.1 in
-        bad.bad.no_slot slot.0 (log.opens.each_spelled n slot.0 slot.1) (subst (λ (before : List Slot). MayFollow header.profile before slot.0) (sym (ap (λ (m : ℕ). take m slots) bad.number) ∙ front) may)
+        bad.bad.no_slot slot.0 (log.opens.each_spelled n slot.0 slot.1) (subst (λ (before : List Slot). MayFollow header.profile before slot.0)
+        (sym (ap (λ (m : ℕ). take m slots) bad.number) ∙ front) may)
   ]
 
   pub only_log : (r : Result (Vec Slot Global) LogFault) (slots : List Slot)

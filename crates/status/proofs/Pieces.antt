@@ -23,7 +23,8 @@ little_same i (suc n) xs ys same =
     let rest = little_same (suc i) n xs ys (λ k low high. same k (omega arith) (omega arith)) in
     rw (byte, rest) refl
 
-module _ (header : Header) (slots : List Slot) (calm content : List ℕ) (may : MayGrow header) (log : IsLog header calm slots) (beside : IsBeside header calm content) where
+module _ (header : Header) (slots : List Slot) (calm content : List ℕ) (may : MayGrow header) (log : IsLog header calm slots)
+    (beside : IsBeside header calm content) where
   numbers : HasNumbers header
   numbers = log.header_is.front.numbers
 
@@ -43,7 +44,8 @@ module _ (header : Header) (slots : List Slot) (calm content : List ℕ) (may : 
   gate_is = get_or-take 512 content (next_gate header) 0 (omega (arith, few))
 
   name_same : take 8 (take 512 content) ≡ take 8 (take 512 calm)
-  name_same = same_bytes 0 8 (take 512 calm) (take 512 content) (omega (arith, old_long)) (omega (arith, new_long)) (λ k low high. front_at k (omega arith) (omega arith))
+  name_same = same_bytes 0 8 (take 512 calm) (take 512 content) (omega (arith, old_long)) (omega (arith, new_long))
+      (λ k low high. front_at k (omega arith) (omega arith))
 
   number_same : (from : ℕ) → from + 4 ≤ 16 → little_from 0 4 (drop from (take 512 content)) ≡ little_from 0 4 (drop from (take 512 calm))
   number_same from within =
@@ -57,7 +59,8 @@ module _ (header : Header) (slots : List Slot) (calm content : List ℕ) (may : 
   zeros_same k low high = front_at k high (λ same. (let far : k < 271 = omega (arith, same, few) in absurd (omega arith)))
 
   from_271 : (k : ℕ) → 271 ≤ k → k < 512 → slice_index (take 512 calm) k ≡ 0
-  from_271 k low high = log.header_is.front.zeros k (let from = zeros_from-other header.profile (λ one. absurd (omega (arith, one, may.pieces))) in omega (arith, from)) high
+  from_271 k low high =
+      log.header_is.front.zeros k (let from = zeros_from-other header.profile (λ one. absurd (omega (arith, one, may.pieces))) in omega (arith, from)) high
 
   zeros_271 : (p k : ℕ) → 1 < p → zeros_from p ≤ k → 271 ≤ k
   zeros_271 p k more low = let from = zeros_from-other p (λ one. absurd (omega (arith, one))) in omega (arith, from)

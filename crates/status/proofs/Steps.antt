@@ -35,7 +35,8 @@ one_more header bytes slots slot within opens is_open spelled = record {
 }
 
 -- slot m of the bytes, which is the part, comes behind these slots
-module _ (header : Header) (profile : ℕ) (profile_is : header.profile ≡ profile) (bytes part : List ℕ) (before : List Slot) (m : ℕ) (m_is : m ≡ length before) (within : m < total header)
+module _ (header : Header) (profile : ℕ) (profile_is : header.profile ≡ profile) (bytes part : List ℕ) (before : List Slot) (m : ℕ) (m_is : m ≡ length before)
+    (within : m < total header)
     (gate_is : slice_index part 0 ≡ gate_at bytes m) (body_is : drop 1 part ≡ body_at bytes m) where
   gate_here : slice_index part 0 ≡ gate_at bytes (length before)
   gate_here = gate_is ∙ ap (gate_at bytes) m_is
@@ -43,7 +44,8 @@ module _ (header : Header) (profile : ℕ) (profile_is : header.profile ≡ prof
   body_here : drop 1 part ≡ body_at bytes (length before)
   body_here = body_is ∙ ap (body_at bytes) m_is
 
-  spelled_here : (slot : Slot) → IsSpelled profile (length before) (drop 1 part) slot → IsSpelled header.profile (length before) (body_at bytes (length before)) slot
+  spelled_here : (slot : Slot) → IsSpelled profile (length before) (drop 1 part) slot
+      → IsSpelled header.profile (length before) (body_at bytes (length before)) slot
   spelled_here slot spelled = rw (profile_is, ← body_here) spelled
 
   spelled_there : (n : ℕ) (slot : Slot) → n ≡ length before → IsSpelled header.profile n (body_at bytes n) slot → IsSpelled profile n (drop 1 part) slot
@@ -51,9 +53,11 @@ module _ (header : Header) (profile : ℕ) (profile_is : header.profile ≡ prof
 
   pub takes_goes : (on : Bool) (after : List Slot) → Takes profile before part on after → OpensWith header bytes before → Goes header bytes on after
   takes_goes false after takes opens = rw takes.1 (opens, λ is_open. takes.0 (gate_here ∙ is_open))
-  takes_goes true after takes opens = rw takes.1.2 (one_more header bytes before (takes.1.0) (omega (arith, within, m_is)) opens (sym gate_here ∙ takes.0) (spelled_here (takes.1.0) takes.1.1))
+  takes_goes true after takes opens =
+      rw takes.1.2 (one_more header bytes before (takes.1.0) (omega (arith, within, m_is)) opens (sym gate_here ∙ takes.0) (spelled_here (takes.1.0) takes.1.1))
 
-  pub fault_here : (fault : LogFault) → IsTakeFault profile before part fault → KeepsRules profile before → OpensWith header bytes before → IsLogFault header bytes fault
+  pub fault_here : (fault : LogFault) → IsTakeFault profile before part fault → KeepsRules profile before → OpensWith header bytes before
+      → IsLogFault header bytes fault
   fault_here NotAStore bad rules opens = absurd bad
   fault_here (Damaged n) bad rules opens = record {
     before = before;
@@ -71,8 +75,10 @@ module _ (header : Header) (profile : ℕ) (profile_is : header.profile ≡ prof
 
 -- ---- slot i of a chunk
 
-module _ (header : Header) (profile now : ℕ) (profile_is : header.profile ≡ profile) (now_is : now ≡ profile) (bytes chunk : List ℕ) (first before : List Slot) (count i : ℕ)
-    (fits : length first + count ≤ total header) (held : HoldsPart (slot_start (length first)) chunk bytes) (whole : length chunk ≡ 512 * count) (len : length before ≡ length first + i) (lt : i < count) where
+module _ (header : Header) (profile now : ℕ) (profile_is : header.profile ≡ profile) (now_is : now ≡ profile) (bytes chunk : List ℕ) (first before : List Slot)
+    (count i : ℕ)
+    (fits : length first + count ≤ total header) (held : HoldsPart (slot_start (length first)) chunk bytes) (whole : length chunk ≡ 512 * count)
+    (len : length before ≡ length first + i) (lt : i < count) where
   part : List ℕ
   part = slice_range chunk (512 * i) (512 * i + 512)
 
@@ -87,15 +93,18 @@ module _ (header : Header) (profile now : ℕ) (profile_is : header.profile ≡ 
   unfolding part
   body = body_of bytes chunk (length first) held i inside
 
-  pub chunk_goes : (on : Bool) (after : List Slot) → Takes now before (slice_range chunk (512 * i) (512 * i + 512)) on after → OpensWith header bytes before → Goes header bytes on after
+  pub chunk_goes : (on : Bool) (after : List Slot) → Takes now before (slice_range chunk (512 * i) (512 * i + 512)) on after → OpensWith header bytes before
+      → Goes header bytes on after
   unfolding part
   chunk_goes on after takes opens =
       takes_goes header now (profile_is ∙ sym now_is) bytes part before (length first + i) (sym len) (omega arith) gate body on after takes opens
 
-  pub chunk_fault : (fault : LogFault) → IsTakeFault now before (slice_range chunk (512 * i) (512 * i + 512)) fault → KeepsRules now before → OpensWith header bytes before → IsLogFault header bytes fault
+  pub chunk_fault : (fault : LogFault) → IsTakeFault now before (slice_range chunk (512 * i) (512 * i + 512)) fault → KeepsRules now before
+      → OpensWith header bytes before → IsLogFault header bytes fault
   unfolding part
   chunk_fault fault bad rules opens =
       fault_here header now (profile_is ∙ sym now_is) bytes part before (length first + i) (sym len) (omega arith) gate body fault bad rules opens
 
-pub takes_one : (profile : ℕ) (before : List Slot) (bytes : List ℕ) (after : List Slot) → Takes profile before bytes true after → length after ≡ length before + 1
+pub takes_one : (profile : ℕ) (before : List Slot) (bytes : List ℕ) (after : List Slot) → Takes profile before bytes true after
+    → length after ≡ length before + 1
 takes_one profile before bytes after takes = ap length takes.1.2 ∙ length_push before takes.1.0

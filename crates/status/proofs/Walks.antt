@@ -21,7 +21,8 @@ rules_more profile slots slot rules may n other is = elim (slice_get-push slots 
   | inr last ↦ rw (take_at slots (slot ∷ []) n (sym last.0), ← last.1) may
 ]
 
-pub walk_more : (profile : ℕ) (slots : List Slot) (slot : Slot) (end now : LogEnd) (n : ℕ) (body : List ℕ) → IsWalk profile slots end → n ≡ length slots → IsSpelled profile n body slot
+pub walk_more : (profile : ℕ) (slots : List Slot) (slot : Slot) (end now : LogEnd) (n : ℕ) (body : List ℕ) → IsWalk profile slots end → n ≡ length slots
+    → IsSpelled profile n body slot
     → MayFollow profile slots slot → EndsAt (slots ++ slot ∷ []) now → IsWalk profile (slots ++ slot ∷ []) now
 walk_more profile slots slot end now n body walk n_is spelled may ends = record {
   are_slots = record {
@@ -57,7 +58,8 @@ module _ (bytes chunk : List ℕ) (n : ℕ) (held : HoldsPart (slot_start n) chu
       let part = slice_range chunk (512 * i) (512 * i + 512) in
       let part_long : length part ≡ 512 = omega (arith, length-take (512 * i + 512 - 512 * i) (drop (512 * i) chunk), length-drop (512 * i) chunk) in
       let inside = held.inside in
-      let body_long : length (body_at bytes (n + i)) ≡ 511 = omega (arith, length-take 511 (drop (slot_start (n + i) + 1) bytes), length-drop (slot_start (n + i) + 1) bytes) in
+      let body_long : length (body_at bytes (n + i)) ≡ 511 =
+      omega (arith, length-take 511 (drop (slot_start (n + i) + 1) bytes), length-drop (slot_start (n + i) + 1) bytes) in
       ext_get_or 0 (drop 1 part) (body_at bytes (n + i)) (omega (arith, length-drop 1 part)) (λ k lt.
       let small : k < 511 = omega (arith, length-drop 1 part) in
       let place : slot_start (n + i) + (1 + k) ≡ slot_start (n + i) + 1 + k = omega arith in

@@ -54,12 +54,14 @@ pub record IsWalk (profile : ℕ) (slots : List Slot) (end : LogEnd) : Type 0 wh
 -- what 512 bytes add to the slots before them: nothing where their gate is closed, else the slot that they are
 abbrev pub Takes : ℕ → List Slot → List ℕ → Bool → List Slot → Type 0
 Takes profile before bytes false after = (slice_index bytes 0 ≢ 0xC7) × (after ≡ before)
-Takes profile before bytes true after = (slice_index bytes 0 ≡ 0xC7) × ((slot : Slot) × IsSpelled profile (length before) (drop 1 bytes) slot × (after ≡ before ++ slot ∷ []))
+Takes profile before bytes true after =
+    (slice_index bytes 0 ≡ 0xC7) × ((slot : Slot) × IsSpelled profile (length before) (drop 1 bytes) slot × (after ≡ before ++ slot ∷ []))
 
 -- why they add none
 abbrev pub IsTakeFault : ℕ → List Slot → List ℕ → LogFault → Type 0
 IsTakeFault profile before bytes NotAStore = ⊥
-IsTakeFault profile before bytes (Damaged n) = (n ≡ length before) × (slice_index bytes 0 ≡ 0xC7) × ((slot : Slot) → IsSpelled profile n (drop 1 bytes) slot → ¬ MayFollow profile before slot)
+IsTakeFault profile before bytes (Damaged n) =
+    (n ≡ length before) × (slice_index bytes 0 ≡ 0xC7) × ((slot : Slot) → IsSpelled profile n (drop 1 bytes) slot → ¬ MayFollow profile before slot)
 IsTakeFault profile before bytes Device = ⊥
 IsTakeFault profile before bytes NoMemory = Unit {0}
 
@@ -89,5 +91,6 @@ IsSlotsFault NoMemory = Unit {0}
 
 -- the area opens with these slots and no more, if it opens with the slots before
 abbrev pub HasReadAll : Header → List ℕ → List Slot → Result (Unit {0}) LogFault → List Slot → Type 0
-HasReadAll header bytes before (Ok x) after = OpensWith header bytes before → OpensWith header bytes after × (length after < total header → ¬ IsOpen bytes (length after))
+HasReadAll header bytes before (Ok x) after =
+    OpensWith header bytes before → OpensWith header bytes after × (length after < total header → ¬ IsOpen bytes (length after))
 HasReadAll header bytes before (Err fault) after = OpensWith header bytes before → IsLogFault header bytes fault

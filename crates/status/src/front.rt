@@ -1,12 +1,14 @@
 //! The front of a status area as bytes.
 ghost use Rattle.std.specs.Prelude.{◌≡◌, ◌≢◌, ◌↔◌, ℕ, ◌<◌, ◌≤◌, ◌++◌, length, take, drop, slice_index, codes, IsTrue, IfSome, IfNone};
 ghost use Rattle.byteorder.specs.Endian.{little_number, little_bytes};
+ghost use Rattle.wire.specs.Profiles.{IsProfile};
 ghost use Rattle.status.specs.Header.{zeros_from, HasNumbers, Says, IsFront, header_front, new_header};
 
 use crate::header::Header;
 use crate::sizes::{FRONT_BYTES, LEAST_SLOTS, MOST_TOTAL};
 use crate::turn::OPEN;
 use byteorder::{ByteOrder, LittleEndian};
+use wire::Profile;
 
 const NAME: [u8; 8] = *b"NOOVER01";
 
@@ -29,12 +31,21 @@ fn open_pieces(gates: &[u8]) -> usize
     gates.len()
 }
 
-// The numbers of a front, right or wrong.
-fn numbers_of(front: &[u8; FRONT_BYTES]) -> Header
+// The profile of a front; none where its number is no profile's.
+fn profile_of(front: &[u8; FRONT_BYTES]) -> Option<Profile>
+    ensures some { IfSome result (λ profile. little_number 4 (drop 8 front.now) ≡ profile) }
+    ensures none { IfNone result (¬ IsProfile (little_number 4 (drop 8 front.now))) }
+{
+    Profile::of(LittleEndian::read_u32(&front[8..]))
+}
+
+// The numbers of a front of this profile, right or wrong.
+fn numbers_of(profile: Profile, front: &[u8; FRONT_BYTES]) -> Header
+    requires { little_number 4 (drop 8 front.now) ≡ profile }
     ensures { Says result front.now }
 {
     Header {
-        profile: LittleEndian::read_u32(&front[8..]),
+        profile,
         slots: LittleEndian::read_u32(&front[12..]),
         pieces: open_pieces(&front[GATES..GATES_END]) as u32,
     }
@@ -49,20 +60,18 @@ fn are_zeros(bytes: &[u8]) -> bool
 fn is_header(header: &Header) -> bool
     ensures { IsTrue result ↔ HasNumbers header.now }
 {
-    1 <= header.profile
-        && header.profile <= 3
-        && LEAST_SLOTS <= header.slots
-        && (header.profile != 1 || header.pieces == 0)
+    LEAST_SLOTS <= header.slots
+        && (header.profile.has_pieces() || header.pieces == 0)
         && header.total() <= MOST_TOTAL
 }
 
-fn zeros_follow(profile: u32, front: &[u8; FRONT_BYTES]) -> bool
+fn zeros_follow(profile: Profile, front: &[u8; FRONT_BYTES]) -> bool
     ensures { IsTrue result ↔ ((k : ℕ) → zeros_from profile ≤ k → k < 512 → slice_index front.now k ≡ 0) }
 {
-    if profile == 1 {
-        are_zeros(&front[GATES..])
-    } else {
+    if profile.has_pieces() {
         are_zeros(&front[GATES_END..])
+    } else {
+        are_zeros(&front[GATES..])
     }
 }
 
@@ -77,7 +86,7 @@ pub fn decode_header(front: &[u8; FRONT_BYTES]) -> Option<Header>
     ensures found { IfSome result (λ header. IsFront header front.now) }
     ensures none { IfNone result ((header : Header) → ¬ IsFront header front.now) }
 {
-    let header = numbers_of(front);
+    let header = numbers_of(profile_of(front)?, front);
     if is_named(front) && is_header(&header) && zeros_follow(header.profile, front) {
         Some(header)
     } else {
@@ -94,10 +103,10 @@ fn u32_le(number: u32) -> [u8; 4]
 }
 
 // What stands before the gates.
-fn first_bytes(profile: u32, slots: u32) -> [u8; 16]
+fn first_bytes(profile: Profile, slots: u32) -> [u8; 16]
     ensures { result ≡ header_front profile slots }
 {
-    let p = u32_le(profile);
+    let p = u32_le(profile.number());
     let s = u32_le(slots);
     [
         b'N', b'O', b'O', b'V', b'E', b'R', b'0', b'1', p[0], p[1], p[2], p[3], s[0], s[1], s[2],
@@ -113,7 +122,7 @@ fn put_front(bytes: &mut [u8], front: &[u8])
 }
 
 /// The first 512 bytes of a new status area: no piece is open.
-pub fn encode_header(profile: u32, slots: u32) -> [u8; FRONT_BYTES]
+pub fn encode_header(profile: Profile, slots: u32) -> [u8; FRONT_BYTES]
     ensures is { HasNumbers (new_header profile slots) → IsFront (new_header profile slots) result }
     ensures zeros { (k : ℕ) → 16 ≤ k → slice_index result k ≡ 0 }
 {

@@ -126,7 +126,8 @@ pub(crate) fn advance_growth<D: Disk>(
     growth: &mut Growth,
     disk: &mut D,
 ) -> Result<Grew, DeviceFault>
-    ensures call { IsTrue D.tells → IsGrowthCall growth.old.stage growth.old.slots growth.old.piece (answer_of result) (D.state disk.old).areas (D.state disk.new).areas }
+    ensures call { IsTrue D.tells → IsGrowthCall growth.old.stage growth.old.slots growth.old.piece (answer_of result) (D.state disk.old).areas
+        (D.state disk.new).areas }
     ensures counts { Counts result (D.state disk.old) (D.state disk.new) }
     ensures moves { growth.new ≡ growth_after growth.old }
     ensures did { IfOk result (λ did. did ≡ grew_at growth.old.stage) }

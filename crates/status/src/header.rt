@@ -2,12 +2,13 @@
 ghost use Rattle.std.specs.Prelude.{◌≡◌};
 
 use crate::sizes::PIECE_TOTAL;
+use wire::Profile;
 
 /// The layout's profile, the slots that the store was made with, and how many pieces of 256
 /// slots more are open.
 #[derive(Clone, Copy, Debug, PartialEq, Eq)]
 pub struct Header {
-    pub profile: u32,
+    pub profile: Profile,
     pub slots: u32,
     pub pieces: u32,
 }

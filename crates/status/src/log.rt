@@ -1,5 +1,6 @@
 //! Reading the log.
-ghost use Rattle.std.specs.Prelude.{◌≡◌, ◌≢◌, ◌↔◌, ◌+◌, ◌*◌, ◌<◌, ◌≤◌, ℕ, List, [], ◌∷◌, ◌++◌, map, length, drop, true, false, vec_len, slice_index, slice_range, IsTrue, IfOk, IfErr, OnOk, MatchBool, MatchResult};
+ghost use Rattle.std.specs.Prelude.{◌≡◌, ◌≢◌, ◌↔◌, ◌+◌, ◌*◌, ◌<◌, ◌≤◌, ℕ, List, [], ◌∷◌, ◌++◌, map, length, drop, true, false, vec_len, slice_index};
+ghost use Rattle.std.specs.Prelude.{slice_range, IsTrue, IfOk, IfErr, OnOk, MatchBool, MatchResult};
 ghost use Rattle.disk.specs.Calls.{looked};
 ghost use Rattle.disk.specs.Parts.{HoldsPart};
 ghost use Rattle.wire.specs.declared.slot.Slot.{Slot};
@@ -16,7 +17,7 @@ use crate::sizes::{FRONT_LEN, MOST_TOTAL, SLOT_BYTES, SLOT_LEN};
 use crate::turn::{OPEN, slot_place};
 use disk::{Area, DeviceFault, Disk};
 use std::alloc::Global;
-use wire::{SLOT_BODY_LEN, Slot, decode_slot, one_spelling};
+use wire::{Profile, SLOT_BODY_LEN, Slot, decode_slot, one_spelling};
 
 // Slots are read so many at a time.
 const SLOTS_A_READ: u32 = 16;
@@ -34,13 +35,13 @@ pub struct LogRead {
 // The slots read so far, and where their log ends.
 #[derive(Drop)]
 struct Walk {
-    profile: u32,
+    profile: Profile,
     slots: Vec<Slot>,
     end: LogEnd,
 }
 
 impl Walk {
-    fn new(alloc: Global, profile: u32) -> Walk
+    fn new(alloc: Global, profile: Profile) -> Walk
         ensures profile { result.profile ≡ profile }
         ensures slots { result.slots.items ≡ [] }
         ensures walk { IsWalk profile result.slots.items result.end }
@@ -90,7 +91,8 @@ impl Walk {
         requires whole { length chunk.now ≡ 512 * count }
         ensures profile { self.new.profile ≡ self.old.profile }
         ensures walk { IsWalk self.new.profile self.new.slots.items self.new.end }
-        ensures more { IfOk result (λ on. MatchBool on (length self.new.slots.items ≡ length self.old.slots.items + count) (length self.new.slots.items < length self.old.slots.items + count)) }
+        ensures more { IfOk result (λ on. MatchBool on (length self.new.slots.items ≡ length self.old.slots.items + count)
+            (length self.new.slots.items < length self.old.slots.items + count)) }
         ensures fault { IfErr result IsWalkFault }
         ensures goes { (header : Header) (bytes : List ℕ) → header.profile ≡ self.old.profile → length self.old.slots.items + count ≤ total header
             → HoldsPart (slot_start (length self.old.slots.items)) chunk.now bytes → IsReadOn header bytes self.old.slots.items result self.new.slots.items }

@@ -11,7 +11,7 @@ use crate::reading::is_built;
 use arrayvec::ArrayVec;
 use floors::Floors;
 use std::alloc::{AllocError, Global};
-use wire::{Anchors, Body, Member, Run, Slot};
+use wire::{Anchors, Body, Member, Profile, Run, Slot};
 
 /// Where a log ends. Times are microseconds since 1970.
 #[derive(Drop)]
@@ -105,7 +105,7 @@ impl LogEnd {
     }
 
     /// Whether this slot may follow in a store of this profile.
-    pub(crate) fn may_be_followed(&self, profile: u32, slot: &Slot) -> bool
+    pub(crate) fn may_be_followed(&self, profile: Profile, slot: &Slot) -> bool
         ensures { InRange profile slot.now.body → (before : List Slot) → EndsAt before self.now → (IsTrue result ↔ MayFollow profile before slot.now) }
     {
         if !is_built(profile, kind_of(&slot.body)) {

@@ -11,6 +11,7 @@ use crate::front::decode_header;
 use crate::header::Header;
 use crate::sizes::{FRONT_BYTES, FRONT_LEN, SLOT_LEN};
 use disk::{Area, DeviceFault, Disk};
+use wire::Profile;
 
 const COMMIT: u8 = 1;
 
@@ -22,10 +23,11 @@ const FLOOR: u8 = 4;
 
 /// Whether slots of a kind are built in a profile. A store of a profile is read once its commits
 /// are built; an open slot of a kind that is not is damaged.
-pub fn is_built(profile: u32, kind: u8) -> bool
+pub fn is_built(profile: Profile, kind: u8) -> bool
     ensures { result ≡ is_built profile kind }
 {
-    (profile == 1 || profile == 2 || profile == 3)
+    let number = profile.number();
+    (number == 1 || number == 2 || number == 3)
         && (kind == COMMIT || kind == ARCHIVED || kind == RECLAIMED || kind == FLOOR)
 }
 

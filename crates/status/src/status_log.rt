@@ -13,7 +13,7 @@ use crate::sizes::{MOST_PIECES, MOST_SLOTS, MOST_TOTAL, PIECE_SLOTS};
 use crate::turn::{SlotTurn, Step, advance};
 use disk::{DeviceFault, Disk};
 use std::marker::Model;
-use wire::{Body, Slot, encode_slot};
+use wire::{Body, Profile, Slot, encode_slot};
 
 /// Why no slot is begun.
 #[derive(Clone, Copy, Debug, PartialEq, Eq)]
@@ -28,7 +28,7 @@ pub enum SlotFault {
 /// a refused device call leaves it there for ever.
 #[derive(Drop)]
 pub struct StatusLog {
-    profile: u32,
+    profile: Profile,
     slots: u32,
     // The pieces that are open, whose slots are among these.
     pieces: u32,
@@ -51,7 +51,13 @@ impl StatusLog {
     /// The log of an area with this header, of which so many slots are used; it has at most 65,536, and
     /// at most 256 pieces.
     pub fn new(header: &Header, used: u32) -> StatusLog
-        ensures { result ≡ record { profile = header.now.profile; slots = min (total header.now) 65536; pieces = min header.now.pieces 256; used = used; writing = false } }
+        ensures { result ≡ record {
+          profile = header.now.profile;
+          slots = min (total header.now) 65536;
+          pieces = min header.now.pieces 256;
+          used = used;
+          writing = false;
+        } }
     {
         StatusLog {
             profile: header.profile,
@@ -63,7 +69,7 @@ impl StatusLog {
     }
 
     /// The profile of the store's layout.
-    pub fn profile(&self) -> u32
+    pub fn profile(&self) -> Profile
         ensures { result ≡ self.now.profile }
     {
         self.profile
@@ -96,7 +102,8 @@ impl StatusLog {
         ensures number { IfOk result (λ turn. turn.number ≡ self.old.used) }
         ensures bytes { IfOk result (λ turn. turn.body ≡ spelling self.old.profile (record { number = self.old.used; body = body })) }
         ensures long { IfOk result (λ turn. length turn.body ≡ 511) }
-        ensures spelled { InRange self.old.profile body → IfOk result (λ turn. IsSpelled self.old.profile self.old.used turn.body (record { number = self.old.used; body = body })) }
+        ensures spelled { InRange self.old.profile body → IfOk result (λ turn.
+            IsSpelled self.old.profile self.old.used turn.body (record { number = self.old.used; body = body })) }
         ensures room { OnOk result (self.old.used < self.old.slots) }
         ensures writing { OnOk result (self.new ≡ record self.old { writing = true }) }
         ensures busy { (result ≡ Err SlotFault.Busy) ↔ (self.old.writing ≡ true) }
@@ -140,7 +147,7 @@ impl StatusLog {
     pub fn next_piece(&self) -> Option<Growth>
         ensures { result ≡ next_piece self.now }
     {
-        if self.profile == 1 || MOST_SLOTS < self.slots + PIECE_SLOTS {
+        if !self.profile.has_pieces() || MOST_SLOTS < self.slots + PIECE_SLOTS {
             None
         } else {
             Some(Growth::begin(self.slots, self.pieces))
@@ -150,7 +157,8 @@ impl StatusLog {
     /// The next device call of a piece, which stands behind it whatever the device answers. Once the
     /// piece is open its slots are the log's.
     pub fn grow<D: Disk>(&mut self, growth: &mut Growth, disk: &mut D) -> Result<Grew, DeviceFault>
-        ensures call { IsTrue D.tells → IsGrowthCall growth.old.stage growth.old.slots growth.old.piece (answer_of result) (D.state disk.old).areas (D.state disk.new).areas }
+        ensures call { IsTrue D.tells → IsGrowthCall growth.old.stage growth.old.slots growth.old.piece (answer_of result) (D.state disk.old).areas
+            (D.state disk.new).areas }
         ensures counts { Counts result (D.state disk.old) (D.state disk.new) }
         ensures moves { growth.new ≡ growth_after growth.old }
         ensures did { IfOk result (λ did. did ≡ grew_at growth.old.stage) }

@@ -8,8 +8,10 @@ use Rattle.group.specs.Steps.{IsCommitOf, entries, is_stale}
 use Rattle.store.specs.Values.{StoreValue}
 use Rattle.store.specs.Pumps.{MayBeginSlot, TakesSlot, freshly}
 
-pub may_begin : (tells : Bool) (old mid new : StoreValue) (body : Body) (result : Result Did PumpFault) → IsCommitOf (entries old.transactions) body → mid ≡ freshly old → TakesSlot tells body mid result new → MayBeginSlot tells old result new
-may_begin tells old mid new body result commit is takes = inr (record { body = body; commit = commit; turns = subst (λ (v : StoreValue). TakesSlot tells body v result new) is takes })
+pub may_begin : (tells : Bool) (old mid new : StoreValue) (body : Body) (result : Result Did PumpFault) → IsCommitOf (entries old.transactions) body
+    → mid ≡ freshly old → TakesSlot tells body mid result new → MayBeginSlot tells old result new
+may_begin tells old mid new body result commit is takes =
+    inr (record { body = body; commit = commit; turns = subst (λ (v : StoreValue). TakesSlot tells body v result new) is takes })
 
 pub lacks : (tells : Bool) (old new : StoreValue) → is_stale old.transactions ≡ true → new ≡ old → MayBeginSlot tells old (Err fault.NoMemory) new
 lacks tells old new stale is = inl (stale, refl, is)

@@ -21,27 +21,33 @@ pub record MakesOne (old new : DiskState) : Type 0 where
 made-one : (old new : DiskState) → Counts {T = Unit {0}} {E = DeviceFault} (Ok tt) old new → MakesOne old new
 made-one old new counts = record { made = counts.made; room = λ full. let no = (counts.full full).0 in cc }
 
-written-one : (tells : Bool) (o : Option StoredExtent) (old new : StoreValue) (what : Did) → MatchOption o ⊥ (λ stored. WritesExtent tells stored old (Ok what) new) → MakesOne old.disk new.disk
+written-one : (tells : Bool) (o : Option StoredExtent) (old new : StoreValue) (what : Did)
+    → MatchOption o ⊥ (λ stored. WritesExtent tells stored old (Ok what) new) → MakesOne old.disk new.disk
 written-one tells None old new what takes = absurd takes
 written-one tells (Some stored) old new what takes = made-one old.disk new.disk takes.call.counts
 
-turned-one : (tells : Bool) (o : Option TurnState) (old new : StoreValue) (what : Did) → MatchOption o ⊥ (λ turn. TurnsSlot tells turn old (Ok what) new) → MakesOne old.disk new.disk
+turned-one : (tells : Bool) (o : Option TurnState) (old new : StoreValue) (what : Did) → MatchOption o ⊥ (λ turn. TurnsSlot tells turn old (Ok what) new)
+    → MakesOne old.disk new.disk
 turned-one tells None old new what takes = absurd takes
 turned-one tells (Some turn) old new what takes = made-one old.disk new.disk takes.call.counts
 
-begun-one : (tells b : Bool) (old new : StoreValue) (what : Did) → MatchBool b (Path (Result Did PumpFault) (Ok what) (Err fault.Busy) × (new ≡ old)) (MayBeginSlot tells old (Ok what) new) → MakesOne old.disk new.disk
+begun-one : (tells b : Bool) (old new : StoreValue) (what : Did)
+    → MatchBool b (Path (Result Did PumpFault) (Ok what) (Err fault.Busy) × (new ≡ old)) (MayBeginSlot tells old (Ok what) new) → MakesOne old.disk new.disk
 begun-one tells true old new what takes = absurd (let is = takes.0 in cc)
 begun-one tells false old new what (inl short) = absurd (let is = short.1 in cc)
 begun-one tells false old new what (inr takes) = made-one old.disk new.disk takes.turns.call.counts
 
-step-one : (tells : Bool) (s : NextStep) (old new : StoreValue) (what : Did) → TakesStep tells s old (Ok what) new → what ≢ did.Idle → MakesOne old.disk new.disk
+step-one : (tells : Bool) (s : NextStep) (old new : StoreValue) (what : Did) → TakesStep tells s old (Ok what) new → what ≢ did.Idle
+    → MakesOne old.disk new.disk
 step-one tells step.Idle old new what takes some = absurd (some (let is : Path (Result Did PumpFault) (Ok what) (Ok did.Idle) = takes.0 in cc))
 step-one tells step.WriteExtent old new what takes some = written-one tells (next_extent old.transactions) old new what takes
 step-one tells step.SyncHeap old new what takes some = made-one old.disk new.disk takes.call.counts
 step-one tells step.BeginSlot old new what takes some = begun-one tells (is_some (turn_of old.job)) old new what takes
 step-one tells step.AdvanceSlot old new what takes some = turned-one tells old.turn old new what takes
 
-works-one : (tells : Bool) (b : Bool) (old new : StoreValue) (what : Did) → MatchBool b (Path (Result Did PumpFault) (Ok what) (Err fault.Failed) × (new ≡ old)) (TakesStep tells (next_step old.transactions) (started old) (Ok what) new) → what ≢ did.Idle → MakesOne old.disk new.disk
+works-one : (tells : Bool) (b : Bool) (old new : StoreValue) (what : Did)
+    → MatchBool b (Path (Result Did PumpFault) (Ok what) (Err fault.Failed) × (new ≡ old))
+    (TakesStep tells (next_step old.transactions) (started old) (Ok what) new) → what ≢ did.Idle → MakesOne old.disk new.disk
 works-one tells true old new what pumps some = absurd (let is = pumps.0 in cc)
 works-one tells false old new what pumps some = step-one tells (next_step old.transactions) (started old) new what pumps some
 

@@ -1,5 +1,6 @@
 -- A reclaim begins.
-use Rattle.std.proofs.Common.{◌≡◌, ℕ, suc, ◌+◌, ◌*◌, ◌^◌, ◌<◌, ◌≤◌, nat_le, nat_lt, true, false, List, [], ◌∷◌, ◌++◌, length, map, None, Err, refl, arith, ap, subst, inl, inr, length-append}
+use Rattle.std.proofs.Common.{◌≡◌, ℕ, suc, ◌+◌, ◌*◌, ◌^◌, ◌<◌, ◌≤◌, nat_le, nat_lt, true, false, List, [], ◌∷◌, ◌++◌, length, map, None, Err, refl, arith, ap}
+use Rattle.std.proofs.Common.{subst, inl, inr, length-append}
 use Rattle.std.specs.List.{AllByRecursion}
 use Rattle.std.proofs.lemmas.Bool.{cases_lt}
 use Rattle.std.proofs.lemmas.Bool.Decides.{nat_tests}
@@ -25,7 +26,8 @@ all_long [] = tt
 all_long (r ∷ rs) = (low_len r, all_long rs)
 
 -- so many records, of which a body has that many already, need as many bodies as hold them
-many_from : (k : ℕ) (body : List ℕ) (rs : List (List ℕ)) → 11 * k ≤ 8176 → 11 * k ≤ length body → AreLong rs → 11 * (k + length rs) ≤ 8176 * length (bodies_from body rs)
+many_from : (k : ℕ) (body : List ℕ) (rs : List (List ℕ)) → 11 * k ≤ 8176 → 11 * k ≤ length body → AreLong rs
+    → 11 * (k + length rs) ≤ 8176 * length (bodies_from body rs)
 many_from k body [] fits held all = omega (arith, fits)
 many_from k body (r ∷ rs) fits held all =
     let long = all.0 in
@@ -58,7 +60,8 @@ too_many records free many few =
     grind (arith, nat_tests)
 
 -- where there are so many, the heap has no room for them
-pub too-full : (v : StoreValue) (left : List Record) → reclaim_refusal v ≡ None → left ≡ anchors_of v → 2 ^ 32 ≤ length left → StartsReclaim v (Err fault.HeapFull) v
+pub too-full : (v : StoreValue) (left : List Record) → reclaim_refusal v ≡ None → left ≡ anchors_of v → 2 ^ 32 ≤ length left
+    → StartsReclaim v (Err fault.HeapFull) v
 too-full v left none is many =
     let all : 2 ^ 32 ≤ length (anchors_of v) = subst (λ (rs : List Record). 2 ^ 32 ≤ length rs) is many in
     rw none (too_many (anchors_of v) (free_count v.transactions) all (omega arith), refl)

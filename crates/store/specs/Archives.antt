@@ -1,5 +1,6 @@
 -- The beginning of an archive.
-use Rattle.std.specs.Prelude.{ℕ, ◌≡◌, ◌+◌, ◌^◌, ◌<◌, ◌≤◌, ◌==◌, nat_le, nat_lt, is_some, List, [], ◌∷◌, ◌++◌, length, Option, Some, None, Result, Ok, Err, MatchOption, if◌then◌else◌}
+use Rattle.std.specs.Prelude.{ℕ, ◌≡◌, ◌+◌, ◌^◌, ◌<◌, ◌≤◌, ◌==◌, nat_le, nat_lt, is_some, List, [], ◌∷◌, ◌++◌, length, Option, Some, None, Result, Ok, Err}
+use Rattle.std.specs.Prelude.{MatchOption, if◌then◌else◌}
 use Rattle.law_image.specs.Reading.{ArchiveRecord}
 use Rattle.wire.specs.Spelling.{IsRun}
 use Rattle.archive.specs.Runs.{run_bytes}
@@ -81,7 +82,8 @@ IsRunRefusal v upto fault.NotGrowable = ⊥
 
 -- an archive begins with a run that ends before the greatest place, or is refused and nothing has changed
 abbrev pub BeginsRun : StoreValue → ℕ → Result (Unit {0}) StartFault → StoreValue → Type 0
-BeginsRun v upto (Ok done) new = (v.runs_end + length (run_bytes (archive_of v upto)) < 2 ^ 63) × (upto < 2 ^ 63 → IsRun (run_of upto v.runs_end (archive_of v upto))) × IsArchiveBegun v upto new
+BeginsRun v upto (Ok done) new = (v.runs_end + length (run_bytes (archive_of v upto)) < 2 ^ 63)
+    × (upto < 2 ^ 63 → IsRun (run_of upto v.runs_end (archive_of v upto))) × IsArchiveBegun v upto new
 BeginsRun v upto (Err why) new = IsRunRefusal v upto why × (new ≡ v)
 
 -- no device call is made

@@ -1,5 +1,6 @@
 -- What the store's calls do, each in one word.
-use Rattle.std.specs.Prelude.{◌≡◌, ◌≤◌, ◌+◌, ◌==◌, ◌&&◌, ℕ, Bool, true, false, IsTrue, List, [], ◌∷◌, Option, Result, Ok, Err, IfOk, IfErr, MatchBool, MatchResult}
+use Rattle.std.specs.Prelude.{◌≡◌, ◌≤◌, ◌+◌, ◌==◌, ◌&&◌, ℕ, Bool, true, false, IsTrue, List, [], ◌∷◌, Option, Result, Ok, Err, IfOk, IfErr, MatchBool}
+use Rattle.std.specs.Prelude.{MatchResult}
 use Rattle.std.specs.declared.alloc.Global.{Global}
 use Rattle.std.specs.declared.vec.Vec.{Vec}
 use Rattle.history.specs.declared.key.Key.{Key}
@@ -63,7 +64,14 @@ pub record Submits (old : StoreValue) (txn : TxnValue) (label now : ℕ) (answer
 
 -- a view of what is published now, over the runs of the log
 abbrev pub IsViewOf : StoreValue → ViewValue → Type 0
-IsViewOf v view = view ≡ record { mark = v.transactions.mark; last = last v; floors = floors v; reclaimed = v.transactions.reclaimed; runs = v.archive.runs; state = v.transactions.versions }
+IsViewOf v view = view ≡ record {
+  mark = v.transactions.mark;
+  last = last v;
+  floors = floors v;
+  reclaimed = v.transactions.reclaimed;
+  runs = v.archive.runs;
+  state = v.transactions.versions;
+}
 
 -- the times of the published commits with a label, rising
 abbrev pub IsTimesOf : StoreValue → ℕ → List ℕ → Type 0
@@ -91,13 +99,17 @@ is_own v view = (view.mark == v.transactions.mark) && is_front view.runs v.archi
 
 -- ---- queries
 
--- A query changes nothing but what the reader keeps of the archive, and where a read was refused the count of such. What is kept is right if what was kept before is, and of the view's runs alone.
+-- A query changes nothing but what the reader keeps of the archive, and where a read was refused the count of such.
+-- What is kept is right if what was kept before is, and of the view's runs alone.
 pub record Asks {T : Type 0} (tells : Bool) (old : StoreValue) (view : ViewValue) (answer : Result T QueryFault) (new : StoreValue) : Type 0 where
   pub new_is : new ≡ record old { archive = record old.archive { kept = new.archive.kept }; disk = after_query answer old.disk }
   pub kept : (limit : ℕ) → RunsEndBy limit view.runs → Keeps limit tells (archive_of old.disk) old.archive.kept new.archive.kept
 
--- What is found from a time on in an own view. From the reclaim mark on memory answers alone, and no run is read; in any case it is the answer of a history that the view stands for, where the disk tells its bytes; and it is the one that those bytes give, whatever they are.
-pub record Finds {T : Type 0} (tells : Bool) (old : StoreValue) (view : ViewValue) (from : ℕ) (Refuses : QueryFault → Type 0) (Recent : T → Type 0) (OfHistory : History Value → T → Type 0) (Exact : Result T QueryFault → Type 0) (answer : Result T QueryFault) (new : StoreValue) : Type 0 where
+-- What is found from a time on in an own view. From the reclaim mark on memory answers alone, and no run is read; in
+-- any case it is the answer of a history that the view stands for, where the disk tells its bytes; and it is the one
+-- that those bytes give, whatever they are.
+pub record Finds {T : Type 0} (tells : Bool) (old : StoreValue) (view : ViewValue) (from : ℕ) (Refuses : QueryFault → Type 0) (Recent : T → Type 0)
+    (OfHistory : History Value → T → Type 0) (Exact : Result T QueryFault → Type 0) (answer : Result T QueryFault) (new : StoreValue) : Type 0 where
   pub asks : Asks tells old view answer new
   pub refused : IfErr answer Refuses
   pub recent : view.reclaimed ≤ from → (new.archive.kept ≡ old.archive.kept) × IfOk answer Recent
@@ -125,7 +137,8 @@ FindsScanAt tells v view relation time = Finds tells v view time (RefusesAt view
     (λ found. AnswersAt view relation time found.items (scanned relation time view.state))
     (λ h found. IsScanAtAnswer h (floor_at view.floors) relation time (Ok found.items))
     (λ answer. MatchResult answer (λ found. AreValuesFound (archive_of v.disk) view relation time found.items)
-    (IfDamaged (IsDamagedRun (AreScanRowsOf (archive_of v.disk) relation time (time + 1)) (AreScanRowsBroken (archive_of v.disk) relation time (time + 1)) time view.runs)))
+    (IfDamaged (IsDamagedRun (AreScanRowsOf (archive_of v.disk) relation time (time + 1))
+    (AreScanRowsBroken (archive_of v.disk) relation time (time + 1)) time view.runs)))
 
 -- an own view is asked for the values of a relation at a time, and a stranger's is refused
 abbrev pub AnswersScanAt : Bool → StoreValue → ViewValue → ℕ → ℕ → Result (Vec (ℕ × Value) Global) QueryFault → StoreValue → Type 0

@@ -1,5 +1,6 @@
 -- The beginning of a floor.
-use Rattle.std.specs.Prelude.{ℕ, ◌≡◌, ◌<◌, ◌^◌, ◌==◌, nat_le, nat_lt, not, Bool, is_some, IsSome, Option, None, Some, Result, Ok, Err, MatchOption, if◌then◌else◌}
+use Rattle.std.specs.Prelude.{ℕ, ◌≡◌, ◌<◌, ◌^◌, ◌==◌, nat_le, nat_lt, not, Bool, is_some, IsSome, Option, None, Some, Result, Ok, Err, MatchOption}
+use Rattle.std.specs.Prelude.{if◌then◌else◌}
 use Rattle.history.specs.Floors.{covered}
 use Rattle.floors.specs.Floors.{floor_at, raised_in}
 use Rattle.group.specs.Values.{with_slot_lent}

@@ -1,5 +1,6 @@
 -- The steps of a job to the disk.
-use Rattle.std.specs.Prelude.{◌≡◌, ◌<◌, ◌≤◌, ◌+◌, ◌⊎◌, ℕ, Bool, true, false, List, [], ◌∷◌, length, take, drop, slice_get, is_some, Option, Some, None, Result, Ok, Err, MatchBool, MatchOption, MatchResult}
+use Rattle.std.specs.Prelude.{◌≡◌, ◌<◌, ◌≤◌, ◌+◌, ◌⊎◌, ℕ, Bool, true, false, List, [], ◌∷◌, length, take, drop, slice_get, is_some, Option, Some, None, Result}
+use Rattle.std.specs.Prelude.{Ok, Err, MatchBool, MatchOption, MatchResult}
 use Rattle.disk.specs.Calls.{Writes, Syncs}
 use Rattle.disk.specs.declared.area.Area.{Area}
 use Rattle.disk.specs.declared.area.Area.TheVariants as areas
@@ -58,7 +59,8 @@ JobMoves what made refused old result new =
     MatchResult result (λ said. (said ≡ what) × (new ≡ with_job old made new)) (λ why. (why ≡ fault.Failed) × (new ≡ job_fails old refused new))
 
 -- what the job made is synced
-pub record SyncsStored (tells : Bool) (area : Area) (what : JobDid) (job : Job) (old : StoreValue) (result : Result JobDid PumpFault) (new : StoreValue) : Type 0 where
+pub record SyncsStored (tells : Bool) (area : Area) (what : JobDid) (job : Job) (old : StoreValue) (result : Result JobDid PumpFault)
+    (new : StoreValue) : Type 0 where
   pub call : Calls tells (Syncs area) result old.disk new.disk
   pub moves : JobMoves what (record job { stage = stages.Stored }) job old result new
 
@@ -73,9 +75,11 @@ abbrev pub behind_piece : InWriting → InWriting
 behind_piece writer = record writer { at = writer.at + length (piece_of writer); left = drop 8192 writer.left }
 
 -- the next piece of the run is written to its place, or the device refused it
-pub record WritesRun (tells : Bool) (run : Run) (writer : InWriting) (job : Job) (old : StoreValue) (result : Result JobDid PumpFault) (new : StoreValue) : Type 0 where
+pub record WritesRun (tells : Bool) (run : Run) (writer : InWriting) (job : Job) (old : StoreValue) (result : Result JobDid PumpFault)
+    (new : StoreValue) : Type 0 where
   pub call : Calls tells (Writes areas.Archive writer.at (piece_of writer)) result old.disk new.disk
-  pub moves : JobMoves did.WroteRun (record job { work = Archive run (behind_piece writer) }) (record job { work = Archive run (behind_piece writer) }) old result new
+  pub moves : JobMoves did.WroteRun (record job { work = Archive run (behind_piece writer) })
+      (record job { work = Archive run (behind_piece writer) }) old result new
 
 -- while bytes of the run are left they are written, and then it is synced
 abbrev pub WritesOrSyncs : Bool → List ℕ → Run → InWriting → Job → StoreValue → Result JobDid PumpFault → StoreValue → Type 0
@@ -84,15 +88,18 @@ WritesOrSyncs tells (b ∷ bs) run writer job old result new = WritesRun tells r
 
 -- ---- anchors
 
--- The next extent of the anchors is written to its place, all its bytes: as many of the records that are left as it holds. The walk stands behind them, whatever the device answered.
-pub record WritesAnchors (tells : Bool) (anchors : Anchors) (source : Sourced) (written number : ℕ) (job : Job) (old : StoreValue) (result : Result JobDid PumpFault) (new : StoreValue) : Type 0 where
+-- The next extent of the anchors is written to its place, all its bytes: as many of the records that are left as it
+-- holds. The walk stands behind them, whatever the device answered.
+pub record WritesAnchors (tells : Bool) (anchors : Anchors) (source : Sourced) (written number : ℕ) (job : Job) (old : StoreValue)
+    (result : Result JobDid PumpFault) (new : StoreValue) : Type 0 where
   pub image : List ℕ
   pub filled : FilledExtent
   pub behind : Sourced
   pub is_filled : IsFilled number (first_number (drop (written + 1) old.transactions.reserved)) source.left image filled behind.left
   pub whole : length image ≡ 8192
   pub call : Calls tells (Writes areas.Heap (extent_start number) image) result old.disk new.disk
-  pub moves : JobMoves did.WroteExtent (record job { work = Reclaim anchors behind (written + 1) }) (record job { work = Reclaim anchors behind (written + 1) }) old result new
+  pub moves : JobMoves did.WroteExtent (record job { work = Reclaim anchors behind (written + 1) })
+      (record job { work = Reclaim anchors behind (written + 1) }) old result new
 
 -- while extents are left they are written, and then the heap is synced
 abbrev pub AnchorsOrSync : Bool → Option ℕ → Anchors → Sourced → ℕ → Job → StoreValue → Result JobDid PumpFault → StoreValue → Type 0
@@ -119,14 +126,16 @@ HasGrown grew.Grown growth old what new = (what ≡ did.JobDone) × (old.transac
 -- the next device call of the piece, which stands behind it whatever the device answered
 pub record Grows (tells : Bool) (growth : GrowthState) (old : StoreValue) (result : Result JobDid PumpFault) (new : StoreValue) : Type 0 where
   pub call : Calls tells (IsGrowthCall growth.stage growth.slots growth.piece) result old.disk new.disk
-  pub answer : MatchResult result (λ what. HasGrown (grew_at growth.stage) growth old what new) (λ why. (why ≡ fault.Failed) × (new ≡ job_fails old (growing (growth_after growth)) new))
+  pub answer : MatchResult result (λ what. HasGrown (grew_at growth.stage) growth old what new)
+      (λ why. (why ≡ fault.Failed) × (new ≡ job_fails old (growing (growth_after growth)) new))
 
 -- ---- by its kind
 
 -- The next step before its slot. A floor has none, and all of a growth's are such.
 abbrev pub Stores : Bool → JobWork → Job → StoreValue → Result JobDid PumpFault → StoreValue → Type 0
 Stores tells (Archive run writer) job old result new = WritesOrSyncs tells writer.left run writer job old result new
-Stores tells (Reclaim anchors source written) job old result new = AnchorsOrSync tells (slice_get old.transactions.reserved written) anchors source written job old result new
+Stores tells (Reclaim anchors source written) job old result new =
+    AnchorsOrSync tells (slice_get old.transactions.reserved written) anchors source written job old result new
 Stores tells (Floor scope floor floors) job old result new = ⊥
 Stores tells (Grow growth) job old result new = Grows tells growth old result new
 
@@ -179,9 +188,12 @@ job_done old job turn new = slot_opened (work_done job.work old) turn new
 
 -- what a device call of the job's slot leads to
 abbrev pub IsJobTurned : SlotStage → TurnState → Job → StoreValue → JobDid → StoreValue → Type 0
-IsJobTurned slots.Begun turn job old what new = (what ≡ did.BodyWritten) × (new ≡ with_job old (record job { stage = stages.Turning (record turn { stage = slots.BodyWritten }) }) new)
-IsJobTurned slots.BodyWritten turn job old what new = (what ≡ did.BodySynced) × (new ≡ with_job old (record job { stage = stages.Turning (record turn { stage = slots.BodySynced }) }) new)
-IsJobTurned slots.BodySynced turn job old what new = (what ≡ did.GateWritten) × (new ≡ with_job old (record job { stage = stages.Turning (record turn { stage = slots.GateWritten }) }) new)
+IsJobTurned slots.Begun turn job old what new =
+    (what ≡ did.BodyWritten) × (new ≡ with_job old (record job { stage = stages.Turning (record turn { stage = slots.BodyWritten }) }) new)
+IsJobTurned slots.BodyWritten turn job old what new =
+    (what ≡ did.BodySynced) × (new ≡ with_job old (record job { stage = stages.Turning (record turn { stage = slots.BodySynced }) }) new)
+IsJobTurned slots.BodySynced turn job old what new =
+    (what ≡ did.GateWritten) × (new ≡ with_job old (record job { stage = stages.Turning (record turn { stage = slots.GateWritten }) }) new)
 IsJobTurned slots.GateWritten turn job old what new = (what ≡ did.JobDone) × (old.transactions.slots < 65536) × (new ≡ job_done old job turn new)
 IsJobTurned slots.Opened turn job old what new = ⊥
 
@@ -196,7 +208,8 @@ pub record TurnsJob (tells : Bool) (job : Job) (turn : TurnState) (old : StoreVa
 
 -- the slot that comes next is begun: it names what the job made
 abbrev pub first_turn : StoreValue → Job → TurnState
-first_turn v job = record { number = v.log.used; body = spelling v.log.profile (record { number = v.log.used; body = slot_body job.work }); stage = slots.Begun }
+first_turn v job =
+    record { number = v.log.used; body = spelling v.log.profile (record { number = v.log.used; body = slot_body job.work }); stage = slots.Begun }
 
 -- the next slot of the log is in the writing
 abbrev pub slot_taken : StoreValue → StoreValue
@@ -204,14 +217,16 @@ slot_taken v = record v { log = record v.log { writing = true } }
 
 -- or there is no memory, and nothing has changed
 abbrev pub BeginsJobSlot : Bool → Job → StoreValue → Result JobDid PumpFault → StoreValue → Type 0
-BeginsJobSlot tells job old result new = (TakesMemory job.work × (result ≡ Err fault.NoMemory) × (new ≡ old)) ⊎ TurnsJob tells job (first_turn old job) (slot_taken (made_ready job.work old)) result new
+BeginsJobSlot tells job old result new = (TakesMemory job.work × (result ≡ Err fault.NoMemory) × (new ≡ old))
+    ⊎ TurnsJob tells job (first_turn old job) (slot_taken (made_ready job.work old)) result new
 
 -- ---- every step
 
 -- while a group's slot is in the writing the job begins none
 abbrev pub TakesJobStep : Bool → JobStage → Job → StoreValue → Result JobDid PumpFault → StoreValue → Type 0
 TakesJobStep tells stages.Writing job old result new = Stores tells job.work job old result new
-TakesJobStep tells stages.Stored job old result new = MatchBool (is_some old.turn) ((result ≡ Err fault.Busy) × (new ≡ old)) (BeginsJobSlot tells job old result new)
+TakesJobStep tells stages.Stored job old result new =
+    MatchBool (is_some old.turn) ((result ≡ Err fault.Busy) × (new ≡ old)) (BeginsJobSlot tells job old result new)
 TakesJobStep tells (stages.Turning turn) job old result new = TurnsJob tells job turn old result new
 
 -- a failed store writes nothing; where no job runs nothing is done

@@ -37,7 +37,25 @@ pub record IsUnread (runs : List RunEntry) (archive : ArchiveValue) : Type 0 whe
 -- the store on what was read: all commits of the log are published, and nothing waits
 abbrev pub opened_on : ℕ → Recovered → ArchiveValue → DiskState → StoreValue
 opened_on mark r archive disk = record {
-  transactions = record { mark = mark; opened = []; heads = map head_as r.commits.items; published = length r.commits.items; versions = r.chains; pending = None; queue = []; usages = r.extents; times = times_of r.live.items; reserved = []; slots = total r.header; used = r.used; group = 0; stage = NoGroup; floors = r.floors; reclaimed = r.reclaimed; failed = false };
+  transactions = record {
+    mark = mark;
+    opened = [];
+    heads = map head_as r.commits.items;
+    published = length r.commits.items;
+    versions = r.chains;
+    pending = None;
+    queue = [];
+    usages = r.extents;
+    times = times_of r.live.items;
+    reserved = [];
+    slots = total r.header;
+    used = r.used;
+    group = 0;
+    stage = NoGroup;
+    floors = r.floors;
+    reclaimed = r.reclaimed;
+    failed = false;
+  };
   log = record { profile = r.header.profile; slots = total r.header; pieces = r.header.pieces; used = r.used; writing = false };
   turn = None;
   job = None;

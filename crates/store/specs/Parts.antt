@@ -16,7 +16,8 @@ use Rattle.store.specs.declared.slot_calls.SlotCall.TheVariants as calls
 
 -- a store of these parts
 abbrev pub parts_of : TransactionsValue → LogState → Option TurnState → Option Job → ℕ → ℕ → ArchiveValue → DiskState → StoreValue
-parts_of transactions log turn job archived runs_end archive disk = record { transactions = transactions; log = log; turn = turn; job = job; archived = archived; runs_end = runs_end; archive = archive; disk = disk }
+parts_of transactions log turn job archived runs_end archive disk =
+    record { transactions = transactions; log = log; turn = turn; job = job; archived = archived; runs_end = runs_end; archive = archive; disk = disk }
 
 -- what a step of a job did that made this call of its slot
 abbrev pub job_did_of : SlotCall → JobDid

@@ -1,5 +1,6 @@
 -- The steps of a group to the disk.
-use Rattle.std.specs.Prelude.{◌≡◌, ◌+◌, ◌⊎◌, Bool, true, false, is_some, IsTrue, [], length, Option, Some, None, Result, Ok, Err, MatchBool, MatchOption, MatchResult}
+use Rattle.std.specs.Prelude.{◌≡◌, ◌+◌, ◌⊎◌, Bool, true, false, is_some, IsTrue, [], length, Option, Some, None, Result, Ok, Err, MatchBool, MatchOption}
+use Rattle.std.specs.Prelude.{MatchResult}
 use Rattle.disk.specs.Areas.{Areas}
 use Rattle.disk.specs.Calls.{DiskState, Writes, Syncs, Counts, refused_answer}
 use Rattle.disk.specs.declared.area.Area.TheVariants.{Heap}
@@ -30,13 +31,15 @@ disk_answer (Ok what) = Ok tt
 disk_answer (Err why) = refused_answer
 
 -- the one device call of a step, which is counted
-pub record Calls {T : Type 0} (tells : Bool) (call : Result (Unit {0}) DeviceFault → Areas → Areas → Type 0) (result : Result T PumpFault) (old new : DiskState) : Type 0 where
+pub record Calls {T : Type 0} (tells : Bool) (call : Result (Unit {0}) DeviceFault → Areas → Areas → Type 0) (result : Result T PumpFault)
+    (old new : DiskState) : Type 0 where
   pub areas : IsTrue tells → call (disk_answer result) old.areas new.areas
   pub counts : Counts (disk_answer result) old new
 
 -- a step between the device calls of a slot: it is done, or the device refused it and the store has failed
 pub record Steps (what : Did) (after : TransactionsValue) (old : StoreValue) (result : Result Did PumpFault) (new : StoreValue) : Type 0 where
-  pub answer : MatchResult result (λ said. (said ≡ what) × (new.transactions ≡ after)) (λ why. (why ≡ fault.Failed) × (new.transactions ≡ broken old.transactions))
+  pub answer : MatchResult result (λ said. (said ≡ what) × (new.transactions ≡ after))
+      (λ why. (why ≡ fault.Failed) × (new.transactions ≡ broken old.transactions))
   pub log : new.log ≡ old.log
   pub turn : new.turn ≡ old.turn
   pub job : KeepsJob old new
@@ -55,7 +58,16 @@ pub record SyncsHeap (tells : Bool) (old : StoreValue) (result : Result Did Pump
 
 -- a store of these parts, on which no job runs
 abbrev pub store_of : TransactionsValue → LogState → Option TurnState → DiskState → StoreValue
-store_of transactions log turn disk = record { transactions = transactions; log = log; turn = turn; job = None; archived = 0; runs_end = 0; archive = record { runs = []; next = []; kept = [] }; disk = disk }
+store_of transactions log turn disk = record {
+  transactions = transactions;
+  log = log;
+  turn = turn;
+  job = None;
+  archived = 0;
+  runs_end = 0;
+  archive = record { runs = []; next = []; kept = [] };
+  disk = disk;
+}
 
 -- what a step of a group did that made this call of its slot
 abbrev pub did_of : SlotCall → Did
@@ -65,9 +77,12 @@ did_of calls.GateWritten = did.GateWritten
 
 -- what a device call of a slot leads to: the last one publishes the group
 abbrev pub IsTurned : SlotStage → TurnState → StoreValue → Did → StoreValue → Type 0
-IsTurned slots.Begun turn old what new = (what ≡ did.BodyWritten) × (new.transactions ≡ old.transactions) × (new.log ≡ old.log) × (new.turn ≡ Some (record turn { stage = slots.BodyWritten }))
-IsTurned slots.BodyWritten turn old what new = (what ≡ did.BodySynced) × (new.transactions ≡ old.transactions) × (new.log ≡ old.log) × (new.turn ≡ Some (record turn { stage = slots.BodySynced }))
-IsTurned slots.BodySynced turn old what new = (what ≡ did.GateWritten) × (new.transactions ≡ old.transactions) × (new.log ≡ old.log) × (new.turn ≡ Some (record turn { stage = slots.GateWritten }))
+IsTurned slots.Begun turn old what new =
+    (what ≡ did.BodyWritten) × (new.transactions ≡ old.transactions) × (new.log ≡ old.log) × (new.turn ≡ Some (record turn { stage = slots.BodyWritten }))
+IsTurned slots.BodyWritten turn old what new =
+    (what ≡ did.BodySynced) × (new.transactions ≡ old.transactions) × (new.log ≡ old.log) × (new.turn ≡ Some (record turn { stage = slots.BodySynced }))
+IsTurned slots.BodySynced turn old what new =
+    (what ≡ did.GateWritten) × (new.transactions ≡ old.transactions) × (new.log ≡ old.log) × (new.turn ≡ Some (record turn { stage = slots.GateWritten }))
 IsTurned slots.GateWritten turn old what new = (what ≡ did.Published old.transactions.group) × (new.transactions ≡ published old.transactions)
     × (new.log ≡ record old.log { used = turn.number + 1; writing = false }) × (new.turn ≡ None)
 IsTurned slots.Opened turn old what new = ⊥
@@ -91,7 +106,11 @@ taken v = record v { transactions = at_stage stages.Turning v.transactions; log 
 
 -- the slot that comes next is begun with this body
 abbrev pub TakesSlot : Bool → Body → StoreValue → Result Did PumpFault → StoreValue → Type 0
-TakesSlot tells body old result new = TurnsSlot tells (record { number = old.log.used; body = spelling old.log.profile (record { number = old.log.used; body = body }); stage = slots.Begun }) (taken old) result new
+TakesSlot tells body old result new = TurnsSlot tells (record {
+  number = old.log.used;
+  body = spelling old.log.profile (record { number = old.log.used; body = body });
+  stage = slots.Begun;
+}) (taken old) result new
 
 -- the group's versions have forgotten what a reclaim has ended
 abbrev pub freshly : StoreValue → StoreValue
@@ -120,9 +139,11 @@ abbrev pub TakesStep : Bool → NextStep → StoreValue → Result Did PumpFault
 TakesStep tells step.Idle old result new = (result ≡ Ok did.Idle) × (new ≡ old)
 TakesStep tells step.WriteExtent old result new = MatchOption (next_extent old.transactions) ⊥ (λ stored. WritesExtent tells stored old result new)
 TakesStep tells step.SyncHeap old result new = SyncsHeap tells old result new
-TakesStep tells step.BeginSlot old result new = MatchBool (is_some (turn_of old.job)) ((result ≡ Err fault.Busy) × (new ≡ old)) (MayBeginSlot tells old result new)
+TakesStep tells step.BeginSlot old result new =
+    MatchBool (is_some (turn_of old.job)) ((result ≡ Err fault.Busy) × (new ≡ old)) (MayBeginSlot tells old result new)
 TakesStep tells step.AdvanceSlot old result new = MatchOption old.turn ⊥ (λ turn. TurnsSlot tells turn old result new)
 
 -- a failed store writes nothing; any other takes the next step. While a job's slot is in the writing a group begins none.
 abbrev pub Pumps : Bool → StoreValue → Result Did PumpFault → StoreValue → Type 0
-Pumps tells old result new = MatchBool old.transactions.failed ((result ≡ Err fault.Failed) × (new ≡ old)) (TakesStep tells (next_step old.transactions) (started old) result new)
+Pumps tells old result new =
+    MatchBool old.transactions.failed ((result ≡ Err fault.Failed) × (new ≡ old)) (TakesStep tells (next_step old.transactions) (started old) result new)

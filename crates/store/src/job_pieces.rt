@@ -33,7 +33,8 @@ pub(crate) fn store_next<D: Disk>(
     requires behind { GrowsBehind work log.old }
     requires lent { log.old.slots ≡ transactions.old.slots + lent_by work }
     ensures { (turn : Option TurnState) (archived runs_end : ℕ) (archive : ArchiveValue)
-        → Stores D.tells work (writing work) (parts_of transactions.old log.old turn (Some (writing work)) archived runs_end archive (D.state disk.old)) result.0 (parts_of transactions.new log.new turn result.1 archived runs_end archive (D.state disk.new)) }
+        → Stores D.tells work (writing work) (parts_of transactions.old log.old turn (Some (writing work)) archived runs_end archive (D.state disk.old))
+        result.0 (parts_of transactions.new log.new turn result.1 archived runs_end archive (D.state disk.new)) }
 {
     match work {
         JobWork::Archive { run, writer } => store_run(transactions, disk, run, writer),
@@ -57,7 +58,8 @@ fn grow<D: Disk>(
     requires behind { growth.slots ≡ transactions.old.slots }
     requires room { growth.slots + 256 ≤ 65536 }
     ensures { (turn : Option TurnState) (archived runs_end : ℕ) (archive : ArchiveValue)
-        → Grows D.tells growth (parts_of transactions.old log.old turn (Some (growing growth)) archived runs_end archive (D.state disk.old)) result.0 (parts_of transactions.new log.new turn result.1 archived runs_end archive (D.state disk.new)) }
+        → Grows D.tells growth (parts_of transactions.old log.old turn (Some (growing growth)) archived runs_end archive (D.state disk.old)) result.0
+        (parts_of transactions.new log.new turn result.1 archived runs_end archive (D.state disk.new)) }
 {
     let mut growth = growth;
     let grew = log.grow(&mut growth, disk);
@@ -89,7 +91,9 @@ fn store_run<D: Disk>(
     writer: RunWriter<ArchiveWalk>,
 ) -> Stepped
     ensures { (log : LogState) (turn : Option TurnState) (archived runs_end : ℕ) (archive : ArchiveValue)
-        → WritesOrSyncs D.tells writer.left run writer (writing (JobWork.Archive run writer)) (parts_of transactions.old log turn (Some (writing (JobWork.Archive run writer))) archived runs_end archive (D.state disk.old)) result.0 (parts_of transactions.new log turn result.1 archived runs_end archive (D.state disk.new)) }
+        → WritesOrSyncs D.tells writer.left run writer (writing (JobWork.Archive run writer))
+        (parts_of transactions.old log turn (Some (writing (JobWork.Archive run writer))) archived runs_end archive (D.state disk.old)) result.0
+        (parts_of transactions.new log turn result.1 archived runs_end archive (D.state disk.new)) }
 {
     if writer.left() == 0 {
         sync_stored(
@@ -113,7 +117,9 @@ fn write_run<D: Disk>(
 ) -> Stepped
     requires { 0 < length writer.left }
     ensures { (log : LogState) (turn : Option TurnState) (archived runs_end : ℕ) (archive : ArchiveValue)
-        → WritesRun D.tells run writer (writing (JobWork.Archive run writer)) (parts_of transactions.old log turn (Some (writing (JobWork.Archive run writer))) archived runs_end archive (D.state disk.old)) result.0 (parts_of transactions.new log turn result.1 archived runs_end archive (D.state disk.new)) }
+        → WritesRun D.tells run writer (writing (JobWork.Archive run writer))
+        (parts_of transactions.old log turn (Some (writing (JobWork.Archive run writer))) archived runs_end archive (D.state disk.old)) result.0
+        (parts_of transactions.new log turn result.1 archived runs_end archive (D.state disk.new)) }
 {
     let mut writer = writer;
     let written = writer.write_piece(disk);
@@ -139,7 +145,9 @@ fn store_anchors<D: Disk>(
     written: usize,
 ) -> Stepped
     ensures { (log : LogState) (turn : Option TurnState) (archived runs_end : ℕ) (archive : ArchiveValue)
-        → AnchorsOrSync D.tells (slice_get transactions.old.reserved written) anchors source written (writing (JobWork.Reclaim anchors source written)) (parts_of transactions.old log turn (Some (writing (JobWork.Reclaim anchors source written))) archived runs_end archive (D.state disk.old)) result.0 (parts_of transactions.new log turn result.1 archived runs_end archive (D.state disk.new)) }
+        → AnchorsOrSync D.tells (slice_get transactions.old.reserved written) anchors source written (writing (JobWork.Reclaim anchors source written))
+        (parts_of transactions.old log turn (Some (writing (JobWork.Reclaim anchors source written))) archived runs_end archive (D.state disk.old)) result.0
+        (parts_of transactions.new log turn result.1 archived runs_end archive (D.state disk.new)) }
 {
     let Some((number, next)) = next_extent(transactions.reserved(), written) else {
         let work = JobWork::Reclaim {
@@ -171,7 +179,8 @@ fn store_anchors<D: Disk>(
 
 // The number of the extent at this place, and of the one behind it, 0 for none.
 fn next_extent(reserved: &[Extent], place: usize) -> Option<(u32, u32)>
-    ensures is { MatchOption result (slice_get reserved.now place ≡ None) (λ r. (slice_get reserved.now place ≡ Some r.0) × (r.1 ≡ first_number (drop (place + 1) reserved.now))) }
+    ensures is { MatchOption result (slice_get reserved.now place ≡ None)
+        (λ r. (slice_get reserved.now place ≡ Some r.0) × (r.1 ≡ first_number (drop (place + 1) reserved.now))) }
     ensures low { IfSome result (λ r. 1 ≤ r.0) }
     ensures high { IfSome result (λ r. r.0 ≤ 65536) }
     ensures within { IfSome result (λ r. place < length reserved.now) }
@@ -192,7 +201,8 @@ fn sync_stored<D: Disk>(
     work: JobWork,
 ) -> Stepped
     ensures { (log : LogState) (turn : Option TurnState) (archived runs_end : ℕ) (archive : ArchiveValue)
-        → SyncsStored D.tells area did (writing work) (parts_of transactions.old log turn (Some (writing work)) archived runs_end archive (D.state disk.old)) result.0 (parts_of transactions.new log turn result.1 archived runs_end archive (D.state disk.new)) }
+        → SyncsStored D.tells area did (writing work) (parts_of transactions.old log turn (Some (writing work)) archived runs_end archive (D.state disk.old))
+        result.0 (parts_of transactions.new log turn result.1 archived runs_end archive (D.state disk.new)) }
 {
     match disk.sync(area) {
         Err(DeviceFault) => {

@@ -78,7 +78,9 @@ fn step_job<D: Disk>(
     requires lent { log.old.slots ≡ transactions.old.slots + lent_by job.work }
     requires room { job.stage ≡ JobStage.Stored → log.old.used < log.old.slots }
     ensures { (turn : Option TurnState) → is_some turn ≡ is_turning
-        → TakesJobStep D.tells job.stage job (parts_of transactions.old log.old turn (Some job) archived.old.upto archived.old.runs_end archived.old.archive (D.state disk.old)) result.0 (parts_of transactions.new log.new turn result.1 archived.new.upto archived.new.runs_end archived.new.archive (D.state disk.new)) }
+        → TakesJobStep D.tells job.stage job (parts_of transactions.old log.old turn (Some job) archived.old.upto archived.old.runs_end archived.old.archive
+        (D.state disk.old)) result.0 (parts_of transactions.new log.new turn result.1 archived.new.upto archived.new.runs_end archived.new.archive
+        (D.state disk.new)) }
 {
     let Job { work, stage } = job;
     match stage {

@@ -32,7 +32,9 @@ pub(crate) fn begin_slot<D: Disk>(
     requires free { log.old.writing ≡ false }
     requires room { log.old.used < log.old.slots }
     ensures { (turn : Option TurnState)
-        → BeginsJobSlot D.tells (stored work) (parts_of transactions.old log.old turn (Some (stored work)) archived.old.upto archived.old.runs_end archived.old.archive (D.state disk.old)) result.0 (parts_of transactions.new log.new turn result.1 archived.new.upto archived.new.runs_end archived.new.archive (D.state disk.new)) }
+        → BeginsJobSlot D.tells (stored work) (parts_of transactions.old log.old turn
+        (Some (stored work)) archived.old.upto archived.old.runs_end archived.old.archive (D.state disk.old)) result.0
+        (parts_of transactions.new log.new turn result.1 archived.new.upto archived.new.runs_end archived.new.archive (D.state disk.new)) }
 {
     let Ok(()) = make_ready(alloc, transactions, &work) else {
         return (Err(PumpFault::NoMemory), Some(stored(work)));
@@ -57,7 +59,9 @@ pub(crate) fn turn_job_slot<D: Disk>(
     requires slots { transactions.old.slots < 65536 }
     requires end { IsInPlace work }
     ensures { (other : Option TurnState) (before : Option Job)
-        → TurnsJob D.tells (stored work) turn (parts_of transactions.old log.old other before archived.old.upto archived.old.runs_end archived.old.archive (D.state disk.old)) result.0 (parts_of transactions.new log.new other result.1 archived.new.upto archived.new.runs_end archived.new.archive (D.state disk.new)) }
+        → TurnsJob D.tells (stored work) turn (parts_of transactions.old log.old other before archived.old.upto archived.old.runs_end archived.old.archive
+        (D.state disk.old)) result.0 (parts_of transactions.new log.new other result.1 archived.new.upto archived.new.runs_end archived.new.archive
+        (D.state disk.new)) }
 {
     match advance_slot(transactions, log, disk, turn) {
         Err(fault) => (Err(fault), Some(stored(work))),
@@ -110,7 +114,8 @@ fn make_ready(
     work: &JobWork,
 ) -> Result<(), AllocError>
     ensures ok { OnOk result ((log : LogState) (turn : Option TurnState) (job : Option Job) (archived runs_end : ℕ) (archive : ArchiveValue) (disk : DiskState)
-        → parts_of transactions.new log turn job archived runs_end archive disk ≡ made_ready work.now (parts_of transactions.old log turn job archived runs_end archive disk)) }
+        → parts_of transactions.new log turn job archived runs_end archive disk
+        ≡ made_ready work.now (parts_of transactions.old log turn job archived runs_end archive disk)) }
     ensures err { OnErr result (TakesMemory work.now × (transactions.new ≡ transactions.old)) }
     ensures slots { KeepsSlots transactions.old transactions.new }
 {
@@ -125,7 +130,8 @@ fn make_ready(
 fn finish(alloc: Global, transactions: &mut Transactions, archived: &mut Archived, work: JobWork)
     requires { IsInPlace work }
     ensures is { (log : LogState) (turn : Option TurnState) (job : Option Job) (disk : DiskState)
-        → parts_of transactions.new log turn job archived.new.upto archived.new.runs_end archived.new.archive disk ≡ work_done work (parts_of transactions.old log turn job archived.old.upto archived.old.runs_end archived.old.archive disk) }
+        → parts_of transactions.new log turn job archived.new.upto archived.new.runs_end archived.new.archive disk
+        ≡ work_done work (parts_of transactions.old log turn job archived.old.upto archived.old.runs_end archived.old.archive disk) }
     ensures slots { KeepsSlots transactions.old transactions.new }
 {
     match work {

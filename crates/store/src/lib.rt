@@ -15,10 +15,11 @@ mod starting;
 mod store;
 mod store_archive;
 
-pub use chains::RowWalk;
+pub use chains::{RowWalk, SharedValue};
 pub use group::{BeginFault, Did, PumpFault, Redeemed, SubmitFault, Submitted, Ticket};
 pub use job::{JobDid, StartFault};
-pub use recovery::OpenFault;
+pub use recovery::{FormatFault, OpenFault, format};
 pub use snapshot::{Txn, TxnFault};
 pub use store::Store;
 pub use timequery::{QueryFault, View};
+pub use wire::Profile;

@@ -168,7 +168,8 @@ fn turn_group_slot<D: Disk>(
     turn: SlotTurn,
 ) -> (Result<Did, PumpFault>, Option<SlotTurn>)
     requires { due transactions.old ≡ NextStep.AdvanceSlot }
-    ensures { TurnsSlot D.tells turn (store_of transactions.old log.old None (D.state disk.old)) result.0 (store_of transactions.new log.new result.1 (D.state disk.new)) }
+    ensures { TurnsSlot D.tells turn (store_of transactions.old log.old None (D.state disk.old)) result.0
+        (store_of transactions.new log.new result.1 (D.state disk.new)) }
 {
     match advance_slot(transactions, log, disk, turn) {
         Err(fault) => (Err(fault), None),

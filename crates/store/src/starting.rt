@@ -18,7 +18,7 @@ use extents::Extent;
 use group::ReserveFault;
 use std::alloc::AllocError;
 use vacuum::{AnchorSource, Since, archive_run};
-use wire::Anchors;
+use wire::{Anchors, Profile};
 
 impl<D: Disk> Store<D> {
     /// Begins an archive of the versions that ended by `upto`, in microseconds since 1970, and that
@@ -272,12 +272,12 @@ impl<D: Disk> Store<D> {
 }
 
 // Whether a store of this profile has no floors of this kind: of one relation, or of every relation.
-fn is_wrong_profile(profile: u32, scope: Option<u16>) -> bool
+fn is_wrong_profile(profile: Profile, scope: Option<u16>) -> bool
     ensures { result ≡ is_wrong_profile profile scope }
 {
     match scope {
-        None => profile == 3,
-        Some(_) => profile != 3,
+        None => profile.has_own_floors(),
+        Some(_) => !profile.has_own_floors(),
     }
 }
 

@@ -13,6 +13,7 @@ use status::{SlotTurn, StatusLog};
 use std::alloc::{AllocError, Global};
 use std::marker::Model;
 use timequery::View;
+use wire::Profile;
 
 /// A store over a disk of three areas. Each call but opening makes at most one write or sync of the
 /// disk. After a refused one the store is failed: it writes nothing more, and reading goes on.
@@ -77,7 +78,7 @@ impl<D: Disk> Store<D> {
     }
 
     /// The profile of its layout.
-    pub fn profile(&self) -> u32
+    pub fn profile(&self) -> Profile
         ensures { result ≡ self.now.log.profile }
     {
         self.log.profile()

@@ -24,7 +24,10 @@ pub fn is_row(row: &Version<SharedValue>, want: &Row) -> bool {
 
 /// Whether these rows are told.
 pub fn are_rows(rows: &[Version<SharedValue>], want: &[Row]) -> bool {
-    for (row, part) in rows.iter().zip(want.iter()) {
+    for (place, row) in rows.iter().enumerate() {
+        let Some(part) = want.get(place) else {
+            return false;
+        };
         if !is_row(row, part) {
             return false;
         }
@@ -34,7 +37,10 @@ pub fn are_rows(rows: &[Version<SharedValue>], want: &[Row]) -> bool {
 
 /// Whether these rows of records are told.
 pub fn are_scanned(rows: &[(u64, Version<SharedValue>)], want: &[(u64, Row)]) -> bool {
-    for (row, part) in rows.iter().zip(want.iter()) {
+    for (place, row) in rows.iter().enumerate() {
+        let Some(part) = want.get(place) else {
+            return false;
+        };
         if row.0 != part.0 || !is_row(&row.1, &part.1) {
             return false;
         }
@@ -42,9 +48,25 @@ pub fn are_scanned(rows: &[(u64, Version<SharedValue>)], want: &[(u64, Row)]) ->
     rows.len() == want.len()
 }
 
+/// Whether these records are told, and no others.
+pub fn are_records(found: &[(u64, SharedValue)], want: &[u64]) -> bool {
+    for (place, one) in found.iter().enumerate() {
+        let Some(record) = want.get(place) else {
+            return false;
+        };
+        if one.0 != *record {
+            return false;
+        }
+    }
+    found.len() == want.len()
+}
+
 /// Whether these records have these values, each of one field.
 pub fn are_values(found: &[(u64, SharedValue)], want: &[(u64, &str)]) -> bool {
-    for (one, part) in found.iter().zip(want.iter()) {
+    for (place, one) in found.iter().enumerate() {
+        let Some(part) = want.get(place) else {
+            return false;
+        };
         if one.0 != part.0 || !is_text(Some(&one.1), Some(part.1)) {
             return false;
         }

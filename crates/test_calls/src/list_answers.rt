@@ -1,4 +1,5 @@
 //! Answers to the calls of a list, as tables have them.
+use crate::answers::are_records;
 use chains::SharedValue;
 use group::{Did, PumpFault};
 use history::Version;
@@ -51,17 +52,11 @@ pub enum Want {
     Job(JobDid),
 }
 
-fn are_records(found: &[(u64, SharedValue)], want: &[u64]) -> bool {
-    for (one, record) in found.iter().zip(want.iter()) {
-        if one.0 != *record {
-            return false;
-        }
-    }
-    found.len() == want.len()
-}
-
 fn are_rows(rows: &[Version<SharedValue>], want: &[(u64, u64)]) -> bool {
-    for (row, (from, to)) in rows.iter().zip(want.iter()) {
+    for (place, row) in rows.iter().enumerate() {
+        let Some((from, to)) = want.get(place) else {
+            return false;
+        };
         if row.from != *from || row.to != *to {
             return false;
         }

@@ -133,7 +133,10 @@ pub fn calls_of(alloc: Global, rows: &[(Ask, Want)]) -> Result<Vec<Call<'static>
 /// The place of the first answer that is another one; the place behind all where there are too few or
 /// too many.
 pub fn first_wrong(answers: &[Answer], rows: &[(Ask, Want)]) -> Option<usize> {
-    for (place, (answer, row)) in answers.iter().zip(rows.iter()).enumerate() {
+    for (place, answer) in answers.iter().enumerate() {
+        let Some(row) = rows.get(place) else {
+            return Some(place);
+        };
         if !is_answer(answer, &row.1) {
             return Some(place);
         }

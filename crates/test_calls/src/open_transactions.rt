@@ -1,4 +1,5 @@
 //! Transactions that are open: what they read, what they write, and their numbers.
+use crate::answers::are_records;
 use crate::published::{SEVEN, is_text, published};
 use chains::Frozen;
 use history::Key;
@@ -39,15 +40,10 @@ fn puts_each(alloc: Global, txn: &mut Txn, first: u64, last: u64) -> bool {
 }
 
 fn scans(alloc: Global, txn: &Txn, relation: u16, records: &[u64]) -> bool {
-    let Ok(found) = txn.scan(alloc, relation) else {
-        return false;
-    };
-    for (one, record) in found.iter().zip(records.iter()) {
-        if one.0 != *record {
-            return false;
-        }
+    match txn.scan(alloc, relation) {
+        Ok(found) => are_records(&found, records),
+        Err(_) => false,
     }
-    found.len() == records.len()
 }
 
 fn is_answered(alloc: Global, txn: &mut Txn, step: &Step) -> bool {

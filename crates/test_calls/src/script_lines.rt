@@ -19,7 +19,10 @@ const PUTS: &[(&str, &str, &[&[u8]])] = &[
 ];
 
 fn are_fields(found: &[Vec<u8>], fields: &[&[u8]]) -> bool {
-    for (one, field) in found.iter().zip(fields.iter()) {
+    for (place, one) in found.iter().enumerate() {
+        let Some(field) = fields.get(place) else {
+            return false;
+        };
         if one.as_slice() != *field {
             return false;
         }

@@ -7,7 +7,7 @@ use status::encode_header;
 use std::alloc::Global;
 use std::process::Abort;
 use std::test::Fail;
-use store::{Did, JobDid, Store};
+use store::{Did, JobDid, Profile, Store};
 
 /// What the disk of a closed store must have, or what is put on it.
 #[derive(Clone, Copy)]
@@ -129,7 +129,8 @@ pub fn are_at_rest(rt: &impl Abort, disk: &mut MemDisk, what: &str, looks: &[AtR
 pub fn new_disk(alloc: Global, slots: u32, profile: u32) -> Result<MemDisk, Fail> {
     let mut disk = MemDisk::new(alloc);
     format(alloc, &mut disk, slots)?;
-    if profile != OWN_FLOORS {
+    let profile = Profile::of(profile).unwrap_or(Profile::newest());
+    if profile != Profile::newest() {
         disk.write_at(Area::Status, 0, &encode_header(profile, slots))?;
     }
     Ok(disk)

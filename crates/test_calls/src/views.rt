@@ -1,5 +1,7 @@
 //! What views answer before, at and after their times.
-use crate::answers::{Row, Rows, Value, are_answer, are_lent, goes_over, is_answer, is_row};
+use crate::answers::{
+    Row, Rows, Value, are_answer, are_lent, are_records, goes_over, is_answer, is_row,
+};
 use crate::published::{SEVEN, published};
 use floors::Floors;
 use history::Key;
@@ -44,7 +46,10 @@ fn scans_rows(alloc: Global, view: &View, (relation, a, b): (u16, u64, u64), wan
     let answer = view.recent_scan_between(alloc, relation, a, b);
     match (&answer, want) {
         (Ok(rows), Ok(parts)) => {
-            for (row, part) in rows.iter().zip(parts.iter()) {
+            for (place, row) in rows.iter().enumerate() {
+                let Some(part) = parts.get(place) else {
+                    return false;
+                };
                 if row.0 != 7 || !is_row(&row.1, part) {
                     return false;
                 }
@@ -65,14 +70,7 @@ fn scans(
 ) -> bool {
     let answer = view.recent_scan(alloc, relation, time);
     match (&answer, want) {
-        (Ok(found), Ok(records)) => {
-            for (one, record) in found.iter().zip(records.iter()) {
-                if one.0 != *record {
-                    return false;
-                }
-            }
-            found.len() == records.len()
-        }
+        (Ok(found), Ok(records)) => are_records(found, records),
         (Err(fault), Err(wanted)) => *fault == wanted,
         _ => false,
     }

@@ -155,7 +155,7 @@ const SWEEPS: &[Sweep] = &[Sweep {
     calls: 27,
     stops: true,
     failed: "",
-    gate: "pump | gate written",
+    gate: Some("pump | gate written"),
     fronts: FRONTS,
 }];
 

@@ -186,7 +186,7 @@ const SWEEPS: &[Sweep] = &[Sweep {
     calls: 56,
     stops: true,
     failed: "",
-    gate: "pump | gate written",
+    gate: Some("pump | gate written"),
     fronts: FRONTS,
 }];
 

@@ -3,6 +3,8 @@
 #![tactic(auto)]
 
 #[cfg(test)]
+mod again;
+#[cfg(test)]
 mod archived;
 #[cfg(test)]
 mod archives_beside;
@@ -57,9 +59,13 @@ mod refused_example;
 #[cfg(test)]
 mod refused_floors;
 #[cfg(test)]
+mod second_stops;
+#[cfg(test)]
 mod sessions;
 #[cfg(test)]
 mod steps;
+#[cfg(test)]
+mod stopped;
 #[cfg(test)]
 mod stops;
 #[cfg(test)]
@@ -70,3 +76,5 @@ mod sweeps;
 mod text;
 #[cfg(test)]
 mod vacuums;
+#[cfg(test)]
+mod write_sets;

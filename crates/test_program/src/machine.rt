@@ -1,5 +1,6 @@
 //! A machine with a disk in memory, on which examples go on.
 use crate::text::{are_answers, repeated, script_of};
+use crate::write_sets::{Written, questions};
 use disk::{Disk, Fault, FaultDisk, MemDisk};
 use history::Key;
 use session::{Answers, Lines};
@@ -133,13 +134,26 @@ impl Machine {
         self.status == 0
     }
 
+    /// Whether a script is answered as its dialogue says.
+    fn answers(&mut self, dialogue: &str) -> bool {
+        match script_of(self.alloc, dialogue, usize::MAX) {
+            Ok(script) => self.says(SCRIPT, script.as_str(), dialogue, 0),
+            Err(AllocError) => false,
+        }
+    }
+
     /// Whether a script of repeated parts is answered as its dialogue says.
     pub fn converses(&mut self, parts: &[(&str, u32)]) -> bool {
-        let Ok(dialogue) = repeated(self.alloc, parts) else {
-            return false;
-        };
-        match script_of(self.alloc, dialogue.as_str(), usize::MAX) {
-            Ok(script) => self.says(SCRIPT, script.as_str(), dialogue.as_str(), 0),
+        match repeated(self.alloc, parts) {
+            Ok(dialogue) => self.answers(dialogue.as_str()),
+            Err(AllocError) => false,
+        }
+    }
+
+    /// Whether the store answers by a plain list of writes, of these records.
+    pub fn has(&mut self, records: &[u32], writes: &[Written]) -> bool {
+        match questions(self.alloc, records, writes) {
+            Ok(dialogue) => self.answers(dialogue.as_str()),
             Err(AllocError) => false,
         }
     }

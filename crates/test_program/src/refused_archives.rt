@@ -79,7 +79,7 @@ const STOPS: &[Sweep] = &[Sweep {
     calls: 6,
     stops: true,
     failed: "",
-    gate: "",
+    gate: None,
     fronts: &[ANSWERS_ALIKE],
 }];
 
@@ -92,7 +92,7 @@ const REFUSED: &[Sweep] = &[Sweep {
     calls: 6,
     stops: false,
     failed: FAILED,
-    gate: "",
+    gate: None,
     fronts: &[ANSWERS_ALIKE],
 }];
 

@@ -35,7 +35,7 @@ const SWEEPS: &[Sweep] = &[Sweep {
     calls: 4,
     stops: false,
     failed: FAILED,
-    gate: "job | gate written",
+    gate: Some("job | gate written"),
     fronts: &[NOT_BARRED, BARRED],
 }];
 

@@ -1,6 +1,9 @@
 //! Steps: what is done to a disk, and what must come of it.
+use crate::again::{Reached, stops_at_each};
 use crate::bytes::{bytes_of, change, has_bytes, has_extents, has_parts, is_long, put};
 use crate::machine::{KEY, Machine, NEWEST, NO_FAULT, SCRIPT};
+use crate::second_stops::again_behind;
+use crate::write_sets::Written;
 use disk::{Area, Disk, Fault, FaultDisk, MemDisk};
 use script::read_time;
 use shell::Action;
@@ -59,6 +62,10 @@ pub enum Step {
     Back,
     /// A stop of the machine, which leaves this byte in each torn place.
     Stops(u8),
+    /// The store answers by a plain list of writes, of these records.
+    Has(&'static [u32], &'static [Written]),
+    /// In the newest profile, a dialogue that is stopped at each device call; the disk stays as it is.
+    StopsAtEach(Reached),
 }
 
 /// The question for the example's key at the time that a text spells.
@@ -268,6 +275,9 @@ impl Machine {
                 true
             }
             Step::Refuses(text) => self.refuses(text),
+            Step::Has(records, writes) => self.has(records, writes),
+            Step::StopsAtEach(reached) => self.profile != NEWEST
+                || stops_at_each(self, &again_behind(reached)),
             _ => self.commands(step),
         }
     }
@@ -281,6 +291,19 @@ impl Machine {
             }
         }
         true
+    }
+
+    /// Whether what a stop may leave, as `left` says, answers by a plain list of writes. Where it does not,
+    /// what was said there was said last.
+    pub fn left_has(&mut self, torn: (u8, usize), records: &[u32], writes: &[Written]) -> bool {
+        let Some(mut left) = self.left(torn) else {
+            return false;
+        };
+        let has = left.has(records, writes);
+        if !has {
+            *self = left;
+        }
+        has
     }
 
     /// Takes steps on a machine with what a stop may leave, as `left` says. Where it does not come as it

@@ -111,7 +111,7 @@ const SWEEPS: &[Sweep] = &[Sweep {
     calls: 6,
     stops: true,
     failed: "",
-    gate: "pump | gate written",
+    gate: Some("pump | gate written"),
     fronts: &[NOT_KEPT, KEPT],
 }];
 

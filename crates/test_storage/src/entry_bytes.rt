@@ -68,7 +68,10 @@ fn is_commit(member: &Member, commit: &Commit) -> bool {
 
 /// Whether these are the commits, one after the other.
 fn are_commits(members: &[Member], commits: &[Commit]) -> bool {
-    for (member, commit) in members.iter().zip(commits.iter()) {
+    for (place, member) in members.iter().enumerate() {
+        let Some(commit) = commits.get(place) else {
+            return false;
+        };
         if !is_commit(member, commit) {
             return false;
         }

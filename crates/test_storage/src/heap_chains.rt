@@ -192,7 +192,10 @@ fn fills(alloc: Global, records: Records, images: &[Image], wants: &[(u32, u32)]
         return false;
     };
     let mut source = RecordList::new(&records);
-    for (image, want) in images.iter().zip(wants.iter()) {
+    for (place, image) in images.iter().enumerate() {
+        let Some(want) = wants.get(place) else {
+            return false;
+        };
         if !is_filled(&mut source, image, *want) {
             return false;
         }

@@ -1,6 +1,6 @@
 //! Values, and slots of the log byte for byte.
 use crate::area_bytes::{begin_with, put};
-use crate::worked_bytes::{COMMIT_BODY, RUN, Said, body_of};
+use crate::worked_bytes::{COMMIT_BODY, RUN, Said, body_of, profile_of};
 use std::alloc::{AllocError, Global};
 use wire::{
     Anchors, BadSlot, Fields, Slot, Value, ValueFault, decode_encoded, decode_slot, encode_slot,
@@ -62,9 +62,9 @@ fn is_spelled(row: &SpelledSlot) -> bool {
         number: row.number,
         body: body_of(&row.said),
     };
-    begin_with(&encode_slot(row.profile, &slot), row.front)
-        && is_in_range(row.profile, &slot.body)
-        && decode_encoded(row.profile, &slot).is_ok()
+    begin_with(&encode_slot(profile_of(row.profile), &slot), row.front)
+        && is_in_range(profile_of(row.profile), &slot.body)
+        && decode_encoded(profile_of(row.profile), &slot).is_ok()
 }
 
 #[test]
@@ -73,7 +73,7 @@ fn slots_are_spelled_byte_for_byte(rt: HostRuntime) {
     for row in SPELLED {
         assert!(rt; is_spelled(row), "slot {} of {}", row.number, row.profile);
     }
-    assert!(rt; !is_in_range(2, &body_of(&Said::Floor(Some(1), 115))));
+    assert!(rt; !is_in_range(profile_of(2), &body_of(&Said::Floor(Some(1), 115))));
 }
 
 /// Bytes of the slot of one commit that are changed: where, to what, and what is wrong then.
@@ -93,7 +93,7 @@ fn fault(at: u16, byte: u8) -> Option<BadSlot> {
     let mut bytes = [0; 511];
     put(&mut bytes, 0, &COMMIT_BODY);
     put(&mut bytes, at, &[byte]);
-    decode_slot(1, 0, &bytes).err()
+    decode_slot(profile_of(1), 0, &bytes).err()
 }
 
 #[test]

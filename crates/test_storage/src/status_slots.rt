@@ -1,6 +1,6 @@
 //! The status log: its header, its slots, and the rules that a slot must meet.
 use crate::area_bytes::{begin_with, put, zeros};
-use crate::worked_bytes::{COMMIT_BODY, HEADER, Said, body_of};
+use crate::worked_bytes::{COMMIT_BODY, HEADER, Said, body_of, profile_of};
 use disk::{Area, Disk, MemDisk};
 use status::{
     Header, LogFault, SlotFault, Stage, StatusLog, Step, decode_header, encode_header, is_built,
@@ -8,12 +8,12 @@ use status::{
 };
 use std::alloc::{AllocError, Global};
 use std::test::Fail;
-use wire::{Anchors, Run};
+use wire::{Anchors, Profile, Run};
 
 /// The header of a new store of 16 slots.
 fn header_of(profile: u32) -> Header {
     Header {
-        profile,
+        profile: profile_of(profile),
         slots: 16,
         pieces: 0,
     }
@@ -22,7 +22,7 @@ fn header_of(profile: u32) -> Header {
 /// A disk whose status area has so many bytes, that header and zeros, as far as it reaches.
 fn disk_of(alloc: Global, profile: u32, len: usize) -> Result<MemDisk, AllocError> {
     let mut status = zeros(alloc, len)?;
-    put(&mut status, 0, &encode_header(profile, 16));
+    put(&mut status, 0, &encode_header(profile_of(profile), 16));
     Ok(MemDisk::with_bytes(status, Vec::new(alloc), Vec::new(alloc)))
 }
 
@@ -37,14 +37,16 @@ fn reads(alloc: Global, len: usize, want: Result<Header, LogFault>) -> bool {
 #[test]
 fn a_header_is_read_from_its_bytes(rt: HostRuntime) {
     let no_store = Err(LogFault::NotAStore);
-    assert!(rt; begin_with(&encode_header(1, 16), &HEADER) && header_of(1).total() == 16);
+    assert!(rt;
+        begin_with(&encode_header(profile_of(1), 16), &HEADER) && header_of(1).total() == 16
+    );
     assert!(rt; reads(rt.alloc(), 511, no_store) && reads(rt.alloc(), 8703, no_store));
     assert!(rt; reads(rt.alloc(), 8704, Ok(header_of(1))));
 }
 
 #[test]
 fn open_pieces_are_counted(rt: HostRuntime) {
-    let mut front = encode_header(2, 16);
+    let mut front = encode_header(profile_of(2), 16);
     front[16] = 0xc7;
     front[18] = 0xc7;
     assert!(rt; matches!(decode_header(&front), Some(header) if header.total() == 272));
@@ -379,7 +381,7 @@ fn slots_keep_their_rules(rt: HostRuntime) {
 /// Whether a profile has slots of kinds 1 to 4 and no others.
 fn has_four_kinds(profile: u32) -> bool {
     for kind in 0..6 {
-        if is_built(profile, kind) != (kind != 0 && kind != 5) {
+        if is_built(profile_of(profile), kind) != (kind != 0 && kind != 5) {
             return false;
         }
     }
@@ -389,5 +391,5 @@ fn has_four_kinds(profile: u32) -> bool {
 #[test]
 fn all_slots_are_built_in_three_profiles(rt: HostRuntime) {
     assert!(rt; has_four_kinds(1) && has_four_kinds(2) && has_four_kinds(3));
-    assert!(rt; !is_built(0, 1) && !is_built(4, 1));
+    assert!(rt; Profile::of(0).is_none() && Profile::of(4).is_none());
 }

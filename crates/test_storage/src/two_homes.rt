@@ -79,7 +79,10 @@ fn are_rows(answer: &Result<Vec<(u64, Version<SharedValue>)>, QueryFault>, parts
     let Ok(rows) = answer else {
         return false;
     };
-    for (row, part) in rows.iter().zip(parts.iter()) {
+    for (place, row) in rows.iter().enumerate() {
+        let Some(part) = parts.get(place) else {
+            return false;
+        };
         if row.0 != 7 || !is_row(&row.1, part) {
             return false;
         }
@@ -91,7 +94,10 @@ fn are_key_rows(answer: &Result<Vec<Version<SharedValue>>, QueryFault>, parts: &
     let Ok(rows) = answer else {
         return false;
     };
-    for (row, part) in rows.iter().zip(parts.iter()) {
+    for (place, row) in rows.iter().enumerate() {
+        let Some(part) = parts.get(place) else {
+            return false;
+        };
         if !is_row(row, part) {
             return false;
         }

@@ -4,7 +4,7 @@ use archive::RunEntry;
 use arrayvec::ArrayVec;
 use floors::Floors;
 use history::Key;
-use wire::{Anchors, Body, Member, Run};
+use wire::{Anchors, Body, Member, Profile, Run};
 
 pub const KEY: Key = Key {
     relation: 1,
@@ -46,6 +46,11 @@ pub enum Said {
     Reclaim(Anchors),
     /// The floor of one relation, or of all.
     Floor(Option<u16>, u64),
+}
+
+/// The profile of this number; the newest where there is none.
+pub fn profile_of(number: u32) -> Profile {
+    Profile::of(number).unwrap_or(Profile::newest())
 }
 
 pub fn body_of(said: &Said) -> Body {

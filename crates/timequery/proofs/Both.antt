@@ -30,27 +30,32 @@ refused-runs time runs NoMemory is = tt
 refused-runs time runs (Damaged start) is = is
 
 -- and so a query below the reclaim mark
-pub refused-at : (v : ViewValue) (relation time : ℕ) (why : ArchiveFault) → floor_at v.floors relation ≤ time → time ≤ v.last → time < v.reclaimed → IsFaultIn time v.runs why → RefusesAt v relation time (query_fault why)
+pub refused-at : (v : ViewValue) (relation time : ℕ) (why : ArchiveFault) → floor_at v.floors relation ≤ time → time ≤ v.last → time < v.reclaimed
+    → IsFaultIn time v.runs why → RefusesAt v relation time (query_fault why)
 refused-at v relation time Device from upto below is = (from, upto, below)
 refused-at v relation time NoMemory from upto below is = (from, upto)
 refused-at v relation time (Damaged start) from upto below is = (from, upto, below, is)
 
-pub refused-rows : (v : ViewValue) (relation a b : ℕ) (why : ArchiveFault) → IsInView v relation a b → a < v.reclaimed → IsFaultIn a v.runs why → RefusesRows v relation a b (query_fault why)
+pub refused-rows : (v : ViewValue) (relation a b : ℕ) (why : ArchiveFault) → IsInView v relation a b → a < v.reclaimed → IsFaultIn a v.runs why
+    → RefusesRows v relation a b (query_fault why)
 refused-rows v relation a b Device inside below is = (inside, below)
 refused-rows v relation a b NoMemory inside below is = inside
 refused-rows v relation a b (Damaged start) inside below is = (inside, below, is)
 
 -- an answer that is two things is a third
-pub answers-third : {T : Type 0} (result : Result T QueryFault) (P Q R : T → Type 0) → IfOk result P → Answers result Q → ((found : T) → P found → Q found → R found) → Answers result R
+pub answers-third : {T : Type 0} (result : Result T QueryFault) (P Q R : T → Type 0) → IfOk result P → Answers result Q
+    → ((found : T) → P found → Q found → R found) → Answers result R
 answers-third (Ok found) P Q R first second third = third found first second
 answers-third (Err why) P Q R first second third = second
 
 -- an interval that is not empty is looked for
 pub read-some : {a b : ℕ} {None Some : Type 0} → a < b → ((b ≤ a) × None) ⊎ ((a < b) × Some) → Some
-read-some {a} {b} {None} {Some} less either = ⊎_elim (λ (none : (b ≤ a) × None). let late = none.0 in absurd (omega (arith, less, late))) (λ (some : (a < b) × Some). some.1) either
+read-some {a} {b} {None} {Some} less either =
+    ⊎_elim (λ (none : (b ≤ a) × None). let late = none.0 in absurd (omega (arith, less, late))) (λ (some : (a < b) × Some). some.1) either
 
 -- the rows of a key that the archive and memory have
-pub joined-rows : (v : ViewValue) (key : Key) (a b end : ℕ) (archived shared memory found : List (Version Value)) → shared ≡ archived → memory ≡ rows_in v.state a end key → found ≡ shared ++ rows_after (mark_of v.runs) a b memory
+pub joined-rows : (v : ViewValue) (key : Key) (a b end : ℕ) (archived shared memory found : List (Version Value)) → shared ≡ archived
+    → memory ≡ rows_in v.state a end key → found ≡ shared ++ rows_after (mark_of v.runs) a b memory
     → b ≤ end → mark_of v.runs < end → found ≡ archived ++ recent_rows v a b key
 joined-rows v key a b end archived shared memory found shared_are memory_are found_are later past =
     found_are
@@ -58,8 +63,10 @@ joined-rows v key a b end archived shared memory found shared_are memory_are fou
     ∙ ap (λ (vs : List (Version Value)). archived ++ rows_after (mark_of v.runs) a b vs) memory_are
     ∙ ap (λ (vs : List (Version Value)). archived ++ vs) (after-cut (mark_of v.runs) a b end (versions (writes_of v.state key)) later past)
 
-module _ (v : ViewValue) (relation a b end : ℕ) (archived rows recent found : List Row) (ordered : IsOrdered v.state) (up : IsNonDecreasingBy (λ (row : Row). row.0) archived)
-    (rows_are : rows ≡ scanned_rows relation a end v.state) (recent_are : recent ≡ scanned_after (mark_of v.runs) a b rows) (found_are : found ≡ merged archived recent) where
+module _ (v : ViewValue) (relation a b end : ℕ) (archived rows recent found : List Row) (ordered : IsOrdered v.state)
+    (up : IsNonDecreasingBy (λ (row : Row). row.0) archived)
+    (rows_are : rows ≡ scanned_rows relation a end v.state) (recent_are : recent ≡ scanned_after (mark_of v.runs) a b rows)
+    (found_are : found ≡ merged archived recent) where
   mark : ℕ
   mark = mark_of v.runs
 

@@ -14,7 +14,8 @@ module _ (number : ℕ) where
   lesser-split [] = refl
   lesser-split (q ∷ qs) =
       let rest = lesser-split qs in
-      elim (nat_lt q.0 number) as (λ t. cond t (q ∷ lesser number qs) [] ++ cond t (not_lesser number qs) (q ∷ qs) ≡ q ∷ qs) [ true ↦ ap (λ (xs : List Row). q ∷ xs) rest | false ↦ refl ]
+      elim (nat_lt q.0 number) as (λ t. cond t (q ∷ lesser number qs) [] ++ cond t (not_lesser number qs) (q ∷ qs)
+      ≡ q ∷ qs) [ true ↦ ap (λ (xs : List Row). q ∷ xs) rest | false ↦ refl ]
 
   pub lesser-below : (qs : List Row) → AllByRecursion (λ (q : Row). q.0 < number) (lesser number qs)
   lesser-below [] = tt
@@ -40,7 +41,13 @@ module _ (number : ℕ) where
   lesser-order [] order = tt
   lesser-order (q ∷ qs) order =
       let rest = lesser-order qs order.1 in
-      elim (nat_lt q.0 number) as (λ t. AreInOrder (cond t (q ∷ lesser number qs) [])) [ true ↦ (lesser-all (λ (x : Row). q.0 ≤ x.0) qs order.0, rest) | false ↦ tt ]
+      elim (nat_lt q.0 number) as (λ t. AreInOrder (cond t (q ∷ lesser number qs) [])) [
+        | true ↦ (
+          lesser-all (λ (x : Row). q.0 ≤ x.0) qs order.0,
+          rest,
+        )
+        | false ↦ tt
+      ]
 
   pub rest-order : (qs : List Row) → AreInOrder qs → AreInOrder (not_lesser number qs)
   rest-order [] order = tt
@@ -63,11 +70,13 @@ module _ (number : ℕ) where
 
 -- ---- all of it
 
-merged-above : (bound : ℕ) (ps qs : List Row) → AllByRecursion (λ (q : Row). bound ≤ q.0) ps → AllByRecursion (λ (q : Row). bound ≤ q.0) qs → AllByRecursion (λ (q : Row). bound ≤ q.0) (merged ps qs)
+merged-above : (bound : ℕ) (ps qs : List Row) → AllByRecursion (λ (q : Row). bound ≤ q.0) ps → AllByRecursion (λ (q : Row). bound ≤ q.0) qs
+    → AllByRecursion (λ (q : Row). bound ≤ q.0) (merged ps qs)
 merged-above bound [] qs first second = second
 merged-above bound (p ∷ ps) qs first second =
     let P : Row → Type 0 = λ (q : Row). bound ≤ q.0 in
-    all-append P (lesser p.0 qs) (p ∷ merged ps (not_lesser p.0 qs)) (lesser-all p.0 P qs second) (first.0, merged-above bound ps (not_lesser p.0 qs) first.1 (rest-all p.0 P qs second))
+    all-append P (lesser p.0 qs) (p ∷ merged ps (not_lesser p.0 qs)) (lesser-all p.0 P qs second)
+    (first.0, merged-above bound ps (not_lesser p.0 qs) first.1 (rest-all p.0 P qs second))
 
 -- merged rows are in order
 pub merged-order : (ps qs : List Row) → AreInOrder ps → AreInOrder qs → AreInOrder (merged ps qs)
@@ -92,7 +101,8 @@ merged-rows_of number (p ∷ ps) qs first second =
     let value : Row → Version Value = λ q. q.1 in
     let here : Row → Bool = λ q. q.0 == number in
     let Goal : Bool → Bool → Type 0 = λ l e. nat_lt number p.0 ≡ l → (p.0 == number) ≡ e →
-    rows_of number front ++ map value (cond e (p ∷ filter here (merged ps left)) (filter here (merged ps left))) ≡ map value (cond e (p ∷ filter here ps) (filter here ps)) ++ rows_of number qs in
+    rows_of number front ++ map value (cond e (p ∷ filter here (merged ps left)) (filter here (merged ps left)))
+    ≡ map value (cond e (p ∷ filter here ps) (filter here ps)) ++ rows_of number qs in
     let all : (l e : Bool) → Goal l e = λ l e. elim l as (λ l. Goal l e) [
       | true ↦ elim e as (λ e. Goal true e) [
         | true ↦ λ less same. absurd (contradiction less same)
@@ -100,13 +110,15 @@ merged-rows_of number (p ∷ ps) qs first second =
             let under : number < p.0 = grind (arith, nat_tests) in
             let none : rows_of number ps ≡ [] = rows_of-above number p.0 ps first.0 under in
             let later : rows_of number (merged ps left) ≡ rows_of number left = rest ∙ ap (λ (vs : List (Version Value)). vs ++ rows_of number left) none in
-            ap (λ (vs : List (Version Value)). rows_of number front ++ vs) later ∙ sym whole ∙ sym (ap (λ (vs : List (Version Value)). vs ++ rows_of number qs) none)
+            ap (λ (vs : List (Version Value)). rows_of number front ++ vs) later ∙ sym whole
+            ∙ sym (ap (λ (vs : List (Version Value)). vs ++ rows_of number qs) none)
       ]
       | false ↦ λ not is.
           let least : p.0 ≤ number = grind (arith, nat_tests) in
           let none : rows_of number front ≡ [] = rows_of-below number p.0 front (lesser-below p.0 qs) least in
           let left_is : rows_of number left ≡ rows_of number qs = sym (whole ∙ ap (λ (vs : List (Version Value)). vs ++ rows_of number left) none) in
-          let later : rows_of number (merged ps left) ≡ rows_of number ps ++ rows_of number qs = rest ∙ ap (λ (vs : List (Version Value)). rows_of number ps ++ vs) left_is in
+          let later : rows_of number (merged ps left) ≡ rows_of number ps ++ rows_of number qs =
+          rest ∙ ap (λ (vs : List (Version Value)). rows_of number ps ++ vs) left_is in
           ap (λ (vs : List (Version Value)). vs ++ map value (cond e (p ∷ filter here (merged ps left)) (filter here (merged ps left)))) none
           ∙ behind e later
     ] in
@@ -119,7 +131,8 @@ merged-rows_of number (p ∷ ps) qs first second =
         omega (arith, under, equal)
 
     behind : (e : Bool) → rows_of number (merged ps (not_lesser p.0 qs)) ≡ rows_of number ps ++ rows_of number qs
-        → map (λ (q : Row). q.1) (cond e (p ∷ filter (λ (q : Row). q.0 == number) (merged ps (not_lesser p.0 qs))) (filter (λ (q : Row). q.0 == number) (merged ps (not_lesser p.0 qs))))
+        → map (λ (q : Row). q.1) (cond e (p ∷ filter (λ (q : Row). q.0 == number) (merged ps (not_lesser p.0 qs)))
+        (filter (λ (q : Row). q.0 == number) (merged ps (not_lesser p.0 qs))))
         ≡ map (λ (q : Row). q.1) (cond e (p ∷ filter (λ (q : Row). q.0 == number) ps) (filter (λ (q : Row). q.0 == number) ps)) ++ rows_of number qs
     behind true later = ap (λ (vs : List (Version Value)). p.1 ∷ vs) later
     behind false later = later

@@ -1,5 +1,6 @@
 -- Rows by record, of which each record's are known, are a scan.
-use Rattle.std.proofs.Common.{◌≡◌, ◌≢◌, ℕ, zero, suc, ◌+◌, ◌<◌, ◌≤◌, ◌==◌, Bool, true, false, cond, List, [], ◌∷◌, ◌++◌, map, refl, ap, sym, ◌∙◌, subst, arith, ⊎_elim, append-nil}
+use Rattle.std.proofs.Common.{◌≡◌, ◌≢◌, ℕ, zero, suc, ◌+◌, ◌<◌, ◌≤◌, ◌==◌, Bool, true, false, cond, List, [], ◌∷◌, ◌++◌, map, refl, ap, sym, ◌∙◌, subst, arith}
+use Rattle.std.proofs.Common.{⊎_elim, append-nil}
 use Rattle.std.specs.Prelude.{Contains, filter}
 use Rattle.std.specs.List.{AllByRecursion, slice_index, flat_map}
 use Rattle.std.specs.List.Sorted.{IsStrictlyIncreasing}
@@ -53,7 +54,8 @@ numbers-over bound [] over = tt
 numbers-over bound (p ∷ []) over = (over.0, tt)
 numbers-over bound (p ∷ q ∷ qs) over =
     let rest = numbers-over bound (q ∷ qs) over.1 in
-    elim (q.0 == p.0) as (λ t. AllByRecursion (λ (m : ℕ). bound < m) (cond t (numbers (q ∷ qs)) (p.0 ∷ numbers (q ∷ qs)))) [ true ↦ rest | false ↦ (over.0, rest) ]
+    elim (q.0 == p.0) as (λ t. AllByRecursion (λ (m : ℕ). bound < m)
+    (cond t (numbers (q ∷ qs)) (p.0 ∷ numbers (q ∷ qs)))) [ true ↦ rest | false ↦ (over.0, rest) ]
 
 numbers-rise : (ps : List Row) → AreInOrder ps → Rises (numbers ps)
 unfolding numbers Rises
@@ -119,7 +121,8 @@ numbers-found (p ∷ q ∷ qs) order =
           let head = numbers-head q qs in
           let up : Rises (q.0 ∷ head.0) = subst Rises head.1 (numbers-rise (q ∷ qs) order.1) in
           let here = listed-here p ps q.0 is in
-          let others = flat-same (listed (p ∷ ps)) (listed ps) (λ (n : ℕ). q.0 < n) head.0 (λ n less. listed-past p ps n (omega (arith, is, less))) (first-over q.0 head.0 up) in
+          let others = flat-same (listed (p ∷ ps)) (listed ps) (λ (n : ℕ). q.0 < n) head.0 (λ n less. listed-past p ps n (omega (arith, is, less)))
+          (first-over q.0 head.0 up) in
           sym
           (ap (λ (ns : List ℕ). flat_map (listed (p ∷ ps)) ns) head.1
           ∙ ap (λ (xs : List Row). xs ++ flat_map (listed (p ∷ ps)) head.0) here
@@ -131,7 +134,8 @@ numbers-found (p ∷ q ∷ qs) order =
           let less = over.0 in
           let none = rows_of-above p.0 q.0 ps (omega arith, order.1.0) less in
           let here = listed-here p ps p.0 refl ∙ ap (λ (xs : List Row). p ∷ xs) (listed-none ps p.0 none) in
-          let others = flat-same (listed (p ∷ ps)) (listed ps) (λ (n : ℕ). p.0 < n) (numbers ps) (λ n past. listed-past p ps n past) (numbers-over p.0 ps over) in
+          let others =
+          flat-same (listed (p ∷ ps)) (listed ps) (λ (n : ℕ). p.0 < n) (numbers ps) (λ n past. listed-past p ps n past) (numbers-over p.0 ps over) in
           sym
           (ap (λ (xs : List Row). xs ++ flat_map (listed (p ∷ ps)) (numbers ps)) here
           ∙ ap (λ (xs : List Row). p ∷ xs) (others ∙ sym rest))
@@ -145,7 +149,8 @@ numbers-found (p ∷ q ∷ qs) order =
 
 all-there : (P : ℕ → Type 0) (ns : List ℕ) → AllByRecursion P ns → (n : ℕ) → Contains ns n → P n
 all-there P [] all n there = absurd (Contains-nil n there)
-all-there P (m ∷ ms) all n there = ⊎_elim (λ (here : m ≡ n). subst P here all.0) (λ (later : Contains ms n). all-there P ms all.1 n later) (Contains-cons_cases m ms n there)
+all-there P (m ∷ ms) all n there =
+    ⊎_elim (λ (here : m ≡ n). subst P here all.0) (λ (later : Contains ms n). all-there P ms all.1 n later) (Contains-cons_cases m ms n there)
 
 still-some : (p : Row) (ps : List Row) (n : ℕ) → rows_of n ps ≢ [] → rows_of n (p ∷ ps) ≢ []
 still-some p ps n some =
@@ -169,7 +174,8 @@ numbers-some (p ∷ []) = (own-some p [], tt)
 numbers-some (p ∷ q ∷ qs) =
     let ps : List Row = q ∷ qs in
     let rest = all-still p ps (numbers ps) (numbers-some (q ∷ qs)) in
-    elim (q.0 == p.0) as (λ t. AllByRecursion (λ (n : ℕ). rows_of n (p ∷ ps) ≢ []) (cond t (numbers ps) (p.0 ∷ numbers ps))) [ true ↦ rest | false ↦ (own-some p ps, rest) ]
+    elim (q.0 == p.0) as (λ t. AllByRecursion (λ (n : ℕ). rows_of n (p ∷ ps) ≢ [])
+    (cond t (numbers ps) (p.0 ∷ numbers ps))) [ true ↦ rest | false ↦ (own-some p ps, rest) ]
 
 numbers-all : (n : ℕ) (ps : List Row) → rows_of n ps ≢ [] → Contains (numbers ps) n
 unfolding numbers
@@ -185,7 +191,8 @@ numbers-all n (p ∷ q ∷ qs) some =
     let ps : List Row = q ∷ qs in
     let value : Row → Version Value = λ x. x.1 in
     let here : Row → Bool = λ x. x.0 == n in
-    let Goal : Bool → Bool → Type 0 = λ t u. (p.0 == n) ≡ t → (q.0 == p.0) ≡ u → map value (cond t (p ∷ filter here ps) (filter here ps)) ≢ [] → Contains (cond u (numbers ps) (p.0 ∷ numbers ps)) n in
+    let Goal : Bool → Bool → Type 0 = λ t u. (p.0 == n) ≡ t → (q.0 == p.0) ≡ u → map value (cond t (p ∷ filter here ps) (filter here ps)) ≢ []
+    → Contains (cond u (numbers ps) (p.0 ∷ numbers ps)) n in
     let all : (t u : Bool) → Goal t u = λ t u. elim t as (λ t. Goal t u) [
       | true ↦ elim u as (λ u. Goal true u) [
         | true ↦ λ same next h.
@@ -200,7 +207,8 @@ numbers-all n (p ∷ q ∷ qs) some =
     ] in
     all (p.0 == n) (q.0 == p.0) refl refl some
 
-pub scan-is : (of : Key → List (Version Value)) (relation : ℕ) (found : List Row) → AreInOrder found → ((number : ℕ) → rows_of number found ≡ of (key_of relation number)) → IsScanOfRows of relation found
+pub scan-is : (of : Key → List (Version Value)) (relation : ℕ) (found : List Row) → AreInOrder found
+    → ((number : ℕ) → rows_of number found ≡ of (key_of relation number)) → IsScanOfRows of relation found
 unfolding listed of_record
 scan-is of relation found order same = record {
   numbers = numbers found;
@@ -209,5 +217,6 @@ scan-is of relation found order same = record {
     λ there empty. all-there (λ (m : ℕ). rows_of m found ≢ []) (numbers found) (numbers-some found) n there (same n ∙ empty),
     λ some. numbers-all n found (λ empty. some (sym (same n) ∙ empty)),
   );
-  found_is = numbers-found found order ∙ flat-same (listed found) (λ n. of_record n (of (key_of relation n))) (λ (n : ℕ). rows_of n found ≢ []) (numbers found) (λ n some. ap (λ (rs : List (Version Value)). of_record n rs) (same n)) (numbers-some found);
+  found_is = numbers-found found order ∙ flat-same (listed found) (λ n. of_record n (of (key_of relation n))) (λ (n : ℕ). rows_of n found ≢ []) (numbers found)
+      (λ n some. ap (λ (rs : List (Version Value)). of_record n rs) (same n)) (numbers-some found);
 }

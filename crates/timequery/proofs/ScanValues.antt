@@ -1,5 +1,6 @@
 -- The values at a time are those of the rows of that one time.
-use Rattle.std.proofs.Common.{◌≡◌, ◌≢◌, ℕ, ◌+◌, ◌<◌, ◌≤◌, max, min, Bool, true, false, cond, List, [], ◌∷◌, ◌++◌, map, Option, Some, None, refl, ap, sym, ◌∙◌, subst, arith, ⊎_elim}
+use Rattle.std.proofs.Common.{◌≡◌, ◌≢◌, ℕ, ◌+◌, ◌<◌, ◌≤◌, max, min, Bool, true, false, cond, List, [], ◌∷◌, ◌++◌, map, Option, Some, None, refl, ap, sym, ◌∙◌}
+use Rattle.std.proofs.Common.{subst, arith, ⊎_elim}
 use Rattle.std.specs.Prelude.{Contains, find, option_map, option_to_list}
 use Rattle.std.specs.List.{AllByRecursion, flat_map}
 use Rattle.std.specs.List.Sorted.{IsStrictlyIncreasing}
@@ -67,14 +68,18 @@ module _ (t : ℕ) (of : ℕ → Option Value) where
   firsts [] some = refl
   firsts (n ∷ ns) some =
       let rest = firsts ns some.1 in
-      let Goal : Option Value → Type 0 = λ o. (o ≢ None) → map (λ (p : ℕ × Value). p.0) (values_of (map (λ (row : Version Value). let r : Row = (n, row) in r) (option_to_list (option_map (row_at t) o)) ++ flat_map (listed t of) ns)) ≡ n ∷ ns in
+      let Goal : Option Value → Type 0 = λ o. (o ≢ None) → map (λ (p : ℕ × Value). p.0)
+      (values_of (map (λ (row : Version Value). let r : Row = (n, row) in r) (option_to_list (option_map (row_at t) o)) ++ flat_map (listed t of) ns))
+      ≡ n ∷ ns in
       (elim (of n) as Goal [ None ↦ λ is. absurd (is refl) | Some value ↦ λ is. ap (λ (ms : List ℕ). n ∷ ms) rest ]) some.0
 
   only : (n : ℕ) (value : Value) (ns : List ℕ) → Contains (values_of (flat_map (listed t of) ns)) (n, value) → of n ≡ Some value
   unfolding listed
   only n value [] there = absurd (Contains-nil (n, value) there)
   only n value (k ∷ ks) there =
-      let Goal : Option Value → Type 0 = λ o. of k ≡ o → Contains (values_of (map (λ (row : Version Value). let r : Row = (k, row) in r) (option_to_list (option_map (row_at t) o)) ++ flat_map (listed t of) ks)) (n, value) → of n ≡ Some value in
+      let Goal : Option Value → Type 0 = λ o. of k ≡ o → Contains
+      (values_of (map (λ (row : Version Value). let r : Row = (k, row) in r) (option_to_list (option_map (row_at t) o)) ++ flat_map (listed t of) ks))
+      (n, value) → of n ≡ Some value in
       let all : (o : Option Value) → Goal o = λ o. elim o as Goal [
         | None ↦ λ is h. only n value ks h
         | Some found ↦ λ is h.
@@ -87,10 +92,12 @@ module _ (t : ℕ) (of : ℕ → Option Value) where
       all (of k) refl there
 
   -- behind what one record has
-  further : (n : ℕ) (value : Value) (k : ℕ) (ks : List ℕ) → Contains (values_of (flat_map (listed t of) ks)) (n, value) → Contains (values_of (flat_map (listed t of) (k ∷ ks))) (n, value)
+  further : (n : ℕ) (value : Value) (k : ℕ) (ks : List ℕ) → Contains (values_of (flat_map (listed t of) ks)) (n, value)
+      → Contains (values_of (flat_map (listed t of) (k ∷ ks))) (n, value)
   unfolding listed
   further n value k ks there =
-      elim (of k) as (λ o. Contains (values_of (map (λ (row : Version Value). let r : Row = (k, row) in r) (option_to_list (option_map (row_at t) o)) ++ flat_map (listed t of) ks)) (n, value)) [
+      elim (of k) as (λ o. Contains (values_of (map (λ (row : Version Value). let r : Row = (k, row) in r) (option_to_list (option_map (row_at t) o))
+      ++ flat_map (listed t of) ks)) (n, value)) [
         | None ↦ there
         | Some found ↦ Contains-append_right ((k, found) ∷ []) (values_of (flat_map (listed t of) ks)) (n, value) there
       ]
@@ -112,15 +119,19 @@ all-of P [] each = tt
 all-of P (n ∷ ns) each = (each n (Contains-head n ns n refl), all-of P ns (λ m there. each m (Contains-append_right (n ∷ []) ns m there)))
 
 -- a scan of the rows of one time says the values of a scan at that time
-pub values-are : (rows_of : Key → List (Version Value)) (value_of : Key → Option Value) (relation t : ℕ) (found : List Row) → ((number : ℕ) → rows_of (key_of relation number) ≡ option_to_list (option_map (row_at t) (value_of (key_of relation number))))
+pub values-are : (rows_of : Key → List (Version Value)) (value_of : Key → Option Value) (relation t : ℕ) (found : List Row)
+    → ((number : ℕ) → rows_of (key_of relation number) ≡ option_to_list (option_map (row_at t) (value_of (key_of relation number))))
     → IsScanOfRows rows_of relation found → IsScan value_of relation (values_of found)
 unfolding listed
 values-are rows_of value_of relation t found same scan =
     let of : ℕ → Option Value = λ n. value_of (key_of relation n) in
     let ns = scan.numbers in
     let found_is : found ≡ flat_map (listed t of) ns = scan.found_is ∙ flat-same ns in
-    let some : AllByRecursion (λ (n : ℕ). of n ≢ None) ns = all-of (λ (n : ℕ). of n ≢ None) ns (λ n there none. (scan.each n).0 there (same n ∙ ap (λ (o : Option Value). option_to_list (option_map (row_at t) o)) none)) in
-    let firsts_are : map (λ (p : ℕ × Value). p.0) (values_of found) ≡ ns = ap (λ (rs : List Row). map (λ (p : ℕ × Value). p.0) (values_of rs)) found_is ∙ firsts t of ns some in
+    let some : AllByRecursion (λ (n : ℕ). of n ≢ None) ns =
+    all-of (λ (n : ℕ). of n ≢ None) ns (λ n there none. (scan.each n).0 there
+    (same n ∙ ap (λ (o : Option Value). option_to_list (option_map (row_at t) o)) none)) in
+    let firsts_are : map (λ (p : ℕ × Value). p.0) (values_of found) ≡ ns =
+    ap (λ (rs : List Row). map (λ (p : ℕ × Value). p.0) (values_of rs)) found_is ∙ firsts t of ns some in
     record {
       rising = subst IsStrictlyIncreasing (sym firsts_are) scan.rising;
       each = λ number value. (
@@ -130,11 +141,13 @@ values-are rows_of value_of relation t found same scan =
       );
     }
   where
-    flat-same : (ns : List ℕ) → flat_map (λ (number : ℕ). map (λ (row : Version Value). let r : Row = (number, row) in r) (rows_of (key_of relation number))) ns ≡ flat_map (listed t (λ n. value_of (key_of relation n))) ns
+    flat-same : (ns : List ℕ) → flat_map (λ (number : ℕ). map (λ (row : Version Value). let r : Row = (number, row) in r) (rows_of (key_of relation number)))
+        ns ≡ flat_map (listed t (λ n. value_of (key_of relation n))) ns
     flat-same [] = refl
     flat-same (n ∷ ns) = rw (same n, flat-same ns) refl
 
     has : (number : ℕ) (value : Value) → value_of (key_of relation number) ≡ Some value → rows_of (key_of relation number) ≡ [] → ⊥
     has number value is empty =
-        let filled : Path (List (Version Value)) [] (row_at t value ∷ []) = sym empty ∙ same number ∙ ap (λ (o : Option Value). option_to_list (option_map (row_at t) o)) is in
+        let filled : Path (List (Version Value)) [] (row_at t value ∷ []) =
+        sym empty ∙ same number ∙ ap (λ (o : Option Value). option_to_list (option_map (row_at t) o)) is in
         absurd cc

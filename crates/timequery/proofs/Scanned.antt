@@ -1,5 +1,6 @@
 -- The rows of a relation, told record by record.
-use Rattle.std.proofs.Common.{◌≡◌, ℕ, zero, suc, ◌<◌, ◌≤◌, ◌==◌, ◌&&◌, Bool, true, false, cond, List, [], ◌∷◌, ◌++◌, length, map, Some, refl, ap, sym, ◌∙◌, arith, append-nil}
+use Rattle.std.proofs.Common.{◌≡◌, ℕ, zero, suc, ◌<◌, ◌≤◌, ◌==◌, ◌&&◌, Bool, true, false, cond, List, [], ◌∷◌, ◌++◌, length, map, Some, refl, ap, sym, ◌∙◌}
+use Rattle.std.proofs.Common.{arith, append-nil}
 use Rattle.std.specs.Prelude.{filter, find}
 use Rattle.std.specs.List.{AllByRecursion, slice_index_or}
 use Rattle.std.specs.List.Sorted.{IsNonDecreasingBy}
@@ -36,7 +37,8 @@ rows_of-append number (x ∷ xs) ys =
     let rest = rows_of-append number xs ys in
     let value : Row → Version Value = λ p. p.1 in
     let here : Row → Bool = λ p. p.0 == number in
-    let Goal : Bool → Type 0 = λ b. map value (cond b (x ∷ filter here (xs ++ ys)) (filter here (xs ++ ys))) ≡ map value (cond b (x ∷ filter here xs) (filter here xs)) ++ rows_of number ys in
+    let Goal : Bool → Type 0 = λ b. map value (cond b (x ∷ filter here (xs ++ ys)) (filter here (xs ++ ys)))
+    ≡ map value (cond b (x ∷ filter here xs) (filter here xs)) ++ rows_of number ys in
     elim (x.0 == number) as Goal [ true ↦ ap (λ (vs : List (Version Value)). x.1 ∷ vs) rest | false ↦ rest ]
 
 pub rows_of-record : (number own : ℕ) (rs : List (Version Value)) → rows_of number (of_record own rs) ≡ cond (own == number) rs []
@@ -47,7 +49,8 @@ rows_of-record number own (r ∷ rs) =
     let value : Row → Version Value = λ p. p.1 in
     let here : Row → Bool = λ p. p.0 == number in
     let first : Row = (own, r) in
-    let Goal : Bool → Type 0 = λ t. rows_of number (of_record own rs) ≡ cond t rs [] → map value (cond t (first ∷ filter here (of_record own rs)) (filter here (of_record own rs))) ≡ cond t (r ∷ rs) [] in
+    let Goal : Bool → Type 0 = λ t. rows_of number (of_record own rs) ≡ cond t rs []
+    → map value (cond t (first ∷ filter here (of_record own rs)) (filter here (of_record own rs))) ≡ cond t (r ∷ rs) [] in
     (elim (own == number) as Goal [ true ↦ λ is. ap (λ (vs : List (Version Value)). r ∷ vs) is | false ↦ λ is. is ]) rest
 
 -- rows of greater records, and of lesser ones, say nothing of a record
@@ -75,13 +78,18 @@ pub all-weaker : (P Q : Row → Type 0) (xs : List Row) → ((x : Row) → P x �
 all-weaker P Q [] weaker all = tt
 all-weaker P Q (x ∷ xs) weaker all = (weaker x all.0, all-weaker P Q xs weaker all.1)
 
-pub order-append : (bound : ℕ) (xs ys : List Row) → AreInOrder xs → AllByRecursion (λ (q : Row). q.0 ≤ bound) xs → AllByRecursion (λ (q : Row). bound ≤ q.0) ys → AreInOrder ys → AreInOrder (xs ++ ys)
+pub order-append : (bound : ℕ) (xs ys : List Row) → AreInOrder xs → AllByRecursion (λ (q : Row). q.0 ≤ bound) xs → AllByRecursion (λ (q : Row). bound ≤ q.0) ys
+    → AreInOrder ys → AreInOrder (xs ++ ys)
 order-append bound [] ys first upto from second = second
 order-append bound (x ∷ xs) ys first upto from second =
-    let least = upto.0 in
-    (all-append (λ (q : Row). x.0 ≤ q.0) xs ys first.0 (all-weaker (λ (q : Row). bound ≤ q.0) (λ (q : Row). x.0 ≤ q.0) ys (λ y le. omega (arith, le, least)) from), order-append bound xs ys first.1 upto.1 from second)
+    let least = upto.0 in (
+      all-append (λ (q : Row). x.0 ≤ q.0) xs ys first.0 (all-weaker (λ (q : Row). bound ≤ q.0) (λ (q : Row). x.0 ≤ q.0) ys
+          (λ y le. omega (arith, le, least)) from),
+      order-append bound xs ys first.1 upto.1 from second,
+    )
 
-pub record-all : (P : Row → Type 0) (number : ℕ) (rs : List (Version Value)) → ((row : Version Value) → P (number, row)) → AllByRecursion P (of_record number rs)
+pub record-all : (P : Row → Type 0) (number : ℕ) (rs : List (Version Value)) → ((row : Version Value) → P (number, row))
+    → AllByRecursion P (of_record number rs)
 unfolding of_record
 record-all P number [] each = tt
 record-all P number (r ∷ rs) each = (each r, record-all P number rs each)
@@ -92,8 +100,10 @@ record-order number [] = tt
 record-order number (r ∷ rs) = (record-all (λ (q : Row). number ≤ q.0) number rs (λ row. omega arith), record-order number rs)
 
 -- behind the rows of one record those of it or of greater ones
-pub order-record : (number : ℕ) (rs : List (Version Value)) (ys : List Row) → AllByRecursion (λ (q : Row). number ≤ q.0) ys → AreInOrder ys → AreInOrder (of_record number rs ++ ys)
-order-record number rs ys from second = order-append number (of_record number rs) ys (record-order number rs) (record-all (λ (q : Row). q.0 ≤ number) number rs (λ row. omega arith)) from second
+pub order-record : (number : ℕ) (rs : List (Version Value)) (ys : List Row) → AllByRecursion (λ (q : Row). number ≤ q.0) ys → AreInOrder ys
+    → AreInOrder (of_record number rs ++ ys)
+order-record number rs ys from second =
+    order-append number (of_record number rs) ys (record-order number rs) (record-all (λ (q : Row). q.0 ≤ number) number rs (λ row. omega arith)) from second
 
 -- ---- as std says order
 
@@ -124,13 +134,15 @@ order-is (x ∷ xs) order (suc i) (suc j) d le less = order-is xs order.1 i j d 
 
 module _ (relation a b : ℕ) where
   -- those of greater keys have no lesser record
-  scanned-above : (key : Key) (m : List KeyWrites) → key.relation ≡ relation → AllAbove key m → AllByRecursion (λ (q : Row). key.record ≤ q.0) (scanned_rows relation a b m)
+  scanned-above : (key : Key) (m : List KeyWrites) → key.relation ≡ relation → AllAbove key m
+      → AllByRecursion (λ (q : Row). key.record ≤ q.0) (scanned_rows relation a b m)
   unfolding of_record
   scanned-above key [] is above = tt
   scanned-above key (c ∷ cs) is above =
       let rest = scanned-above key cs is above.1 in
       let up = above.0 in
-      let Goal : Bool → Type 0 = λ t. (c.key.relation == relation) ≡ t → AllByRecursion (λ (q : Row). key.record ≤ q.0) (cond t (shown_rows a b c) [] ++ scanned_rows relation a b cs) in
+      let Goal : Bool → Type 0 = λ t. (c.key.relation == relation) ≡ t
+      → AllByRecursion (λ (q : Row). key.record ≤ q.0) (cond t (shown_rows a b c) [] ++ scanned_rows relation a b cs) in
       let all : (t : Bool) → Goal t = λ t. elim t as Goal [
         | true ↦ λ same.
             let least : key.record ≤ c.key.record = grind (arith, nat_tests) in
@@ -196,10 +208,12 @@ module _ (mark a b : ℕ) where
   part_of : Row → List (Version Value)
   part_of p = rows_after mark a b (p.1 ∷ [])
 
-  after-above : (bound : ℕ) (ps : List Row) → AllByRecursion (λ (q : Row). bound ≤ q.0) ps → AllByRecursion (λ (q : Row). bound ≤ q.0) (scanned_after mark a b ps)
+  after-above : (bound : ℕ) (ps : List Row) → AllByRecursion (λ (q : Row). bound ≤ q.0) ps
+      → AllByRecursion (λ (q : Row). bound ≤ q.0) (scanned_after mark a b ps)
   unfolding of_record part_of
   after-above bound [] above = tt
-  after-above bound (p ∷ ps) above = all-append (λ (q : Row). bound ≤ q.0) (of_record p.0 (part_of p)) (scanned_after mark a b ps) (record-all (λ (q : Row). bound ≤ q.0) p.0 (part_of p) (λ row. above.0)) (after-above bound ps above.1)
+  after-above bound (p ∷ ps) above = all-append (λ (q : Row). bound ≤ q.0) (of_record p.0 (part_of p)) (scanned_after mark a b ps)
+      (record-all (λ (q : Row). bound ≤ q.0) p.0 (part_of p) (λ row. above.0)) (after-above bound ps above.1)
 
   pub after-order : (ps : List Row) → AreInOrder ps → AreInOrder (scanned_after mark a b ps)
   unfolding of_record part_of
@@ -213,7 +227,8 @@ module _ (mark a b : ℕ) where
       let value : Row → Version Value = λ q. q.1 in
       let here : Row → Bool = λ q. q.0 == number in
       let others = rows_of number ps in
-      let Goal : Bool → Type 0 = λ t. cond t (part_of p) [] ++ rows_after mark a b others ≡ rows_after mark a b (map value (cond t (p ∷ filter here ps) (filter here ps))) in
+      let Goal : Bool → Type 0 =
+      λ t. cond t (part_of p) [] ++ rows_after mark a b others ≡ rows_after mark a b (map value (cond t (p ∷ filter here ps) (filter here ps))) in
       rows_of-append number (of_record p.0 (part_of p)) (scanned_after mark a b ps)
       ∙ ap (λ (vs : List (Version Value)). vs ++ rows_of number (scanned_after mark a b ps)) (rows_of-record number p.0 (part_of p))
       ∙ ap (λ (vs : List (Version Value)). cond (p.0 == number) (part_of p) [] ++ vs) (after-rows_of number ps)

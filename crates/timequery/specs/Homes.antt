@@ -1,5 +1,6 @@
 -- What a view answers from memory and from the archive together.
-use Rattle.std.specs.Prelude.{ℕ, ◌≡◌, ◌<◌, ◌≤◌, ◌+◌, ◌++◌, ◌∷◌, [], nat_lt, List, map, filter, Bool, IsTrue, Option, None, Some, Result, MatchResult, if◌then◌else◌}
+use Rattle.std.specs.Prelude.{ℕ, ◌≡◌, ◌<◌, ◌≤◌, ◌+◌, ◌++◌, ◌∷◌, [], nat_lt, List, map, filter, Bool, IsTrue, Option, None, Some, Result, MatchResult}
+use Rattle.std.specs.Prelude.{if◌then◌else◌}
 use Rattle.std.specs.List.Sorted.{IsNonDecreasingBy}
 use Rattle.disk.specs.Calls.{DiskState}
 use Rattle.history.specs.declared.key.Key.{Key}
@@ -86,7 +87,8 @@ RefusesRuns time runs Stranger = ⊥
 -- a time is refused with this fault: where it is kept by the disk alone, or by a run, below the reclaim mark, or for want of memory
 abbrev pub RefusesAt : ViewValue → ℕ → ℕ → QueryFault → Type 0
 RefusesAt v relation time Device = (floor_at v.floors relation ≤ time) × (time ≤ v.last) × (time < v.reclaimed)
-RefusesAt v relation time (Damaged start) = (floor_at v.floors relation ≤ time) × (time ≤ v.last) × (time < v.reclaimed) × IsFaultIn time v.runs (archive.Damaged start)
+RefusesAt v relation time (Damaged start) =
+    (floor_at v.floors relation ≤ time) × (time ≤ v.last) × (time < v.reclaimed) × IsFaultIn time v.runs (archive.Damaged start)
 RefusesAt v relation time NoMemory = (floor_at v.floors relation ≤ time) × (time ≤ v.last)
 RefusesAt v relation time fault = RefusesTime v relation time fault
 
@@ -108,7 +110,8 @@ pub data IsValueFound (area : List ℕ) (v : ViewValue) (key : Key) (time : ℕ)
 -- the rows of a key: memory's alone, or those of the runs and behind them what memory adds
 pub data AreRowsFound (area : List ℕ) (v : ViewValue) (key : Key) (a b : ℕ) (answer : List (Version Value)) : Type 0 where
   RowsOfMemory : v.reclaimed ≤ a → answer ≡ rows_in v.state a b key → AreRowsFound area v key a b answer
-  RowsOfBoth : a < v.reclaimed → (archived : List (Version Value)) → IsOfRuns (AreRowsOf area key a b) a v.runs archived → answer ≡ archived ++ recent_rows v a b key → AreRowsFound area v key a b answer
+  RowsOfBoth : a < v.reclaimed → (archived : List (Version Value)) → IsOfRuns (AreRowsOf area key a b) a v.runs archived
+      → answer ≡ archived ++ recent_rows v a b key → AreRowsFound area v key a b answer
 
 -- by record, and of each record the rows of the runs and behind them what memory adds
 pub record AreOfBoth (area : List ℕ) (v : ViewValue) (relation a b : ℕ) (answer : List (ℕ × Version Value)) : Type 0 where
@@ -129,7 +132,8 @@ values_of found = map (λ p. (p.0, p.1.value)) found
 -- the values of a relation: memory's alone, or those of the rows of the one time
 pub data AreValuesFound (area : List ℕ) (v : ViewValue) (relation time : ℕ) (answer : List (ℕ × Value)) : Type 0 where
   ValuesOfMemory : v.reclaimed ≤ time → answer ≡ scanned relation time v.state → AreValuesFound area v relation time answer
-  ValuesOfBoth : time < v.reclaimed → (found : List (ℕ × Version Value)) → AreOfBoth area v relation time (time + 1) found → answer ≡ values_of found → AreValuesFound area v relation time answer
+  ValuesOfBoth : time < v.reclaimed → (found : List (ℕ × Version Value)) → AreOfBoth area v relation time (time + 1) found → answer ≡ values_of found
+      → AreValuesFound area v relation time answer
 
 -- ---- rows put together
 

@@ -79,7 +79,8 @@ pub record IsInView (v : ViewValue) (relation a b : ℕ) : Type 0 where
   pub upto_last : b ≤ v.last + 1
   pub not_empty : a < b
 
--- an interval is refused with this fault by its bounds: what is before the floor of the relation first, then what is later than the last commit, then an empty one
+-- an interval is refused with this fault by its bounds: what is before the floor of the relation first, then what is
+-- later than the last commit, then an empty one
 abbrev pub RefusesBounds : ViewValue → ℕ → ℕ → ℕ → QueryFault → Type 0
 RefusesBounds v relation a b (BeforeKept floor) = (min a b < floor_at v.floors relation) × (floor ≡ floor_at v.floors relation)
 RefusesBounds v relation a b (NotYet last) = (floor_at v.floors relation ≤ min a b) × (v.last + 1 < b) × (last ≡ v.last)

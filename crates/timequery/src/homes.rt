@@ -20,7 +20,8 @@ ghost use Rattle.law_image.specs.Reading.{ArchiveRecord};
 ghost use Rattle.law_image.specs.Values as values;
 ghost use Rattle.std.specs.List.Sorted.{IsNonDecreasingBy};
 ghost use Rattle.timequery.specs.Faults.{after_query};
-ghost use Rattle.timequery.specs.Homes.{ReadsHistory, Answers, IfDamaged, RefusesRuns, RefusesAt, RefusesRows, IsValueFound, AreRowsFound, AreOfBoth, AreValuesFound, AreScanRowsFound, recent_rows};
+ghost use Rattle.timequery.specs.Homes.{ReadsHistory, Answers, IfDamaged, RefusesRuns, RefusesAt, RefusesRows, IsValueFound, AreRowsFound, AreOfBoth};
+ghost use Rattle.timequery.specs.Homes.{AreValuesFound, AreScanRowsFound, recent_rows};
 ghost use Rattle.timequery.specs.View.{mark_of, AnswersAt, AnswersBetween};
 
 use crate::fault::QueryFault;
@@ -44,13 +45,17 @@ impl View {
         time: u64,
     ) -> Result<Option<SharedValue>, QueryFault>
         ensures disk { D.state disk.new ≡ after_query result (D.state disk.old) }
-        ensures kept { (limit : ℕ) → RunsEndBy limit self.now.runs → Keeps limit D.tells (archive_of (D.state disk.old)) (kept_of reader.old) (kept_of reader.new) }
+        ensures kept { (limit : ℕ) → RunsEndBy limit self.now.runs
+            → Keeps limit D.tells (archive_of (D.state disk.old)) (kept_of reader.old) (kept_of reader.new) }
         ensures heads { reader.new.heads ≤ reader.old.heads + heads_to_find time self.now.runs }
         ensures refused { IfErr result (RefusesAt self.now key.relation time) }
-        ensures recent { self.now.reclaimed ≤ time → (reader.new ≡ reader.old) × IfOk result (λ o. AnswersAt self.now key.relation time o (value_at (writes_of self.now.state key) time)) }
-        ensures only { (h : History values.Value) → ReadsHistory D.tells (kept_of reader.old) (D.state disk.old) self.now h → Answers result (λ o. at_answer h (floor_at self.now.floors) key time ≡ Ok o) }
+        ensures recent { self.now.reclaimed ≤ time → (reader.new ≡ reader.old)
+            × IfOk result (λ o. AnswersAt self.now key.relation time o (value_at (writes_of self.now.state key) time)) }
+        ensures only { (h : History values.Value) → ReadsHistory D.tells (kept_of reader.old) (D.state disk.old) self.now h
+            → Answers result (λ o. at_answer h (floor_at self.now.floors) key time ≡ Ok o) }
         ensures exact { IsTrue D.tells → IsRight (kept_of reader.old) (archive_of (D.state disk.old))
-            → MatchResult result (IsValueFound (archive_of (D.state disk.old)) self.now key time) (IfDamaged (IsFindDamaged (archive_of (D.state disk.old)) self.now.runs key time)) }
+            → MatchResult result (IsValueFound (archive_of (D.state disk.old)) self.now key time)
+            (IfDamaged (IsFindDamaged (archive_of (D.state disk.old)) self.now.runs key time)) }
     {
         self.check_time(key.relation, time)?;
         if let Some(value) = self.state.at(key, time) {
@@ -86,14 +91,18 @@ impl View {
         b: u64,
     ) -> Result<Vec<Version<SharedValue>>, QueryFault>
         ensures disk { D.state disk.new ≡ after_query result (D.state disk.old) }
-        ensures kept { (limit : ℕ) → RunsEndBy limit self.now.runs → Keeps limit D.tells (archive_of (D.state disk.old)) (kept_of reader.old) (kept_of reader.new) }
+        ensures kept { (limit : ℕ) → RunsEndBy limit self.now.runs
+            → Keeps limit D.tells (archive_of (D.state disk.old)) (kept_of reader.old) (kept_of reader.new) }
         ensures heads { IfOk result (λ found. reader.new.heads ≤ reader.old.heads + heads_to_find a self.now.runs + length found.items) }
         ensures refused { IfErr result (RefusesRows self.now key.relation a b) }
-        ensures recent { self.now.reclaimed ≤ a → (reader.new ≡ reader.old) × IfOk result (λ found. AnswersBetween self.now key.relation a b found.items (rows_in self.now.state a b key)) }
-        ensures only { (h : History values.Value) → ReadsHistory D.tells (kept_of reader.old) (D.state disk.old) self.now h → Answers result (λ found. between_answer h (floor_at self.now.floors) key a b ≡ Ok found.items) }
+        ensures recent { self.now.reclaimed ≤ a → (reader.new ≡ reader.old)
+            × IfOk result (λ found. AnswersBetween self.now key.relation a b found.items (rows_in self.now.state a b key)) }
+        ensures only { (h : History values.Value) → ReadsHistory D.tells (kept_of reader.old) (D.state disk.old) self.now h
+            → Answers result (λ found. between_answer h (floor_at self.now.floors) key a b ≡ Ok found.items) }
         ensures exact { IsTrue D.tells → IsRight (kept_of reader.old) (archive_of (D.state disk.old))
             → MatchResult result (λ found. AreRowsFound (archive_of (D.state disk.old)) self.now key a b found.items)
-            (IfDamaged (IsDamagedRun (AreRowsOf (archive_of (D.state disk.old)) key a b) (AreRowsBroken (archive_of (D.state disk.old)) key a b) a self.now.runs)) }
+            (IfDamaged (IsDamagedRun (AreRowsOf (archive_of (D.state disk.old)) key a b)
+            (AreRowsBroken (archive_of (D.state disk.old)) key a b) a self.now.runs)) }
     {
         self.check_interval(key.relation, a, b)?;
         if self.reclaimed <= a {
@@ -118,15 +127,18 @@ impl View {
         b: u64,
     ) -> Result<Vec<ScanRow>, QueryFault>
         ensures disk { D.state disk.new ≡ after_query result (D.state disk.old) }
-        ensures kept { (limit : ℕ) → RunsEndBy limit self.now.runs → Keeps limit D.tells (archive_of (D.state disk.old)) (kept_of reader.old) (kept_of reader.new) }
+        ensures kept { (limit : ℕ) → RunsEndBy limit self.now.runs
+            → Keeps limit D.tells (archive_of (D.state disk.old)) (kept_of reader.old) (kept_of reader.new) }
         ensures refused { IfErr result (RefusesRuns a self.now.runs) }
         ensures in_order { IfOk result (λ found. IsNonDecreasingBy (λ row. row.0) found.items) }
         ensures only { (lists : List (List ArchiveRecord)) → IsTrue D.tells → IsRight (kept_of reader.old) (archive_of (D.state disk.old))
             → HoldRuns (archive_of (D.state disk.old)) self.now.runs lists
-            → Answers result (λ found. (number : ℕ) → rows_of number found.items ≡ versions.rows (versions_in (key_of relation number) lists) a b ++ recent_rows self.now a b (key_of relation number)) }
+            → Answers result (λ found. (number : ℕ) → rows_of number found.items
+            ≡ versions.rows (versions_in (key_of relation number) lists) a b ++ recent_rows self.now a b (key_of relation number)) }
         ensures exact { IsTrue D.tells → IsRight (kept_of reader.old) (archive_of (D.state disk.old))
             → MatchResult result (λ found. AreOfBoth (archive_of (D.state disk.old)) self.now relation a b found.items)
-            (IfDamaged (IsDamagedRun (AreScanRowsOf (archive_of (D.state disk.old)) relation a b) (AreScanRowsBroken (archive_of (D.state disk.old)) relation a b) a self.now.runs)) }
+            (IfDamaged (IsDamagedRun (AreScanRowsOf (archive_of (D.state disk.old)) relation a b)
+            (AreScanRowsBroken (archive_of (D.state disk.old)) relation a b) a self.now.runs)) }
     {
         let archived = reader.scan(disk, self.runs.as_slice(), relation, a, b)?;
         let recent = self
@@ -148,13 +160,17 @@ impl View {
         time: u64,
     ) -> Result<Vec<(u64, SharedValue)>, QueryFault>
         ensures disk { D.state disk.new ≡ after_query result (D.state disk.old) }
-        ensures kept { (limit : ℕ) → RunsEndBy limit self.now.runs → Keeps limit D.tells (archive_of (D.state disk.old)) (kept_of reader.old) (kept_of reader.new) }
+        ensures kept { (limit : ℕ) → RunsEndBy limit self.now.runs
+            → Keeps limit D.tells (archive_of (D.state disk.old)) (kept_of reader.old) (kept_of reader.new) }
         ensures refused { IfErr result (RefusesAt self.now relation time) }
-        ensures recent { self.now.reclaimed ≤ time → (reader.new ≡ reader.old) × IfOk result (λ found. AnswersAt self.now relation time found.items (scanned relation time self.now.state)) }
-        ensures only { (h : History values.Value) → ReadsHistory D.tells (kept_of reader.old) (D.state disk.old) self.now h → Answers result (λ found. IsScanAtAnswer h (floor_at self.now.floors) relation time (Ok found.items)) }
+        ensures recent { self.now.reclaimed ≤ time → (reader.new ≡ reader.old)
+            × IfOk result (λ found. AnswersAt self.now relation time found.items (scanned relation time self.now.state)) }
+        ensures only { (h : History values.Value) → ReadsHistory D.tells (kept_of reader.old) (D.state disk.old) self.now h
+            → Answers result (λ found. IsScanAtAnswer h (floor_at self.now.floors) relation time (Ok found.items)) }
         ensures exact { IsTrue D.tells → IsRight (kept_of reader.old) (archive_of (D.state disk.old))
             → MatchResult result (λ found. AreValuesFound (archive_of (D.state disk.old)) self.now relation time found.items)
-            (IfDamaged (IsDamagedRun (AreScanRowsOf (archive_of (D.state disk.old)) relation time (time + 1)) (AreScanRowsBroken (archive_of (D.state disk.old)) relation time (time + 1)) time self.now.runs)) }
+            (IfDamaged (IsDamagedRun (AreScanRowsOf (archive_of (D.state disk.old)) relation time (time + 1))
+            (AreScanRowsBroken (archive_of (D.state disk.old)) relation time (time + 1)) time self.now.runs)) }
     {
         self.check_time(relation, time)?;
         if self.reclaimed <= time {
@@ -177,13 +193,17 @@ impl View {
         b: u64,
     ) -> Result<Vec<(u64, Version<SharedValue>)>, QueryFault>
         ensures disk { D.state disk.new ≡ after_query result (D.state disk.old) }
-        ensures kept { (limit : ℕ) → RunsEndBy limit self.now.runs → Keeps limit D.tells (archive_of (D.state disk.old)) (kept_of reader.old) (kept_of reader.new) }
+        ensures kept { (limit : ℕ) → RunsEndBy limit self.now.runs
+            → Keeps limit D.tells (archive_of (D.state disk.old)) (kept_of reader.old) (kept_of reader.new) }
         ensures refused { IfErr result (RefusesRows self.now relation a b) }
-        ensures recent { self.now.reclaimed ≤ a → (reader.new ≡ reader.old) × IfOk result (λ found. AnswersBetween self.now relation a b found.items (scanned_rows relation a b self.now.state)) }
-        ensures only { (h : History values.Value) → ReadsHistory D.tells (kept_of reader.old) (D.state disk.old) self.now h → Answers result (λ found. IsScanBetweenAnswer h (floor_at self.now.floors) relation a b (Ok found.items)) }
+        ensures recent { self.now.reclaimed ≤ a → (reader.new ≡ reader.old)
+            × IfOk result (λ found. AnswersBetween self.now relation a b found.items (scanned_rows relation a b self.now.state)) }
+        ensures only { (h : History values.Value) → ReadsHistory D.tells (kept_of reader.old) (D.state disk.old) self.now h
+            → Answers result (λ found. IsScanBetweenAnswer h (floor_at self.now.floors) relation a b (Ok found.items)) }
         ensures exact { IsTrue D.tells → IsRight (kept_of reader.old) (archive_of (D.state disk.old))
             → MatchResult result (λ found. AreScanRowsFound (archive_of (D.state disk.old)) self.now relation a b found.items)
-            (IfDamaged (IsDamagedRun (AreScanRowsOf (archive_of (D.state disk.old)) relation a b) (AreScanRowsBroken (archive_of (D.state disk.old)) relation a b) a self.now.runs)) }
+            (IfDamaged (IsDamagedRun (AreScanRowsOf (archive_of (D.state disk.old)) relation a b)
+            (AreScanRowsBroken (archive_of (D.state disk.old)) relation a b) a self.now.runs)) }
     {
         self.check_interval(relation, a, b)?;
         if self.reclaimed <= a {

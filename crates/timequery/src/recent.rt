@@ -27,7 +27,9 @@ impl View {
     /// The value of a key at a time in microseconds since 1970, from memory alone: from the reclaim mark
     /// and the floor up to the last commit.
     pub fn recent(&self, key: Key, time: u64) -> Result<Option<&SharedValue>, QueryFault>
-        ensures { MatchResult result (λ o. (self.now.reclaimed ≤ time) × AnswersAt self.now key.relation time (option_copied o) (value_at (writes_of self.now.state key) time)) (RefusesRecent self.now key.relation time) }
+        ensures { MatchResult result (λ o. (self.now.reclaimed ≤ time)
+            × AnswersAt self.now key.relation time (option_copied o) (value_at (writes_of self.now.state key) time))
+            (RefusesRecent self.now key.relation time) }
     {
         self.check_time(key.relation, time)?;
         self.check_memory(time)?;
@@ -42,7 +44,8 @@ impl View {
         relation: u16,
         time: u64,
     ) -> Result<Vec<(u64, SharedValue)>, QueryFault>
-        ensures { MatchResult result (λ found. (self.now.reclaimed ≤ time) × AnswersAt self.now relation time found.items (scanned relation time self.now.state)) (RefusesRecentScan self.now relation time) }
+        ensures { MatchResult result (λ found. (self.now.reclaimed ≤ time)
+            × AnswersAt self.now relation time found.items (scanned relation time self.now.state)) (RefusesRecentScan self.now relation time) }
     {
         self.check_time(relation, time)?;
         self.check_memory(time)?;
@@ -58,7 +61,8 @@ impl View {
         a: u64,
         b: u64,
     ) -> Result<Vec<Version<SharedValue>>, QueryFault>
-        ensures { MatchResult result (λ rows. (self.now.reclaimed ≤ a) × AnswersBetween self.now key.relation a b rows.items (rows_in self.now.state a b key)) (RefusesRecentRows self.now key.relation a b) }
+        ensures { MatchResult result (λ rows. (self.now.reclaimed ≤ a) × AnswersBetween self.now key.relation a b rows.items (rows_in self.now.state a b key))
+            (RefusesRecentRows self.now key.relation a b) }
     {
         self.check_interval(key.relation, a, b)?;
         self.check_memory(a)?;
@@ -68,7 +72,8 @@ impl View {
     /// The same rows in a loan of the view: a walk over them, which takes no memory, and is no holder of
     /// their values.
     pub fn recent_rows(&self, key: Key, a: u64, b: u64) -> Result<RowWalk<'_>, QueryFault>
-        ensures { MatchResult result (λ walk. (self.now.reclaimed ≤ a) × AnswersBetween self.now key.relation a b walk (rows_in self.now.state a b key)) (RefusesRecentWalk self.now key.relation a b) }
+        ensures { MatchResult result (λ walk. (self.now.reclaimed ≤ a) × AnswersBetween self.now key.relation a b walk (rows_in self.now.state a b key))
+            (RefusesRecentWalk self.now key.relation a b) }
     {
         self.check_interval(key.relation, a, b)?;
         self.check_memory(a)?;
@@ -84,7 +89,8 @@ impl View {
         a: u64,
         b: u64,
     ) -> Result<Vec<(u64, Version<SharedValue>)>, QueryFault>
-        ensures { MatchResult result (λ rows. (self.now.reclaimed ≤ a) × AnswersBetween self.now relation a b rows.items (scanned_rows relation a b self.now.state)) (RefusesRecentRows self.now relation a b) }
+        ensures { MatchResult result (λ rows. (self.now.reclaimed ≤ a)
+            × AnswersBetween self.now relation a b rows.items (scanned_rows relation a b self.now.state)) (RefusesRecentRows self.now relation a b) }
     {
         self.check_interval(relation, a, b)?;
         self.check_memory(a)?;

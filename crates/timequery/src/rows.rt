@@ -91,7 +91,8 @@ pub(crate) fn scan_rows_after(
 
 // Takes the first of the rows, if its record is lesser.
 fn pop_lesser(rows: &mut VecDeque<ScanRow>, number: u64) -> Option<ScanRow>
-    ensures { MatchOption result ((specs.lesser number rows.old.items ≡ []) × (specs.not_lesser number rows.old.items ≡ rows.old.items) × (rows.new.items ≡ rows.old.items)) (λ row. (row.0 < number) × (rows.old.items ≡ row ∷ rows.new.items)) }
+    ensures { MatchOption result ((specs.lesser number rows.old.items ≡ []) × (specs.not_lesser number rows.old.items ≡ rows.old.items)
+        × (rows.new.items ≡ rows.old.items)) (λ row. (row.0 < number) × (rows.old.items ≡ row ∷ rows.new.items)) }
 {
     let Some(row) = rows.front() else {
         return None;

@@ -25,7 +25,8 @@ pub fn run_stress<R: Threads + Wait + Sync, W: Write>(
     plan: Plan,
     output: &mut W,
 ) -> u8
-    ensures done { result ≡ 0 → (last : ℕ) × Appends (W.contents output.old) (W.contents output.new) (codes "commits " ++ (decimal (plan.writers * plan.rounds) ++ (codes " last " ++ (decimal last ++ codes "\n")))) }
+    ensures done { result ≡ 0 → (last : ℕ) × Appends (W.contents output.old) (W.contents output.new)
+        (codes "commits " ++ (decimal (plan.writers * plan.rounds) ++ (codes " last " ++ (decimal last ++ codes "\n")))) }
     ensures status { result ≤ 1 }
 {
     let Some((commits, last)) = stress(rt, alloc, plan) else {

@@ -179,7 +179,8 @@ fn ahead_of(
     passed: u64,
     upto: u64,
 ) -> Result<Option<Ahead>, AllocError>
-    ensures { IfOk result (λ found. MatchOption found (key_left passed since.now upto chain.now ≡ []) (IsAheadOf (max passed (since_of since.now chain.now.key.relation)) upto chain.now)) }
+    ensures { IfOk result (λ found. MatchOption found (key_left passed since.now upto chain.now ≡ [])
+        (IsAheadOf (max passed (since_of since.now chain.now.key.relation)) upto chain.now)) }
 {
     ahead_in(chain, passed.max(since.of(chain.key().relation)), upto)
 }

@@ -1,5 +1,6 @@
 -- Fields that are read are those that were spelled.
-use Rattle.std.proofs.Common.{◌≡◌, ℕ, zero, suc, ◌+◌, ◌≤◌, List, [], ◌∷◌, ◌++◌, ◌*◌, ◌<◌, get_or, length, take, drop, refl, sym, ◌∙◌, ap, arith, append_assoc, take-append-drop, length-append, subst, ◌-◌, ◌↔◌}
+use Rattle.std.proofs.Common.{◌≡◌, ℕ, zero, suc, ◌+◌, ◌≤◌, List, [], ◌∷◌, ◌++◌, ◌*◌, ◌<◌, get_or, length, take, drop, refl, sym, ◌∙◌, ap, arith, append_assoc}
+use Rattle.std.proofs.Common.{take-append-drop, length-append, subst, ◌-◌, ◌↔◌}
 use Rattle.std.proofs.Math.Seq.{drop-append_seam, take-append_seam}
 use Rattle.std.proofs.lemmas.List.{length-take, length-drop, get_or-drop, append-nil, take_all}
 use Rattle.std.proofs.lemmas.Grind.{get_or_default_zero}
@@ -61,7 +62,10 @@ fields_again (field ∷ fields) rest =
     let ih = fields_again fields rest in
     let are = ap (λ (l : List ℕ). fields_at (length fields) l) dropped ∙ ih.are in
     record {
-      has = (omega (arith, length-append (field ++ others) rest, length-append field others), subst (λ (l : List ℕ). HasFields (length fields) l) (sym dropped) ih.has);
+      has = (
+        omega (arith, length-append (field ++ others) rest, length-append field others),
+        subst (λ (l : List ℕ). HasFields (length fields) l) (sym dropped) ih.has,
+      );
       are = λ i. taken i ∷ are i;
       behind = ap (λ (l : List ℕ). rest_at (length fields) l) dropped ∙ ih.behind;
     }
@@ -75,15 +79,18 @@ fields_at-fields zero bytes small = tt
 fields_at-fields (suc n) [] small = tt
 fields_at-fields (suc n) (len ∷ bytes) small =
     let first : len < 256 = small 0 in
-    let others : AreBytes bytes = λ i. small (suc i) in
-    (is_field (take len bytes) (AreBytes-take len bytes others) (omega (arith, length-take len bytes, first)), fields_at-fields n (drop len bytes) (AreBytes-drop len bytes others))
+    let others : AreBytes bytes = λ i. small (suc i) in (
+      is_field (take len bytes) (AreBytes-take len bytes others) (omega (arith, length-take len bytes, first)),
+      fields_at-fields n (drop len bytes) (AreBytes-drop len bytes others),
+    )
 
 pub fields_are_short : (fields : List (List ℕ)) → AreAllFields fields → AreShort fields
 fields_are_short [] are = tt
 fields_are_short (field ∷ fields) are = let first = are.0.short in (omega (arith, first), fields_are_short fields are.1)
 
 -- the bytes up to what follows the fields are just the fields
-pub fields_alone : (n : ℕ) (bytes front : List ℕ) → ((i : ℕ) → get_or bytes i 0 < 256) → n ≤ 16 → HasFields n bytes → front ≡ take (length bytes - length (rest_at n bytes)) bytes
+pub fields_alone : (n : ℕ) (bytes front : List ℕ) → ((i : ℕ) → get_or bytes i 0 < 256) → n ≤ 16 → HasFields n bytes
+    → front ≡ take (length bytes - length (rest_at n bytes)) bytes
     → AreFields n front × (fields_at n front ≡ fields_at n bytes)
 fields_alone n bytes front small few has is =
     let spelled : List ℕ = fields_bytes (fields_at n bytes) in
@@ -95,10 +102,19 @@ fields_alone n bytes front small few has is =
     let count = length-fields_at n bytes has in
     let whole : front ≡ spelled ++ [] = alone ∙ sym (append-nil spelled) in
     let again : Reads n front (fields_at n bytes) [] =
-    subst (λ m. Reads m front (fields_at n bytes) []) count (subst (λ (l : List ℕ). Reads (length (fields_at n bytes)) l (fields_at n bytes) []) (sym whole) (fields_again (fields_at n bytes) [])) in
+    subst (λ m. Reads m front (fields_at n bytes) []) count (subst (λ (l : List ℕ). Reads (length (fields_at n bytes)) l (fields_at n bytes) []) (sym whole)
+    (fields_again (fields_at n bytes) [])) in
     let short = fields_short n bytes small has in
-    let length_is : length front ≡ length spelled = ap (λ (l : List ℕ). length l) alone in
-    (record { has = again.has; all = again.behind; few = few; short = omega arith; each = subst AreAllFields (sym again.are) (fields_at-fields n bytes small) }, again.are)
+    let length_is : length front ≡ length spelled = ap (λ (l : List ℕ). length l) alone in (
+      record {
+        has = again.has;
+        all = again.behind;
+        few = few;
+        short = omega arith;
+        each = subst AreAllFields (sym again.are) (fields_at-fields n bytes small);
+      },
+      again.are,
+    )
 
 -- one field more
 pub has_first : (n : ℕ) (bytes : List ℕ) → HasFields (suc n) bytes → HasFields 1 bytes
@@ -114,14 +130,18 @@ rest_more n [] first = absurd first
 rest_more n (len ∷ bytes) first = refl
 
 pub skip_step : (n m count : ℕ) (rest after bytes : List ℕ) → n ≡ suc m → HasFields 1 rest → after ≡ rest_at 1 rest
-    → (HasFields n rest ↔ HasFields count bytes) × (rest_at n rest ≡ rest_at count bytes) → (HasFields m after ↔ HasFields count bytes) × (rest_at m after ≡ rest_at count bytes)
+    → (HasFields n rest ↔ HasFields count bytes) × (rest_at n rest ≡ rest_at count bytes)
+    → (HasFields m after ↔ HasFields count bytes) × (rest_at m after ≡ rest_at count bytes)
 skip_step n m count rest after bytes n_is first after_is so_far =
     let more : HasFields n rest ↔ HasFields m after =
-    subst (λ k. HasFields k rest ↔ HasFields m after) (sym n_is) (subst (λ (l : List ℕ). HasFields (suc m) rest ↔ HasFields m l) (sym after_is) (has_more m rest first)) in
-    let behind : rest_at m after ≡ rest_at n rest = ap (λ (l : List ℕ). rest_at m l) after_is ∙ sym (rest_more m rest first) ∙ ap (λ k. rest_at k rest) (sym n_is) in
+    subst (λ k. HasFields k rest ↔ HasFields m after) (sym n_is) (subst (λ (l : List ℕ). HasFields (suc m) rest ↔ HasFields m l) (sym after_is)
+    (has_more m rest first)) in
+    let behind : rest_at m after ≡ rest_at n rest =
+    ap (λ (l : List ℕ). rest_at m l) after_is ∙ sym (rest_more m rest first) ∙ ap (λ k. rest_at k rest) (sym n_is) in
     ((λ h. so_far.0.0 (more.1 h), λ h. more.0 (so_far.0.1 h)), behind ∙ so_far.1)
 
-pub none_more : (n m count : ℕ) (rest bytes : List ℕ) → n ≡ suc m → (HasFields 1 rest → ⊥) → (HasFields n rest ↔ HasFields count bytes) → HasFields count bytes → ⊥
+pub none_more : (n m count : ℕ) (rest bytes : List ℕ) → n ≡ suc m → (HasFields 1 rest → ⊥) → (HasFields n rest ↔ HasFields count bytes) → HasFields count bytes
+    → ⊥
 none_more n m count rest bytes n_is none so_far has = none (has_first m rest (subst (λ k. HasFields k rest) n_is (so_far.1 has)))
 
 -- the first field, and the others
@@ -170,7 +190,8 @@ one_more count spelled field are small short few =
     let n = length-fields_at count spelled are.has in
     let len : length fields ≡ count + 1 = length-append (fields_at count spelled) (field ∷ []) ∙ omega (arith, n) in
     let spells : bytes ≡ fields_bytes fields ++ [] =
-    ap (λ (l : List ℕ). l ++ field_bytes field) (sym (fields_all count spelled are)) ∙ sym (fields_bytes-push (fields_at count spelled) field) ∙ sym (append-nil (fields_bytes fields)) in
+    ap (λ (l : List ℕ). l ++ field_bytes field) (sym (fields_all count spelled are)) ∙ sym (fields_bytes-push (fields_at count spelled) field)
+    ∙ sym (append-nil (fields_bytes fields)) in
     let again : Reads (count + 1) bytes fields [] =
     subst (λ m. Reads m bytes fields []) len (subst (λ (l : List ℕ). Reads (length fields) l fields []) (sym spells) (fields_again fields [])) in
     let each : AreAllFields fields = AreAllFields-push (fields_at count spelled) field are.each (is_field field small short) in

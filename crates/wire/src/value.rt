@@ -1,6 +1,7 @@
 //! A value: what a store keeps under a key.
 
-ghost use Rattle.std.specs.Prelude.{[], ◌≡◌, ◌≢◌, ◌<◌, ◌≤◌, ◌↔◌, ◌∷◌, ◌++◌, ℕ, List, length, map, slice_get, option_copied, is_ok, if◌then◌else◌, IfOk, IfSome, MatchOption, IsTrue, Ok, Err};
+ghost use Rattle.std.specs.Prelude.{[], ◌≡◌, ◌≢◌, ◌<◌, ◌≤◌, ◌↔◌, ◌∷◌, ◌++◌, ℕ, List, length, map, slice_get, option_copied, is_ok, if◌then◌else◌, IfOk, IfSome};
+ghost use Rattle.std.specs.Prelude.{MatchOption, IsTrue, Ok, Err};
 ghost use Rattle.wire.specs.Fields.{AreShort};
 ghost use Rattle.wire.specs.Values.{IsValue, HasSizes, value_bytes};
 

@@ -8,14 +8,13 @@ ghost use Rattle.shared.specs.Reached.{Reached};
 ghost use Rattle.workload.specs.Reading.{HasCommitted};
 
 use crate::workers::{Plan, field_of, key_of, run_workers};
-use chains::SharedValue;
 use disk::{Disk, MemDisk};
 use shared::{Opened, fresh_store};
 use std::alloc::{AllocError, Global};
 use std::marker::Brand;
 use std::sync::Wait;
 use std::thread::Threads;
-use store::{QueryFault, Store};
+use store::{QueryFault, SharedValue, Store};
 
 /// The slots of the log of a stress's store.
 const SLOTS: u32 = 32_768;
@@ -47,7 +46,8 @@ pub fn stress<R: Threads + Wait + Sync>(rt: &R, alloc: Global, plan: Plan) -> Op
 // Ends the store in which so many commits were counted. Gives them and the time of the last commit,
 // where they are all that the plan makes and each writer's key has the value of its last round.
 fn count_all(store: Store<MemDisk>, done: Option<u64>, plan: Plan) -> Option<(u64, u64)>
-    requires { (m : Machine Value) × Stands true store m × Reached (opened [] (λ relation. 0)) m × IfSome done (λ count. length m.published ≡ count + unredeemed store) }
+    requires { (m : Machine Value) × Stands true store m × Reached (opened [] (λ relation. 0)) m
+        × IfSome done (λ count. length m.published ≡ count + unredeemed store) }
     ensures counted { IfSome result (λ done. done.0 ≡ plan.writers * plan.rounds) }
     ensures last { IfSome result (λ done. HasCommitted done.0 done.1) }
 {
@@ -74,7 +74,8 @@ pub fn stress_on<D: Disk + Send, R: Threads + Wait + Sync>(
     requires stands { Stands D.tells store start }
     requires fresh { told_count store.transactions.heads ≡ length start.published }
     requires queue { start.queue ≡ [] }
-    ensures counted { IfOk result (λ ended. (m : Machine Value) × Stands D.tells ended.0 m × Reached start m × IfSome ended.1 (λ done. length m.published ≡ length start.published + done + unredeemed ended.0)) }
+    ensures counted { IfOk result (λ ended. (m : Machine Value) × Stands D.tells ended.0 m × Reached start m
+        × IfSome ended.1 (λ done. length m.published ≡ length start.published + done + unredeemed ended.0)) }
 {
     match Opened::new(rt, alloc, u64::from(plan.writers) + 1, store) {
         Ok(opened) => Ok(run_workers::<D, Brand, R>(rt, alloc, opened, plan)),

@@ -10,7 +10,6 @@ ghost use Rattle.shared.specs.Reached.{Reached};
 ghost use Rattle.workload.specs.Reading.{ReadSays};
 ghost use Rattle.shared.specs.Seen.{IsLater, seen_of};
 
-use chains::SharedValue;
 use disk::Disk;
 use history::Key;
 use shared::{Change, Committed, Observer, Opened, Opening, SharedStore};
@@ -19,7 +18,7 @@ use std::sync::Wait;
 use std::sync::ledger::Share;
 use std::thread;
 use std::thread::{Threads, join, map_vec};
-use store::{QueryFault, Store};
+use store::{QueryFault, SharedValue, Store};
 
 /// The relation of the keys that the writers commit.
 const RELATION: u16 = 1;
@@ -304,7 +303,8 @@ pub fn run_workers<D: Disk + Send, L: Opening + Send + Sync, R: Threads + Wait +
     requires name { (opened.blank.name ≡ L.name) × (opened.blank.parts ≡ L.parts) × (opened.cell.table.shared.table_id ≡ L.table) }
     requires parts { L.parts ≡ plan.writers + 1 }
     requires fresh { IsFresh D.tells L.start L.mark opened.store (cell_view opened.writer) }
-    ensures counted { (m : Machine Value) × Stands D.tells result.0 m × Reached L.start m × IfSome result.1 (λ done. length m.published ≡ length L.start.published + done + unredeemed result.0) }
+    ensures counted { (m : Machine Value) × Stands D.tells result.0 m × Reached L.start m
+        × IfSome result.1 (λ done. length m.published ≡ length L.start.published + done + unredeemed result.0) }
 {
     let (store, mut all, mut me) = opened.named::<L>();
     let badges = badges_for(alloc, &store, &mut all, &mut me, plan.writers);

@@ -17,9 +17,9 @@ number or a time out of range raises `ValueError`.
 A commit has the time of the system's clock, or the one that is given as `now`; where that is not
 after the last commit, it comes a microsecond after it.
 
-A store stays on the thread that opened it, and so does all that it gave out: a call on another
-thread raises `RuntimeError`. What is let go there is given back with the owner's next call. In the
-child of a fork the store is closed. It needs Python 3.11 and `libtimestore.so`: of the path in the
+A `Store` stays on the thread that opened it, and so does all that it gave out: a call on another
+thread raises `RuntimeError`. What is let go there is given back with the owner's next call. A
+`SharedStore` is for any thread. In the child of a fork the store is closed. It needs Python 3.11 and `libtimestore.so`: of the path in the
 environment's `TIMESTORE_LIBRARY`, in this folder, where both were installed, or where the system
 looks for libraries.
 """
@@ -27,14 +27,12 @@ looks for libraries.
 import ctypes
 import os
 import threading
-import time
 import weakref
 from collections import deque
 from collections.abc import Callable, Iterator
-from datetime import datetime, timedelta, timezone
 from enum import IntEnum
 from types import TracebackType
-from typing import Any, NamedTuple, Self, TypeVar, cast
+from typing import Any, Self, TypeVar, cast
 
 from ._native import NEEDS_ARCHIVE as _NEEDS_ARCHIVE
 from ._native import NONE as _NONE
@@ -42,7 +40,6 @@ from ._native import READ_ONLY as _READ_ONLY
 from ._native import SMALL as _SMALL
 from ._native import Handle as _Handle
 from ._native import Info as _Info
-from ._native import RawRow as _RawRow
 from ._native import ask as _answer
 from ._native import library as _library
 from ._native import note_cause as _note_cause
@@ -84,6 +81,16 @@ from ._refused import (
     Waiting,
     WrongProfile,
 )
+from ._shared import SharedStore, SharedTicket, SharedTransaction, SharedView
+from ._values import ATTEMPTS as _ATTEMPTS
+from ._values import VALUE_MOST as _VALUE_MOST
+from ._values import Fields, Row, Time, make, micros, moment
+from ._values import Room as _Room
+from ._values import clock as _clock
+from ._values import fields_of as _fields
+from ._values import key_of as _key
+from ._values import number_of as _number
+from ._values import spelled as _spelled
 
 __version__ = "1.0.0"
 
@@ -118,6 +125,10 @@ __all__ = [
     "Pending",
     "Refused",
     "Row",
+    "SharedStore",
+    "SharedTicket",
+    "SharedTransaction",
+    "SharedView",
     "StatusFull",
     "Step",
     "Store",
@@ -137,14 +148,8 @@ __all__ = [
     "moment",
 ]
 
-Fields = tuple[bytes, ...]
-Time = datetime | int
 _Result = TypeVar("_Result")
 
-_EPOCH = datetime(1970, 1, 1, tzinfo=timezone.utc)
-_VALUE_MOST = 4097
-# How often a transaction is tried that others were ahead of.
-_ATTEMPTS = 10
 # How many words of a call are the room for a value, or for rows, and what it tells.
 _VALUE_WORDS, _ROWS_WORDS = 3, 5
 # What is lent for an archive of no bytes.
@@ -169,92 +174,10 @@ class Step(IntEnum):
     ZEROS_SYNCED = 10
 
 
-class Row(NamedTuple):
-    """What stood in a record from one time on, up to another."""
-
-    record: int
-    start: int
-    end: int
-    fields: Fields
-
-    @property
-    def moments(self) -> tuple[datetime, datetime]:
-        """Start and end as `datetime`s in UTC."""
-        return moment(self.start), moment(self.end)
-
-
 def library_version() -> str:
     """The version of the shared library that is loaded."""
     version: bytes = _library.timestore_version()
     return version.decode()
-
-
-def _number(number: int, bits: int = 64) -> int:
-    """The number, which C would cut to so many bits."""
-    if not 0 <= number < 1 << bits:
-        raise ValueError(f"{number} is not from 0 to 2^{bits} - 1")
-    return number
-
-
-def _key(relation: int, record: int) -> tuple[int, int]:
-    return _number(relation, 16), _number(record)
-
-
-def micros(time: Time) -> int:
-    """Microseconds since 1970 of a time."""
-    if isinstance(time, datetime):
-        if time.tzinfo is None:
-            raise ValueError("a time without its zone")
-        time = (time - _EPOCH) // timedelta(microseconds=1)
-    return _number(time)
-
-
-def moment(time: int) -> datetime:
-    """The `datetime` of a time, in UTC. `OverflowError` behind the year 9999."""
-    return _EPOCH + timedelta(microseconds=time)
-
-
-def _clock() -> int:
-    return max(time.time_ns() // 1000, 0)
-
-
-def _spelled(fields: tuple[bytes, ...]) -> bytes:
-    if not 1 <= len(fields) <= 16 or any(len(field) > 255 for field in fields):
-        raise BadValue("bad value")
-    return bytes([len(fields)]) + b"".join(bytes([len(field)]) + field for field in fields)
-
-
-def _fields(value: bytes) -> Fields:
-    at, fields = 1, []
-    for _ in range(value[0]):
-        end = at + 1 + value[at]
-        fields.append(value[at + 1:end])
-        at = end
-    return tuple(fields)
-
-
-def make(folder: str | os.PathLike[str], slots: int = 1024) -> None:
-    """Makes a store with 16 to 65,536 slots in a folder that is there."""
-    if not 16 <= slots <= 65_536:
-        raise BadSlots("bad slots")
-    _answer(_library.ts_file_format(os.fsencode(folder), slots))
-
-
-class _Room:
-    """Memory for what a query finds."""
-
-    def __init__(self, count: int, size: int) -> None:
-        self.rows = (_RawRow * count)()
-        self.out = ctypes.create_string_buffer(size)
-
-    @property
-    def args(self) -> tuple[Any, ...]:
-        return self.rows, len(self.rows), self.out, len(self.out)
-
-    def row(self, number: int) -> Row:
-        raw = self.rows[number]
-        value = ctypes.string_at(ctypes.addressof(self.out) + raw.at, raw.len)
-        return Row(raw.record, raw.start, raw.end, _fields(value))
 
 
 class Store:

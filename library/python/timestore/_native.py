@@ -33,6 +33,10 @@ class RawRow(ctypes.Structure):
     _fields_ = [(name, ctypes.c_uint64) for name in ("record", "start", "end", "at", "len")]
 
 
+class RawPolicy(ctypes.Structure):
+    _fields_ = [("every", ctypes.c_uint64), ("keep", ctypes.c_uint64), ("grows", ctypes.c_bool)]
+
+
 class _Cause(ctypes.Structure):
     call: bytes
     file: bytes
@@ -81,6 +85,47 @@ def _prototypes() -> dict[str, list[Any]]:
     }
 
 
+def _shared_prototypes() -> dict[str, list[Any]]:
+    u64, u16, size, buf = ctypes.c_uint64, ctypes.c_uint16, ctypes.c_size_t, ctypes.c_void_p
+    store, info, text = buf, ctypes.POINTER(Info), ctypes.c_char_p
+    out = [buf, size, info]
+    rows = [ctypes.POINTER(RawRow), size, *out]
+    return {
+        "ts_shared_open": [text, ctypes.POINTER(store), info],
+        "ts_shared_close": [store],
+        "ts_shared_error": [store, ctypes.POINTER(_Cause)],
+        "ts_shared_last": [store, info],
+        "ts_shared_put": [store, u16, u64, text, size, u64, u64, info],
+        "ts_shared_delete": [store, u16, u64, u64, u64, info],
+        "ts_shared_get": [store, u16, u64, *out],
+        "ts_shared_scan": [store, u16, *rows],
+        "ts_shared_begin": [store, info],
+        "ts_shared_txn_put": [store, u64, u16, u64, text, size],
+        "ts_shared_txn_delete": [store, u64, u16, u64],
+        "ts_shared_txn_get": [store, u64, u16, u64, *out],
+        "ts_shared_txn_scan": [store, u64, u16, *rows],
+        "ts_shared_commit": [store, u64, u64, u64, info],
+        "ts_shared_resume": [store, u64, info],
+        "ts_shared_give_up": [store, u64],
+        "ts_shared_abort": [store, u64],
+        "ts_shared_view": [store, info],
+        "ts_shared_end": [store, u64],
+        "ts_shared_at": [store, u64, u16, u64, u64, *out],
+        "ts_shared_scan_at": [store, u64, u16, u64, *rows],
+        "ts_shared_between": [store, u64, u16, u64, u64, u64, *rows],
+        "ts_shared_scan_between": [store, u64, u16, u64, u64, *rows],
+        "ts_shared_times_of": [store, u64, buf, size, info],
+        "ts_shared_archive": [store, u64, info],
+        "ts_shared_reclaim": [store, info],
+        "ts_shared_floor_of": [store, u16, u64, info],
+        "ts_shared_floor": [store, u64, info],
+        "ts_shared_grow": [store, info],
+        "ts_shared_job": [store],
+        "ts_shared_vacuum": [store, ctypes.POINTER(RawPolicy)],
+        "ts_shared_vacuumed": [store, info],
+    }
+
+
 def _path() -> str:
     """Where the library is: named, beside this file, installed with it, or known to the system."""
     if named := os.environ.get("TIMESTORE_LIBRARY"):
@@ -92,7 +137,7 @@ def _path() -> str:
 
 def _load() -> ctypes.CDLL:
     loaded = ctypes.CDLL(_path())
-    for name, types in _prototypes().items():
+    for name, types in (_prototypes() | _shared_prototypes()).items():
         function = getattr(loaded, name)
         function.argtypes, function.restype = types, ctypes.c_int32
     loaded.ts_text.argtypes, loaded.ts_text.restype = [ctypes.c_int32], ctypes.c_char_p
@@ -100,21 +145,31 @@ def _load() -> ctypes.CDLL:
     loaded.ts_file_store.argtypes = [ctypes.c_void_p]
     loaded.ts_file_store.restype = ctypes.POINTER(Handle)
     loaded.ts_file_close.argtypes, loaded.ts_file_close.restype = [ctypes.c_void_p], None
+    loaded.ts_shared_free.argtypes, loaded.ts_shared_free.restype = [ctypes.c_void_p], None
     return loaded
 
 
 library = _load()
 
 
-def note_cause(refusal: Refused, file: ctypes.c_void_p | None) -> None:
-    """Notes of a refusal what the system refused: to a file, or for None the last call of this thread."""
+def _note(refusal: Refused, tell: Callable[..., int], of: ctypes.c_void_p | None) -> None:
     cause = _Cause()
-    if library.ts_file_error(file, cause) != 0:
+    if tell(of, cause) != 0:
         return
     refusal.call, refusal.file, refusal.errno = cause.call.decode(), cause.file.decode(), cause.number
     refusal.add_note(f"{refusal.call} of {refusal.file or 'the folder'}: {os.strerror(cause.number)}")
     if isinstance(refusal, System):
         refusal.args = (os.strerror(cause.number),)
+
+
+def note_cause(refusal: Refused, file: ctypes.c_void_p | None) -> None:
+    """Notes of a refusal what the system refused: to a file, or for None the last call of this thread."""
+    _note(refusal, library.ts_file_error, file)
+
+
+def note_shared_cause(refusal: Refused, store: ctypes.c_void_p) -> None:
+    """The same of a store that threads share."""
+    _note(refusal, library.ts_shared_error, store)
 
 
 def ask(

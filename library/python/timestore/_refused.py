@@ -3,7 +3,7 @@
 from typing import TYPE_CHECKING
 
 if TYPE_CHECKING:
-    from . import Ticket
+    from . import SharedTicket, Ticket
 
 
 class Refused(Exception):
@@ -39,7 +39,7 @@ class Waiting(Refused, code=2):
     """Memory was refused amid a commit, which waits: a later flush publishes it. `ticket` is the
     commit's."""
 
-    ticket: "Ticket"
+    ticket: "Ticket | SharedTicket"
 
 
 class InDoubt(Refused, code=4):

@@ -30,7 +30,8 @@ macro_rules! refusals {
                 place: u64,
             },
             /// Memory was refused amid a commit, which waits: a later flush publishes it, and
-            /// [`Store::ticket`](crate::Store::ticket) makes a ticket of what is given back.
+            /// [`Store::ticket`](crate::Store::ticket) makes a ticket of what is given back. Where threads share
+            /// the store, [`SharedStore::resume`](crate::SharedStore::resume) goes on with it.
             Waiting(WaitingTicket),
             /// The device failed before the commit was published: opened again, the store has it or not.
             /// Without a cause memory was refused.
@@ -46,16 +47,16 @@ macro_rules! refusals {
         }
 
         impl Error {
-            // The refusal of a code, with what the system refused: to a file, or for null last of all.
-            pub(crate) fn of(code: i32, info: Info, file: *const File) -> Error {
+            // The refusal of a code; `cause` tells which device call failed the store.
+            pub(crate) fn of(code: i32, info: Info, cause: impl FnOnce() -> Option<Cause>) -> Error {
                 match code {
                     $($plain_code => Error::$plain,)*
                     $($timed_code => Error::$timed(info.a),)*
                     CONFLICT => Error::Conflict { relation: info.a as u16, record: info.b },
                     DAMAGED => Error::Damaged { area: Area::of(info.b), place: info.a },
                     WAITING => Error::Waiting(WaitingTicket(info.a)),
-                    IN_DOUBT => Error::InDoubt(Cause::of(file)),
-                    FAILED => Error::Failed(Cause::of(file)),
+                    IN_DOUBT => Error::InDoubt(cause()),
+                    FAILED => Error::Failed(cause()),
                     SYSTEM => Error::System(Cause::last()),
                     CACHED => Error::Cached(Cause::last()),
                     code => Error::Other(code),
@@ -175,11 +176,16 @@ fn text_of(text: *const c_char) -> &'static str {
 }
 
 impl Cause {
-    fn of(file: *const File) -> Option<Cause> {
-        let mut cause = raw::Cause::none();
+    // What the system refused to a file, or for null last of all.
+    pub(crate) fn of(file: *const File) -> Option<Cause> {
         // SAFETY: the file is open, or null.
-        let code = unsafe { raw::ts_file_error(file, &mut cause) };
-        (code == 0).then(|| Cause {
+        Cause::told(|cause| unsafe { raw::ts_file_error(file, cause) })
+    }
+
+    // What a call tells, if it tells something.
+    pub(crate) fn told(tell: impl FnOnce(&mut raw::Cause) -> i32) -> Option<Cause> {
+        let mut cause = raw::Cause::none();
+        (tell(&mut cause) == 0).then(|| Cause {
             call: text_of(cause.call),
             area: Area::named(text_of(cause.file)),
             error: io::Error::from_raw_os_error(cause.number),

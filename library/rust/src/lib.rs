@@ -19,8 +19,9 @@
 //! ```
 //!
 //! A record is named by its relation and its number; a value is a list of 1 to 16 fields of at most 255
-//! bytes; a time is microseconds since 1970 ([`micros`], [`moment`]). A store stays on the thread that
-//! opened it; in the child of a fork its calls answer [`Error::Closed`]:
+//! bytes; a time is microseconds since 1970 ([`micros`], [`moment`]). A [`Store`] stays on the thread that
+//! opened it, a [`SharedStore`] is for any thread. In the child of a fork their calls answer
+//! [`Error::Closed`]:
 //!
 //! ```compile_fail
 //! fn sent<T: Send>() {}
@@ -30,12 +31,14 @@
 mod error;
 mod raw;
 mod rows;
+pub mod shared;
 mod store;
 mod txn;
 mod view;
 
 pub use error::{Area, Cause, Error, WaitingTicket};
 pub use rows::{Records, Row, Rows};
+pub use shared::SharedStore;
 pub use store::{Step, Store, format};
 pub use txn::{Ticket, Txn};
 pub use view::View;

@@ -1,4 +1,4 @@
-//! `timestore.h` and `timestore_file.h`.
+//! `timestore.h`, `timestore_file.h` and `timestore_shared.h`.
 use std::ffi::{c_char, c_int, c_void};
 
 /// Codes that are no refusals of a caller; `error.rs` has those.
@@ -19,6 +19,18 @@ pub struct Handle {
 #[repr(C)]
 pub struct File {
     _private: [u8; 0],
+}
+
+#[repr(C)]
+pub struct Shared {
+    _private: [u8; 0],
+}
+
+#[repr(C)]
+pub struct Policy {
+    pub every: u64,
+    pub keep: u64,
+    pub grows: bool,
 }
 
 #[repr(C)]
@@ -57,10 +69,10 @@ impl Cause {
 
 /// Calls that copy out a value.
 macro_rules! give_a_value {
-    ($($name:ident($($word:ident: $kind:ty),*);)*) => {
+    ($of:ty; $($name:ident($($word:ident: $kind:ty),*);)*) => {
         unsafe extern "C" {
             $(pub fn $name(
-                h: *mut Handle, $($word: $kind,)* out: *mut u8, len: usize, info: &mut Info,
+                h: *mut $of, $($word: $kind,)* out: *mut u8, len: usize, info: &mut Info,
             ) -> i32;)*
         }
     };
@@ -68,22 +80,94 @@ macro_rules! give_a_value {
 
 /// Calls that copy out rows, and their values.
 macro_rules! give_rows {
-    ($($name:ident($($word:ident: $kind:ty),*);)*) => {
-        give_a_value! { $($name($($word: $kind,)* rows: *mut Row, count: usize);)* }
+    ($of:ty; $($name:ident($($word:ident: $kind:ty),*);)*) => {
+        give_a_value! { $of; $($name($($word: $kind,)* rows: *mut Row, count: usize);)* }
     };
 }
 
-give_a_value! {
+give_a_value! { Handle;
     ts_get(txn: u64, relation: u16, record: u64);
     ts_recent(view: u64, relation: u16, record: u64, time: u64);
     ts_at(view: u64, relation: u16, record: u64, time: u64, archive: *const u8, size: usize);
 }
 
-give_rows! {
+give_rows! { Handle;
     ts_scan(txn: u64, relation: u16);
     ts_scan_at(view: u64, relation: u16, time: u64, archive: *const u8, size: usize);
     ts_between(view: u64, relation: u16, record: u64, from: u64, upto: u64, archive: *const u8, size: usize);
     ts_scan_between(view: u64, relation: u16, from: u64, upto: u64, archive: *const u8, size: usize);
+}
+
+give_a_value! { Shared;
+    ts_shared_get(relation: u16, record: u64);
+    ts_shared_txn_get(txn: u64, relation: u16, record: u64);
+    ts_shared_at(view: u64, relation: u16, record: u64, time: u64);
+}
+
+give_rows! { Shared;
+    ts_shared_scan(relation: u16);
+    ts_shared_txn_scan(txn: u64, relation: u16);
+    ts_shared_scan_at(view: u64, relation: u16, time: u64);
+    ts_shared_between(view: u64, relation: u16, record: u64, from: u64, upto: u64);
+    ts_shared_scan_between(view: u64, relation: u16, from: u64, upto: u64);
+}
+
+unsafe extern "C" {
+    pub fn ts_shared_open(folder: *const c_char, store: &mut *mut Shared, info: &mut Info) -> i32;
+    pub fn ts_shared_close(s: *mut Shared) -> i32;
+    pub fn ts_shared_free(s: *mut Shared);
+    pub fn ts_shared_error(s: *mut Shared, cause: &mut Cause) -> i32;
+    pub fn ts_shared_last(s: *mut Shared, info: &mut Info) -> i32;
+    pub fn ts_shared_put(
+        s: *mut Shared,
+        relation: u16,
+        record: u64,
+        value: *const u8,
+        len: usize,
+        label: u64,
+        now: u64,
+        info: &mut Info,
+    ) -> i32;
+    pub fn ts_shared_delete(
+        s: *mut Shared,
+        relation: u16,
+        record: u64,
+        label: u64,
+        now: u64,
+        info: &mut Info,
+    ) -> i32;
+    pub fn ts_shared_begin(s: *mut Shared, info: &mut Info) -> i32;
+    pub fn ts_shared_txn_put(
+        s: *mut Shared,
+        txn: u64,
+        relation: u16,
+        record: u64,
+        value: *const u8,
+        len: usize,
+    ) -> i32;
+    pub fn ts_shared_txn_delete(s: *mut Shared, txn: u64, relation: u16, record: u64) -> i32;
+    pub fn ts_shared_commit(s: *mut Shared, txn: u64, label: u64, now: u64, info: &mut Info)
+    -> i32;
+    pub fn ts_shared_resume(s: *mut Shared, ticket: u64, info: &mut Info) -> i32;
+    pub fn ts_shared_give_up(s: *mut Shared, ticket: u64) -> i32;
+    pub fn ts_shared_abort(s: *mut Shared, txn: u64) -> i32;
+    pub fn ts_shared_view(s: *mut Shared, info: &mut Info) -> i32;
+    pub fn ts_shared_end(s: *mut Shared, view: u64) -> i32;
+    pub fn ts_shared_times_of(
+        s: *mut Shared,
+        label: u64,
+        times: *mut u64,
+        count: usize,
+        info: &mut Info,
+    ) -> i32;
+    pub fn ts_shared_archive(s: *mut Shared, upto: u64, info: &mut Info) -> i32;
+    pub fn ts_shared_reclaim(s: *mut Shared, info: &mut Info) -> i32;
+    pub fn ts_shared_floor(s: *mut Shared, time: u64, info: &mut Info) -> i32;
+    pub fn ts_shared_floor_of(s: *mut Shared, relation: u16, time: u64, info: &mut Info) -> i32;
+    pub fn ts_shared_grow(s: *mut Shared, info: &mut Info) -> i32;
+    pub fn ts_shared_job(s: *mut Shared) -> i32;
+    pub fn ts_shared_vacuum(s: *mut Shared, policy: &Policy) -> i32;
+    pub fn ts_shared_vacuumed(s: *mut Shared, info: &mut Info) -> i32;
 }
 
 unsafe extern "C" {

@@ -36,7 +36,7 @@ impl Room {
         self.out.resize(bytes.max(self.out.len()), 0);
     }
 
-    fn row(&self, number: usize) -> Row {
+    pub(crate) fn row(&self, number: usize) -> Row {
         let raw = &self.rows[number];
         let value = &self.out[raw.at as usize..(raw.at + raw.len) as usize];
         Row {

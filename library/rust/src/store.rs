@@ -2,7 +2,7 @@
 use crate::error::IN_DOUBT;
 use crate::raw::{self, Info};
 use crate::rows::{Records, Room, Rows};
-use crate::{Error, Fields, Result, Ticket, Txn, View, WaitingTicket, When, fields_of};
+use crate::{Cause, Error, Fields, Result, Ticket, Txn, View, WaitingTicket, When, fields_of};
 use std::cell::RefCell;
 use std::ffi::CString;
 use std::io;
@@ -70,16 +70,16 @@ pub struct Store {
 // The code of an answer, or what a refusal is; the file, if any, tells why its store failed.
 fn asked(code: i32, info: Info, file: *const raw::File) -> Result<i32> {
     if code < 0 || code == IN_DOUBT {
-        Err(Error::of(code, info, file))
+        Err(Error::of(code, info, || Cause::of(file)))
     } else {
         Ok(code)
     }
 }
 
 // A path has no byte that is zero.
-fn path_of(folder: &Path) -> Result<CString> {
+pub(crate) fn path_of(folder: &Path) -> Result<CString> {
     CString::new(folder.as_os_str().as_bytes()).map_err(|why| {
-        Error::System(crate::Cause {
+        Error::System(Cause {
             call: "open",
             area: None,
             error: io::Error::new(io::ErrorKind::InvalidInput, why),

@@ -19,7 +19,7 @@ use std::time::{Clock, Instant};
 use store::{Did, Store};
 
 /// What the readers do.
-#[derive(Clone, Copy, Debug, PartialEq, Eq)]
+#[derive(Clone, Copy)]
 pub(crate) enum Reading {
     /// Each takes a view for each key that it asks for.
     Views,
@@ -33,7 +33,7 @@ pub(crate) enum Reading {
 
 /// So many threads that commit, each so often, and so many that read. Where some read, the others write
 /// until these have ended.
-#[derive(Clone, Copy, Debug)]
+#[derive(Clone, Copy)]
 pub(crate) struct Load {
     pub(crate) writers: u8,
     pub(crate) commits: u64,
@@ -43,7 +43,7 @@ pub(crate) struct Load {
 }
 
 /// What was done.
-#[derive(Clone, Copy, Debug)]
+#[derive(Clone, Copy)]
 pub(crate) struct Work {
     pub(crate) commits: u64,
     pub(crate) spent: Spent,

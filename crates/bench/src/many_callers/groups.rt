@@ -6,7 +6,7 @@ use store::{Did, PumpFault};
 
 /// The groups that a committer published, and the nanoseconds that it waited for the commits of one, wrote
 /// and synced.
-#[derive(Clone, Copy, Debug, Drop)]
+#[derive(Clone, Copy, Drop)]
 pub(crate) struct Spent {
     pub(crate) groups: u64,
     /// From the end of a group to that of the first write of the next.

@@ -6,7 +6,7 @@ use history::Version;
 use store::QueryFault;
 
 /// How a commit ended.
-#[derive(Clone, Copy, Debug)]
+#[derive(Clone, Copy)]
 pub(crate) enum Ending {
     /// It is published, with this time.
     Done(u64),
@@ -19,7 +19,7 @@ pub(crate) enum Ending {
 }
 
 /// What a thread was told. A value of 0 is that of a record that is not there.
-#[derive(Clone, Copy, Debug)]
+#[derive(Clone, Copy)]
 pub(crate) enum Note {
     /// A commit by one call, of the label to the one record, and of it or of none to the other. Its caller
     /// had seen what was published up to a time.

@@ -38,7 +38,7 @@ const READ_MS: u64 = 20;
 
 /// The numbers of a soak's threads come from the seed; each writer writes so often, and there are so many
 /// milliseconds from one round of all writers to the next.
-#[derive(Clone, Copy, Debug)]
+#[derive(Clone, Copy)]
 struct Plan {
     seed: u64,
     rounds: u64,

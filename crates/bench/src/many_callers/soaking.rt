@@ -25,7 +25,7 @@ const WAIT_US: u64 = 200;
 
 /// A thread of a soak: where its numbers come from, its own number, how often it writes, and how many
 /// milliseconds there are from one round of all writers to the next.
-#[derive(Clone, Copy, Debug)]
+#[derive(Clone, Copy)]
 pub(crate) struct Worker {
     pub(crate) seed: u64,
     pub(crate) number: u64,

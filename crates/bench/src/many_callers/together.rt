@@ -143,7 +143,10 @@ pub(crate) fn measure<R: Files<File = File> + AllocGlobal + Print + Clock + Thre
             measure_load(rt, alloc, folder, load_of(1, readers, reading, count))
         }
         Verb::Holding => holding::measure(rt, alloc, folder, count),
-        Verb::Soak(pace) => soak::measure(rt, alloc, folder, count, request.number, pace),
+        Verb::Soak(pace) => {
+            let seed = request.number.unwrap_or(1);
+            soak::measure(rt, alloc, folder, count, seed, pace)
+        }
     }
 }
 

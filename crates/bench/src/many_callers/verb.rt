@@ -6,7 +6,7 @@ use crate::many_callers::crew::Reading;
 const SOAK_MS: u64 = 40;
 
 /// What is measured.
-#[derive(Clone, Copy, Debug)]
+#[derive(Clone, Copy)]
 pub(crate) enum Verb {
     /// Commits of so many writers.
     Writers(u8),

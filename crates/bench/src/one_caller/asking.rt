@@ -1,11 +1,11 @@
-//! Queries of a store with 1,000 keys of 100 versions each, beside copies of their answers.
+//! Queries of a store with 1,000 keys of as many versions each, beside copies of their answers.
 
 use crate::fault::Fault;
 use crate::numbers::{milliseconds, nanoseconds, quotient, rate};
 use crate::one_caller::committing::{Batch, commit};
 use crate::one_caller::copying::time_copies;
 use crate::one_caller::verb::Question;
-use crate::records::{FIRST_TIME, KEYS, RELATION, STEP, VERSIONS, is_version, key};
+use crate::records::{FIRST_TIME, KEYS, RELATION, STEP, is_version, key};
 use crate::stores;
 use chains::SharedValue;
 use disk::{Area, Disk};
@@ -22,31 +22,38 @@ use store::{QueryFault, Store, View};
 /// The slots of a store that `format` makes where it isn't told otherwise.
 const SLOTS: u32 = 1_024;
 
-/// The microseconds from the first version up to the last.
-const SPAN: u64 = (VERSIONS - 1) * STEP;
-
 /// The seed of the keys and times that are asked for.
 const SEED: u64 = 11;
 
+/// The microseconds from the first version up to the last, of so many.
+fn span_of(versions: u64) -> u64 {
+    versions.saturating_sub(1).saturating_mul(STEP)
+}
+
+/// How many versions each key has.
+fn versions_in(store: &Store<FileDisk>) -> u64 {
+    store.last().saturating_sub(FIRST_TIME) / STEP + 1
+}
+
 /// Commits version after version of all keys.
-fn load(alloc: Global, store: &mut Store<FileDisk>) -> Result<(), Fault> {
-    for version in 0..VERSIONS {
+fn load(alloc: Global, store: &mut Store<FileDisk>, versions: u64) -> Result<(), Fault> {
+    for version in 0..versions {
         let batch = Batch {
             first: 0,
             count: KEYS,
             version,
-            now: FIRST_TIME + version * STEP,
+            now: FIRST_TIME.saturating_add(version.saturating_mul(STEP)),
         };
         commit(alloc, store, &batch)?;
     }
     Ok(())
 }
 
-/// Makes a folder with a store of all versions, and closes it. Gives its disk.
-fn make(rt: &HostRuntime, alloc: Global, folder: &str) -> Result<FileDisk, Fault> {
+/// Makes a folder with a store of so many versions of each key, and closes it. Gives its disk.
+fn make(rt: &HostRuntime, alloc: Global, folder: &str, versions: u64) -> Result<FileDisk, Fault> {
     stores::make(rt, alloc, folder, SLOTS)?;
     let mut store = stores::open(rt, alloc, folder)?;
-    let loaded = load(alloc, &mut store);
+    let loaded = load(alloc, &mut store, versions);
     let disk = store.close();
     loaded?;
     Ok(disk)
@@ -63,8 +70,8 @@ fn ask_value(store: &mut Store<FileDisk>, record: u64, after: u64) -> Result<(),
     }
 }
 
-/// Whether these are all versions of a key.
-fn are_versions(rows: &[Version<SharedValue>], record: u64) -> bool {
+/// Whether these are all versions of a key, so many.
+fn are_versions(rows: &[Version<SharedValue>], record: u64, versions: u64) -> bool {
     let mut version = 0u64;
     for row in rows {
         if !is_version(&row.value, record, version) {
@@ -72,24 +79,26 @@ fn are_versions(rows: &[Version<SharedValue>], record: u64) -> bool {
         }
         version = version.wrapping_add(1);
     }
-    version == VERSIONS
+    version == versions
 }
 
 /// Asks for all versions of a key.
 fn ask_rows(store: &mut Store<FileDisk>, record: u64) -> Result<(), Fault> {
+    let versions = versions_in(store);
+    let end = store.last().saturating_add(1);
     let view = store.view()?;
-    let found = store.between(&view, key(record), FIRST_TIME, FIRST_TIME + SPAN + 1);
+    let found = store.between(&view, key(record), FIRST_TIME, end);
     store.end(view);
-    if are_versions(&found?, record) {
+    if are_versions(&found?, record, versions) {
         Ok(())
     } else {
         Err(Fault::Wrong("other rows"))
     }
 }
 
-/// Whether a walk goes over all versions of a key.
-fn walks_versions(view: &View, record: u64) -> Result<bool, QueryFault> {
-    let mut walk = view.recent_rows(key(record), FIRST_TIME, FIRST_TIME + SPAN + 1)?;
+/// Whether a walk goes over all versions of a key, so many, up to a time.
+fn walks_versions(view: &View, record: u64, end: u64, versions: u64) -> Result<bool, QueryFault> {
+    let mut walk = view.recent_rows(key(record), FIRST_TIME, end)?;
     let mut version = 0u64;
     while let Some(row) = walk.next() {
         if !is_version(row.value, record, version) {
@@ -97,13 +106,15 @@ fn walks_versions(view: &View, record: u64) -> Result<bool, QueryFault> {
         }
         version = version.wrapping_add(1);
     }
-    Ok(version == VERSIONS)
+    Ok(version == versions)
 }
 
 /// Asks for all versions of a key, in a loan.
 fn ask_walk(store: &mut Store<FileDisk>, record: u64) -> Result<(), Fault> {
+    let versions = versions_in(store);
+    let end = store.last().saturating_add(1);
     let view = store.view()?;
-    let found = walks_versions(&view, record);
+    let found = walks_versions(&view, record, end, versions);
     store.end(view);
     if found? {
         Ok(())
@@ -170,43 +181,47 @@ pub(crate) fn time_questions(
     Ok(nanoseconds(rt, &start)?)
 }
 
-/// How many values an answer has, and how many things the measurement counts of it.
-fn sizes(question: Question) -> (u64, u64) {
+/// How many values an answer has where each key has so many versions, and how many things the measurement
+/// counts of it.
+fn sizes(question: Question, versions: u64) -> (u64, u64) {
     match question {
         Question::Value => (1, 1),
-        Question::Rows | Question::Walk => (VERSIONS, VERSIONS),
+        Question::Rows | Question::Walk => (versions, versions),
         Question::Scan => (KEYS, 1),
     }
 }
 
-/// The nanoseconds of opening a store and of this many questions.
+/// The nanoseconds of opening a store of so many versions of each key, and of this many questions.
 fn time_opened(
     rt: &HostRuntime,
     alloc: Global,
     folder: &str,
     question: Question,
     count: u64,
+    versions: u64,
 ) -> Result<(u64, u64), Fault> {
     let start = Instant::now(rt)?;
     let mut store = stores::open(rt, alloc, folder)?;
     let opened = nanoseconds(rt, &start);
-    let time = time_questions(rt, &mut store, question, SPAN + 1, count);
+    let times = span_of(versions).saturating_add(1);
+    let time = time_questions(rt, &mut store, question, times, count);
     store.close();
     Ok((opened?, time?))
 }
 
-/// Measures this many questions, after the store was closed and opened.
+/// Measures this many questions of a store of so many versions of each key, after it was closed and opened.
 pub(crate) fn measure(
     rt: &HostRuntime,
     alloc: Global,
     folder: &str,
     question: Question,
     count: u64,
+    versions: u64,
 ) -> Result<(), Fault> {
     let folder = format!(in alloc; "{folder}/store")?;
-    make(rt, alloc, folder.as_str())?;
-    let (opened, time) = time_opened(rt, alloc, folder.as_str(), question, count)?;
-    let (values, each) = sizes(question);
+    make(rt, alloc, folder.as_str(), versions)?;
+    let (opened, time) = time_opened(rt, alloc, folder.as_str(), question, count, versions)?;
+    let (values, each) = sizes(question, versions);
     let value = rate(count.saturating_mul(each), time);
     let copies = rate(
         count.saturating_mul(each),
@@ -219,14 +234,20 @@ pub(crate) fn measure(
     Ok(())
 }
 
-/// Measures the bytes on disk of a version: of the three files, and of the heap alone.
-pub(crate) fn measure_size(rt: &HostRuntime, alloc: Global, folder: &str) -> Result<(), Fault> {
+/// Measures the bytes on disk of a version, where each key has so many: of the three files, and of the heap
+/// alone.
+pub(crate) fn measure_size(
+    rt: &HostRuntime,
+    alloc: Global,
+    folder: &str,
+    versions: u64,
+) -> Result<(), Fault> {
     let folder = format!(in alloc; "{folder}/store")?;
-    let mut disk = make(rt, alloc, folder.as_str())?;
+    let mut disk = make(rt, alloc, folder.as_str(), versions)?;
     let heap = disk.len(Area::Heap)?;
     let status = disk.len(Area::Status)?;
     let archive = disk.len(Area::Archive)?;
-    let versions = KEYS * VERSIONS;
+    let versions = KEYS.saturating_mul(versions);
     let value = quotient(
         heap.saturating_add(status).saturating_add(archive),
         versions,

@@ -11,7 +11,7 @@ use store::{Did, Redeemed, Store, Submitted, Ticket};
 const LABEL: u64 = 9;
 
 /// What a transaction writes: a version of so many records, from the first on.
-#[derive(Clone, Copy, Debug)]
+#[derive(Clone, Copy)]
 pub(crate) struct Batch {
     pub(crate) first: u64,
     pub(crate) count: u64,

@@ -10,7 +10,7 @@ use std::rt::Files;
 use std::time::Clock;
 
 /// Bytes of memory.
-#[derive(Clone, Copy, Debug)]
+#[derive(Clone, Copy)]
 pub(crate) struct Held {
     /// What is held.
     pub(crate) now: u64,

@@ -18,7 +18,7 @@ use store::Store;
 const SPARE_SLOTS: u64 = 256;
 
 /// How a store is filled.
-#[derive(Clone, Copy, Debug)]
+#[derive(Clone, Copy)]
 struct Filling {
     /// How many commits write each key once.
     parts: u64,

@@ -22,7 +22,7 @@ const PIECE_LEN: u64 = 8_192;
 const SLOT_LEN: u64 = 512;
 
 /// The nanoseconds of jobs, and how many pieces they wrote.
-#[derive(Clone, Copy, Debug)]
+#[derive(Clone, Copy)]
 struct Spent {
     starting: u64,
     writing: u64,
@@ -125,7 +125,7 @@ fn reclaim(rt: &HostRuntime, store: &mut Store<FileDisk>, spent: &mut Spent) -> 
 }
 
 /// What a task took: its nanoseconds, the bytes that it wrote, and the memory before and after it.
-#[derive(Clone, Copy, Debug)]
+#[derive(Clone, Copy)]
 struct Took {
     spent: Spent,
     bytes: u64,

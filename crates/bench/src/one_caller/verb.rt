@@ -2,7 +2,7 @@
 
 /// How a measurement of commits is made up: so many transactions under one gate, each of so many
 /// records, all in so many extents.
-#[derive(Clone, Copy, Debug)]
+#[derive(Clone, Copy)]
 pub(crate) struct Shape {
     pub(crate) transactions: u64,
     pub(crate) records: u64,
@@ -31,7 +31,7 @@ const LARGE: Shape = Shape {
 };
 
 /// What is asked of the versions of some keys.
-#[derive(Clone, Copy, Debug, PartialEq, Eq)]
+#[derive(Clone, Copy)]
 pub(crate) enum Question {
     /// The value of a key as of a time.
     Value,
@@ -44,7 +44,7 @@ pub(crate) enum Question {
 }
 
 /// Of what keys a store is made that is to be vacuumed.
-#[derive(Clone, Copy, Debug, PartialEq, Eq)]
+#[derive(Clone, Copy)]
 pub(crate) enum Breadth {
     /// Many versions of each of 1,000 keys.
     Deep,
@@ -53,13 +53,13 @@ pub(crate) enum Breadth {
 }
 
 /// What a vacuum does.
-#[derive(Clone, Copy, Debug, PartialEq, Eq)]
+#[derive(Clone, Copy)]
 pub(crate) enum Task {
     Archive,
     Reclaim,
 }
 
-#[derive(Clone, Copy, Debug)]
+#[derive(Clone, Copy)]
 pub(crate) enum Verb {
     Commits(Shape),
     Queries(Question),

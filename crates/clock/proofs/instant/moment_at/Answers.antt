@@ -10,7 +10,8 @@ use Rattle.clock.proofs.instant.moment_at.Goals as goal
 pub returns-clause-found : goal.returns-clause-found
 returns-clause-found c =
     let d = c.in_ok-date.date in
-    let day : days_from_civil d.year d.month d.day ≡ pos (c.args.t / 1000000 / 86400) = grind (arith, common_steps, c.from_unix_epoch_day.ensures.value, c.in_ok-date.ensures.value) in
+    let day : days_from_civil d.year d.month d.day ≡ pos (c.args.t / 1000000 / 86400) =
+    grind (arith, common_steps, c.from_unix_epoch_day.ensures.value, c.in_ok-date.ensures.value) in
     let zero : pos 0 ≤ℤ days_from_civil d.year d.month d.day = omega (arith, signed_arith) in
     let late = year-from_1970 d.year d.month d.day (d.year_in, d.month_in, d.day_in) zero in
     let fits : FitsSigned w16 d.year = omega (arith, signed_arith, d.year_in) in

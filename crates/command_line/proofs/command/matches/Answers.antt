@@ -24,4 +24,5 @@ returns-clause-met c =
 pub returns-clause-faults : goal.returns-clause-faults
 returns-clause-faults c =
     let words = map {A = Bor (List ℕ)} {B = List ℕ} (λ w. w.now) c.args.words.now in
-    subst (λ (app : App). is_simple_and_free app ≡ true → FailsBy (fault_of app words) c.try_get_matches_from.result) c.in_ok-timestore.ensures.0 c.try_get_matches_from.ensures.kinds is-free
+    subst (λ (app : App). is_simple_and_free app ≡ true → FailsBy (fault_of app words) c.try_get_matches_from.result) c.in_ok-timestore.ensures.0
+    c.try_get_matches_from.ensures.kinds is-free

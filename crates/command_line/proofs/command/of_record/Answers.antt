@@ -6,4 +6,5 @@ pub returns : goal.returns
 returns c =
     let name : App = new_app c.args.name.now in
     let with_dir = c.with_arg-command.ensures name dir c.command-command.ensures c.dir.ensures in
-    c.with_arg.ensures (with_rule (with_rule name dir) relation) record_number (c.with_arg-command-2.ensures (with_rule name dir) relation with_dir c.relation.ensures) c.record_number.ensures
+    c.with_arg.ensures (with_rule (with_rule name dir) relation) record_number
+    (c.with_arg-command-2.ensures (with_rule name dir) relation with_dir c.relation.ensures) c.record_number.ensures

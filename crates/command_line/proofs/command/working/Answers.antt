@@ -4,4 +4,5 @@ use Rattle.command_line.proofs.command.working.Goals as goal
 
 pub returns : goal.returns
 returns c =
-    c.with_command.ensures (with_subcommand asking vacuum.top) grow (c.with_command-command.ensures asking vacuum c.asking.ensures c.vacuum.ensures) c.grow.ensures
+    c.with_command.ensures (with_subcommand asking vacuum.top) grow
+    (c.with_command-command.ensures asking vacuum c.asking.ensures c.vacuum.ensures) c.grow.ensures

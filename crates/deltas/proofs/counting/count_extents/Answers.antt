@@ -12,8 +12,10 @@ loop-record-preserved g c =
     let next : Some (record_of_loan c.in-Some.record) ≡ slice_get (g.S.RecordSource.left c.loop-record.source) 0 = rw c.in-Some.is at c.peek.ensures in
     elim c.if-used-len-gt-BODY_LEN.branch [
       | then-used-len-gt-BODY_LEN w ↦
-          rw (w.extents-is, w.used-is) (next_begun _ _ _ _ _ _ _ _ next c.advance.ensures c.loan_len-len.ensures.is c.loan_len-len.ensures.short w.if-used-len-gt-BODY_LEN.true c.loop-record.invariant)
-      | else-used-len-gt-BODY_LEN w ↦ rw (w.extents-is, w.used-is) (next_added _ _ _ _ _ _ _ _ next c.advance.ensures c.loan_len-len.ensures.is w.if-used-len-gt-BODY_LEN.false c.loop-record.invariant)
+          rw (w.extents-is, w.used-is) (next_begun _ _ _ _ _ _ _ _ next c.advance.ensures c.loan_len-len.ensures.is c.loan_len-len.ensures.short
+          w.if-used-len-gt-BODY_LEN.true c.loop-record.invariant)
+      | else-used-len-gt-BODY_LEN w ↦ rw (w.extents-is, w.used-is)
+          (next_added _ _ _ _ _ _ _ _ next c.advance.ensures c.loan_len-len.ensures.is w.if-used-len-gt-BODY_LEN.false c.loop-record.invariant)
     ]
 
 pub returns : goal.returns

@@ -9,5 +9,6 @@ returns c =
     let next = c.args.next in
     let b = c.body.inside in
     c.of_all.ensures
-    ∙ sealed number next b.used b.image.len b.image.items c.deref_mut.result.now c.put_header.new.image c.body.invariant b.image.ok.0 c.deref_mut.ensures.value c.put_header.ensures
+    ∙ sealed number next b.used b.image.len b.image.items c.deref_mut.result.now c.put_header.new.image c.body.invariant b.image.ok.0 c.deref_mut.ensures.value
+    c.put_header.ensures
     ∙ ap (λ l. extent_bytes (record { number = number; next = next; body = l })) c.body.view_is

@@ -11,14 +11,19 @@ loop-record-init g c =
 
 pub loop-record-preserved : goal.loop-record-preserved
 loop-record-preserved g c =
-    let next : Some (record_of_loan c.in-Some-peek.record) ≡ slice_get (g.S.RecordSource.left c.loop-record.source) 0 = rw c.in-Some-peek.is at c.peek-in-loop-record.ensures in
+    let next : Some (record_of_loan c.in-Some-peek.record) ≡ slice_get (g.S.RecordSource.left c.loop-record.source) 0 =
+    rw c.in-Some-peek.is at c.peek-in-loop-record.ensures in
     elim c.if-len-loan_len-gt-BODY_LEN.branch [
       | then-len-loan_len-gt-BODY_LEN+in_ok-push+in_ok-body-2 w ↦
           rw (w.packed-is, w.body-is)
-          (next_begins _ _ _ _ _ _ _ _ next c.advance-in-Some-peek.ensures (omega (arith, w.if-len-loan_len-gt-BODY_LEN.true, c.len.ensures.is, c.loan_len.ensures.is)) w.in_ok-push.ensures.items w.in_ok-body-2.ensures c.loop-record.invariant)
+          (next_begins _ _ _ _ _ _ _ _ next c.advance-in-Some-peek.ensures
+          (omega (arith, w.if-len-loan_len-gt-BODY_LEN.true, c.len.ensures.is, c.loan_len.ensures.is)) w.in_ok-push.ensures.items w.in_ok-body-2.ensures
+          c.loop-record.invariant)
       | else-len-loan_len-gt-BODY_LEN w ↦
           rw (w.packed-is, w.body-is)
-          (next_joins _ _ _ _ _ _ _ _ next c.advance-in-Some-peek.ensures (omega (arith, w.if-len-loan_len-gt-BODY_LEN.false, c.len.ensures.is, c.loan_len.ensures.is)) refl w.push-else-len-loan_len-gt-BODY_LEN.ensures c.loop-record.invariant)
+          (next_joins _ _ _ _ _ _ _ _ next c.advance-in-Some-peek.ensures
+          (omega (arith, w.if-len-loan_len-gt-BODY_LEN.false, c.len.ensures.is, c.loan_len.ensures.is)) refl w.push-else-len-loan_len-gt-BODY_LEN.ensures
+          c.loop-record.invariant)
     ]
 
 pub returns-in_default-clause-none : goal.returns-in_default-clause-none

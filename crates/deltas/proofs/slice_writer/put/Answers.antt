@@ -7,4 +7,5 @@ returns-clause-behind c n le =
     let at = c.args.at in
     let fits = c.requires in
     let same = c.copy_from_slice.ensures.after in
-    drop-put_mid at (at + length c.args.bytes.now - at) c.args.out.now c.copy_from_slice.new.self n (omega (arith, le)) (omega (arith, fits)) (ap length same ∙ omega arith)
+    drop-put_mid at (at + length c.args.bytes.now - at) c.args.out.now c.copy_from_slice.new.self n (omega (arith, le)) (omega (arith, fits))
+    (ap length same ∙ omega arith)

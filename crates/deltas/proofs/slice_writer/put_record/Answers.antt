@@ -3,10 +3,12 @@ use Rattle.deltas.specs.Records.{spelling}
 use Rattle.deltas.proofs.slice_writer.put_record.Goals as goal
 
 -- the kind, the key and the rest, each behind the one before it
-one_behind_other : (front kind key rest relation number last : List ℕ) (written is : ℕ) → rest ≡ key ++ last → key ≡ kind ++ relation ++ number → kind ≡ front ++ written ∷ [] → written ≡ is
+one_behind_other : (front kind key rest relation number last : List ℕ) (written is : ℕ) → rest ≡ key ++ last → key ≡ kind ++ relation ++ number
+    → kind ≡ front ++ written ∷ [] → written ≡ is
     → rest ≡ front ++ is ∷ (relation ++ number ++ last)
 one_behind_other front kind key rest relation number last written is rest_is key_is kind_is same =
-    rest_is ∙ ap (λ (l : List ℕ). l ++ last) (key_is ∙ ap (λ (l : List ℕ). l ++ relation ++ number) (kind_is ∙ ap (λ m. front ++ m ∷ []) same)) ∙ simp append_assoc
+    rest_is ∙ ap (λ (l : List ℕ). l ++ last) (key_is ∙ ap (λ (l : List ℕ). l ++ relation ++ number) (kind_is ∙ ap (λ m. front ++ m ∷ []) same))
+    ∙ simp append_assoc
 
 pub returns-clause-front : goal.returns-clause-front
 unfolding spelling

@@ -12,14 +12,17 @@ returns c =
     let old = c.args.old.now in
     let new = c.args.new.now in
     let same : length old ≡ length new = sym (sym c.len.ensures.is ∙ c.if-len.false ∙ c.len-2.ensures.is) in
-    let size : c.changed_len.result ≡ length (fields_bytes (changed_of old new)) = c.changed_len.ensures.is ∙ (λ i. length (fields_bytes (changed_of (c.iter.ensures i) (c.iter-2.ensures i)))) in
-    let whole : length c.spelled.result.now ≡ length (fields_bytes new) = ap (λ (l : List ℕ). length l) (c.spelled.ensures.is ∙ ap fields_bytes c.fields.ensures) in (
+    let size : c.changed_len.result ≡ length (fields_bytes (changed_of old new)) =
+    c.changed_len.ensures.is ∙ (λ i. length (fields_bytes (changed_of (c.iter.ensures i) (c.iter-2.ensures i)))) in
+    let whole : length c.spelled.result.now ≡ length (fields_bytes new) =
+    ap (λ (l : List ℕ). length l) (c.spelled.ensures.is ∙ ap fields_bytes c.fields.ensures) in (
       λ h.
           let fits : length c.spelled.result.now ≤ 1 + c.changed_len.result = grind (arith, nat_tests) in
           as_anchor_longer old new (omega (arith, size, whole, fits)),
       λ is.
           ⊎_elim
-          (λ (less : 1 + c.changed_len.result < length c.spelled.result.now). absurd (let delta = as_delta old new same (omega (arith, size, whole, less)) in cc))
+          (λ (less : 1 + c.changed_len.result < length c.spelled.result.now).
+          absurd (let delta = as_delta old new same (omega (arith, size, whole, less)) in cc))
           (λ (fits : length c.spelled.result.now ≤ 1 + c.changed_len.result). grind (arith, nat_tests))
           (cases_lt (1 + c.changed_len.result) (length c.spelled.result.now)),
     )

@@ -12,6 +12,7 @@ pub returns : goal.returns
 returns c =
     let old = c.args.old.now in
     let new = c.args.new.now in
-    let mask : c.mask.result ≡ mask_of old new = c.mask.ensures.is ∙ ap (λ (l : List (List ℕ)). mask_of l c.iter-2.result) c.iter.ensures ∙ ap (λ (l : List (List ℕ)). mask_of old l) c.iter-2.ensures in
+    let mask : c.mask.result ≡ mask_of old new =
+    c.mask.ensures.is ∙ ap (λ (l : List (List ℕ)). mask_of l c.iter-2.result) c.iter.ensures ∙ ap (λ (l : List (List ℕ)). mask_of old l) c.iter-2.ensures in
     let fields = c.in_ok-changed.ensures in
     (λ i. Delta (mask i) (fields i)) ∙ sym (delta_else old new (λ is. false≢true (c.if-is_whole.ensures.1 is)))

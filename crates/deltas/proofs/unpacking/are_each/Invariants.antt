@@ -6,7 +6,8 @@ use Rattle.deltas.proofs.unpacking.are_each.Given as goal
 
 abbrev pub invariant-loop-rest : goal.invariant-loop-rest
 invariant-loop-rest l =
-    (AllByRecursion IsRecord l.rest × AllByRecursion (λ r. IsPermitted l.kinds r.content) l.rest) ↔ (AllByRecursion IsRecord l.records × AllByRecursion (λ r. IsPermitted l.kinds r.content) l.records)
+    (AllByRecursion IsRecord l.rest × AllByRecursion (λ r. IsPermitted l.kinds r.content) l.rest)
+    ↔ (AllByRecursion IsRecord l.records × AllByRecursion (λ r. IsPermitted l.kinds r.content) l.records)
 
 abbrev pub decreases-loop-rest : goal.decreases-loop-rest
 decreases-loop-rest l = length l.rest

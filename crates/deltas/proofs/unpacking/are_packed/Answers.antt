@@ -13,8 +13,11 @@ returns c =
     let was : ArePacked [] c.loop-rest.left.left.now ↔ ArePacked c.args.images.now c.args.records.now =
     subst (λ (l : List (List ℕ)). ArePacked l c.loop-rest.left.left.now ↔ ArePacked c.args.images.now c.args.records.now) end c.loop-rest.invariant in
     let next = c.peek.ensures in
-    let is = c.is_none.ensures in
-    (λ none. was.0 (all.1 (none_next c.loop-rest.left.left.now (let no : c.peek.result ≡ None = search rules in rw no at next))), λ packed. let e = all.0 (was.1 packed) in search rules)
+    let is = c.is_none.ensures in (
+      λ none. was.0 (all.1 (none_next c.loop-rest.left.left.now (let no : c.peek.result ≡ None = search rules in rw no at next))),
+      λ packed. let e =
+          all.0 (was.1 packed) in search rules,
+    )
 
 pub loop-rest-preserved : goal.loop-rest-preserved
 loop-rest-preserved c = grind (arith, common_steps)

@@ -9,4 +9,5 @@ returns-in_default c = (λ yes. none_rise c.args.records.now (omega (arith, c.in
 pub loop-rest-init : goal.loop-rest-init
 loop-rest-init c =
     let some : 0 < length c.args.records.now = search rules in
-    first_rises c.args.records.now (take (length c.args.records.now - 1) (drop 1 c.args.records.now)) c.first-item.result (head_tail c.args.records.now c.first-item.result some c.first-item.is)
+    first_rises c.args.records.now (take (length c.args.records.now - 1) (drop 1 c.args.records.now)) c.first-item.result
+    (head_tail c.args.records.now c.first-item.result some c.first-item.is)

@@ -20,7 +20,8 @@ loop-rest-preserved c = λ records are is.
     let some : 0 < length c.loop-rest.rest.now = search rules in
     let found = rw c.in-Some.is at c.in_ok-record.ensures in
     let left = c.loop-rest.invariant records are is in
-    rw c.in_ok-push.ensures.items (left_more c.loop-rest.found.items c.loop-rest.rest.now c.in-Some.after.now c.in-Some.record (c.args.found.now.items ++ records) left.0 some found.1 found.2 left.1)
+    rw c.in_ok-push.ensures.items (left_more c.loop-rest.found.items c.loop-rest.rest.now c.in-Some.after.now c.in-Some.record
+    (c.args.found.now.items ++ records) left.0 some found.1 found.2 left.1)
 
 pub returns : goal.returns
 returns c = λ records are is.

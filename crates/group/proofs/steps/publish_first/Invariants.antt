@@ -15,5 +15,6 @@ invariant-loop l =
           (versions_after l.fn.versions (take l.fn.count l.fn.queue.items))
           (with_usages l.fn.extents (flat_map numbers_of (take l.fn.count l.fn.queue.items)) Kept)
           (drop l.fn.count l.fn.queue.items);
-      still : (others : List ℕ) → AreOut l.fn.extents (flat_map numbers_of l.fn.queue.items ++ others) → AreOut l.extents (flat_map numbers_of l.queue.items ++ others);
+      still : (others : List ℕ) → AreOut l.fn.extents (flat_map numbers_of l.fn.queue.items ++ others)
+          → AreOut l.extents (flat_map numbers_of l.queue.items ++ others);
     }

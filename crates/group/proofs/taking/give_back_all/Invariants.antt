@@ -5,7 +5,8 @@ use Rattle.extents.specs.declared.usage.Usage.TheVariants.{Free}
 use Rattle.group.proofs.taking.give_back_all.Given as goal
 
 abbrev pub invariant-loop-extent : goal.invariant-loop-extent
-invariant-loop-extent l = AreOut l.fn.extents l.fn.taken.items → LeftOut l.extents (into_iter_items l.taken) (with_usages l.fn.extents l.fn.taken.items Free) Free
+invariant-loop-extent l =
+    AreOut l.fn.extents l.fn.taken.items → LeftOut l.extents (into_iter_items l.taken) (with_usages l.fn.extents l.fn.taken.items Free) Free
 
 abbrev pub decreases-loop-extent : goal.decreases-loop-extent
 decreases-loop-extent l = into_iter_len l.taken

@@ -6,7 +6,8 @@ use Rattle.extents.specs.declared.usage.Usage.TheVariants.{Kept}
 use Rattle.group.proofs.taking.keep_all.Given as goal
 
 abbrev pub invariant-loop-extent : goal.invariant-loop-extent
-invariant-loop-extent l = AreOut l.fn.extents (map (λ s. s.extent) l.fn.stored.items) → LeftOut l.extents (map (λ s. s.extent) (into_iter_items l.stored)) (with_usages l.fn.extents (map (λ s. s.extent) l.fn.stored.items) Kept) Kept
+invariant-loop-extent l = AreOut l.fn.extents (map (λ s. s.extent) l.fn.stored.items)
+    → LeftOut l.extents (map (λ s. s.extent) (into_iter_items l.stored)) (with_usages l.fn.extents (map (λ s. s.extent) l.fn.stored.items) Kept) Kept
 
 abbrev pub decreases-loop-extent : goal.decreases-loop-extent
 decreases-loop-extent l = into_iter_len l.stored

@@ -9,7 +9,9 @@ returns-then-not-branch-clause-goes g c = λ told header profile all opens.
     let before = c.loop-disk.walk.slots.items in
     let after = c.read_on.new.walk.slots.items in
     let read = rw c.if-not-branch.true at (c.in_ok-read_on.ensures.goes told header (profile ∙ sym so_far.profile) all) in
-    let ends = subst (λ (s : DiskState). OpensWith header s.areas.status.bytes before → OpensWith header s.areas.status.bytes after × ¬ IsOpen s.areas.status.bytes (length after)) so_far.same read (so_far.goes told header profile all opens) in
+    let ends = subst (λ (s : DiskState). OpensWith header s.areas.status.bytes before
+    → OpensWith header s.areas.status.bytes after × ¬ IsOpen s.areas.status.bytes (length after)) so_far.same read
+    (so_far.goes told header profile all opens) in
     (ends.0, λ lt. ends.1)
 
 pub loop-disk-preserved : goal.loop-disk-preserved
@@ -24,5 +26,6 @@ loop-disk-preserved g c =
       same = c.in_ok-read_on.ensures.same ∙ so_far.same;
       goes = λ told header profile all opens.
           let read = rw c.if-not-branch.false at (c.in_ok-read_on.ensures.goes told header (profile ∙ sym so_far.profile) all) in
-          subst (λ (s : DiskState). OpensWith header s.areas.status.bytes before → OpensWith header s.areas.status.bytes after) so_far.same read (so_far.goes told header profile all opens);
+          subst (λ (s : DiskState). OpensWith header s.areas.status.bytes before → OpensWith header s.areas.status.bytes after) so_far.same read
+          (so_far.goes told header profile all opens);
     }

@@ -13,7 +13,8 @@ invariant-loop-disk g l = record {
   within : length l.walk.slots.items ≤ l.all;
   same : g.D.Disk.state l.disk ≡ g.D.Disk.state l.fn.disk;
   goes : IsTrue g.D.Disk.tells → (header : Header) → header.profile ≡ l.fn.walk.profile → total header ≡ l.all
-      → OpensWith header (g.D.Disk.state l.fn.disk).areas.status.bytes l.fn.walk.slots.items → OpensWith header (g.D.Disk.state l.fn.disk).areas.status.bytes l.walk.slots.items;
+      → OpensWith header (g.D.Disk.state l.fn.disk).areas.status.bytes l.fn.walk.slots.items
+      → OpensWith header (g.D.Disk.state l.fn.disk).areas.status.bytes l.walk.slots.items;
 }
 
 abbrev pub decreases-loop-disk : goal.decreases-loop-disk

@@ -13,7 +13,8 @@ returns-clause-log g c = λ told.
     let read = c.in_ok-read_slots.ensures.goes told header (sym c.new-walk.ensures.profile) (sym c.total.ensures) none in
     record {
       opens = read.0;
-      rules = subst (λ (p : ℕ). KeepsRules p c.read_slots.new.walk.slots.items) (c.in_ok-read_slots.ensures.profile ∙ c.new-walk.ensures.profile) c.in_ok-read_slots.ensures.walk.are_slots.rules;
+      rules = subst (λ (p : ℕ). KeepsRules p c.read_slots.new.walk.slots.items)
+          (c.in_ok-read_slots.ensures.profile ∙ c.new-walk.ensures.profile) c.in_ok-read_slots.ensures.walk.are_slots.rules;
       ended = read.1;
     }
 

@@ -12,4 +12,5 @@ pub returns : goal.returns
 returns c =
     let found = rw c.in-Some.is at c.in_ok-fields.ensures in
     let some : 0 < length c.args.bytes.now = search rules in
-    value_found c.args.bytes.now (take (length c.args.bytes.now - 1) (drop 1 c.args.bytes.now)) c.in-Some.rest.now _ c.in-Some.fields (λ i. omega (arith, c.type_inv.bytes i)) some refl (whole_rest 1 c.args.bytes.now) (search rules) found
+    value_found c.args.bytes.now (take (length c.args.bytes.now - 1) (drop 1 c.args.bytes.now)) c.in-Some.rest.now _ c.in-Some.fields
+    (λ i. omega (arith, c.type_inv.bytes i)) some refl (whole_rest 1 c.args.bytes.now) (search rules) found

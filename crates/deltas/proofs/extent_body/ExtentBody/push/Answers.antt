@@ -12,7 +12,8 @@ invariant_of-self c =
     let used = length-records b.image.items b.used c.self.invariant in
     let many = ap length c.self.view_is in
     let room = c.requires in
-    (pushed b.image.items c.deref_mut.result.now put.new.out bytes b.image.len b.used put.result c.self.invariant b.image.ok.0 c.deref_mut.ensures.value put.ensures.end (omega (arith, room, used, many)) put.ensures.front put.ensures.behind put.ensures.len).begun
+    (pushed b.image.items c.deref_mut.result.now put.new.out bytes b.image.len b.used put.result c.self.invariant b.image.ok.0 c.deref_mut.ensures.value
+    put.ensures.end (omega (arith, room, used, many)) put.ensures.front put.ensures.behind put.ensures.len).begun
 
 pub returns : goal.returns
 returns c =
@@ -22,5 +23,6 @@ returns c =
     let used = length-records b.image.items b.used c.self.invariant in
     let many = ap length c.self.view_is in
     let room = c.requires in
-    (pushed b.image.items c.deref_mut.result.now put.new.out bytes b.image.len b.used put.result c.self.invariant b.image.ok.0 c.deref_mut.ensures.value put.ensures.end (omega (arith, room, used, many)) put.ensures.front put.ensures.behind put.ensures.len).records
+    (pushed b.image.items c.deref_mut.result.now put.new.out bytes b.image.len b.used put.result c.self.invariant b.image.ok.0 c.deref_mut.ensures.value
+    put.ensures.end (omega (arith, room, used, many)) put.ensures.front put.ensures.behind put.ensures.len).records
     ∙ ap (λ l. l ++ bytes) c.self.view_is

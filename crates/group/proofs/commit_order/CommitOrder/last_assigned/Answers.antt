@@ -14,5 +14,6 @@ returns-clause-is c =
 pub returns-clause-in_range : goal.returns-clause-in_range
 returns-clause-in_range c =
     let items = c.self.inside.heads.items in
-    let is = ap (λ (h : CommitHead). h.time) c.index.ensures ∙ sym (last_time-all items c.len-count.result c.index.result.now (omega arith) (omega (arith, c.self.inside.heads.ok.0))) in
+    let is = ap (λ (h : CommitHead). h.time) c.index.ensures
+    ∙ sym (last_time-all items c.len-count.result c.index.result.now (omega arith) (omega (arith, c.self.inside.heads.ok.0))) in
     rw is (last_time-range 0 items (omega arith) c.self.invariant.rising)

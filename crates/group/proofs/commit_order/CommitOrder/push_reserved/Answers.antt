@@ -6,7 +6,8 @@ use Rattle.group.proofs.commit_order.CommitOrder.push_reserved.Goals as goal
 
 pub invariant_of-self : goal.invariant_of-self
 invariant_of-self c =
-    let later : last_time c.self.inside.heads.items < c.args.head.time = subst (λ (v : CommitOrderValue). last_assigned v < c.args.head.time) (sym c.self.view_is) c.requires.later in
+    let later : last_time c.self.inside.heads.items < c.args.head.time =
+    subst (λ (v : CommitOrderValue). last_assigned v < c.args.head.time) (sym c.self.view_is) c.requires.later in
     rw c.push_reserved.ensures.items record {
       within = simp length-append (omega (arith, c.self.invariant.within));
       rising = IsRisingAfter-push 0 _ _ c.self.invariant.rising later c.requires.in_range;

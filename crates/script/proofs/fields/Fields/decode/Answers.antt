@@ -7,5 +7,6 @@ field_bytes-requires c = (all_cons _ _ _ c.in-Some.ensures c.loop-word.invariant
 pub loop-word-preserved : goal.loop-word-preserved
 loop-word-preserved c = record {
   fields = (all_cons _ _ _ c.in-Some.ensures c.loop-word.invariant.fields).1;
-  bytes = pushed_more _ c.loop-word.fields.items c.push.new.self.items _ _ _ c.in_ok-field_bytes.field-0 c.loop-word.invariant.bytes c.in-Some.ensures c.in_ok-field_bytes.ensures c.in_ok-push.ensures.items;
+  bytes = pushed_more _ c.loop-word.fields.items c.push.new.self.items _ _ _ c.in_ok-field_bytes.field-0 c.loop-word.invariant.bytes c.in-Some.ensures
+      c.in_ok-field_bytes.ensures c.in_ok-push.ensures.items;
 }

@@ -12,5 +12,6 @@ invariant-loop-place l = record {
   walk : IsWalk l.self.profile l.self.slots.items l.self.end;
   len : length l.self.slots.items ≡ length l.fn.self.slots.items + l.place;
   goes : (header : Header) (bytes : List ℕ) → header.profile ≡ l.fn.self.profile → length l.fn.self.slots.items + l.count ≤ total header
-      → HoldsPart (slot_start (length l.fn.self.slots.items)) l.chunk bytes → OpensWith header bytes l.fn.self.slots.items → OpensWith header bytes l.self.slots.items;
+      → HoldsPart (slot_start (length l.fn.self.slots.items)) l.chunk bytes → OpensWith header bytes l.fn.self.slots.items
+      → OpensWith header bytes l.self.slots.items;
 }

@@ -10,7 +10,8 @@ returns-clause-walk c =
     let yes : IsTrue true = search rules in
     let may = (c.may_be_followed.ensures c.in-Ok.ensures.found.in_range slots c.requires.walk.ends).0 (subst IsTrue (sym c.if-not-may_be_followed.false) yes) in
     rw c.in_ok-push.ensures.items
-    (walk_more c.args.self.now.profile slots c.in-Ok.slot c.args.self.now.end c.with-end.result c.len-number.result _ c.requires.walk (search rules) c.in-Ok.ensures.found
+    (walk_more c.args.self.now.profile slots c.in-Ok.slot c.args.self.now.end c.with-end.result c.len-number.result _ c.requires.walk
+    (search rules) c.in-Ok.ensures.found
     may (c.with-end.ensures slots c.requires.walk.ends))
 
 pub returns-in_default-clause-fault : goal.returns-in_default-clause-fault

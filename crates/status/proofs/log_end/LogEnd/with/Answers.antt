@@ -16,10 +16,12 @@ returns-in-Commit c = λ before ends.
     refl
 
 pub returns-in-Archived : goal.returns-in-Archived
-returns-in-Archived c = λ before ends. run_ends before c.args.slot.now c.args.self.now _ c.in-Archived.run' c.in-Archived.is ends refl refl refl c.requires.floors refl
+returns-in-Archived c =
+    λ before ends. run_ends before c.args.slot.now c.args.self.now _ c.in-Archived.run' c.in-Archived.is ends refl refl refl c.requires.floors refl
 
 pub returns-in-Reclaimed : goal.returns-in-Reclaimed
-returns-in-Reclaimed c = λ before ends. reclaim_ends before c.args.slot.now c.args.self.now _ c.in-Reclaimed.anchors c.in-Reclaimed.is ends refl refl refl c.requires.floors refl
+returns-in-Reclaimed c =
+    λ before ends. reclaim_ends before c.args.slot.now c.args.self.now _ c.in-Reclaimed.anchors c.in-Reclaimed.is ends refl refl refl c.requires.floors refl
 
 pub returns-in-Floor : goal.returns-in-Floor
 returns-in-Floor c = λ before ends. floor_ends before c.args.slot.now c.args.self.now _ _ _ c.in-Floor.is ends refl refl refl c.requires.floors refl

@@ -19,8 +19,10 @@ returns-in-Ok-make_place g c =
     let since_are : c.in-Ok-since.since ≡ since_now v = c.in-Ok-since.ensures ∙ ap since_now (sym c.self.view_is) in
     let floors_are = c.in-Ok-share.ensures ∙ c.floors.ensures in
     let records_are : records_of c.in-Ok-since.since upto c.in-Ok.versions ≡ archive_of v upto = λ i. records_of (since_are i) upto (versions_are i) in
-    let run_is : c.in-Some-archive_run.run' ≡ run_of upto s.archived.runs_end (archive_of v upto) = c.in-Some-archive_run.ensures.is.0 ∙ ap (run_of upto s.archived.runs_end) records_are in
-    let writer_is : c.in-Some-archive_run.writer ≡ unwritten s.archived.runs_end (archive_of v upto) = c.in-Some-archive_run.ensures.is.1 ∙ ap (unwritten s.archived.runs_end) records_are in
+    let run_is : c.in-Some-archive_run.run' ≡ run_of upto s.archived.runs_end (archive_of v upto) =
+    c.in-Some-archive_run.ensures.is.0 ∙ ap (run_of upto s.archived.runs_end) records_are in
+    let writer_is : c.in-Some-archive_run.writer ≡ unwritten s.archived.runs_end (archive_of v upto) =
+    c.in-Some-archive_run.ensures.is.1 ∙ ap (unwritten s.archived.runs_end) records_are in
     let none : refusal_now v upto ≡ None = ap (λ (x : StoreValue). refusal_now x upto) c.self.view_is ∙ sym c.refusal_now.ensures.is ∙ c.in_default.is in
     let all : length c.in-Some-archive_run.writer.left ≡ length (run_bytes (archive_of v upto)) = ap (λ (w : InWriting). length w.left) writer_is in
     let at : c.in-Some-archive_run.writer.at ≡ s.archived.runs_end = ap (λ (w : InWriting). w.at) writer_is in
@@ -31,5 +33,8 @@ returns-in-Ok-make_place g c =
     let job_is = c.put_in_place.ensures ∙ (λ i. Some (record { work = Archive (run_is i) (writer_is i); stage = Writing })) in
     let placed = c.in-Ok-make_place.ensures.ok in
     let in_range = c.in-Some-archive_run.ensures.in_range c.in_default.ensures.in_range.0 c.in_default.ensures.in_range.1 in
-    subst (λ (x : StoreValue). StartsArchive x upto (Ok tt) (parts_of c.lend_slot.new.self s.log s.turn c.put_in_place.new.place s.archived.upto s.archived.runs_end c.make_place.new.self (g.D.Disk.state s.disk))) c.self.view_is
-    (begun v upto c.in-Some-archive_run.run' _ _ none fits in_range run_is refl refl floors_are (λ i. parts_of (lent i) s.log s.turn (job_is i) s.archived.upto s.archived.runs_end (placed i) (g.D.Disk.state s.disk)))
+    subst (λ (x : StoreValue). StartsArchive x upto (Ok tt)
+    (parts_of c.lend_slot.new.self s.log s.turn c.put_in_place.new.place s.archived.upto s.archived.runs_end c.make_place.new.self
+    (g.D.Disk.state s.disk))) c.self.view_is
+    (begun v upto c.in-Some-archive_run.run' _ _ none fits in_range run_is refl refl floors_are
+    (λ i. parts_of (lent i) s.log s.turn (job_is i) s.archived.upto s.archived.runs_end (placed i) (g.D.Disk.state s.disk)))

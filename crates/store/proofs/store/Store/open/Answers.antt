@@ -12,7 +12,8 @@ use Rattle.store.proofs.store.Store.open.Goals as goal
 
 pub of_recovered-requires-clause-rising : goal.of_recovered-requires-clause-rising
 of_recovered-requires-clause-rising g c =
-    subst (λ (heads : List CommitHead). IsRisingAfter 0 heads) (sym c.in-Ok-commits_of.ensures.heads) (rising-opened 0 c.in-Ok.recovered.commits.items c.in-Ok.ensures.rising)
+    subst (λ (heads : List CommitHead). IsRisingAfter 0 heads) (sym c.in-Ok-commits_of.ensures.heads)
+    (rising-opened 0 c.in-Ok.recovered.commits.items c.in-Ok.ensures.rising)
 
 pub of_recovered-requires-clause-latest : goal.of_recovered-requires-clause-latest
 of_recovered-requires-clause-latest g c =
@@ -20,7 +21,8 @@ of_recovered-requires-clause-latest g c =
     omega (arith, last, c.in-Ok.ensures.latest, c.in-Ok.ensures.last)
 
 pub of_recovered-requires-clause-room : goal.of_recovered-requires-clause-room
-of_recovered-requires-clause-room g c = omega (arith, c.slots-slots.ensures, ap (λ (l : LogState). l.slots) c.new-log.ensures, c.in-Ok.ensures.used.0, c.in-Ok.ensures.used.1)
+of_recovered-requires-clause-room g c =
+    omega (arith, c.slots-slots.ensures, ap (λ (l : LogState). l.slots) c.new-log.ensures, c.in-Ok.ensures.used.0, c.in-Ok.ensures.used.1)
 
 pub returns-clause-ok : goal.returns-clause-ok
 returns-clause-ok g c =
@@ -35,7 +37,17 @@ returns-clause-ok g c =
     record {
       recovered = r;
       read = c.in-Ok.ensures.found;
-      new_is = rw (log_is, c.of_recovered.ensures, slots_are, heads_are, many, c.in-Ok-new.ensures.upto, c.in-Ok-new.ensures.end, c.in-Ok.ensures.runs_end, times_are) refl;
+      new_is = rw (
+        log_is,
+        c.of_recovered.ensures,
+        slots_are,
+        heads_are,
+        many,
+        c.in-Ok-new.ensures.upto,
+        c.in-Ok-new.ensures.end,
+        c.in-Ok.ensures.runs_end,
+        times_are,
+      ) refl;
       marked = c.in-Ok.ensures.runs.1;
       unread = c.in-Ok-new.ensures.unread;
       ordered = rw c.of_recovered.ensures c.is_empty-none.ensures.ordered;

@@ -37,7 +37,8 @@ returns-in_err-archived-clause-refused g c =
     let less : c.args.a < c.self.inside.reclaimed = omega (arith, c.if-self-a.false) in
     let below : c.args.a < v.reclaimed = subst (λ (w : ViewValue). c.args.a < w.reclaimed) c.self.view_is less in
     let p = err_from_is_err_and c.from_residual-in_err-archived.result c.from_residual-in_err-archived.ensures.1 in
-    rw (p.1, p.2) (refused-rows v c.args.key.relation c.args.a c.args.b _ c.in_ok-check_interval.ensures below (subst (λ (rs : List RunEntry). IsFaultIn c.args.a rs c.in_err-archived.field-0.0) runs_are c.in_err-archived.ensures.damaged))
+    rw (p.1, p.2) (refused-rows v c.args.key.relation c.args.a c.args.b _ c.in_ok-check_interval.ensures below
+    (subst (λ (rs : List RunEntry). IsFaultIn c.args.a rs c.in_err-archived.field-0.0) runs_are c.in_err-archived.ensures.damaged))
 
 pub returns-in_err-found-clause-kept : goal.returns-in_err-found-clause-kept
 returns-in_err-found-clause-kept g c = λ limit ends.
@@ -68,10 +69,13 @@ returns-clause-only g c = λ h reads.
     let held = subst (λ (rs : List RunEntry). HoldRuns (archive_of (g.D.Disk.state c.args.disk.now)) rs reads.lists) (sym runs_are) reads.held in
     let memory = c.in_ok-recent.ensures ∙ ap (λ (w : ViewValue). rows_in w.state c.args.a c.end_in_memory.result c.args.key) c.self.view_is in
     let mark_is = c.archive_mark.ensures.is ∙ ap (λ (w : ViewValue). mark_of w.runs) c.self.view_is in
-    let all = c.in_ok-add_rows_after.ensures ∙ ap (λ (n : ℕ). c.in_ok-found.found.items ++ rows_after n c.args.a c.args.b c.in_ok-recent.recent.items) mark_is in
+    let all = c.in_ok-add_rows_after.ensures ∙ ap (λ (n : ℕ). c.in_ok-found.found.items ++ rows_after n c.args.a c.args.b c.in_ok-recent.recent.items)
+    mark_is in
     rows-of-both _ _ _ v h reads rising c.args.key c.args.a c.args.b c.add_rows_after.new.found.items inside.from_floor inside.not_empty inside.upto_last
-    (joined-rows v c.args.key c.args.a c.args.b c.end_in_memory.result c.in_ok-archived.archived.items c.in_ok-found.found.items c.in_ok-recent.recent.items c.add_rows_after.new.found.items c.in_ok-found.ensures memory all c.end_in_memory.ensures.later c.end_in_memory.ensures.past_mark
-    ∙ ap (λ (rs : List (Version Value)). rs ++ recent_rows v c.args.a c.args.b c.args.key) (c.in_ok-archived.ensures.only reads.lists reads.told reads.right held))
+    (joined-rows v c.args.key c.args.a c.args.b c.end_in_memory.result c.in_ok-archived.archived.items c.in_ok-found.found.items c.in_ok-recent.recent.items
+    c.add_rows_after.new.found.items c.in_ok-found.ensures memory all c.end_in_memory.ensures.later c.end_in_memory.ensures.past_mark
+    ∙ ap (λ (rs : List (Version Value)). rs ++ recent_rows v c.args.a c.args.b c.args.key)
+    (c.in_ok-archived.ensures.only reads.lists reads.told reads.right held))
 
 pub returns-clause-exact : goal.returns-clause-exact
 returns-clause-exact g c = λ told right.
@@ -83,7 +87,11 @@ returns-clause-exact g c = λ told right.
     let below : c.args.a < v.reclaimed = subst (λ (w : ViewValue). c.args.a < w.reclaimed) c.self.view_is less in
     let memory = c.in_ok-recent.ensures ∙ ap (λ (w : ViewValue). rows_in w.state c.args.a c.end_in_memory.result c.args.key) c.self.view_is in
     let mark_is = c.archive_mark.ensures.is ∙ ap (λ (w : ViewValue). mark_of w.runs) c.self.view_is in
-    let all = c.in_ok-add_rows_after.ensures ∙ ap (λ (n : ℕ). c.in_ok-found.found.items ++ rows_after n c.args.a c.args.b c.in_ok-recent.recent.items) mark_is in
-    let of_runs = read-some inside.not_empty (subst (λ (rs : List RunEntry). ((c.args.b ≤ c.args.a) × (c.in_ok-archived.archived.items ≡ [])) ⊎ ((c.args.a < c.args.b) × IsOfRuns (AreRowsOf area c.args.key c.args.a c.args.b) c.args.a rs c.in_ok-archived.archived.items)) runs_are (c.in_ok-archived.ensures.exact told right)) in
+    let all = c.in_ok-add_rows_after.ensures ∙ ap (λ (n : ℕ). c.in_ok-found.found.items ++ rows_after n c.args.a c.args.b c.in_ok-recent.recent.items)
+    mark_is in
+    let of_runs = read-some inside.not_empty (subst (λ (rs : List RunEntry). ((c.args.b ≤ c.args.a) × (c.in_ok-archived.archived.items ≡ []))
+    ⊎ ((c.args.a < c.args.b) × IsOfRuns (AreRowsOf area c.args.key c.args.a c.args.b) c.args.a rs c.in_ok-archived.archived.items)) runs_are
+    (c.in_ok-archived.ensures.exact told right)) in
     RowsOfBoth below c.in_ok-archived.archived.items of_runs
-    (joined-rows v c.args.key c.args.a c.args.b c.end_in_memory.result c.in_ok-archived.archived.items c.in_ok-found.found.items c.in_ok-recent.recent.items c.add_rows_after.new.found.items c.in_ok-found.ensures memory all c.end_in_memory.ensures.later c.end_in_memory.ensures.past_mark)
+    (joined-rows v c.args.key c.args.a c.args.b c.end_in_memory.result c.in_ok-archived.archived.items c.in_ok-found.found.items c.in_ok-recent.recent.items
+    c.add_rows_after.new.found.items c.in_ok-found.ensures memory all c.end_in_memory.ensures.later c.end_in_memory.ensures.past_mark)

@@ -30,7 +30,8 @@ returns-clause-only g c = λ h reads.
     let inside = c.in_ok-check_interval.ensures in
     let rising : AreRising v.state = subst (λ (w : ViewValue). AreRising w.state) c.self.view_is c.self.invariant.1 in
     answers-third c.scan_both.result _ _ _ c.scan_both.ensures.in_order (c.scan_both.ensures.only reads.lists reads.told reads.right reads.held)
-    (λ found up each. scan-of-both _ _ _ v h reads rising c.args.relation c.args.a c.args.b found.items inside.from_floor inside.not_empty inside.upto_last (in-order found.items up) each)
+    (λ found up each. scan-of-both _ _ _ v h reads rising c.args.relation c.args.a c.args.b found.items inside.from_floor inside.not_empty inside.upto_last
+    (in-order found.items up) each)
 
 pub returns-clause-exact : goal.returns-clause-exact
 returns-clause-exact g c = grind (arith, common_steps)

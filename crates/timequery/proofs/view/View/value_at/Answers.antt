@@ -19,13 +19,15 @@ returns-in-Some-clause-only g c = λ h reads.
     let v = c.args.self.now in
     let bounds = c.in_ok-check_time.ensures in
     let rising : AreRising v.state = subst (λ (w : ViewValue). AreRising w.state) c.self.view_is c.self.invariant.1 in
-    let there = subst (λ (w : ViewValue). value_at (writes_of w.state c.args.key) c.args.time ≡ Some c.in-Some.value.now) c.self.view_is (sym c.in-Some.ensures) in
+    let there =
+    subst (λ (w : ViewValue). value_at (writes_of w.state c.args.key) c.args.time ≡ Some c.in-Some.value.now) c.self.view_is (sym c.in-Some.ensures) in
     value-in-memory _ _ _ v h reads rising c.args.key c.args.time c.in-Some.value.now bounds.0 bounds.1 there
     ∙ ap (λ (x : Value). Ok (Some x)) (sym c.in_ok-share.ensures)
 
 pub returns-in-Some-clause-exact : goal.returns-in-Some-clause-exact
 returns-in-Some-clause-exact g c = λ told right.
-    let there = subst (λ (w : ViewValue). value_at (writes_of w.state c.args.key) c.args.time ≡ Some c.in-Some.value.now) c.self.view_is (sym c.in-Some.ensures) in
+    let there =
+    subst (λ (w : ViewValue). value_at (writes_of w.state c.args.key) c.args.time ≡ Some c.in-Some.value.now) c.self.view_is (sym c.in-Some.ensures) in
     InMemory c.in-Some.value.now there (ap (λ (x : Value). Some x) c.in_ok-share.ensures)
 
 pub returns-then-self-time-clause-only : goal.returns-then-self-time-clause-only
@@ -51,7 +53,8 @@ returns-in_err-find-clause-refused g c =
     let less : c.args.time < c.self.inside.reclaimed = omega (arith, c.if-self-time.false) in
     let below : c.args.time < v.reclaimed = subst (λ (w : ViewValue). c.args.time < w.reclaimed) c.self.view_is less in
     let p = err_from_is_err_and c.from_residual-in_err-find.result c.from_residual-in_err-find.ensures.1 in
-    rw (p.1, p.2) (refused-at v c.args.key.relation c.args.time _ bounds.0 bounds.1 below (subst (λ (rs : List RunEntry). IsFaultIn c.args.time rs c.in_err-find.field-0.0) runs_are c.in_err-find.ensures.damaged))
+    rw (p.1, p.2) (refused-at v c.args.key.relation c.args.time _ bounds.0 bounds.1 below
+    (subst (λ (rs : List RunEntry). IsFaultIn c.args.time rs c.in_err-find.field-0.0) runs_are c.in_err-find.ensures.damaged))
 
 pub returns-in-None-clause-kept : goal.returns-in-None-clause-kept
 returns-in-None-clause-kept g c = λ limit ends.
@@ -76,7 +79,8 @@ returns-in-None-clause-exact g c = λ told right.
     let less : c.args.time < c.self.inside.reclaimed = omega (arith, c.if-self-time.false) in
     let below : c.args.time < v.reclaimed = subst (λ (w : ViewValue). c.args.time < w.reclaimed) c.self.view_is less in
     let none = subst (λ (w : ViewValue). value_at (writes_of w.state c.args.key) c.args.time ≡ None) c.self.view_is (sym c.in_default.ensures) in
-    let found = subst (λ (rs : List RunEntry). IsFound (archive_of (g.D.Disk.state c.args.disk.now)) rs c.args.key c.args.time c.in_ok-find.field-0) runs_are (c.in_ok-find.ensures.exact told right) in
+    let found = subst (λ (rs : List RunEntry). IsFound (archive_of (g.D.Disk.state c.args.disk.now)) rs c.args.key c.args.time c.in_ok-find.field-0) runs_are
+    (c.in_ok-find.ensures.exact told right) in
     InRuns below none (subst (IsFound (archive_of (g.D.Disk.state c.args.disk.now)) v.runs c.args.key c.args.time) c.in-None.is found)
 
 pub returns-in-Some-2-clause-kept : goal.returns-in-Some-2-clause-kept
@@ -103,6 +107,7 @@ returns-in-Some-2-clause-exact g c = λ told right.
     let less : c.args.time < c.self.inside.reclaimed = omega (arith, c.if-self-time.false) in
     let below : c.args.time < v.reclaimed = subst (λ (w : ViewValue). c.args.time < w.reclaimed) c.self.view_is less in
     let none = subst (λ (w : ViewValue). value_at (writes_of w.state c.args.key) c.args.time ≡ None) c.self.view_is (sym c.in_default.ensures) in
-    let found = subst (λ (rs : List RunEntry). IsFound (archive_of (g.D.Disk.state c.args.disk.now)) rs c.args.key c.args.time c.in_ok-find.field-0) runs_are (c.in_ok-find.ensures.exact told right) in
+    let found = subst (λ (rs : List RunEntry). IsFound (archive_of (g.D.Disk.state c.args.disk.now)) rs c.args.key c.args.time c.in_ok-find.field-0) runs_are
+    (c.in_ok-find.ensures.exact told right) in
     let is : c.in_ok-find.field-0 ≡ Some c.new.result = c.in-Some-2.is ∙ ap (λ (x : Value). Some x) (sym c.new.ensures) in
     InRuns below none (subst (IsFound (archive_of (g.D.Disk.state c.args.disk.now)) v.runs c.args.key c.args.time) is found)

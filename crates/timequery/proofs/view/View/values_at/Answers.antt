@@ -30,7 +30,8 @@ returns-clause-only g c = λ h reads.
     let rising : AreRising v.state = subst (λ (w : ViewValue). AreRising w.state) c.self.view_is c.self.invariant.1 in
     let order = in-order c.in_ok-rows.rows.items c.in_ok-rows.ensures.in_order in
     subst (λ (found : List (ℕ × Value)). IsScanAtAnswer h (floor_at v.floors) c.args.relation c.args.time (Ok found)) (sym c.in_ok-values_of.ensures)
-    (values-of-both _ _ _ v h reads rising c.args.relation c.args.time c.in_ok-rows.rows.items bounds.0 bounds.1 order (c.in_ok-rows.ensures.only reads.lists reads.told reads.right reads.held))
+    (values-of-both _ _ _ v h reads rising c.args.relation c.args.time c.in_ok-rows.rows.items bounds.0 bounds.1 order
+    (c.in_ok-rows.ensures.only reads.lists reads.told reads.right reads.held))
 
 pub returns-clause-exact : goal.returns-clause-exact
 returns-clause-exact g c = λ told right.

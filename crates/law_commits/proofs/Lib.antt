@@ -1,0 +1,12 @@
+pub mod Waiting
+pub mod Order
+pub mod Names
+pub mod Memory
+pub mod Submitting
+pub mod Publishing
+pub mod Answering
+pub mod Views
+pub mod Beside
+pub mod Reclaims
+pub mod Freshening
+pub mod Tickets

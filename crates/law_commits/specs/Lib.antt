@@ -1,0 +1,6 @@
+pub mod Standing
+pub mod Laws
+pub mod Views
+pub mod Beside
+pub mod Reclaims
+pub mod Tickets

@@ -1,0 +1,123 @@
+-- Calls that change only which transactions are open and which commits are awaited.
+use Rattle.std.proofs.Common.{◌≡◌, ℕ, Bool, true, false, List, Result, Ok, Err, refl, ap, sym, subst, ◌∙◌}
+use Rattle.std.specs.Prelude.{MatchBool}
+use Rattle.history.specs.Histories.{History}
+use Rattle.history.specs.Machine.{Machine, IsMachine}
+use Rattle.history.specs.Answers as answers
+use Rattle.history.specs.Steps.{Began, Aborted, begun}
+use Rattle.history.proofs.Machines.{step-machine}
+use Rattle.law_image.specs.Values.{Value, IsValue}
+use Rattle.snapshot.specs.Txn.{TxnValue}
+use Rattle.group.specs.Tickets.{TicketValue}
+use Rattle.group.specs.declared.answers.BeginFault.{BeginFault}
+use Rattle.group.specs.declared.answers.BeginFault.TheVariants as fault
+use Rattle.group.specs.declared.answers.Redeemed.{Redeemed}
+use Rattle.commits.specs.Values.{CommitsValue, is_own}
+use Rattle.log_store.specs.Values.{LogStoreValue}
+use Rattle.log_store.specs.Calls as calls
+use Rattle.law_refinement.specs.Laws.{RedeemsAs}
+use Rattle.law_commits.specs.Standing.{StandsInMemory}
+use Rattle.law_commits.specs.Laws as memory
+use Rattle.law_commits.proofs.Memory.{begin-step, abort-step}
+use Rattle.law_commits.proofs.Answering.{redeem-step}
+use Rattle.law_log_store.specs.Standing.{StandsOnHeap, StopsOnHeap}
+use Rattle.law_log_store.specs.Calls.{KeepsDisk}
+use Rattle.law_log_store.proofs.Calls.{AreNamesAlone, begin-alone, abort-alone, redeem-alone, begin-keeps, abort-keeps, redeem-keeps}
+use Rattle.law_log_steps.specs.Store.{OnDisk, AreFresh, IsStoreOf}
+use Rattle.law_log_steps.specs.Laws.{BeginsTo, Goes}
+
+-- what the disk stands for is kept
+pub on-disk : (old new : LogStoreValue) (h queue : History Value) (floors : ℕ → ℕ) → KeepsDisk old new → new.commits.failed ≡ old.commits.failed
+    → OnDisk old h queue floors → OnDisk new h queue floors
+on-disk old new h queue floors keeps same disk =
+    subst (λ (b : Bool). MatchBool b (StopsOnHeap new h queue floors) (StandsOnHeap new h queue floors)) (sym same) (by-failed old.commits.failed disk)
+  where
+    by-failed : (b : Bool) → MatchBool b (StopsOnHeap old h queue floors) (StandsOnHeap old h queue floors)
+        → MatchBool b (StopsOnHeap new h queue floors) (StandsOnHeap new h queue floors)
+    by-failed true stops = keeps.stops h queue floors stops
+    by-failed false stands = keeps.stands h queue floors stands
+
+-- the machine has the same history, queue and floors
+pub record IsAlike (m n : Machine Value) : Type 0 where
+  pub published : m.published ≡ n.published
+  pub queue : m.queue ≡ n.queue
+  pub floors : m.floors ≡ n.floors
+  pub group : n.group ≡ m.group
+
+pub disk-alike : (v : LogStoreValue) (m n : Machine Value) → IsAlike m n → OnDisk v m.published m.queue m.floors → OnDisk v n.published n.queue n.floors
+disk-alike v m n alike disk =
+    subst (λ (h : History Value). OnDisk v h n.queue n.floors) alike.published
+    (subst (λ (queue : History Value). OnDisk v m.published queue n.floors) alike.queue
+    (subst (λ (floors : ℕ → ℕ). OnDisk v m.published m.queue floors) alike.floors disk))
+
+pub itself : (m : Machine Value) → IsAlike m m
+itself m = record { published = refl; queue = refl; floors = refl; group = refl }
+
+pub other-snapshots : (m n : Machine Value) (snapshots : List ℕ) → n ≡ record m { snapshots = snapshots } → IsAlike m n
+other-snapshots m n snapshots is = record {
+  published = ap (λ (x : Machine Value). x.published) (sym is);
+  queue = ap (λ (x : Machine Value). x.queue) (sym is);
+  floors = ap (λ (x : Machine Value). x.floors) (sym is);
+  group = ap (λ (x : Machine Value). x.group) is;
+}
+
+pub store-keeps : (old new : LogStoreValue) (m n : Machine Value) → IsStoreOf old m → KeepsDisk old new → AreNamesAlone old.commits new.commits
+    → StandsInMemory new.commits n → IsMachine IsValue n → IsAlike m n → IsStoreOf new n
+store-keeps old new m n is keeps alone stands machine alike = record {
+  memory = stands;
+  machine = machine;
+  none = alike.group ∙ is.none;
+  fresh = subst AreFresh (sym alone.new_is) is.fresh;
+  disk =
+      disk-alike new m n alike
+      (on-disk old new m.published m.queue m.floors keeps (ap (λ (c : CommitsValue). c.failed) alone.new_is) is.disk);
+}
+
+-- ---- transactions
+
+pub begin-stands : (old new : LogStoreValue) (answer : Result TxnValue BeginFault) (m : Machine Value) → IsStoreOf old m → calls.Begins old answer new
+    → BeginsTo m answer new
+begin-stands old new answer m is begins = by-answer answer (begin-step old.commits new.commits answer m is.memory begins.is)
+  where
+    keeps : (n : Machine Value) → StandsInMemory new.commits n → IsMachine IsValue n → IsAlike m n → IsStoreOf new n
+    keeps n stands machine alike =
+        store-keeps old new m n is (begin-keeps old new answer begins) (begin-alone old.commits new.commits answer begins.is) stands machine alike
+
+    by-answer : (a : Result TxnValue BeginFault) → memory.BeginsTo m a new.commits → BeginsTo m a new
+    by-answer (Ok txn) to = (
+      to.0,
+      keeps (begun m) to.1 (step-machine IsValue m (begun m) (Began txn.snapshot) is.machine to.0) (record {
+        published = refl;
+        queue = refl;
+        floors = refl;
+        group = refl;
+      }),
+    )
+    by-answer (Err fault.NoMemory) to = (to.0, keeps m to.1 is.machine (itself m))
+    by-answer (Err fault.Failed) to = (to.0, keeps m to.1 is.machine (itself m))
+
+pub abort-stands : (old new : LogStoreValue) (txn : TxnValue) (m : Machine Value) → IsStoreOf old m → calls.Aborts old txn new
+    → MatchBool (is_own old.commits txn) (Goes new m (Aborted txn.snapshot)) (IsStoreOf new m)
+abort-stands old new txn m is aborts = by-own (is_own old.commits txn) (abort-step old.commits new.commits txn m is.memory aborts.is)
+  where
+    keeps : (n : Machine Value) → StandsInMemory new.commits n → IsMachine IsValue n → IsAlike m n → IsStoreOf new n
+    keeps n stands machine alike =
+        store-keeps old new m n is (abort-keeps old new txn aborts) (abort-alone old.commits new.commits txn aborts.is) stands machine alike
+
+    by-own : (b : Bool) → MatchBool b (memory.Goes new.commits m (Aborted txn.snapshot)) (StandsInMemory new.commits m)
+        → MatchBool b (Goes new m (Aborted txn.snapshot)) (IsStoreOf new m)
+    by-own true to = (
+      to.0,
+      to.1,
+      keeps to.0 to.2 (step-machine IsValue m to.0 (Aborted txn.snapshot) is.machine to.1) (other-snapshots m to.0 (to.1).0 (to.1).2),
+    )
+    by-own false to = keeps m to is.machine (itself m)
+
+pub redeem-stands : (old new : LogStoreValue) (ticket : TicketValue) (answer : Redeemed) (m : Machine Value) → IsStoreOf old m
+    → calls.Redeems old ticket answer new → RedeemsAs (answers.redeemed_by m ticket.time) answer × IsStoreOf new m
+redeem-stands old new ticket answer m is redeems =
+    let to = redeem-step old.commits new.commits ticket answer m is.memory is.machine redeems.is in (
+      to.0,
+      store-keeps old new m m is (redeem-keeps old new ticket answer redeems) (redeem-alone old.commits new.commits ticket answer redeems.is) to.1 is.machine
+          (itself m),
+    )

@@ -1,0 +1,4 @@
+pub mod Keeping
+pub mod Submitting
+pub mod Pumping
+pub mod Resting

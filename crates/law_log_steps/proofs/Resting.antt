@@ -1,0 +1,70 @@
+-- What a stop may leave between two calls, and what an opened store stands for.
+use Rattle.std.proofs.Common.{◌≡◌, ◌⊎◌, ℕ, Bool, true, false, List, [], ◌++◌, take, Option, None, Some, refl, ap, sym, subst, inl}
+use Rattle.std.specs.Prelude.{MatchBool}
+use Rattle.history.specs.Histories.{History}
+use Rattle.history.specs.Machine.{Machine, opened}
+use Rattle.history.proofs.Machines.{opened-machine}
+use Rattle.disk.specs.Areas.{Image, AreSound, LeavesImage, settled_on}
+use Rattle.law_image.specs.Values.{Value, IsValue}
+use Rattle.law_image.specs.Reading.{Reading}
+use Rattle.law_image.specs.StandsFor.{StandsFor}
+use Rattle.law_image.proofs.Standing.{floor-range}
+use Rattle.log_recovery.specs.Opening.{ReadsRoots}
+use Rattle.log_roots.specs.Roots.{root_of}
+use Rattle.log_writer.specs.Writer.{WriterState}
+use Rattle.law_log_layout.specs.HeapLog.{HeapLog, IsLogOf, HoldsLog}
+use Rattle.law_log_layout.specs.Turns.{MayBe, MayBecome}
+use Rattle.commits.specs.Values.{CommitsValue, WaitingValue}
+use Rattle.commits.specs.Steps.{grouped}
+use Rattle.log_store.specs.Values.{LogStoreValue, IsInStep}
+use Rattle.log_store.specs.Values as stores
+use Rattle.law_commits.specs.Standing.{StandsInMemory}
+use Rattle.law_log_store.specs.Standing.{StandsOnHeap, IsImageOf, MayStand, StopsOnHeap}
+use Rattle.law_log_store.specs.Calls.{IsFront}
+use Rattle.law_log_store.specs.Opened.{IsOpenedOn}
+use Rattle.law_log_store.proofs.Going.{standing-stops}
+use Rattle.law_log_store.proofs.Pumping.{either-old, either-new, grouped-stays}
+use Rattle.law_log_store.proofs.Opened as rooms
+use Rattle.law_log_steps.specs.Store.{HaveMark, IsStoreOf}
+
+module _ (v : LogStoreValue) (m : Machine Value) (image : Image) (step : IsInStep v) (is : IsStoreOf v m) where
+  abbrev Old : Type 0
+  Old = IsImageOf v.roots image m.published m.floors
+
+  abbrev New : ℕ → Type 0
+  New group = IsImageOf v.roots image (m.published ++ take group m.queue) m.floors
+
+  stops : StopsOnHeap v m.published m.queue m.floors
+  stops = by-failed v.commits.failed refl is.disk
+    where
+      by-failed : (b : Bool) → v.commits.failed ≡ b → MatchBool b (StopsOnHeap v m.published m.queue m.floors) (StandsOnHeap v m.published m.queue m.floors)
+          → StopsOnHeap v m.published m.queue m.floors
+      by-failed true failed so = so
+      by-failed false works stands = standing-stops v m.published m.queue m.floors works stands
+
+  pub rests-on-front : LeavesImage v.disk.areas image → IsFront v image m.published m.queue m.floors
+  rests-on-front left = by-turn v.turn step.turn (stops image left)
+    where
+      by-failed : (w : WriterState) (b : Bool) → MatchBool b (MayBecome w.stage Old (New v.commits.group)) (MayBe w.stage Old (New v.commits.group))
+          → Old ⊎ New v.commits.group
+      by-failed w true may = either-new w.stage Old (New v.commits.group) may
+      by-failed w false may = either-old w.stage Old (New v.commits.group) may
+
+      by-turn : (t : Option WriterState) → stores.HasTurn v.commits.group t → MayStand v.commits.failed t Old (New v.commits.group)
+          → Old ⊎ New (grouped 1024 v.commits).group
+      by-turn None none may = inl may
+      by-turn (Some w) some may =
+          subst (λ (n : ℕ). Old ⊎ New n) (ap (λ (c : CommitsValue). c.group) (sym (grouped-stays v.commits some.0))) (by-failed w v.commits.failed may)
+
+pub opened-stands : (v : LogStoreValue) (image : Image) (l : HeapLog) (reading : Reading) (h : History Value) (floors : ℕ → ℕ)
+    → v.disk.areas ≡ settled_on image → AreSound v.disk.areas → ReadsRoots image.status v.roots → IsLogOf v.roots.extents (root_of v.roots) l reading
+    → HoldsLog l image.heap image.archive → StandsFor reading h floors → IsOpenedOn v l reading → v.commits.failed ≡ false
+    → StandsInMemory v.commits (opened h floors) → IsStoreOf v (opened h floors)
+opened-stands v image l reading h floors same sound reads is held stands on works memory = record {
+  memory = memory;
+  machine = opened-machine IsValue h floors stands.opens.history (floor-range reading h floors stands);
+  none = refl;
+  fresh = subst (λ (ws : List WaitingValue). HaveMark v.commits.reclaimed ws) (sym on.queue) tt;
+  disk = subst (λ (b : Bool). MatchBool b (StopsOnHeap v h [] floors) (StandsOnHeap v h [] floors)) (sym works)
+      (rooms.opened-stands v image l reading h floors same sound reads is held stands on);
+}

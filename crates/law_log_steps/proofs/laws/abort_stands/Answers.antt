@@ -1,0 +1,5 @@
+use Rattle.law_log_steps.proofs.Keeping.{abort-stands}
+use Rattle.law_log_steps.proofs.laws.abort_stands.Goals as goal
+
+pub returns : goal.returns
+returns c = λ old new txn m is aborts. abort-stands old new txn m is aborts

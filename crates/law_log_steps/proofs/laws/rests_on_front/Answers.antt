@@ -1,0 +1,5 @@
+use Rattle.law_log_steps.proofs.Resting.{rests-on-front}
+use Rattle.law_log_steps.proofs.laws.rests_on_front.Goals as goal
+
+pub returns : goal.returns
+returns c = λ v m image step is left. rests-on-front v m image step is left

@@ -1,0 +1,98 @@
+-- The calls of a store whose log lies in the heap are steps of the machine.
+use Rattle.std.specs.Prelude.{ℕ, ◌≡◌, ◌<◌, ◌^◌, Bool, false, IsTrue, Result, Ok, Err, MatchBool}
+use Rattle.history.specs.Histories.{History}
+use Rattle.history.specs.Machine.{Machine, opened}
+use Rattle.history.specs.Answers as answers
+use Rattle.history.specs.Steps.{Event, Step, Began, BeginRefused, Aborted, begun}
+use Rattle.history.specs.Steps as steps
+use Rattle.disk.specs.Areas.{Image, AreSound, LeavesImage, settled_on}
+use Rattle.law_image.specs.Values.{Value, IsValue}
+use Rattle.law_image.specs.Reading.{Reading}
+use Rattle.law_image.specs.StandsFor.{StandsFor}
+use Rattle.snapshot.specs.Txn.{TxnValue, AreTxnWrites}
+use Rattle.group.specs.Tickets.{TicketValue}
+use Rattle.group.specs.declared.answers.BeginFault.{BeginFault}
+use Rattle.group.specs.declared.answers.BeginFault.TheVariants as fault
+use Rattle.group.specs.declared.answers.PumpFault.{PumpFault}
+use Rattle.group.specs.declared.answers.PumpFault.TheVariants as pump
+use Rattle.group.specs.declared.answers.Redeemed.{Redeemed}
+use Rattle.group.specs.declared.answers.Submitted.{Submitted}
+use Rattle.group.specs.declared.answers.SubmitFault.{SubmitFault}
+use Rattle.commits.specs.Values.{is_own}
+use Rattle.log_store.specs.Values.{LogStoreValue, IsInStep}
+use Rattle.log_store.specs.Calls as calls
+use Rattle.log_store.specs.Submits.{Submits}
+use Rattle.log_store.specs.Pumps.{Pumps}
+use Rattle.log_store.specs.declared.answers.Did.{Did}
+use Rattle.log_recovery.specs.Opening.{ReadsRoots}
+use Rattle.log_roots.specs.Roots.{root_of}
+use Rattle.law_log_layout.specs.HeapLog.{HeapLog, IsLogOf, HoldsLog}
+use Rattle.law_refinement.specs.Laws.{submission_of, event_of, RedeemsAs}
+use Rattle.law_commits.specs.Standing.{StandsInMemory}
+use Rattle.law_commits.specs.Laws.{with_published}
+use Rattle.law_log_store.specs.Calls.{IsFront, count_in}
+use Rattle.law_log_store.specs.Opened.{IsOpenedOn}
+use Rattle.law_log_steps.specs.Store.{IsStoreOf}
+
+-- ---- opening, and stops
+
+-- A store that is opened on an image all of which is synced, and whose memory stands for a machine opened on its history, stands for that.
+abbrev pub OpenedStands : Type 0
+OpenedStands =
+    (v : LogStoreValue) (image : Image) (l : HeapLog) (reading : Reading) (h : History Value) (floors : ℕ → ℕ)
+    → v.disk.areas ≡ settled_on image → AreSound v.disk.areas → ReadsRoots image.status v.roots → IsLogOf v.roots.extents (root_of v.roots) l reading
+    → HoldsLog l image.heap image.archive → StandsFor reading h floors → IsOpenedOn v l reading → v.commits.failed ≡ false
+    → StandsInMemory v.commits (opened h floors) → IsStoreOf v (opened h floors)
+
+-- at every moment, of a store that works or has failed, whatever a stop may leave is a front
+abbrev pub RestsOnFront : Type 0
+RestsOnFront = (v : LogStoreValue) (m : Machine Value) (image : Image) → IsInStep v → IsStoreOf v m → LeavesImage v.disk.areas image
+    → IsFront v image m.published m.queue m.floors
+
+-- ---- transactions and tickets
+
+-- what a begin leads to, by its answer
+abbrev pub BeginsTo : Machine Value → Result TxnValue BeginFault → LogStoreValue → Type 0
+BeginsTo m (Ok txn) new = Step IsValue m (Began txn.snapshot) (begun m) × IsStoreOf new (begun m)
+BeginsTo m (Err fault.NoMemory) new = Step IsValue m (BeginRefused steps.NoMemory) m × IsStoreOf new m
+BeginsTo m (Err fault.Failed) new = Step IsValue m (BeginRefused steps.Failed) m × IsStoreOf new m
+
+abbrev pub BeginStands : Type 0
+BeginStands = (old new : LogStoreValue) (answer : Result TxnValue BeginFault) (m : Machine Value) → IsStoreOf old m → calls.Begins old answer new
+    → BeginsTo m answer new
+
+-- the machine goes by this event to one that the store stands for
+abbrev pub Goes : LogStoreValue → Machine Value → Event Value → Type 0
+Goes new m event = (after : Machine Value) × Step IsValue m event after × IsStoreOf new after
+
+-- an own transaction is given up, and a stranger changes nothing
+abbrev pub AbortStands : Type 0
+AbortStands = (old new : LogStoreValue) (txn : TxnValue) (m : Machine Value) → IsStoreOf old m → calls.Aborts old txn new
+    → MatchBool (is_own old.commits txn) (Goes new m (Aborted txn.snapshot)) (IsStoreOf new m)
+
+-- a ticket is answered as the machine does, or it is a stranger's
+abbrev pub RedeemStands : Type 0
+RedeemStands = (old new : LogStoreValue) (ticket : TicketValue) (answer : Redeemed) (m : Machine Value) → IsStoreOf old m → calls.Redeems old ticket answer new
+    → RedeemsAs (answers.redeemed_by m ticket.time) answer × IsStoreOf new m
+
+-- a submit of an own transaction is a step of the machine, and a stranger changes nothing
+abbrev pub SubmitStands : Type 0
+SubmitStands =
+    (old new : LogStoreValue) (txn : TxnValue) (label now : ℕ) (answer : Result Submitted SubmitFault) (m : Machine Value) → IsInStep old → IsStoreOf old m
+    → AreTxnWrites txn.state txn.snapshot txn.writes → label < 2 ^ 64 → Submits old txn label now answer new
+    → MatchBool (is_own old.commits txn) (Goes new m (event_of m (submission_of txn label now) answer)) (IsStoreOf new m)
+
+-- ---- steps of a group
+
+-- what a step leads to, by its answer: as many of the first commits of the queue are published as it says, or the machine has failed
+abbrev pub PumpsTo : Machine Value → Result Did PumpFault → LogStoreValue → Type 0
+PumpsTo m (Ok what) new = IsStoreOf new (with_published (count_in what) m)
+PumpsTo m (Err pump.Busy) new = ⊥
+PumpsTo m (Err pump.NoMemory) new = IsStoreOf new m
+PumpsTo m (Err pump.Failed) new = IsStoreOf new (steps.broken m)
+
+-- so it is on a device that tells of its calls
+abbrev pub PumpStands : Type 0
+PumpStands =
+    (tells : Bool) (old new : LogStoreValue) (answer : Result Did PumpFault) (m : Machine Value) → IsTrue tells → IsInStep old → AreSound new.disk.areas
+    → IsStoreOf old m → Pumps tells old answer new → PumpsTo m answer new

@@ -1,0 +1,40 @@
+//! Laws of the calls of a store whose log lies in the heap.
+ghost use Rattle.law_log_steps.specs.Laws.{AbortStands, BeginStands, OpenedStands, PumpStands, RedeemStands, RestsOnFront, SubmitStands};
+
+/// A store that is opened on an image that stands for a history stands for a machine that is opened on it.
+pub fn opened_stands()
+    ensures { OpenedStands }
+{}
+
+/// Whatever a crash leaves between two calls, also after a refused one, stands for what is published, or for that
+/// with the whole group that is being written.
+pub fn rests_on_front()
+    ensures { RestsOnFront }
+{}
+
+/// A begin takes the last published time as its snapshot.
+pub fn begin_stands()
+    ensures { BeginStands }
+{}
+
+/// A transaction that is aborted gives its snapshot up.
+pub fn abort_stands()
+    ensures { AbortStands }
+{}
+
+/// A ticket is answered as the machine says, or is a stranger's.
+pub fn redeem_stands()
+    ensures { RedeemStands }
+{}
+
+/// A submit answers a conflict exactly where a later commit in the commit order wrote a key of its write set, and
+/// else queues the writes at a time later than all before, where they have room.
+pub fn submit_stands()
+    ensures { SubmitStands }
+{}
+
+/// A step of a group publishes as many of the first commits of the queue as it says, and changes nothing else of
+/// the machine's; or the machine fails.
+pub fn pump_stands()
+    ensures { PumpStands }
+{}

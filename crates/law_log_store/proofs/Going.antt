@@ -1,0 +1,302 @@
+-- The way of a store's group to the disk, call by call.
+use Rattle.std.proofs.Common.{◌≡◌, ℕ, Bool, true, false, List, [], ◌∷◌, ◌++◌, map, take, drop, Option, None, Some, Result, Ok, Err, refl, ap, sym, subst}
+use Rattle.std.proofs.Common.{⊎_elim, inl, inr}
+use Rattle.std.specs.Prelude.{IsTrue, MatchBool, MatchResult}
+use Rattle.history.specs.Histories.{History, MayAllFollow}
+use Rattle.history.proofs.Histories.{may_follow-behind, may_follow-front}
+use Rattle.disk.specs.Areas.{Areas, Image, AreSound, LeavesImage, MayLeave}
+use Rattle.disk.specs.declared.area.Area.TheVariants.{Heap}
+use Rattle.disk.specs.declared.area.DeviceFault.{DeviceFault}
+use Rattle.disk.proofs.Stops.{left_by_write, left_by_sync}
+use Rattle.law_image.specs.Values.{Value, IsValue}
+use Rattle.law_image.specs.Reading.{Reading}
+use Rattle.law_image.specs.Plans.{with_group}
+use Rattle.law_image.specs.StandsFor.{StandsFor}
+use Rattle.law_image.proofs.GroupStep.{group-stands_for}
+use Rattle.deltas.specs.Extents.{extent_start}
+use Rattle.log_extents.specs.Chains.{first_or, chain_of}
+use Rattle.log_entries.specs.declared.entry.Member.{Member}
+use Rattle.log_entries.specs.declared.entry.Entry.TheVariants.{Group}
+use Rattle.log_entries.specs.Spelling.{entry_bytes}
+use Rattle.log_writer.specs.Turns.{open_gate, written_parts, Turn, Stage, Writing, Syncing, Opening, Settling, Done, IsCallOf, stage_after}
+use Rattle.log_writer.specs.Writer.{WriterState, turn}
+use Rattle.log_writer.specs.Writer as writers
+use Rattle.law_log_layout.specs.HeapLog.{HeapLog, PlacedChain, heap_parts, member_told, IsLogOf, with_chain, placed_group, turn_of, HeapStandsFor}
+use Rattle.law_log_layout.specs.Laws.{KeepsArchive, IsEntryWay}
+use Rattle.law_log_layout.specs.Turns.{IsAt, MayBe, MayBecome}
+use Rattle.law_log_layout.proofs.Parts.{all-left, closed-left}
+use Rattle.law_log_layout.proofs.GroupJoins.{room, group-is_log}
+use Rattle.law_log_layout.proofs.GroupGoes.{group-goes, rolls-left, runs-left}
+use Rattle.group.specs.declared.answers.PumpFault.{PumpFault}
+use Rattle.group.specs.declared.answers.PumpFault.TheVariants as faults
+use Rattle.log_roots.specs.Roots.{root_of}
+use Rattle.commits.specs.Steps.{members}
+use Rattle.log_store.specs.Values.{LogStoreValue}
+use Rattle.log_store.specs.Pumps.{Advances, at_next, after_call, with_published, with_failure, did_of, disk_answer}
+use Rattle.log_store.specs.declared.answers.Did.{Did}
+use Rattle.law_log_store.specs.Standing.{StandsOnHeap, HasTurn, IsOnWay, HasAnchors, MayStand, KeepsRoots, IsImageOf, StopsOnHeap}
+use Rattle.law_log_store.specs.Laws.{LeadsTo, GoesOn}
+use Rattle.law_log_store.proofs.Joining.{in-heap}
+use Rattle.law_log_store.proofs.Queues.{taken-and-rest, told-front, told-ordered, told-rest, values-told}
+use Rattle.law_log_store.proofs.Anchors.{anchors-rest}
+
+-- the calls of the group's chain are those of a chain behind the log
+turn-is : (l : HeapLog) (w : WriterState) (group : List Member) → w.content ≡ entry_bytes (Group group) → first_or 0 w.numbers ≡ l.next
+    → turn w ≡ turn_of l.next (placed_group w.numbers w.link group)
+turn-is l w group content head = λ i. record {
+  gate = extent_start (head i);
+  parts = written_parts (chain_of open_gate w.link w.numbers (content i));
+  closes = extent_start w.link;
+}
+
+-- they are calls of the heap
+same-archive : (t : Turn) (stage : Stage) (old new : Areas) → IsCallOf t stage (Ok tt) old new → new.archive ≡ old.archive
+same-archive t (Writing done (p ∷ rest)) old new call = ap (λ (a : Areas). a.archive) call.written
+same-archive t (Writing done []) old new call = ap (λ (a : Areas). a.archive) call.written
+same-archive t Syncing old new call = ap (λ (a : Areas). a.archive) call.synced
+same-archive t Opening old new call = ap (λ (a : Areas). a.archive) call.written
+same-archive t Settling old new call = ap (λ (a : Areas). a.archive) call.synced
+same-archive t Done old new call = absurd call
+
+same-status : (t : Turn) (stage : Stage) (old new : Areas) → IsCallOf t stage (Ok tt) old new → new.status ≡ old.status
+same-status t (Writing done (p ∷ rest)) old new call = ap (λ (a : Areas). a.status) call.written
+same-status t (Writing done []) old new call = ap (λ (a : Areas). a.status) call.written
+same-status t Syncing old new call = ap (λ (a : Areas). a.status) call.synced
+same-status t Opening old new call = ap (λ (a : Areas). a.status) call.written
+same-status t Settling old new call = ap (λ (a : Areas). a.status) call.synced
+same-status t Done old new call = absurd call
+
+-- also where they are refused
+status-left : (t : Turn) (stage : Stage) (result : Result (Unit {0}) DeviceFault) (old new : Areas) (image : Image) → AreSound old
+    → IsCallOf t stage result old new → LeavesImage new image → MayLeave old.status image.status
+status-left t (Writing done (p ∷ rest)) result old new image sound call left = let l =
+    (left_by_write Heap p.place p.bytes result old new call sound).each image left in l.status
+status-left t (Writing done []) result old new image sound call left = let l =
+    (left_by_write Heap t.closes (0 ∷ []) result old new call sound).each image left in l.status
+status-left t Syncing result old new image sound call left = let l = (left_by_sync Heap result old new call sound).each image left in l.status
+status-left t Opening result old new image sound call left = let l =
+    (left_by_write Heap t.gate (open_gate ∷ []) result old new call sound).each image left in l.status
+status-left t Settling result old new image sound call left = let l = (left_by_sync Heap result old new call sound).each image left in l.status
+status-left t Done result old new image sound call left = absurd call
+
+-- one claim of two for another
+map-before : (stage : Stage) (A B C D : Type 0) → (A → C) → (B → D) → MayBe stage A B → MayBe stage C D
+map-before (Writing done rest) A B C D f g is = f is
+map-before Syncing A B C D f g is = f is
+map-before Opening A B C D f g is = f is
+map-before Settling A B C D f g is = ⊎_elim (λ a. inl (f a)) (λ b. inr (g b)) is
+map-before Done A B C D f g is = g is
+
+map-within : (stage : Stage) (A B C D : Type 0) → (A → C) → (B → D) → MayBecome stage A B → MayBecome stage C D
+map-within (Writing done rest) A B C D f g is = f is
+map-within Syncing A B C D f g is = f is
+map-within Opening A B C D f g is = ⊎_elim (λ a. inl (f a)) (λ b. inr (g b)) is
+map-within Settling A B C D f g is = ⊎_elim (λ a. inl (f a)) (λ b. inr (g b)) is
+map-within Done A B C D f g is = g is
+
+-- ---- a group on its way
+
+module _ (v : LogStoreValue) (h queue : History Value) (floors : ℕ → ℕ) (s : StandsOnHeap v h queue floors) (w : WriterState)
+    (o : IsOnWay v queue s.l s.reading h w) where
+  abbrev next : History Value
+  next = take v.commits.group queue
+
+  abbrev chain : PlacedChain
+  chain = placed_group w.numbers w.link o.group
+
+  abbrev then : Reading
+  then = with_group s.reading (map member_told o.group)
+
+  pub way-at : (stage : Stage) (areas : Areas) → AreSound areas → KeepsArchive s.l areas.archive
+      → IsAt (heap_parts s.l) (turn_of s.l.next chain) stage areas.heap
+      → IsEntryWay v.roots.extents (root_of v.roots) s.l (with_chain s.l chain) chain h (h ++ next) floors floors stage areas
+  way-at stage areas sound archive at =
+      group-goes v.roots.extents (root_of v.roots) s.l s.reading h next floors w.numbers w.link o.group stage areas s.is_log s.stands o.is_group o.joins
+      o.shares sound archive at
+
+  way : IsEntryWay v.roots.extents (root_of v.roots) s.l (with_chain s.l chain) chain h (h ++ next) floors floors w.stage v.disk.areas
+  way = way-at w.stage v.disk.areas s.sound s.archive o.at
+
+  pub same-turn : turn w ≡ turn_of s.l.next chain
+  same-turn = turn-is s.l w o.group o.content (let j = o.joins in j.head)
+
+  pub log-then : IsLogOf v.roots.extents (root_of v.roots) (with_chain s.l chain) then
+  log-then =
+      group-is_log v.roots.extents (root_of v.roots) s.l s.reading h next floors w.numbers w.link o.group s.is_log s.stands o.is_group o.joins o.shares
+
+  pub stands-then : StandsFor then (h ++ next) floors
+  stands-then =
+      group-stands_for s.reading h floors s.stands (map member_told o.group) next o.is_group
+      (room s.reading (in-heap v.roots.extents (root_of v.roots) s.l s.reading s.is_log))
+
+  -- one call further
+  pub next-stands : (u : LogStoreValue) → u ≡ record (at_next v w) { disk = u.disk } → AreSound u.disk.areas → KeepsArchive s.l u.disk.areas.archive
+      → KeepsRoots v.roots u.disk.areas.status
+      → IsAt (heap_parts s.l) (turn_of s.l.next chain) (stage_after w.stage) u.disk.areas.heap → StandsOnHeap u h queue floors
+  next-stands u is sound archive status at = subst (λ (x : LogStoreValue). StandsOnHeap x h queue floors) (sym is) (record {
+    l = s.l;
+    reading = s.reading;
+    is_log = s.is_log;
+    stands = s.stands;
+    archive = archive;
+    status = status;
+    sound = sound;
+    commits = record {
+      ordered = s.commits.ordered;
+      values = s.commits.values;
+      told = s.commits.told;
+      contents = s.commits.contents;
+      may = s.commits.may;
+    };
+    anchors = s.anchors;
+    turn = record {
+      group = o.group;
+      told = o.told;
+      is_group = o.is_group;
+      content = o.content;
+      joins = o.joins;
+      shares = o.shares;
+      at = at;
+      room = o.room;
+    };
+  })
+
+  -- the group is published
+  may-split : MayAllFollow IsValue h (next ++ drop v.commits.group queue)
+  may-split = subst (λ (l : History Value). MayAllFollow IsValue h l) (sym (taken-and-rest v.commits.group queue)) s.commits.may
+
+  pub published-stands : (u : LogStoreValue) → u ≡ record (with_published v) { disk = u.disk } → AreSound u.disk.areas
+      → KeepsArchive s.l u.disk.areas.archive → KeepsRoots v.roots u.disk.areas.status → IsAt (heap_parts s.l) (turn_of s.l.next chain) Done u.disk.areas.heap
+      → StandsOnHeap u (h ++ next) (drop v.commits.group queue) floors
+  published-stands u is sound archive status at =
+      let front = may_follow-front IsValue h next (drop v.commits.group queue) may-split in
+      let done = way-at Done u.disk.areas sound archive at in
+      subst (λ (x : LogStoreValue). StandsOnHeap x (h ++ next) (drop v.commits.group queue) floors) (sym is) (record {
+        l = with_chain s.l chain;
+        reading = then;
+        is_log = log-then;
+        stands = stands-then;
+        archive = record { rolls = archive.rolls; runs = archive.runs };
+        status = status;
+        sound = sound;
+        commits = record {
+          ordered = told-ordered v.commits.versions (members v.commits) next s.commits.ordered
+              (told-front v.commits.group v.commits.versions v.commits.queue queue s.commits.told);
+          values = values-told v.commits.versions h (members v.commits) next s.commits.values
+              (told-front v.commits.group v.commits.versions v.commits.queue queue s.commits.told) front;
+          told = told-rest v.commits.group v.commits.versions v.commits.queue queue s.commits.told;
+          contents = s.commits.contents;
+          may = may_follow-behind IsValue h next (drop v.commits.group queue) may-split;
+        };
+        anchors = anchors-rest s.reading h next floors (map member_told o.group) s.stands stands-then front o.told v.roots.extents v.room.anchors
+            (drop v.commits.group queue)
+            (subst (λ (l : History Value). HasAnchors v.roots.extents s.reading l v.room.anchors) (sym (taken-and-rest v.commits.group queue)) s.anchors);
+        turn = record { log = done.rests refl; room = o.room };
+      })
+
+-- ---- stops
+
+pub standing-stops : (v : LogStoreValue) (h queue : History Value) (floors : ℕ → ℕ) → v.commits.failed ≡ false → StandsOnHeap v h queue floors
+    → StopsOnHeap v h queue floors
+standing-stops v h queue floors works s image left = by-turn v.turn s.turn
+  where
+    by-turn : (t : Option WriterState) → HasTurn v queue s.l s.reading h t
+        → MayStand v.commits.failed t (IsImageOf v.roots image h floors) (IsImageOf v.roots image (h ++ take v.commits.group queue) floors)
+    by-turn None rest = record {
+      status = s.status image.status left.status;
+      heap = record {
+        log = s.l;
+        reading = s.reading;
+        is_log = s.is_log;
+        stands = s.stands;
+        held = record {
+          parts = all-left (heap_parts s.l) v.disk.areas.heap image.heap (rest.log).parts left.heap;
+          ends = closed-left (extent_start s.l.next) v.disk.areas.heap image.heap (rest.log).ends left.heap;
+          rolls = rolls-left s.l.rolls v.disk.areas.archive image.archive s.archive.rolls left.archive;
+          runs = runs-left s.l.runs v.disk.areas.archive image.archive s.archive.runs left.archive;
+        };
+      };
+    }
+    by-turn (Some w) o =
+        let on = way v h queue floors s w o in
+        let root = root_of v.roots in
+        let next = h ++ take v.commits.group queue in
+        subst (λ (b : Bool). MatchBool b (MayBecome w.stage (IsImageOf v.roots image h floors) (IsImageOf v.roots image next floors))
+        (MayBe w.stage (IsImageOf v.roots image h floors) (IsImageOf v.roots image next floors))) (sym works)
+        (map-before w.stage (HeapStandsFor v.roots.extents root image.heap image.archive h floors)
+        (HeapStandsFor v.roots.extents root image.heap image.archive next floors) (IsImageOf v.roots image h floors) (IsImageOf v.roots image next floors)
+        (λ heap. record { status = s.status image.status left.status; heap = heap })
+        (λ heap. record { status = s.status image.status left.status; heap = heap }) (on.before image left))
+
+-- ---- a call
+
+-- within a call and after it, whatever its answer
+pub call-within : (w : WriterState) (old : LogStoreValue) (h queue : History Value) (floors : ℕ → ℕ) → old.turn ≡ Some w → StandsOnHeap old h queue floors
+    → (result : Result (Unit {0}) DeviceFault) (areas : Areas) (image : Image) → IsCallOf (turn w) w.stage result old.disk.areas areas
+    → LeavesImage areas image
+    → MayBecome w.stage (IsImageOf old.roots image h floors) (IsImageOf old.roots image (h ++ take old.commits.group queue) floors)
+call-within w old h queue floors standing s result areas image call left =
+    let o : IsOnWay old queue s.l s.reading h w = subst (λ (t : Option WriterState). HasTurn old queue s.l s.reading h t) standing s.turn in
+    let on = way old h queue floors s w o in
+    let root = root_of old.roots in
+    let next = h ++ take old.commits.group queue in
+    let status = s.status image.status (status-left (turn w) w.stage result old.disk.areas areas image s.sound call left) in
+    map-within w.stage (HeapStandsFor old.roots.extents root image.heap image.archive h floors)
+    (HeapStandsFor old.roots.extents root image.heap image.archive next floors) (IsImageOf old.roots image h floors) (IsImageOf old.roots image next floors)
+    (λ heap. record { status = status; heap = heap }) (λ heap. record { status = status; heap = heap })
+    (on.within result areas image
+    (subst (λ (t : Turn). IsCallOf t w.stage result old.disk.areas areas) (same-turn old h queue floors s w o) call) left)
+
+pub call-goes : (tells : Bool) (w : WriterState) (old new : LogStoreValue) (answer : Result Did PumpFault) (h queue : History Value) (floors : ℕ → ℕ)
+    → IsTrue tells → old.commits.failed ≡ false → old.turn ≡ Some w → StandsOnHeap old h queue floors
+    → Advances tells w old answer new → AreSound new.disk.areas → GoesOn w old answer new h queue floors
+call-goes tells w old new answer h queue floors tell works standing s advances sound =
+    record { within = call-within w old h queue floors standing s; leads = by-answer answer (advances.call tell) advances.answer }
+  where
+    o : IsOnWay old queue s.l s.reading h w
+    o = subst (λ (t : Option WriterState). HasTurn old queue s.l s.reading h t) standing s.turn
+
+    chain-call : (result : Result (Unit {0}) DeviceFault) (areas : Areas) → IsCallOf (turn w) w.stage result old.disk.areas areas
+        → IsCallOf (turn_of s.l.next (placed_group w.numbers w.link o.group)) w.stage result old.disk.areas areas
+    chain-call result areas call =
+        subst (λ (t : Turn). IsCallOf t w.stage result old.disk.areas areas) (same-turn old h queue floors s w o) call
+
+    by-stage : (stage : Stage) → w.stage ≡ stage → new ≡ record (after_call old w stage) { disk = new.disk }
+        → IsCallOf (turn w) w.stage (Ok tt) old.disk.areas new.disk.areas → LeadsTo stage old.commits.group new h queue floors
+    by-stage stage e is call = by-case stage e is
+      where
+        archive : KeepsArchive s.l new.disk.areas.archive
+        archive = subst (KeepsArchive s.l) (sym (same-archive (turn w) w.stage old.disk.areas new.disk.areas call)) s.archive
+
+        status : KeepsRoots old.roots new.disk.areas.status
+        status =
+            subst (KeepsRoots old.roots) (sym (same-status (turn w) w.stage old.disk.areas new.disk.areas call)) s.status
+
+        at : IsAt (heap_parts s.l) (turn_of s.l.next (placed_group w.numbers w.link o.group)) (stage_after w.stage) new.disk.areas.heap
+        at = let on = way old h queue floors s w o in on.leads new.disk.areas (chain-call (Ok tt) new.disk.areas call)
+
+        further : new ≡ record (at_next old w) { disk = new.disk } → StandsOnHeap new h queue floors
+        further same = next-stands old h queue floors s w o new same sound archive status at
+
+        by-case : (k : Stage) → w.stage ≡ k → new ≡ record (after_call old w k) { disk = new.disk } → LeadsTo k old.commits.group new h queue floors
+        by-case (Writing done rest) e same = further same
+        by-case Syncing e same = further same
+        by-case Opening e same = further same
+        by-case Settling e same =
+            published-stands old h queue floors s w o new same sound archive status
+            (subst (λ (k : Stage). IsAt (heap_parts s.l) (turn_of s.l.next (placed_group w.numbers w.link o.group)) k new.disk.areas.heap)
+            (ap stage_after e) at)
+        by-case Done e same = subst (λ (k : Stage). IsCallOf (turn w) k (Ok tt) old.disk.areas new.disk.areas) e call
+
+    by-answer : (a : Result Did PumpFault) → IsCallOf (turn w) w.stage (disk_answer a) old.disk.areas new.disk.areas
+        → MatchResult a (λ what. (what ≡ did_of (writers.did w.stage) old.commits.group) × (new ≡ record (after_call old w w.stage) { disk = new.disk }))
+        (λ why. (why ≡ faults.Failed) × (new ≡ record (with_failure old) { disk = new.disk }))
+        → MatchResult a (λ what. LeadsTo w.stage old.commits.group new h queue floors) (λ why. StopsOnHeap new h queue floors)
+    by-answer (Ok what) call is = by-stage w.stage refl is.1 call
+    by-answer (Err why) call is = λ image left.
+        subst (λ (x : LogStoreValue). MayStand x.commits.failed x.turn (IsImageOf x.roots image h floors)
+        (IsImageOf x.roots image (h ++ take x.commits.group queue) floors))
+        (sym is.1)
+        (subst (λ (t : Option WriterState). MayStand true t (IsImageOf old.roots image h floors)
+        (IsImageOf old.roots image (h ++ take old.commits.group queue) floors))
+        (sym standing) (call-within w old h queue floors standing s (disk_answer (Err why)) new.disk.areas image call left))

@@ -1,0 +1,11 @@
+pub mod Members
+pub mod Joining
+pub mod Queues
+pub mod Anchors
+pub mod Going
+pub mod Flags
+pub mod Beginning
+pub mod Submitting
+pub mod Calls
+pub mod Pumping
+pub mod Opened

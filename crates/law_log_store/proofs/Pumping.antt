@@ -1,0 +1,188 @@
+-- The steps of a store's groups.
+use Rattle.std.proofs.Common.{◌≡◌, ℕ, ◌==◌, ◌<◌, ◌&&◌, Bool, true, false, cond, nat_lt, [], ◌∷◌, ◌++◌, length, take, drop, Option, None, Some}
+use Rattle.std.proofs.Common.{Result, Ok, Err, refl, arith, ap, sym, subst, ◌∙◌, append-nil, ◌⊎◌, inl, inr}
+use Rattle.std.specs.Prelude.{IsTrue, MatchBool, MatchResult, min}
+use Rattle.std.proofs.lemmas.Bool.Decides.{nat_tests}
+use Rattle.history.specs.Histories.{History}
+use Rattle.disk.specs.Areas.{Image, AreSound, LeavesImage}
+use Rattle.law_image.specs.Values.{Value}
+use Rattle.group.specs.declared.answers.PumpFault.{PumpFault}
+use Rattle.group.specs.declared.answers.PumpFault.TheVariants as fault
+use Rattle.log_writer.specs.Turns.{Stage, Writing, Syncing, Opening, Settling, Done}
+use Rattle.log_writer.specs.Writer.{WriterState}
+use Rattle.log_writer.specs.Writer as writers
+use Rattle.law_log_layout.specs.Turns.{MayBe, MayBecome}
+use Rattle.commits.specs.Values.{CommitsValue}
+use Rattle.commits.specs.Steps.{grouped}
+use Rattle.log_store.specs.Values.{LogStoreValue, IsInStep}
+use Rattle.log_store.specs.Values as stores
+use Rattle.log_store.specs.Pumps.{Pumps, TakesStep, BeginsGroup, AdvancesGroup, Advances, after_call, with_failure, did_of, disk_answer}
+use Rattle.log_store.specs.declared.answers.Did.{Did}
+use Rattle.log_store.specs.declared.answers.Did.TheVariants as did
+use Rattle.law_log_store.specs.Standing.{StandsOnHeap, IsImageOf, MayStand, StopsOnHeap}
+use Rattle.law_log_store.specs.Laws.{LeadsTo, GoesOn}
+use Rattle.law_log_store.specs.Calls.{count_in, StepsTo, IsFront}
+use Rattle.law_log_store.proofs.Beginning.{has-begun}
+use Rattle.law_log_store.proofs.Going.{standing-stops, call-within, call-goes}
+
+-- nothing is published
+unpublished : (v : LogStoreValue) (h queue : History Value) (floors : ℕ → ℕ) → StandsOnHeap v h queue floors
+    → StandsOnHeap v (h ++ take 0 queue) (drop 0 queue) floors
+unpublished v h queue floors s = subst (λ (l : History Value). StandsOnHeap v l queue floors) (sym (append-nil h)) s
+
+-- what a call did tells what it leads to
+did-leads : (stage : Stage) (group : ℕ) (what : Did) (new : LogStoreValue) (h queue : History Value) (floors : ℕ → ℕ)
+    → what ≡ did_of (writers.did stage) group → LeadsTo stage group new h queue floors
+    → StandsOnHeap new (h ++ take (count_in what) queue) (drop (count_in what) queue) floors
+did-leads stage group what new h queue floors is leads =
+    subst (λ (d : Did). StandsOnHeap new (h ++ take (count_in d) queue) (drop (count_in d) queue) floors) (sym is) (by-stage stage leads)
+  where
+    by-stage : (k : Stage) → LeadsTo k group new h queue floors
+        → StandsOnHeap new (h ++ take (count_in (did_of (writers.did k) group)) queue) (drop (count_in (did_of (writers.did k) group)) queue) floors
+    by-stage (Writing done []) s = unpublished new h queue floors s
+    by-stage (Writing done (p ∷ rest)) s = unpublished new h queue floors s
+    by-stage Syncing s = unpublished new h queue floors s
+    by-stage Opening s = unpublished new h queue floors s
+    by-stage Settling s = s
+    by-stage Done s = absurd s
+
+-- a call of the group's chain
+call-steps : (tells : Bool) (w : WriterState) (old new start : LogStoreValue) (answer : Result Did PumpFault) (h queue : History Value) (floors : ℕ → ℕ)
+    → IsTrue tells → old.commits.failed ≡ false → old.turn ≡ Some w → StandsOnHeap old h queue floors → Advances tells w old answer new
+    → AreSound new.disk.areas → StepsTo answer start new h queue floors
+call-steps tells w old new start answer h queue floors tell works standing s advances sound = by-answer answer advances.answer goes.leads
+  where
+    goes : GoesOn w old answer new h queue floors
+    goes = call-goes tells w old new answer h queue floors tell works standing s advances sound
+
+    by-answer : (a : Result Did PumpFault)
+        → MatchResult a (λ what. (what ≡ did_of (writers.did w.stage) old.commits.group) × (new ≡ record (after_call old w w.stage) { disk = new.disk }))
+        (λ why. (why ≡ fault.Failed) × (new ≡ record (with_failure old) { disk = new.disk }))
+        → MatchResult a (λ what. LeadsTo w.stage old.commits.group new h queue floors) (λ why. StopsOnHeap new h queue floors)
+        → StepsTo a start new h queue floors
+    by-answer (Ok what) is leads = did-leads w.stage old.commits.group what new h queue floors is.0 leads
+    by-answer (Err why) is leads =
+        subst (λ (f : PumpFault). StepsTo (Err f) start new h queue floors) (sym is.0)
+        (record { failed = ap (λ (v : LogStoreValue). v.commits.failed) is.1; stops = leads })
+
+pub pump-steps : (tells : Bool) (old new : LogStoreValue) (answer : Result Did PumpFault) (h queue : History Value) (floors : ℕ → ℕ)
+    → IsTrue tells → old.commits.failed ≡ false → IsInStep old → AreSound new.disk.areas → StandsOnHeap old h queue floors
+    → Pumps tells old answer new → StepsTo answer old new h queue floors
+pump-steps tells old new answer h queue floors tell works step sound s pumps =
+    by-turn old.turn refl
+    (subst (λ (b : Bool). MatchBool b ((answer ≡ Err fault.Failed) × (new ≡ old)) (TakesStep tells old old.turn answer new)) works pumps)
+  where
+    begins : old.turn ≡ None → 0 < length old.commits.queue → BeginsGroup tells old answer new → StepsTo answer old new h queue floors
+    begins at_rest some (inl none) = subst (λ (a : Result Did PumpFault). StepsTo a old new h queue floors) (sym none.0) none.1
+    begins at_rest some (inr begun) =
+        let has = has-begun old begun.0 h queue floors step at_rest some s begun.1 in
+        let advances : Advances tells has.writer begun.0 answer new =
+        subst (λ (t : Option WriterState). AdvancesGroup tells begun.0 t answer new) has.turn begun.2 in
+        call-steps tells has.writer begun.0 new old answer h queue floors tell (has.works ∙ works) has.turn has.stands advances sound
+
+    by-queue : (b : Bool) → (length old.commits.queue == 0) ≡ b → old.turn ≡ None
+        → MatchBool b ((answer ≡ Ok did.Idle) × (new ≡ old)) (BeginsGroup tells old answer new) → StepsTo answer old new h queue floors
+    by-queue true none at_rest is =
+        subst (λ (a : Result Did PumpFault). StepsTo a old new h queue floors) (sym is.0)
+        (subst (λ (x : LogStoreValue). StandsOnHeap x (h ++ take 0 queue) (drop 0 queue) floors) (sym is.1) (unpublished old h queue floors s))
+    by-queue false some at_rest is = begins at_rest (grind (arith, nat_tests)) is
+
+    by-turn : (t : Option WriterState) → old.turn ≡ t → TakesStep tells old t answer new → StepsTo answer old new h queue floors
+    by-turn None at_rest is = by-queue (length old.commits.queue == 0) refl at_rest is
+    by-turn (Some w) standing is = call-steps tells w old new old answer h queue floors tell works standing s is sound
+
+pub failed-rests : (tells : Bool) (old new : LogStoreValue) (answer : Result Did PumpFault) → old.commits.failed ≡ true → Pumps tells old answer new
+    → (answer ≡ Err fault.Failed) × (new ≡ old)
+failed-rests tells old new answer failed pumps =
+    subst (λ (b : Bool). MatchBool b ((answer ≡ Err fault.Failed) × (new ≡ old)) (TakesStep tells old old.turn answer new)) failed pumps
+
+-- ---- stops
+
+-- what holds of one of two claims by the stage holds of either
+pub either-old : (stage : Stage) (A B : Type 0) → MayBe stage A B → A ⊎ B
+either-old (Writing done rest) A B is = inl is
+either-old Syncing A B is = inl is
+either-old Opening A B is = inl is
+either-old Settling A B is = is
+either-old Done A B is = inr is
+
+pub either-new : (stage : Stage) (A B : Type 0) → MayBecome stage A B → A ⊎ B
+either-new (Writing done rest) A B is = inl is
+either-new Syncing A B is = inl is
+either-new Opening A B is = is
+either-new Settling A B is = is
+either-new Done A B is = inr is
+
+-- a front of what stands before a call, and after it
+module _ (v : LogStoreValue) (h queue : History Value) (floors : ℕ → ℕ) (works : v.commits.failed ≡ false) (s : StandsOnHeap v h queue floors)
+    (image : Image) where
+  abbrev Fronts : ℕ → Type 0
+  Fronts n = IsImageOf v.roots image h floors ⊎ IsImageOf v.roots image (h ++ take n queue) floors
+
+  front-before : LeavesImage v.disk.areas image → Fronts v.commits.group
+  front-before left = by-turn v.turn (standing-stops v h queue floors works s image left)
+    where
+      by-turn : (t : Option WriterState)
+          → MayStand v.commits.failed t (IsImageOf v.roots image h floors) (IsImageOf v.roots image (h ++ take v.commits.group queue) floors)
+          → Fronts v.commits.group
+      by-turn None is = inl is
+      by-turn (Some w) is =
+          either-old w.stage (IsImageOf v.roots image h floors) (IsImageOf v.roots image (h ++ take v.commits.group queue) floors)
+          (subst (λ (b : Bool). MatchBool b (MayBecome w.stage (IsImageOf v.roots image h floors)
+          (IsImageOf v.roots image (h ++ take v.commits.group queue) floors))
+          (MayBe w.stage (IsImageOf v.roots image h floors) (IsImageOf v.roots image (h ++ take v.commits.group queue) floors))) works is)
+
+  front-after : (tells : Bool) (w : WriterState) (new : LogStoreValue) (answer : Result Did PumpFault) → IsTrue tells → v.turn ≡ Some w
+      → Advances tells w v answer new → LeavesImage new.disk.areas image → Fronts v.commits.group
+  front-after tells w new answer tell standing advances left =
+      either-new w.stage (IsImageOf v.roots image h floors) (IsImageOf v.roots image (h ++ take v.commits.group queue) floors)
+      (call-within w v h queue floors standing s (disk_answer answer) new.disk.areas image (advances.call tell) left)
+
+-- where a group stands none begins
+pub grouped-stays : (v : CommitsValue) → 0 < v.group → grouped 1024 v ≡ v
+grouped-stays v some =
+    let it : CommitsValue = record v { group = min 1024 (length v.queue) } in
+    let no : (v.group == 0) ≡ false = grind (arith, nat_tests) in
+    ap (λ (b : Bool). cond (b && nat_lt 0 (length v.queue)) it v) no
+
+pub pump-leaves : (tells : Bool) (old new : LogStoreValue) (answer : Result Did PumpFault) (h queue : History Value) (floors : ℕ → ℕ) (image : Image)
+    → IsTrue tells → old.commits.failed ≡ false → IsInStep old → StandsOnHeap old h queue floors → Pumps tells old answer new
+    → LeavesImage old.disk.areas image ⊎ LeavesImage new.disk.areas image → IsFront old image h queue floors
+pump-leaves tells old new answer h queue floors image tell works step s pumps left =
+    by-turn old.turn refl
+    (subst (λ (b : Bool). MatchBool b ((answer ≡ Err fault.Failed) × (new ≡ old)) (TakesStep tells old old.turn answer new)) works pumps) left
+  where
+    old-front : old.turn ≡ None → LeavesImage old.disk.areas image → IsFront old image h queue floors
+    old-front at_rest l =
+        inl (subst (λ (t : Option WriterState). MayStand old.commits.failed t (IsImageOf old.roots image h floors)
+        (IsImageOf old.roots image (h ++ take old.commits.group queue) floors)) at_rest (standing-stops old h queue floors works s image l))
+
+    standing-front : (w : WriterState) → old.turn ≡ Some w → Fronts old h queue floors works s image old.commits.group → IsFront old image h queue floors
+    standing-front w standing front =
+        let some = (subst (λ (t : Option WriterState). stores.HasTurn old.commits.group t) standing step.turn).0 in
+        subst (λ (n : ℕ). IsImageOf old.roots image h floors ⊎ IsImageOf old.roots image (h ++ take n queue) floors)
+        (ap (λ (v : CommitsValue). v.group) (sym (grouped-stays old.commits some))) front
+
+    begins : old.turn ≡ None → 0 < length old.commits.queue → BeginsGroup tells old answer new → LeavesImage new.disk.areas image
+        → IsFront old image h queue floors
+    begins at_rest some (inl none) l = old-front at_rest (subst (λ (x : LogStoreValue). LeavesImage x.disk.areas image) none.1 l)
+    begins at_rest some (inr begun) l =
+        let has = has-begun old begun.0 h queue floors step at_rest some s begun.1 in
+        let advances : Advances tells has.writer begun.0 answer new =
+        subst (λ (t : Option WriterState). AdvancesGroup tells begun.0 t answer new) has.turn begun.2 in
+        let front = front-after begun.0 h queue floors (has.works ∙ works) has.stands image tells has.writer new answer tell has.turn advances l in
+        subst (λ (v : LogStoreValue). IsImageOf v.roots image h floors ⊎ IsImageOf v.roots image (h ++ take v.commits.group queue) floors)
+        (begun.1).new_is front
+
+    by-queue : (b : Bool) → (length old.commits.queue == 0) ≡ b → old.turn ≡ None
+        → MatchBool b ((answer ≡ Ok did.Idle) × (new ≡ old)) (BeginsGroup tells old answer new) → LeavesImage new.disk.areas image
+        → IsFront old image h queue floors
+    by-queue true none at_rest is l = old-front at_rest (subst (λ (x : LogStoreValue). LeavesImage x.disk.areas image) is.1 l)
+    by-queue false some at_rest is l = begins at_rest (grind (arith, nat_tests)) is l
+
+    by-turn : (t : Option WriterState) → old.turn ≡ t → TakesStep tells old t answer new
+        → LeavesImage old.disk.areas image ⊎ LeavesImage new.disk.areas image → IsFront old image h queue floors
+    by-turn None at_rest is (inl l) = old-front at_rest l
+    by-turn None at_rest is (inr l) = by-queue (length old.commits.queue == 0) refl at_rest is l
+    by-turn (Some w) standing is (inl l) = standing-front w standing (front-before old h queue floors works s image l)
+    by-turn (Some w) standing is (inr l) = standing-front w standing (front-after old h queue floors works s image tells w new answer tell standing is l)

@@ -1,0 +1,5 @@
+pub mod Members
+pub mod Standing
+pub mod Laws
+pub mod Calls
+pub mod Opened

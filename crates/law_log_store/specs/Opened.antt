@@ -1,0 +1,55 @@
+-- A store as it is opened on what stands in its heap.
+use Rattle.std.specs.Prelude.{ℕ, ◌≡◌, Bool, true, false, List, [], replicate, flat_map, None}
+use Rattle.history.specs.declared.key.Key.{Key}
+use Rattle.history.specs.Histories.{History}
+use Rattle.disk.specs.Areas.{Image, AreSound, settled_on}
+use Rattle.law_image.specs.Values.{Value}
+use Rattle.law_image.specs.Reading.{Reading}
+use Rattle.law_image.specs.Facts.{values_now}
+use Rattle.law_image.specs.StandsFor.{StandsFor}
+use Rattle.chains.specs.KeyWrites.{IsOrdered}
+use Rattle.law_log_layout.specs.HeapLog.{PlacedChain, HeapLog, IsLogOf, HoldsLog}
+use Rattle.law_log_sizes.specs.Sizes.{size_now}
+use Rattle.log_recovery.specs.Opening.{ReadsRoots}
+use Rattle.log_roots.specs.Roots.{root_of}
+use Rattle.log_sizes.specs.Counted.{values_in}
+use Rattle.log_space.specs.Uses.{with_use, all_used}
+use Rattle.log_room.specs.Rooms.{RoomValue, MayOpen}
+use Rattle.log_store.specs.Values.{LogStoreValue}
+use Rattle.law_log_store.specs.Standing.{StandsOnHeap, IsRoomOf, counted}
+
+-- the flags of a heap of so many extents where those of the log's chains are in use, and then those of the anchors
+abbrev pub live_uses : ℕ → HeapLog → List Bool
+live_uses most l = all_used (all_used (replicate most false) (flat_map (λ (c : PlacedChain). c.numbers) l.chains)) l.anchors.numbers
+
+-- the room in the heap of this log
+abbrev pub opened_room : ℕ → HeapLog → Reading → RoomValue
+opened_room most l reading =
+    record { used = with_use (live_uses most l) l.next true; next = l.next; log = counted l; promised = 0; anchors = size_now reading }
+
+-- A log that stands for a history leaves room: the heap may be opened, with such a room.
+pub record LeavesRoom (most : ℕ) (l : HeapLog) (reading : Reading) : Type 0 where
+  pub may : MayOpen (live_uses most l) l.next (counted l) (size_now reading)
+  pub room : IsRoomOf most l (opened_room most l reading)
+
+abbrev pub RoomOpens : Type 0
+RoomOpens =
+    (most root : ℕ) (l : HeapLog) (reading : Reading) (h : History Value) (floors : ℕ → ℕ) → IsLogOf most root l reading → StandsFor reading h floors
+    → LeavesRoom most l reading
+
+-- the store has the last values of what is read in its memory, and nothing waits
+pub record IsOpenedOn (v : LogStoreValue) (l : HeapLog) (reading : Reading) : Type 0 where
+  pub ordered : IsOrdered v.commits.versions
+  pub values : (key : Key) → values_in v.commits.versions key ≡ values_now reading key
+  pub queue : v.commits.queue ≡ []
+  pub group : v.commits.group ≡ 0
+  pub contents : v.contents ≡ []
+  pub room : v.room ≡ opened_room v.roots.extents l reading
+  pub turn : v.turn ≡ None
+
+-- a store that is opened on an image all of which is synced stands for what the image does
+abbrev pub OpenedStands : Type 0
+OpenedStands =
+    (v : LogStoreValue) (image : Image) (l : HeapLog) (reading : Reading) (h : History Value) (floors : ℕ → ℕ)
+    → v.disk.areas ≡ settled_on image → AreSound v.disk.areas → ReadsRoots image.status v.roots → IsLogOf v.roots.extents (root_of v.roots) l reading
+    → HoldsLog l image.heap image.archive → StandsFor reading h floors → IsOpenedOn v l reading → StandsOnHeap v h [] floors

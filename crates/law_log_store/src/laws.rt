@@ -1,0 +1,60 @@
+//! Laws of the disk of a store whose log lies in the heap.
+ghost use Rattle.law_log_store.specs.Calls.{AbortKeeps, BeginKeeps, FailedQueuesNone, FailedRests, PumpLeaves, PumpSteps, RedeemKeeps, SubmitSteps};
+ghost use Rattle.law_log_store.specs.Opened.{OpenedStands, RoomOpens};
+ghost use Rattle.law_log_store.specs.Laws.{GroupBegins, GroupGoesOn, GroupJoins, StandingStops, SubmitKeeps};
+
+/// A store that is opened on a log that stands for a history stands for that history: the heap has the room that
+/// an opened one is to have, and all is on the disk.
+pub fn opened_stands()
+    ensures room { RoomOpens }
+    ensures stands { OpenedStands }
+{}
+
+/// The next commits are a group of the log: their records over the versions in memory are those over what
+/// the log says, and their bytes joined are the bytes of the group's chain.
+pub fn group_joins()
+    ensures { GroupJoins }
+{}
+
+/// A group's way to the disk, call by call: what a crash leaves stands for what is published, or, from the
+/// write of the gate on, for that or for it with the whole group, also where the call is refused. Once the
+/// last call is made the disk stands for what is published then.
+pub fn group_goes_on()
+    ensures stops { StandingStops }
+    ensures call { GroupGoesOn }
+{}
+
+/// A group begins: its chain begins where the log ends and takes free extents, and with it the heap keeps its
+/// shares. The disk stands for what it did.
+pub fn group_begins()
+    ensures { GroupBegins }
+{}
+
+/// A commit that may follow the commit order, and has room, is queued with its bytes. The disk stands for what it
+/// did, and the states behind the queue have room for their anchors.
+pub fn submit_keeps()
+    ensures { SubmitKeeps }
+{}
+
+/// A step of a group of a store that works: as many of the first commits of the queue are published as it says,
+/// and the disk stands for that; or nothing has changed for want of memory; or the store has failed, and what a
+/// crash leaves stands for what is published, or for that with the whole group. So does what a crash leaves
+/// before the step and after it, whatever its answer.
+pub fn pump_steps()
+    ensures steps { PumpSteps }
+    ensures leaves { PumpLeaves }
+    ensures failed { FailedRests }
+{}
+
+/// Transactions that begin or are given up, and tickets that are shown, change nothing of that.
+pub fn memory_keeps()
+    ensures begin { BeginKeeps }
+    ensures abort { AbortKeeps }
+    ensures redeem { RedeemKeeps }
+{}
+
+/// A submit queues one commit or none. The disk stands for what it did, and the queue has it at its end.
+pub fn submit_steps()
+    ensures steps { SubmitSteps }
+    ensures failed { FailedQueuesNone }
+{}

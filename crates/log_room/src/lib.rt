@@ -1,0 +1,9 @@
+//! The room in the heap of a store whose log lies there: the bytes of the commits that wait, and the extents that they take.
+#![tactic(auto)]
+
+mod content;
+mod room;
+mod taking;
+
+pub use content::{Content, Joined, count_for, drop_first, join, spell};
+pub use room::{HeapRoom, TakenChain};

@@ -1,0 +1,138 @@
+//! The room in a heap: which extents the log has, and which it will take.
+ghost use Rattle.std.specs.Prelude.{◌≡◌, ◌≤◌, ◌<◌, ◌+◌, ◌*◌, ◌/◌, ◌^◌, ◌∷◌, true, IfOk, OnErr, length};
+ghost use Rattle.std.specs.List.{AllByRecursion};
+ghost use Rattle.log_extents.specs.Chains.{count_of, IsNumberOf};
+ghost use Rattle.log_space.specs.Uses.{with_use};
+ghost use Rattle.law_log_sizes.specs.Sizes.{len_behind};
+ghost use Rattle.log_sizes.specs.Counted.{values_in};
+ghost use Rattle.log_room.specs.Rooms.{fits, promised_to, TakesChain, MayOpen};
+
+use crate::taking::take_least;
+use chains::{Frozen, SharedValue};
+use history::KeyWrite;
+use log_sizes::AnchorSizes;
+use log_space::Space;
+use std::alloc::{AllocError, Global};
+use std::marker::Model;
+
+/// So many extents of the log's half are left by commits, for the entries of jobs.
+const LEFT_BY_COMMITS: u32 = 4;
+
+/// The extents of a heap: which are in use, where the log ends, how many it has, and how many it will take for the commits that wait.
+#[derive(Drop)]
+pub struct HeapRoom {
+    space: Space,
+    next: u32,
+    log: u32,
+    promised: u32,
+    anchors: u64,
+}
+
+/// The extents of a chain, its head first, and the one where the log goes on behind it.
+#[derive(Drop)]
+pub struct TakenChain {
+    pub numbers: Vec<u32>,
+    pub link: u32,
+}
+
+impl Model for HeapRoom {
+    ghost use Rattle.log_room.specs.Rooms.{RoomValue, IsRoom};
+
+    ghost Value = { RoomValue };
+
+    ghost view = { λ r. record { used = r.space; next = r.next; log = r.log; promised = r.promised; anchors = r.anchors } };
+
+    ghost invariant = { λ r. IsRoom (record { used = r.space; next = r.next; log = r.log; promised = r.promised; anchors = r.anchors }) };
+}
+
+impl HeapRoom {
+    /// The room in a heap that was opened. The extents of live chains are in use; the log ends at `next`. It has `log` extents, with
+    /// that one, and the anchors of its last state have so many bytes.
+    pub fn of_opened(mut space: Space, next: u32, log: u32, anchors: u64) -> HeapRoom
+        requires { MayOpen space next log anchors }
+        ensures { result ≡ record { used = with_use space next true; next = next; log = log; promised = 0; anchors = anchors } }
+    {
+        let _claimed = space.claim(next);
+        HeapRoom {
+            space,
+            next,
+            log,
+            promised: 0,
+            anchors,
+        }
+    }
+
+    /// How many extents the heap has.
+    pub fn len(&self) -> u32
+        ensures { result ≡ length self.now.used }
+    {
+        self.space.len()
+    }
+
+    /// The extent where the log ends.
+    pub fn next(&self) -> u32
+        ensures { result ≡ self.now.next }
+    {
+        self.next
+    }
+
+    /// The bytes of the anchors of the state behind a commit of these writes, where these are the versions of the whole commit order.
+    pub fn anchors_behind(&self, ordered: &Frozen, writes: &[KeyWrite<SharedValue>]) -> u64
+        requires { length writes.now ≤ 1024 }
+        ensures { result ≡ len_behind self.now.anchors (values_in ordered.now) writes.now }
+    {
+        AnchorSizes::of(self.anchors)
+            .with_writes(ordered, writes)
+            .len
+    }
+
+    /// Whether a commit of so many extents has room, behind which the anchors have so many bytes.
+    pub fn fits(&self, count: usize, anchors: u64) -> bool
+        ensures { result ≡ fits self.now count anchors }
+    {
+        let most = self.space.len();
+        let share = most * 3 / 16;
+        let limit = most / 2 - LEFT_BY_COMMITS;
+        let taken = self.log + self.promised;
+        taken <= limit && count <= (limit - taken) as usize && AnchorSizes::of(anchors).fit(share)
+    }
+
+    /// A commit is promised so many extents; behind it the anchors have so many bytes.
+    pub fn promise(&mut self, count: usize, anchors: u64)
+        requires log { self.old.log + self.old.promised + count ≤ length self.old.used / 2 }
+        requires share { count_of anchors ≤ (3 * length self.old.used) / 16 }
+        ensures is { self.new ≡ promised_to self.old count anchors }
+        ensures few { self.new.promised ≤ 2 ^ 20 }
+    {
+        let promised = self.promised;
+        self.promised = promised + count as u32;
+        self.anchors = anchors;
+    }
+
+    /// Takes the extents of a chain of so many, which begins where the log ends, and the one where the log goes on behind it. So many
+    /// extents are promised no longer.
+    pub fn take_chain(
+        &mut self,
+        alloc: Global,
+        count: usize,
+        promised: usize,
+    ) -> Result<TakenChain, AllocError>
+        requires some { 0 < count }
+        requires within { count ≤ promised }
+        requires promised { promised ≤ self.old.promised }
+        ensures ok { IfOk result (λ chain. TakesChain self.old count promised chain.numbers.items chain.link self.new) }
+        ensures in_range { IfOk result (λ chain. AllByRecursion (IsNumberOf (2 ^ 20)) (chain.link ∷ chain.numbers.items)) }
+        ensures err { OnErr result (self.new ≡ self.old) }
+    {
+        let mut numbers = take_least(alloc, &mut self.space, self.next, count)?;
+        match numbers.pop() {
+            None => unreachable!(),
+            Some(link) => {
+                self.next = link;
+                self.log += count as u32;
+                self.promised -= promised as u32;
+                Ok(TakenChain { numbers, link })
+            }
+        }
+    }
+}

@@ -1,0 +1,30 @@
+//! Extents taken into use one after the other.
+ghost use Rattle.std.specs.Prelude.{◌≡◌, ◌≤◌, ◌+◌, ◌∷◌, ℕ, List, IfOk, OnErr, length};
+ghost use Rattle.log_space.specs.Uses.{used_count};
+ghost use Rattle.log_room.specs.Rooms.{TakesLeast};
+
+use log_space::Space;
+use std::alloc::{AllocError, Global};
+
+/// This number, and behind it so many of the free extents, which are in use now: each the least free one.
+pub(crate) fn take_least(
+    alloc: Global,
+    space: &mut Space,
+    first: u32,
+    count: usize,
+) -> Result<Vec<u32>, AllocError>
+    requires room { used_count space.old + count ≤ length space.old }
+    requires few { length space.old ≤ 1048576 }
+    ensures ok { IfOk result (λ numbers. (taken : List ℕ) × (numbers.items ≡ first ∷ taken) × TakesLeast space.old count taken space.new) }
+    ensures err { OnErr result (space.new ≡ space.old) }
+{
+    let mut numbers = Vec::with_capacity(alloc, count + 1)?;
+    numbers.push_reserved(first);
+    for _ in 0..count {
+        match space.take() {
+            Some(number) => numbers.push_reserved(number),
+            None => unreachable!(),
+        }
+    }
+    Ok(numbers)
+}

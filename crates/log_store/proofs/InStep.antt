@@ -1,0 +1,162 @@
+-- A store stays in step.
+use Rattle.std.proofs.Common.{◌≡◌, ℕ, zero, suc, ◌==◌, ◌&&◌, ◌^◌, ◌<◌, ◌≤◌, nat_lt, min, Bool, true, cond, List, [], ◌∷◌, ◌++◌, length, map, take, drop, Option}
+use Rattle.std.proofs.Common.{sym, ap, subst, ◌∙◌, arith, Some, None}
+use Rattle.std.specs.List.{AllByRecursion}
+use Rattle.std.proofs.lemmas.Bool.Decides.{nat_tests}
+use Rattle.std.proofs.lemmas.List.{length-append, length-drop}
+use Rattle.history.specs.declared.key.KeyWrite.{KeyWrite}
+use Rattle.law_image.specs.Values.{Value}
+use Rattle.deltas.specs.declared.«record».Record.{Record}
+use Rattle.deltas.specs.Records.{spelling}
+use Rattle.log_entries.proofs.CommitLengths.{length-member}
+use Rattle.log_entries.specs.Spelling.{commit_len}
+use Rattle.log_extents.specs.Chains.{count_of}
+use Rattle.log_writer.specs.Writer.{WriterState}
+use Rattle.log_writer.specs.Turns.{Writing, chain_turn}
+use Rattle.log_room.specs.Rooms.{RoomValue, promised_to, TakesChain}
+use Rattle.log_room.specs.Contents.{joined, extents_of, content_over, member_over, records_over, extents_over}
+use Rattle.log_room.proofs.Joins.{extents_push, extents_split}
+use Rattle.commits.specs.Values.{CommitsValue, ordered}
+use Rattle.commits.specs.Steps.{grouped, with_waiting, waiting_as}
+use Rattle.log_store.specs.Values.{LogStoreValue, HasBytes, HasTurn, IsInStep}
+use Rattle.log_store.specs.Pumps.{group_size, group_content, Begins}
+
+-- ---- bytes
+
+all-push : (contents : List (List ℕ)) (content : List ℕ) → AllByRecursion HasBytes contents → HasBytes content
+    → AllByRecursion HasBytes (contents ++ content ∷ [])
+all-push [] content each some = (some, tt)
+all-push (c ∷ cs) content each some = (each.0, all-push cs content each.1 some)
+
+all-drop : (contents : List (List ℕ)) (n : ℕ) → AllByRecursion HasBytes contents → AllByRecursion HasBytes (drop n contents)
+all-drop [] zero each = each
+all-drop [] (suc n) each = each
+all-drop (c ∷ cs) zero each = each
+all-drop (c ∷ cs) (suc n) each = all-drop cs n each.1
+
+-- the first of some contents, joined, have some bytes
+pub some_joined : (contents : List (List ℕ)) (n : ℕ) → 0 < n → 0 < length contents → AllByRecursion HasBytes contents → 0 < length (joined (take n contents))
+some_joined [] n some are each = absurd (omega (arith, are))
+some_joined (c ∷ cs) zero some are each = absurd (omega (arith, some))
+some_joined (c ∷ cs) (suc n) some are each = let first = each.0 in omega (arith, first, length-append c (joined (take n cs)))
+
+content_len : (v : CommitsValue) (label time : ℕ) (writes : List (KeyWrite Value)) → length (content_over (ordered v) label time writes)
+    ≡ commit_len (map (λ (r : Record). length (spelling r)) (records_over (ordered v) writes))
+content_len v label time writes = length-member (member_over (ordered v) label time writes)
+
+-- ---- a commit more
+
+-- the commit waits with its bytes, and is promised its extents
+pub queued_in_step : (old : LogStoreValue) (label time count anchors : ℕ) (writes : List (KeyWrite Value)) (content : List ℕ) (commits : CommitsValue)
+    (contents : List (List ℕ)) (room : RoomValue) → IsInStep old → commits ≡ with_waiting old.commits label time writes
+    → contents ≡ old.contents ++ content ∷ [] → content ≡ content_over (ordered old.commits) label time writes
+    → count ≡ extents_over (ordered old.commits) writes → room ≡ promised_to old.room count anchors → room.promised ≤ 2 ^ 20
+    → IsInStep (record old { commits = commits; contents = contents; room = room })
+queued_in_step old label time count anchors writes content commits contents room is commits_are contents_are content_is count_is room_is few = record {
+  contents = let was = is.contents in
+      let group = ap (λ (c : CommitsValue). c.group) commits_are in
+      let queue = ap (λ (c : CommitsValue). length c.queue) commits_are in
+      let many = ap (λ (cs : List (List ℕ)). length cs) contents_are in
+      omega (
+        arith,
+        was,
+        group,
+        queue,
+        many,
+        length-append old.contents (content ∷ []),
+        length-append old.commits.queue (waiting_as old.commits label time writes ∷ []),
+      );
+  bytes = subst (λ (cs : List (List ℕ)). AllByRecursion HasBytes cs) (sym contents_are)
+      (all-push old.contents content is.bytes (omega (arith, len)));
+  promised = let was = is.promised in
+      let more = extents_push old.contents content in
+      let all = ap extents_of contents_are in
+      let same : count_of (length content) ≡ count = ap count_of len ∙ sym count_is in
+      let now = ap (λ (r : RoomValue). r.promised) room_is in
+      omega (arith, was, more, all, same, now);
+  few = few;
+  turn = subst (λ (n : ℕ). HasTurn n old.turn) (sym (ap (λ (c : CommitsValue). c.group) commits_are)) is.turn;
+}
+  where
+    len : length content ≡ commit_len (map (λ (r : Record). length (spelling r)) (records_over (ordered old.commits) writes))
+    len = ap (λ (bytes : List ℕ). length bytes) content_is ∙ content_len old.commits label time writes
+
+-- ---- a group
+
+grouped_is : (v : CommitsValue) → v.group ≡ 0 → 0 < length v.queue → grouped 1024 v ≡ record v { group = min 1024 (length v.queue) }
+grouped_is v none some =
+    let first : (v.group == 0) ≡ true = grind (arith, nat_tests) in
+    let second : nat_lt 0 (length v.queue) ≡ true = grind (arith, nat_tests) in
+    ap (λ (b : Bool). cond (b && nat_lt 0 (length v.queue)) (record v { group = min 1024 (length v.queue) }) v) first
+    ∙ ap (λ (b : Bool). cond b (record v { group = min 1024 (length v.queue) }) v) second
+
+no_group : (group : ℕ) (turn : Option WriterState) → turn ≡ None → HasTurn group turn → group ≡ 0
+no_group group None none has = has
+no_group group (Some w) none has = cc
+
+-- where no group stands all contents are those of commits that wait
+pub all_wait : (v : LogStoreValue) → IsInStep v → v.turn ≡ None → (v.commits.group ≡ 0) × (length v.contents ≡ length v.commits.queue)
+all_wait v is none =
+    let zero_group = no_group v.commits.group v.turn none is.turn in
+    let contents = is.contents in
+    (zero_group, omega (arith, zero_group, contents))
+
+pub size_some : (n : ℕ) → 0 < n → 0 < min 1024 n
+size_some n some = grind (arith, nat_tests)
+
+size_within : (n : ℕ) → min 1024 n ≤ n
+size_within n = grind (arith, nat_tests)
+
+pub begun_in_step : (old new : LogStoreValue) → IsInStep old → old.turn ≡ None → 0 < length old.commits.queue → Begins old new → IsInStep new
+begun_in_step old new is none some begins =
+    subst IsInStep (sym begins.new_is) (record {
+      contents = omega (arith, group, waits.1, size_within (length old.commits.queue), length-drop (group_size old) old.contents, queue);
+      bytes = all-drop old.contents (group_size old) is.bytes;
+      promised = ap (λ (r : _). r.promised) begins.takes.new_is
+          ∙ (let was = is.promised in let both = extents_split old.contents (group_size old) in omega (arith, was, both));
+      few = let was = is.few in let now = ap (λ (r : _). r.promised) begins.takes.new_is in omega (arith, was, now);
+      turn = (subst (λ (n : ℕ). 0 < n) (sym group) (size_some (length old.commits.queue) some), tt);
+    })
+  where
+    waits : (old.commits.group ≡ 0) × (length old.contents ≡ length old.commits.queue)
+    waits = all_wait old is none
+
+    group : (grouped 1024 old.commits).group ≡ min 1024 (length old.commits.queue)
+    group = ap (λ (c : CommitsValue). c.group) (grouped_is old.commits waits.0 some)
+
+    queue : length (grouped 1024 old.commits).queue ≡ length old.commits.queue
+    queue = ap (λ (c : CommitsValue). length c.queue) (grouped_is old.commits waits.0 some)
+
+-- a chain of which nothing is written yet
+abbrev pub begun_writer : List ℕ → ℕ → List ℕ → WriterState
+begun_writer numbers link content =
+    record { numbers = numbers; link = link; content = content; stage = Writing [] (chain_turn numbers link content).parts }
+
+-- what a group begins with
+pub begins_with : (old : LogStoreValue) (size count promised : ℕ) (bytes numbers : List ℕ) (link : ℕ) (room : RoomValue) (commits : CommitsValue)
+    (contents : List (List ℕ)) (w : WriterState) → size ≡ group_size old → bytes ≡ joined (take size old.contents) → count ≡ count_of (length bytes)
+    → promised ≡ extents_of (take size old.contents) → TakesChain old.room count promised numbers link room → commits ≡ grouped 1024 old.commits
+    → contents ≡ drop size old.contents → w ≡ begun_writer numbers link bytes
+    → Begins old (record old { commits = commits; contents = contents; room = room; turn = Some w })
+begins_with old size count promised bytes numbers link room commits contents w size_is bytes_are count_is promised_is takes commits_are contents_are w_is =
+    record {
+      numbers = numbers;
+      link = link;
+      room = room;
+      takes = subst (λ (n : ℕ). TakesChain old.room (count_of (length (group_content old))) n numbers link room)
+          (promised_is ∙ ap (λ (n : ℕ). extents_of (take n old.contents)) size_is)
+          (subst (λ (n : ℕ). TakesChain old.room n promised numbers link room)
+          (count_is ∙ ap (λ (xs : List ℕ). count_of (length xs)) content) takes);
+      new_is = ap (λ (c : CommitsValue). record old { commits = c; contents = contents; room = room; turn = Some w }) commits_are
+          ∙ ap (λ (cs : List (List ℕ)). record old { commits = grouped 1024 old.commits; contents = cs; room = room; turn = Some w })
+          (contents_are ∙ ap (λ (n : ℕ). drop n old.contents) size_is)
+          ∙ ap (λ (v : WriterState). record old {
+            commits = grouped 1024 old.commits;
+            contents = drop (group_size old) old.contents;
+            room = room;
+            turn = Some v;
+          }) (w_is ∙ ap (λ (xs : List ℕ). begun_writer numbers link xs) content);
+    }
+  where
+    content : bytes ≡ group_content old
+    content = bytes_are ∙ ap (λ (n : ℕ). joined (take n old.contents)) size_is

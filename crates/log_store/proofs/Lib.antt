@@ -1,0 +1,3 @@
+pub mod InStep
+pub mod Formats
+pub mod Created

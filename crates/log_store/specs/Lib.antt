@@ -1,0 +1,5 @@
+pub mod Values
+pub mod Submits
+pub mod Pumps
+pub mod Calls
+pub mod Formats

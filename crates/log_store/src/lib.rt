@@ -1,0 +1,13 @@
+//! A store whose log lies in the heap, as chains of extents of which each names the next one.
+#![tactic(auto)]
+
+mod answers;
+mod creating;
+mod formatting;
+mod pump;
+mod store;
+mod submit;
+
+pub use answers::Did;
+pub use formatting::format;
+pub use store::LogStore;

@@ -1,0 +1,92 @@
+//! The steps of a group to the disk.
+ghost use Rattle.std.specs.Prelude.{◌≡◌, ◌<◌, false, IsTrue, IsSome, OnErr, OnOk, length, None};
+ghost use Rattle.disk.specs.Areas.{AreSound};
+ghost use Rattle.log_store.specs.Pumps.{Pumps, Begins, AdvancesGroup, did_of};
+
+use crate::answers::Did;
+use crate::store::LogStore;
+use commits::MOST_IN_GROUP;
+use disk::{DeviceFault, Disk};
+use group::PumpFault;
+use log_extents::count_extents;
+use log_room::{drop_first, join};
+use log_writer::{ChainWriter, Wrote};
+use std::alloc::AllocError;
+
+// What a call of a group's chain did.
+fn did_of(what: Wrote, group: u32) -> Did
+    ensures { result ≡ did_of what group }
+{
+    match what {
+        Wrote::Extent => Did::WroteExtent,
+        Wrote::ClosedGate => Did::GateClosed,
+        Wrote::Synced => Did::HeapSynced,
+        Wrote::Gate => Did::GateWritten,
+        Wrote::Settled => Did::Published(group),
+    }
+}
+
+impl<D: Disk> LogStore<D> {
+    /// One step of the group of commits that is being written; where none stands, one begins of the first 1,024 that wait. Each step makes
+    /// one write or sync of the disk. `Idle` is answered where no group stands and no commit waits.
+    ///
+    /// Answers `Failed` once a write or sync of the device was refused, and `NoMemory`, with nothing done, where a group would begin.
+    pub fn pump(&mut self) -> Result<Did, PumpFault>
+        ensures is { Pumps D.tells self.old result self.new }
+        ensures sound { IsTrue D.tells → AreSound self.new.disk.areas }
+    {
+        if self.commits.has_failed() {
+            return Err(PumpFault::Failed);
+        }
+        if self.turn.is_none() {
+            if self.commits.waiting() == 0 {
+                return Ok(Did::Idle);
+            }
+            if self.begin_group().is_err() {
+                return Err(PumpFault::NoMemory);
+            }
+        }
+        self.advance()
+    }
+
+    // A group begins, of which nothing is written yet.
+    fn begin_group(&mut self) -> Result<(), AllocError>
+        requires none { self.old.turn ≡ None }
+        requires some { 0 < length self.old.commits.queue }
+        ensures ok { OnOk result (Begins self.old self.new) }
+        ensures err { OnErr result (self.new ≡ self.old) }
+    {
+        let size = MOST_IN_GROUP.min(self.commits.waiting());
+        let group = join(self.alloc, &self.contents, size)?;
+        let count = count_extents(group.bytes.len());
+        let chain = self.room.take_chain(self.alloc, count, group.count)?;
+        self.commits.begin_group(MOST_IN_GROUP);
+        drop_first(&mut self.contents, size);
+        self.turn = Some(ChainWriter::new(chain.numbers, chain.link, group.bytes));
+        Ok(())
+    }
+
+    // The next device call of the group's chain.
+    fn advance(&mut self) -> Result<Did, PumpFault>
+        requires works { self.old.commits.failed ≡ false }
+        requires some { IsSome self.old.turn }
+        ensures is { AdvancesGroup D.tells self.old self.old.turn result self.new }
+        ensures sound { IsTrue D.tells → AreSound self.new.disk.areas }
+    {
+        let Some(turn) = &mut self.turn else {
+            unreachable!()
+        };
+        let group = self.commits.group() as u32;
+        match turn.advance(&mut self.disk) {
+            Err(DeviceFault) => {
+                self.commits.fail();
+                Err(PumpFault::Failed)
+            }
+            Ok(Wrote::Settled) => {
+                self.turn = None;
+                Ok(Did::Published(self.commits.publish()))
+            }
+            Ok(what) => Ok(did_of(what, group)),
+        }
+    }
+}

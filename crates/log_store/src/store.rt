@@ -1,0 +1,115 @@
+//! The store, and its calls that ask nothing of the disk.
+ghost use Rattle.std.specs.Prelude.{◌≡◌, IfOk};
+ghost use Rattle.group.specs.CommitOrder.{times_of};
+ghost use Rattle.commits.specs.Values.{last, order_of};
+ghost use Rattle.log_store.specs.Calls.{Begins, Aborts, Redeems};
+
+use commits::Commits;
+use disk::Disk;
+use floors::Floors;
+use group::{BeginFault, Redeemed, Ticket};
+use log_room::{Content, HeapRoom};
+use log_roots::Roots;
+use log_writer::ChainWriter;
+use snapshot::Txn;
+use std::alloc::{AllocError, Global};
+use std::collections::VecDeque;
+use std::marker::Model;
+
+/// A store over a disk of three areas, whose log lies in the heap. Each call but opening makes at most one write or sync of the disk.
+/// After a refused one the store is failed: it writes nothing more, and reading goes on.
+pub struct LogStore<D: Disk> {
+    pub(crate) alloc: Global,
+    pub(crate) roots: Roots,
+    pub(crate) commits: Commits,
+    // The bytes of the commits that wait in no begun group, in their order.
+    pub(crate) contents: VecDeque<Content>,
+    pub(crate) room: HeapRoom,
+    // The group's chain while it is in the writing.
+    pub(crate) turn: Option<ChainWriter>,
+    pub(crate) disk: D,
+}
+
+impl<D: Disk> Model for LogStore<D> {
+    ghost use Rattle.log_store.specs.Values.{LogStoreValue, IsInStep};
+
+    ghost Value = { LogStoreValue };
+
+    ghost view = { λ s. record {
+      roots = s.roots;
+      commits = s.commits;
+      contents = s.contents.items;
+      room = s.room;
+      turn = s.turn;
+      disk = D.state s.disk;
+    } };
+
+    ghost invariant = { λ s. IsInStep (record {
+      roots = s.roots;
+      commits = s.commits;
+      contents = s.contents.items;
+      room = s.room;
+      turn = s.turn;
+      disk = D.state s.disk;
+    }) };
+}
+
+impl<D: Disk> LogStore<D> {
+    /// Ends the store and hands its disk back. What waits is not published.
+    pub fn close(self) -> D
+        ensures { D.state result ≡ self.disk }
+    {
+        let LogStore {
+            alloc: _,
+            roots: _,
+            commits: _,
+            contents: _,
+            room: _,
+            turn: _,
+            disk,
+        } = self;
+        disk
+    }
+
+    /// The time of the last published commit in microseconds since 1970, 0 for none.
+    pub fn last(&self) -> u64
+        ensures { result ≡ last self.now.commits }
+    {
+        self.commits.last()
+    }
+
+    /// For each relation the time before which nothing is promised.
+    pub fn floors(&self) -> &Floors
+        ensures { result.now ≡ self.now.commits.floors }
+    {
+        self.commits.floors()
+    }
+
+    /// A transaction on what is published now.
+    pub fn begin(&mut self) -> Result<Txn, BeginFault>
+        ensures { Begins self.old result self.new }
+    {
+        self.commits.begin(self.alloc)
+    }
+
+    /// Gives the transaction's snapshot up. A stranger is only spent.
+    pub fn abort(&mut self, txn: Txn)
+        ensures { Aborts self.old txn self.new }
+    {
+        self.commits.abort(txn);
+    }
+
+    /// Whether the ticket's commit is published. Only `Waiting` gives the ticket back.
+    pub fn redeem(&mut self, ticket: Ticket) -> Redeemed
+        ensures { Redeems self.old ticket result self.new }
+    {
+        self.commits.redeem(ticket)
+    }
+
+    /// The times of the published commits with a label that are in memory, rising, in microseconds since 1970.
+    pub fn times_of(&self, label: u64) -> Result<Vec<u64>, AllocError>
+        ensures { IfOk result (λ times. times.items ≡ times_of label (order_of self.now.commits)) }
+    {
+        self.commits.times_of(self.alloc, label)
+    }
+}

@@ -1,0 +1,7 @@
+//! Worked examples of a store whose log lies in the heap: its answers, and its bytes on a disk in memory. There is nothing here but tests.
+#![tactic(auto)]
+
+#[cfg(test)]
+mod groups;
+#[cfg(test)]
+mod on_disk;

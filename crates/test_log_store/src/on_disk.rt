@@ -1,0 +1,73 @@
+//! A store on a disk in memory, and the bytes that it leaves there.
+use disk::{Area, Disk, MemDisk};
+use group::{Submitted, Ticket};
+use history::Key;
+use log_store::{Did, LogStore};
+use std::alloc::Global;
+use std::process::Abort;
+
+/// A store in a heap of 64 extents.
+pub fn new_store(rt: &impl Abort, alloc: Global) -> LogStore<MemDisk> {
+    match LogStore::create(alloc, MemDisk::new(alloc), 1, 64) {
+        Ok(store) => store,
+        Err((fault, _)) => panic!(rt; "{fault:?}"),
+    }
+}
+
+/// A value of these fields is put to these records of relation 1, and the commit is queued with this label, at the time 100.
+pub fn queue(
+    rt: &impl Abort,
+    alloc: Global,
+    store: &mut LogStore<MemDisk>,
+    records: &[u64],
+    fields: &[&[u8]],
+    label: u64,
+) -> Ticket {
+    let mut txn = match store.begin() {
+        Ok(txn) => txn,
+        Err(fault) => panic!(rt; "{fault:?}"),
+    };
+    for record in records {
+        let key = Key {
+            relation: 1,
+            record: *record,
+        };
+        assert!(rt; txn.put(alloc, key, fields).is_ok());
+    }
+    match store.submit(txn, label, 100) {
+        Ok(Submitted::Queued(ticket)) => ticket,
+        Ok(Submitted::ReadOnly(_)) => panic!(rt; "nothing was written"),
+        Err(fault) => panic!(rt; "{fault:?}"),
+    }
+}
+
+/// The steps of a group, and that nothing is left to do behind them.
+pub fn pumps(rt: &impl Abort, store: &mut LogStore<MemDisk>, steps: &[Did]) {
+    for did in steps {
+        assert!(rt; store.pump() == Ok(*did));
+    }
+    assert!(rt; store.pump() == Ok(Did::Idle));
+}
+
+/// Whether these bytes, 64 at the most, are there.
+pub fn has_bytes(disk: &mut MemDisk, area: Area, place: u64, bytes: &[u8]) -> bool {
+    let mut found = [0; 64];
+    let Ok(len) = disk.len(area) else {
+        return false;
+    };
+    if bytes.len() > 64 || len < place || len - place < bytes.len() as u64 {
+        return false;
+    }
+    let found = &mut found[..bytes.len()];
+    disk.read(area, place, found).is_ok() && *found == *bytes
+}
+
+/// Whether all bytes of the heap from one place to another are this one.
+pub fn has_run(disk: &mut MemDisk, from: u64, to: u64, byte: u8) -> bool {
+    for place in from..to {
+        if !has_bytes(disk, Area::Heap, place, &[byte]) {
+            return false;
+        }
+    }
+    true
+}
