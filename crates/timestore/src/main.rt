@@ -11,7 +11,7 @@ use clap::Error;
 use disk::MemDisk;
 use disk_file::{Access, FileDisk, FolderFault};
 use session::{Answers, LineInput, Lines};
-use shell::{Action, Need, OpenFault, WordsFault, act, folder_need, read_words, refuse_folder};
+use shell::{Action, Need, OpenFault, act, action_of, folder_need, read_words, refuse_folder};
 use status::{LogFault, read_header};
 use std::alloc::{AllocError, Global};
 use std::env::Args;
@@ -19,7 +19,8 @@ use std::fs::File;
 use std::io;
 use std::io::{BufReader, BufWriter, Write};
 use std::process::ExitCode;
-use std::rt::Files;
+use std::rt::{Clock, Files};
+use std::time::SystemTime;
 use workload::Plan;
 
 /// The bytes of the script that are read ahead, and those of answers that are gathered.
@@ -100,14 +101,28 @@ fn texts_of(alloc: Global, words: &[String]) -> Result<Vec<&str>, AllocError> {
     Ok(texts)
 }
 
+/// What the clock says, in microseconds since 1970. Where it says nothing, 0: a commit then comes just after
+/// the last.
+fn clock_time(rt: &impl Clock) -> u64 {
+    let Ok(now) = SystemTime::now(rt) else {
+        return 0;
+    };
+    match now.duration_since(SystemTime::UNIX_EPOCH) {
+        Ok(time) => u64::try_from(time.as_micros()).unwrap_or(0),
+        Err(_) => 0,
+    }
+}
+
 fn main(rt: HostRuntime) -> io::Result<ExitCode> {
     let alloc = rt.alloc();
     let words = words_of(alloc, std::env::args(&rt)?)?;
     let texts = texts_of(alloc, &words)?;
-    let action = match read_words(alloc, texts.as_slice()) {
-        Ok(action) => action,
-        Err(WordsFault::Usage(error)) => return print_usage(&rt, &error),
-        Err(WordsFault::Unread) => return Ok(ExitCode::from(2)),
+    let matches = match read_words(alloc, texts.as_slice()) {
+        Ok(matches) => matches,
+        Err(error) => return print_usage(&rt, &error),
+    };
+    let Some(action) = action_of(&matches, clock_time(&rt)) else {
+        return Ok(ExitCode::from(2));
     };
     let mut writer = BufWriter::with_capacity(alloc, BUFFER, io::writer(&rt))?;
     if let Action::Stress {
