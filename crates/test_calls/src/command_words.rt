@@ -1,5 +1,5 @@
 //! Words of the command line: what they ask for, and the texts of help and usage faults.
-use clap::Error;
+use clap::{ArgMatches, Error};
 use command_line::{Action, Question, RecordWrite, When, action_of, read_words};
 use history::Key;
 use std::alloc::Global;
@@ -172,9 +172,17 @@ const ASKED: &[(&[&str], Action<'static>)] = &[
     ),
 ];
 
+/// Whether the matches of words ask for this action.
+fn is_meant(matches: &ArgMatches<'_>, action: &Action<'_>) -> bool {
+    match action_of(matches, NOW) {
+        Some(asked) => asked == *action,
+        None => false,
+    }
+}
+
 fn is_asked(alloc: Global, words: &[&str], action: &Action<'_>) -> bool {
     match read_words(alloc, words) {
-        Ok(matches) => action_of(&matches, NOW) == Some(*action),
+        Ok(matches) => is_meant(&matches, action),
         Err(_) => false,
     }
 }

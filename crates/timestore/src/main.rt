@@ -7,7 +7,7 @@ ghost use Rattle.timestore.specs.Folders.{LacksFile};
 mod stress;
 
 use crate::stress::run_stress;
-use clap::Error;
+use clap::{ArgMatches, Error};
 use disk::MemDisk;
 use disk_file::{Access, FileDisk, FolderFault};
 use session::{Answers, LineInput, Lines};
@@ -19,7 +19,9 @@ use std::fs::File;
 use std::io;
 use std::io::{BufReader, BufWriter, Write};
 use std::process::ExitCode;
-use std::rt::{Clock, Files};
+use std::rt::{Clock, Files, Runtime};
+use std::sync::Wait;
+use std::thread::Threads;
 use std::time::SystemTime;
 use workload::Plan;
 
@@ -113,18 +115,16 @@ fn clock_time(rt: &impl Clock) -> u64 {
     }
 }
 
-fn main(rt: HostRuntime) -> io::Result<ExitCode> {
-    let alloc = rt.alloc();
-    let words = words_of(alloc, std::env::args(&rt)?)?;
-    let texts = texts_of(alloc, &words)?;
-    let matches = match read_words(alloc, texts.as_slice()) {
-        Ok(matches) => matches,
-        Err(error) => return print_usage(&rt, &error),
-    };
-    let Some(action) = action_of(&matches, clock_time(&rt)) else {
+/// Does what the matches of the words ask for.
+fn answer<R: Runtime + Files<File = File> + AllocGlobal + Threads + Wait + Sync>(
+    rt: &R,
+    alloc: Global,
+    matches: &ArgMatches<'_>,
+) -> io::Result<ExitCode> {
+    let Some(action) = action_of(matches, clock_time(rt)) else {
         return Ok(ExitCode::from(2));
     };
-    let mut writer = BufWriter::with_capacity(alloc, BUFFER, io::writer(&rt))?;
+    let mut writer = BufWriter::with_capacity(alloc, BUFFER, io::writer(rt))?;
     if let Action::Stress {
         writers,
         readers,
@@ -136,15 +136,25 @@ fn main(rt: HostRuntime) -> io::Result<ExitCode> {
             readers,
             rounds,
         };
-        return Ok(ExitCode::from(run_stress(&rt, alloc, plan, &mut writer)));
+        return Ok(ExitCode::from(run_stress(rt, alloc, plan, &mut writer)));
     }
     let mut input = Lines::new(alloc, BufReader::with_capacity(alloc, BUFFER, rt.reader())?);
     let mut output = Answers::new(alloc, writer);
     let status = match folder_need(&action) {
         Need::Nothing => act(alloc, action, MemDisk::new(alloc), &mut input, &mut output).0,
-        Need::Make(dir) => act_in(&rt, action, dir, Access::Make, &mut input, &mut output),
-        Need::Change(dir) => act_in(&rt, action, dir, Access::Change, &mut input, &mut output),
-        Need::Read(dir) => act_in(&rt, action, dir, Access::Read, &mut input, &mut output),
+        Need::Make(dir) => act_in(rt, action, dir, Access::Make, &mut input, &mut output),
+        Need::Change(dir) => act_in(rt, action, dir, Access::Change, &mut input, &mut output),
+        Need::Read(dir) => act_in(rt, action, dir, Access::Read, &mut input, &mut output),
     };
     Ok(ExitCode::from(status))
+}
+
+fn main(rt: HostRuntime) -> io::Result<ExitCode> {
+    let alloc = rt.alloc();
+    let words = words_of(alloc, std::env::args(&rt)?)?;
+    let texts = texts_of(alloc, &words)?;
+    match read_words(alloc, texts.as_slice()) {
+        Ok(matches) => answer(&rt, alloc, &matches),
+        Err(error) => print_usage(&rt, &error),
+    }
 }
