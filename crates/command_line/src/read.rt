@@ -16,7 +16,7 @@ use history::Key;
 use script::read_time;
 
 /// The text of an argument.
-fn text<'a>(matches: &ArgMatches<'a>, name: &str) -> Option<&'a str>
+fn text<'m>(matches: &'m ArgMatches<'_>, name: &str) -> Option<&'m str>
     ensures some { IfSome result (λ s. first_of name.now (rows_of (found_of matches.now)) ≡ Some s.now) }
     ensures none { IfNone result (first_of name.now (rows_of (found_of matches.now)) ≡ None) }
 {
@@ -81,7 +81,7 @@ fn u64_of(matches: &ArgMatches<'_>, name: &str) -> Option<u64>
     matches.get_one::<u64>(name)
 }
 
-fn format<'a>(matches: &ArgMatches<'a>) -> Option<Action<'a>>
+fn format<'m>(matches: &'m ArgMatches<'_>) -> Option<Action<'m>>
     ensures some { IfSome result (AsksFormat (rows_of (found_of matches.now))) }
     ensures none { IfNone result ((a : Asked) → AsksFormat (rows_of (found_of matches.now)) a → ⊥) }
 {
@@ -91,7 +91,7 @@ fn format<'a>(matches: &ArgMatches<'a>) -> Option<Action<'a>>
     })
 }
 
-fn run<'a>(matches: &ArgMatches<'a>) -> Option<Action<'a>>
+fn run<'m>(matches: &'m ArgMatches<'_>) -> Option<Action<'m>>
     ensures some { IfSome result (AsksRun (rows_of (found_of matches.now))) }
     ensures none { IfNone result ((a : Asked) → AsksRun (rows_of (found_of matches.now)) a → ⊥) }
 {
@@ -111,7 +111,7 @@ fn key(matches: &ArgMatches<'_>) -> Option<Key>
     })
 }
 
-fn at<'a>(matches: &ArgMatches<'a>) -> Option<Action<'a>>
+fn at<'m>(matches: &'m ArgMatches<'_>) -> Option<Action<'m>>
     ensures some { IfSome result (AsksAt (rows_of (found_of matches.now))) }
     ensures none { IfNone result ((a : Asked) → AsksAt (rows_of (found_of matches.now)) a → ⊥) }
 {
@@ -122,7 +122,7 @@ fn at<'a>(matches: &ArgMatches<'a>) -> Option<Action<'a>>
     })
 }
 
-fn between<'a>(matches: &ArgMatches<'a>) -> Option<Action<'a>>
+fn between<'m>(matches: &'m ArgMatches<'_>) -> Option<Action<'m>>
     ensures some { IfSome result (AsksBetween (rows_of (found_of matches.now))) }
     ensures none { IfNone result ((a : Asked) → AsksBetween (rows_of (found_of matches.now)) a → ⊥) }
 {
@@ -155,7 +155,7 @@ fn rows_asked(key: Key, from: Option<When>, to: Option<When>) -> Option<Question
     Some(Question::Rows(key, from?, to?))
 }
 
-fn get<'a>(matches: &ArgMatches<'a>) -> Option<Action<'a>>
+fn get<'m>(matches: &'m ArgMatches<'_>) -> Option<Action<'m>>
     ensures some { IfSome result (AsksGet (rows_of (found_of matches.now))) }
     ensures none { IfNone result ((a : Asked) → AsksGet (rows_of (found_of matches.now)) a → ⊥) }
 {
@@ -166,7 +166,7 @@ fn get<'a>(matches: &ArgMatches<'a>) -> Option<Action<'a>>
     })
 }
 
-fn scan<'a>(matches: &ArgMatches<'a>) -> Option<Action<'a>>
+fn scan<'m>(matches: &'m ArgMatches<'_>) -> Option<Action<'m>>
     ensures some { IfSome result (AsksScan (rows_of (found_of matches.now))) }
     ensures none { IfNone result ((a : Asked) → AsksScan (rows_of (found_of matches.now)) a → ⊥) }
 {
@@ -177,7 +177,7 @@ fn scan<'a>(matches: &ArgMatches<'a>) -> Option<Action<'a>>
     })
 }
 
-fn history<'a>(matches: &ArgMatches<'a>) -> Option<Action<'a>>
+fn history<'m>(matches: &'m ArgMatches<'_>) -> Option<Action<'m>>
     ensures some { IfSome result (AsksHistory (rows_of (found_of matches.now))) }
     ensures none { IfNone result ((a : Asked) → AsksHistory (rows_of (found_of matches.now)) a → ⊥) }
 {
@@ -190,7 +190,7 @@ fn history<'a>(matches: &ArgMatches<'a>) -> Option<Action<'a>>
     })
 }
 
-fn times<'a>(matches: &ArgMatches<'a>) -> Option<Action<'a>>
+fn times<'m>(matches: &'m ArgMatches<'_>) -> Option<Action<'m>>
     ensures some { IfSome result (AsksTimes (rows_of (found_of matches.now))) }
     ensures none { IfNone result ((a : Asked) → AsksTimes (rows_of (found_of matches.now)) a → ⊥) }
 {
@@ -202,14 +202,14 @@ fn times<'a>(matches: &ArgMatches<'a>) -> Option<Action<'a>>
 }
 
 /// The words of the fields.
-fn fields<'a>(matches: &'a ArgMatches<'a>) -> Option<&'a [&'a str]>
+fn fields<'m>(matches: &'m ArgMatches<'_>) -> Option<&'m [&'m str]>
     ensures some { IfSome result (HasFields (rows_of (found_of matches.now))) }
     ensures none { IfNone result ((f : Bor (List (Bor (List ℕ)))) → HasFields (rows_of (found_of matches.now)) f → ⊥) }
 {
     matches.get_raw("FIELD")
 }
 
-fn put<'a>(matches: &'a ArgMatches<'a>, now: u64) -> Option<Action<'a>>
+fn put<'m>(matches: &'m ArgMatches<'_>, now: u64) -> Option<Action<'m>>
     ensures some { IfSome result (AsksPut now (rows_of (found_of matches.now))) }
     ensures none { IfNone result ((a : Asked) → AsksPut now (rows_of (found_of matches.now)) a → ⊥) }
 {
@@ -225,7 +225,7 @@ fn put<'a>(matches: &'a ArgMatches<'a>, now: u64) -> Option<Action<'a>>
     })
 }
 
-fn del<'a>(matches: &'a ArgMatches<'a>, now: u64) -> Option<Action<'a>>
+fn del<'m>(matches: &'m ArgMatches<'_>, now: u64) -> Option<Action<'m>>
     ensures some { IfSome result (AsksDelete now (rows_of (found_of matches.now))) }
     ensures none { IfNone result ((a : Asked) → AsksDelete now (rows_of (found_of matches.now)) a → ⊥) }
 {
@@ -241,7 +241,7 @@ fn del<'a>(matches: &'a ArgMatches<'a>, now: u64) -> Option<Action<'a>>
     })
 }
 
-fn vacuum<'a>(matches: &ArgMatches<'a>) -> Option<Action<'a>>
+fn vacuum<'m>(matches: &'m ArgMatches<'_>) -> Option<Action<'m>>
     ensures some { IfSome result (AsksVacuum (rows_of (found_of matches.now))) }
     ensures none { IfNone result ((a : Asked) → AsksVacuum (rows_of (found_of matches.now)) a → ⊥) }
 {
@@ -252,7 +252,7 @@ fn vacuum<'a>(matches: &ArgMatches<'a>) -> Option<Action<'a>>
     })
 }
 
-fn grow<'a>(matches: &ArgMatches<'a>) -> Option<Action<'a>>
+fn grow<'m>(matches: &'m ArgMatches<'_>) -> Option<Action<'m>>
     ensures some { IfSome result (AsksGrow (rows_of (found_of matches.now))) }
     ensures none { IfNone result ((a : Asked) → AsksGrow (rows_of (found_of matches.now)) a → ⊥) }
 {
@@ -261,7 +261,7 @@ fn grow<'a>(matches: &ArgMatches<'a>) -> Option<Action<'a>>
     })
 }
 
-fn dump<'a>(matches: &ArgMatches<'a>) -> Option<Action<'a>>
+fn dump<'m>(matches: &'m ArgMatches<'_>) -> Option<Action<'m>>
     ensures some { IfSome result (AsksDump (rows_of (found_of matches.now))) }
     ensures none { IfNone result ((a : Asked) → AsksDump (rows_of (found_of matches.now)) a → ⊥) }
 {
@@ -270,7 +270,7 @@ fn dump<'a>(matches: &ArgMatches<'a>) -> Option<Action<'a>>
     })
 }
 
-fn stress<'a>(matches: &ArgMatches<'a>) -> Option<Action<'a>>
+fn stress<'m>(matches: &'m ArgMatches<'_>) -> Option<Action<'m>>
     ensures some { IfSome result (AsksStress (rows_of (found_of matches.now))) }
     ensures none { IfNone result ((a : Asked) → AsksStress (rows_of (found_of matches.now)) a → ⊥) }
 {
@@ -282,7 +282,7 @@ fn stress<'a>(matches: &ArgMatches<'a>) -> Option<Action<'a>>
 }
 
 /// What the matches of a command on one record or relation ask for.
-fn of_record<'a>(name: &str, matches: &'a ArgMatches<'a>, now: u64) -> Option<Action<'a>>
+fn of_record<'m>(name: &str, matches: &'m ArgMatches<'_>, now: u64) -> Option<Action<'m>>
     ensures some { IfSome result (AsksOfRecord now name.now (rows_of (found_of matches.now))) }
     ensures none { IfNone result ((a : Asked) → AsksOfRecord now name.now (rows_of (found_of matches.now)) a → ⊥) }
 {
@@ -304,7 +304,7 @@ fn of_record<'a>(name: &str, matches: &'a ArgMatches<'a>, now: u64) -> Option<Ac
 }
 
 /// What the matches of a command ask for.
-fn command_of<'a>(name: &str, matches: &'a ArgMatches<'a>, now: u64) -> Option<Action<'a>>
+fn command_of<'m>(name: &str, matches: &'m ArgMatches<'_>, now: u64) -> Option<Action<'m>>
     ensures some { IfSome result (AsksCommand now name.now (rows_of (found_of matches.now))) }
     ensures none { IfNone result ((a : Asked) → AsksCommand now name.now (rows_of (found_of matches.now)) a → ⊥) }
 {
@@ -331,7 +331,7 @@ fn command_of<'a>(name: &str, matches: &'a ArgMatches<'a>, now: u64) -> Option<A
 
 /// The action that the matches of the words ask for, if they ask for one. A commit is to have the time that
 /// the clock says now, in microseconds since 1970.
-pub fn action_of<'a>(matches: &'a ArgMatches<'a>, now: u64) -> Option<Action<'a>>
+pub fn action_of<'m>(matches: &'m ArgMatches<'_>, now: u64) -> Option<Action<'m>>
     ensures some { IfSome result (Asks now (subcommand_rows_of matches.now)) }
     ensures none { IfNone result (AsksNothing now (subcommand_rows_of matches.now)) }
 {
