@@ -12,8 +12,6 @@ mod grown;
 #[cfg(test)]
 mod latest_views;
 #[cfg(test)]
-mod loops;
-#[cfg(test)]
 mod moved_view;
 #[cfg(test)]
 mod noted;

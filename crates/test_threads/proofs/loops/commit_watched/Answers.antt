@@ -1,9 +1,0 @@
-use denote.Param.Send.{sendable}
-use Rattle.std.proofs.Crossing.{crosses}
-use Rattle.std.proofs.sync.ledger.Share.TheSendSync as share
-use Rattle.shared.proofs.observer.Observer.TheSendSync as observer
-use Rattle.shared.proofs.Sending.{shared-sync}
-use Rattle.test_threads.proofs.loops.commit_watched.Goals as goal
-
-pub join-share-requires-send-F : goal.join-share-requires-send-F
-join-share-requires-send-F g c κs within = search (shared-sync, share.the_send, observer.the_send, sendable, crosses) depth 20
