@@ -1,3 +1,5 @@
 pub mod InStep
 pub mod Formats
 pub mod Created
+pub mod Rooms
+pub mod Places

@@ -3,3 +3,4 @@ pub mod Submits
 pub mod Pumps
 pub mod Calls
 pub mod Formats
+pub mod Opens

@@ -4,6 +4,7 @@
 mod answers;
 mod creating;
 mod formatting;
+mod opening;
 mod pump;
 mod store;
 mod submit;

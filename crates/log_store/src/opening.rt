@@ -1,0 +1,135 @@
+//! Opening a store.
+ghost use Rattle.std.specs.Prelude.{◌≡◌, ◌<◌, ◌≤◌, ◌^◌, IsTrue, IfOk, IfErr, MatchOption, MatchResult, max, map, length};
+ghost use Rattle.group.specs.CommitOrder.{IsRisingAfter, last_time};
+ghost use Rattle.log_store.specs.Opens.{head_as, AreInOrder, commits_on, IsPartsFault, ArePartsOf, Opens, OpenRefuses};
+
+use crate::store::LogStore;
+use commits::Commits;
+use disk::{Area, Disk};
+use floors::Floors;
+use group::CommitHead;
+use log_recovery::{CommitName, LogRecovered, MembersRead, read_log};
+use log_room::HeapRoom;
+use log_roots::Roots;
+use recovery::OpenFault;
+use std::alloc::{AllocError, Global};
+use std::collections::VecDeque;
+
+/// Commit times are less than this, in microseconds since 1970.
+const TIME_END: u64 = 1 << 63;
+
+// The commits of the log as they stand in the commit order, and the time of the last one, 0 for none. None where their times do not rise.
+fn heads_of(
+    alloc: Global,
+    commits: &[CommitName],
+) -> Result<Option<(Vec<CommitHead>, u64)>, AllocError>
+    ensures { IfOk result (λ o. MatchOption o (¬ IsRisingAfter 0 (map head_as commits.now))
+        (λ r. (r.0.items ≡ map head_as commits.now) × IsRisingAfter 0 r.0.items × (r.1 ≡ last_time r.0.items))) }
+{
+    let mut heads = Vec::with_capacity(alloc, commits.len())?;
+    let mut last = 0;
+    let mut rest = commits;
+    while let [commit, after @ ..] = rest {
+        if commit.time <= last || TIME_END <= commit.time {
+            return Ok(None);
+        }
+        heads.push(CommitHead {
+            time: commit.time,
+            label: commit.label,
+            awaited: false,
+        })?;
+        last = commit.time;
+        rest = after;
+    }
+    Ok(Some((heads, last)))
+}
+
+// The commits in memory of a store with these members, floors and reclaim mark. None where the members are in no commit order.
+fn commits_of(
+    alloc: Global,
+    mark: u64,
+    members: MembersRead,
+    floors: Floors,
+    reclaimed: u64,
+) -> Result<Option<Commits>, AllocError>
+    requires in_range { reclaimed < 2 ^ 63 }
+    ensures { IfOk result (λ o. MatchOption o (¬ AreInOrder members reclaimed) (λ commits. commits ≡ commits_on mark members floors reclaimed)) }
+{
+    let Some((heads, last)) = heads_of(alloc, &members.commits)? else {
+        return Ok(None);
+    };
+    if reclaimed.max(last) < members.last {
+        return Ok(None);
+    }
+    Ok(Some(Commits::of_recovered(
+        alloc,
+        mark,
+        heads,
+        members.versions,
+        floors,
+        reclaimed,
+    )))
+}
+
+/// What a store has in memory.
+#[derive(Drop)]
+struct MemoryParts {
+    roots: Roots,
+    commits: Commits,
+    room: HeapRoom,
+}
+
+// What a store has in memory by what was read of its image. `Damaged` with the root where that has no place in memory: it is not what a
+// heap holds.
+fn parts_of(alloc: Global, mark: u64, read: LogRecovered) -> Result<MemoryParts, OpenFault>
+    requires mark { read.heap.end.mark < 2 ^ 63 }
+    ensures { MatchResult result (ArePartsOf mark read) (IsPartsFault read) }
+{
+    let LogRecovered { roots, heap } = read;
+    // The versions are in the order of their keys.
+    let _none = heap.members.versions.is_empty();
+    let damaged = OpenFault::Damaged(Area::Heap, u64::from(roots.root()));
+    let anchors = heap.members.sizes.len;
+    let Some(room) = HeapRoom::opened(heap.space, heap.next, heap.log, anchors) else {
+        return Err(damaged);
+    };
+    match commits_of(alloc, mark, heap.members, heap.end.floors, heap.end.mark)? {
+        Some(commits) => Ok(MemoryParts {
+            roots,
+            commits,
+            room,
+        }),
+        None => Err(damaged),
+    }
+}
+
+impl<D: Disk> LogStore<D> {
+    /// Opens the store that the disk holds. It first syncs the three areas, and then only reads. The mark is a number of the caller's,
+    /// which the store's transactions and tickets carry. A refused opening hands the disk back.
+    ///
+    /// # Errors
+    ///
+    /// As those of `read_log`.
+    pub fn open(alloc: Global, disk: D, mark: u64) -> Result<LogStore<D>, (OpenFault, D)>
+        ensures ok { IfOk result (λ s. Opens D.tells (D.state disk) mark s) }
+        ensures err { IfErr result (λ e. OpenRefuses D.tells (D.state disk) e.0 (D.state e.1)) }
+    {
+        let mut disk = disk;
+        let read = match read_log(alloc, &mut disk) {
+            Ok(read) => read,
+            Err(fault) => return Err((fault, disk)),
+        };
+        match parts_of(alloc, mark, read) {
+            Err(fault) => Err((fault, disk)),
+            Ok(parts) => Ok(LogStore {
+                alloc,
+                roots: parts.roots,
+                commits: parts.commits,
+                contents: VecDeque::new(alloc),
+                room: parts.room,
+                turn: None,
+                disk,
+            }),
+        }
+    }
+}
