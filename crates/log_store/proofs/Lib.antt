@@ -3,3 +3,4 @@ pub mod Formats
 pub mod Created
 pub mod Rooms
 pub mod Places
+pub mod Heads

@@ -1,4 +1,5 @@
 -- What is read of an image has a place in memory.
+use Rattle.std.specs.Prelude.{Err}
 use Rattle.std.proofs.Common.{◌≡◌, ◌≢◌, ℕ, ◌+◌, ◌*◌, ◌/◌, ◌<◌, ◌≤◌, ◌^◌, max, Bool, false, List, [], ◌∷◌, ◌++◌, length, map, replicate}
 use Rattle.std.proofs.Common.{refl, arith, ap, sym, subst, ◌∙◌, length-append}
 use Rattle.std.proofs.lemmas.List.{length-replicate}
@@ -15,6 +16,9 @@ use Rattle.law_log_layout.specs.HeapLog.{PlacedChain, PlacedAnchors, IsPlaced, c
 use Rattle.law_log_sizes.specs.Sizes.{anchors_len, greatest, len_from, lens_behind}
 use Rattle.law_log_sizes.proofs.Sizes.{all-within}
 use Rattle.log_roots.specs.Roots.{IsHeapSize}
+use Rattle.recovery.specs.Refusals.{refusals_at_opening}
+use Rattle.recovery.specs.declared.fault.OpenFault.{OpenFault}
+use Rattle.recovery.specs.declared.fault.OpenFault.TheVariants.{NotAStore, Damaged, Device, NoMemory}
 use Rattle.log_recovery.specs.declared.members_read.CommitName.{CommitName}
 use Rattle.log_recovery.specs.declared.opening.LogHeap.{LogHeap}
 use Rattle.log_recovery.specs.declared.image.LogRecovered.{LogRecovered}
@@ -22,14 +26,14 @@ use Rattle.log_recovery.specs.Chains.{AreWalked, numbers_of, uses_of}
 use Rattle.log_recovery.specs.Rules.{mark_of, no_log}
 use Rattle.log_recovery.specs.Ends.{IsEnd}
 use Rattle.log_recovery.specs.Members.{name_told, heads_told, values_of, members_of_all}
-use Rattle.log_recovery.specs.Opening.{ReadsRoots}
+use Rattle.log_recovery.specs.Opening.{IsImageFault}
 use Rattle.log_recovery.specs.Read.{IsHeapRead}
 use Rattle.log_recovery.specs.Image.{IsReadFrom}
 use Rattle.log_recovery.proofs.Walking.{AreApart, walked_apart, all_joined}
 use Rattle.log_recovery.proofs.Deciding.{end_decides}
 use Rattle.log_recovery.proofs.Sized.{follow-all}
 use Rattle.log_room.specs.Rooms.{MayOpen}
-use Rattle.log_store.specs.Opens.{head_as, AreInOrder, HasPlace}
+use Rattle.log_store.specs.Opens.{head_as, HasPlace, IsPartsFault}
 use Rattle.log_store.proofs.Rooms.{numbers-count, last-keeps}
 
 -- ---- the commit order
@@ -37,7 +41,7 @@ use Rattle.log_store.proofs.Rooms.{numbers-count, last-keeps}
 -- what rises after a time does after an earlier one
 rising-as : (before mark : ℕ) (names : List CommitName) → before ≤ mark → AreRisingAfter mark (map name_told names) → IsRisingAfter before (map head_as names)
 rising-as before mark [] low rising = tt
-rising-as before mark (n ∷ ns) low rising = (omega (arith, low, rising.0), (rising.1.0, rising-as n.time n.time ns (omega arith) rising.1.1))
+rising-as before mark (n ∷ ns) low rising = (omega (arith, low, rising.0), rising.1, rising-as n.time n.time ns (omega arith) rising.2)
 
 -- the last time is that of the last of them, or the mark
 last-as : (before mark : ℕ) (names : List CommitName) → logs.last_time_after mark (map name_told names) ≤ max mark (last_time_after before (map head_as names))
@@ -55,7 +59,6 @@ walked-placed : (most : ℕ) (heap taken : List ℕ) (number : ℕ) (chains : Li
     → AllByRecursion (IsPlaced most) chains
 walked-placed most heap taken number [] end walked = tt
 walked-placed most heap taken number (c ∷ cs) end walked = (walked.0.placed, walked-placed most heap (taken ++ c.numbers) c.link cs end walked.1)
-
 
 module _ (most root : ℕ) (heap : List ℕ) (read : LogHeap) (size : IsHeapSize most) (is : IsHeapRead most root heap read) where
   abbrev chains : List PlacedChain
@@ -157,3 +160,19 @@ pub place-of-image : (image : Image) (read : LogRecovered) → IsReadFrom image 
 place-of-image image read is =
     let has = is.roots.has in
     has-place read.roots.extents (Rattle.log_roots.specs.Roots.root_of read.roots) image.heap read.heap has.in_range.size is.heap
+
+-- ---- why nothing is opened
+
+-- of an image that was read only memory can lack
+pub parts-fault : (image : Image) (read : LogRecovered) (why : OpenFault) → IsReadFrom image read → IsPartsFault read why → IsImageFault image why
+parts-fault image read NotAStore is fault = absurd fault
+parts-fault image read (Damaged area place) is fault = absurd (fault (place-of-image image read is))
+parts-fault image read Device is fault = absurd fault
+parts-fault image read NoMemory is fault = tt
+
+-- no refused call is counted with it
+pub parts-refusals : (read : LogRecovered) (why : OpenFault) (n : ℕ) → IsPartsFault read why → n ≡ refusals_at_opening {T = Unit {0}} (Err why) n
+parts-refusals read NotAStore n fault = absurd fault
+parts-refusals read (Damaged area place) n fault = refl
+parts-refusals read Device n fault = absurd fault
+parts-refusals read NoMemory n fault = refl

@@ -1,5 +1,5 @@
 //! Opening a store.
-ghost use Rattle.std.specs.Prelude.{◌≡◌, ◌<◌, ◌≤◌, ◌^◌, IsTrue, IfOk, IfErr, MatchOption, MatchResult, max, map, length};
+ghost use Rattle.std.specs.Prelude.{◌≡◌, ◌<◌, ◌^◌, ◌↔◌, IsTrue, IfOk, IfErr, MatchOption, MatchResult, map};
 ghost use Rattle.group.specs.CommitOrder.{IsRisingAfter, last_time};
 ghost use Rattle.log_store.specs.Opens.{head_as, AreInOrder, commits_on, IsPartsFault, ArePartsOf, Opens, OpenRefuses};
 
@@ -8,7 +8,7 @@ use commits::Commits;
 use disk::{Area, Disk};
 use floors::Floors;
 use group::CommitHead;
-use log_recovery::{CommitName, LogRecovered, MembersRead, read_log};
+use log_recovery::{CommitName, LogEnd, LogHeap, LogRecovered, MembersRead, read_log};
 use log_room::HeapRoom;
 use log_roots::Roots;
 use recovery::OpenFault;
@@ -17,6 +17,13 @@ use std::collections::VecDeque;
 
 /// Commit times are less than this, in microseconds since 1970.
 const TIME_END: u64 = 1 << 63;
+
+// Whether a commit of this time may come behind one of that time.
+fn is_next_time(last: u64, time: u64) -> bool
+    ensures { IsTrue result ↔ ((last < time) × (time < 2 ^ 63)) }
+{
+    last < time && time < TIME_END
+}
 
 // The commits of the log as they stand in the commit order, and the time of the last one, 0 for none. None where their times do not rise.
 fn heads_of(
@@ -29,8 +36,8 @@ fn heads_of(
     let mut heads = Vec::with_capacity(alloc, commits.len())?;
     let mut last = 0;
     let mut rest = commits;
-    while let [commit, after @ ..] = rest {
-        if commit.time <= last || TIME_END <= commit.time {
+    while let Some((commit, after)) = rest.split_first() {
+        if !is_next_time(last, commit.time) {
             return Ok(None);
         }
         heads.push(CommitHead {
@@ -61,14 +68,7 @@ fn commits_of(
     if reclaimed.max(last) < members.last {
         return Ok(None);
     }
-    Ok(Some(Commits::of_recovered(
-        alloc,
-        mark,
-        heads,
-        members.versions,
-        floors,
-        reclaimed,
-    )))
+    Ok(Some(Commits::of_recovered(alloc, mark, heads, members.versions, floors, reclaimed)))
 }
 
 /// What a store has in memory.
@@ -86,14 +86,26 @@ fn parts_of(alloc: Global, mark: u64, read: LogRecovered) -> Result<MemoryParts,
     ensures { MatchResult result (ArePartsOf mark read) (IsPartsFault read) }
 {
     let LogRecovered { roots, heap } = read;
+    let LogHeap {
+        next,
+        space,
+        log,
+        end,
+        members,
+        ..
+    } = heap;
+    let LogEnd {
+        mark: reclaimed,
+        floors,
+        ..
+    } = end;
     // The versions are in the order of their keys.
-    let _none = heap.members.versions.is_empty();
+    let _none = members.versions.is_empty();
     let damaged = OpenFault::Damaged(Area::Heap, u64::from(roots.root()));
-    let anchors = heap.members.sizes.len;
-    let Some(room) = HeapRoom::opened(heap.space, heap.next, heap.log, anchors) else {
+    let Some(room) = HeapRoom::opened(space, next, log, members.sizes.len) else {
         return Err(damaged);
     };
-    match commits_of(alloc, mark, heap.members, heap.end.floors, heap.end.mark)? {
+    match commits_of(alloc, mark, members, floors, reclaimed)? {
         Some(commits) => Ok(MemoryParts {
             roots,
             commits,
