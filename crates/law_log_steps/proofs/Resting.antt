@@ -56,15 +56,20 @@ module _ (v : LogStoreValue) (m : Machine Value) (image : Image) (step : IsInSte
       by-turn (Some w) some may =
           subst (λ (n : ℕ). Old ⊎ New n) (ap (λ (c : CommitsValue). c.group) (sym (grouped-stays v.commits some.0))) (by-failed w v.commits.failed may)
 
+-- a store that stands for a history, with nothing behind it, stands for a machine that is opened on it
+pub stands-opened : (v : LogStoreValue) (h : History Value) (floors : ℕ → ℕ) (reading : Reading) → StandsFor reading h floors → StandsOnHeap v h [] floors
+    → v.commits.failed ≡ false → v.commits.queue ≡ [] → StandsInMemory v.commits (opened h floors) → IsStoreOf v (opened h floors)
+stands-opened v h floors reading stands on works none memory = record {
+  memory = memory;
+  machine = opened-machine IsValue h floors stands.opens.history (floor-range reading h floors stands);
+  none = refl;
+  fresh = subst (λ (ws : List WaitingValue). HaveMark v.commits.reclaimed ws) (sym none) tt;
+  disk = subst (λ (b : Bool). MatchBool b (StopsOnHeap v h [] floors) (StandsOnHeap v h [] floors)) (sym works) on;
+}
+
 pub opened-stands : (v : LogStoreValue) (image : Image) (l : HeapLog) (reading : Reading) (h : History Value) (floors : ℕ → ℕ)
     → v.disk.areas ≡ settled_on image → AreSound v.disk.areas → ReadsRoots image.status v.roots → IsLogOf v.roots.extents (root_of v.roots) l reading
     → HoldsLog l image.heap image.archive → StandsFor reading h floors → IsOpenedOn v l reading → v.commits.failed ≡ false
     → StandsInMemory v.commits (opened h floors) → IsStoreOf v (opened h floors)
-opened-stands v image l reading h floors same sound reads is held stands on works memory = record {
-  memory = memory;
-  machine = opened-machine IsValue h floors stands.opens.history (floor-range reading h floors stands);
-  none = refl;
-  fresh = subst (λ (ws : List WaitingValue). HaveMark v.commits.reclaimed ws) (sym on.queue) tt;
-  disk = subst (λ (b : Bool). MatchBool b (StopsOnHeap v h [] floors) (StandsOnHeap v h [] floors)) (sym works)
-      (rooms.opened-stands v image l reading h floors same sound reads is held stands on);
-}
+opened-stands v image l reading h floors same sound reads is held stands on works memory =
+    stands-opened v h floors reading stands (rooms.opened-stands v image l reading h floors same sound reads is held stands on) works on.queue memory

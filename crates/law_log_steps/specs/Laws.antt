@@ -5,7 +5,8 @@ use Rattle.history.specs.Machine.{Machine, opened}
 use Rattle.history.specs.Answers as answers
 use Rattle.history.specs.Steps.{Event, Step, Began, BeginRefused, Aborted, begun}
 use Rattle.history.specs.Steps as steps
-use Rattle.disk.specs.Areas.{Image, AreSound, LeavesImage, settled_on}
+use Rattle.disk.specs.Areas.{Image, AreSound, LeavesImage, image_of, settled_on}
+use Rattle.disk.specs.Calls.{DiskState}
 use Rattle.law_image.specs.Values.{Value, IsValue}
 use Rattle.law_image.specs.Reading.{Reading}
 use Rattle.law_image.specs.StandsFor.{StandsFor}
@@ -23,8 +24,10 @@ use Rattle.log_store.specs.Values.{LogStoreValue, IsInStep}
 use Rattle.log_store.specs.Calls as calls
 use Rattle.log_store.specs.Submits.{Submits}
 use Rattle.log_store.specs.Pumps.{Pumps}
+use Rattle.log_store.specs.Opens.{Opens}
 use Rattle.log_store.specs.declared.answers.Did.{Did}
 use Rattle.log_recovery.specs.Opening.{ReadsRoots}
+use Rattle.log_roots.specs.declared.roots.Roots.{Roots}
 use Rattle.log_roots.specs.Roots.{root_of}
 use Rattle.law_log_layout.specs.HeapLog.{HeapLog, IsLogOf, HoldsLog}
 use Rattle.law_refinement.specs.Laws.{submission_of, event_of, RedeemsAs}
@@ -32,6 +35,7 @@ use Rattle.law_commits.specs.Standing.{StandsInMemory}
 use Rattle.law_commits.specs.Laws.{with_published}
 use Rattle.law_log_store.specs.Calls.{IsFront, count_in}
 use Rattle.law_log_store.specs.Opened.{IsOpenedOn}
+use Rattle.law_log_store.specs.Standing.{IsImageOf}
 use Rattle.law_log_steps.specs.Store.{IsStoreOf}
 
 -- ---- opening, and stops
@@ -43,6 +47,12 @@ OpenedStands =
     → v.disk.areas ≡ settled_on image → AreSound v.disk.areas → ReadsRoots image.status v.roots → IsLogOf v.roots.extents (root_of v.roots) l reading
     → HoldsLog l image.heap image.archive → StandsFor reading h floors → IsOpenedOn v l reading → v.commits.failed ≡ false
     → StandsInMemory v.commits (opened h floors) → IsStoreOf v (opened h floors)
+
+-- so a store that was opened on an image which stands for a history
+abbrev pub OpenStands : Type 0
+OpenStands =
+    (tells : Bool) (old : DiskState) (mark : ℕ) (v : LogStoreValue) (roots : Roots) (h : History Value) (floors : ℕ → ℕ) → IsTrue tells → AreSound old.areas
+    → IsImageOf roots (image_of old.areas) h floors → Opens tells old mark v → IsStoreOf v (opened h floors)
 
 -- at every moment, of a store that works or has failed, whatever a stop may leave is a front
 abbrev pub RestsOnFront : Type 0

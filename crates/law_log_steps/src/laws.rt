@@ -1,9 +1,15 @@
 //! Laws of the calls of a store whose log lies in the heap.
-ghost use Rattle.law_log_steps.specs.Laws.{AbortStands, BeginStands, OpenedStands, PumpStands, RedeemStands, RestsOnFront, SubmitStands};
+ghost use Rattle.law_log_steps.specs.Laws.{AbortStands, BeginStands, OpenedStands, OpenStands, PumpStands, RedeemStands, RestsOnFront, SubmitStands};
 
 /// A store that is opened on an image that stands for a history stands for a machine that is opened on it.
 pub fn opened_stands()
     ensures { OpenedStands }
+{}
+
+/// A store that was opened on an image which stands for a history, with its floors, stands for a machine that is
+/// opened on it.
+pub fn open_stands()
+    ensures { OpenStands }
 {}
 
 /// Whatever a crash leaves between two calls, also after a refused one, stands for what is published, or for that

@@ -1,5 +1,5 @@
 -- A store that was opened on an image which stands for a history stands for it.
-use Rattle.std.proofs.Common.{◌≡◌, ℕ, ◌^◌, ◌<◌, Bool, true, false, List, [], ◌++◌, length, take, refl, arith, ap, sym, subst, ◌∙◌, replicate}
+use Rattle.std.proofs.Common.{◌≡◌, ℕ, ◌+◌, ◌^◌, ◌<◌, Bool, true, false, List, [], ◌++◌, length, take, refl, arith, ap, sym, subst, ◌∙◌, replicate}
 use Rattle.std.specs.Prelude.{IsTrue, flat_map}
 use Rattle.history.specs.declared.key.Key.{Key}
 use Rattle.history.specs.declared.time.TimedWrite.{TimedWrite}
@@ -47,7 +47,7 @@ settled-sound areas sound Heap = record { firm = omega arith; settled = λ none.
 settled-sound areas sound Archive = record { firm = omega arith; settled = λ none. refl; are_bytes = (sound Archive).are_bytes }
 
 -- the facts of a key by anchors and members
-facts_of : List OldRecord → List Member → Key → List (TimedWrite Value)
+abbrev facts_of : List OldRecord → List Member → Key → List (TimedWrite Value)
 facts_of olds members key = old_writes olds key ++ writes_of (commits_from (values_of olds) members) key
 
 module _ (tells : Bool) (old : DiskState) (mark : ℕ) (v : LogStoreValue) (roots : Roots) (h : History Value) (floors : ℕ → ℕ) (told : IsTrue tells)
@@ -74,7 +74,7 @@ module _ (tells : Bool) (old : DiskState) (mark : ℕ) (v : LogStoreValue) (root
       let read : IsReadFrom (image_of old.areas) r = opens.read told in
       one_reading (take 512 (image_of old.areas).status) r.roots roots read.roots.has image.status.has
 
-  read : IsHeapRead roots.extents (root_of roots) heap r.heap
+  pub read : IsHeapRead roots.extents (root_of roots) heap r.heap
   read =
       let all : IsReadFrom (image_of old.areas) r = opens.read told in
       subst (λ (x : Roots). IsHeapRead x.extents (root_of x) heap r.heap) read-roots all.heap
@@ -83,7 +83,7 @@ module _ (tells : Bool) (old : DiskState) (mark : ℕ) (v : LogStoreValue) (root
   holds =
       stands-opens roots.extents (root_of roots) l reading heap (image_of old.areas).archive h floors image.heap.is_log image.heap.held image.heap.stands
 
-  same : ((read.chains ≡ l.chains) × (r.heap.next ≡ l.next)) × (read.anchors ≡ l.anchors)
+  pub same : ((read.chains ≡ l.chains) × (r.heap.next ≡ l.next)) × (read.anchors ≡ l.anchors)
   same =
       anchors-once roots.extents (root_of roots) heap few read.chains r.heap.next read.anchors l.chains l.next l.anchors read.holds.before.before
       holds.heap_is.before.before
@@ -92,7 +92,7 @@ module _ (tells : Bool) (old : DiskState) (mark : ℕ) (v : LogStoreValue) (root
   olds-same = ap (λ (a : Rattle.law_log_layout.specs.HeapLog.PlacedAnchors). a.records) same.1
       ∙ sym (ap (λ (x : Reading). x.anchors) image.heap.is_log.reading_is)
 
-  members-same : members_of_all (mark_of read.chains) read.chains ≡ reading.members
+  pub members-same : members_of_all (mark_of read.chains) read.chains ≡ reading.members
   members-same =
       ap (λ (cs : List PlacedChain). members_of_all (mark_of cs) cs) same.0.0
       ∙ sym (ap (λ (x : Reading). x.members) image.heap.is_log.reading_is ∙ members-are image.heap.is_log.names l.chains)
