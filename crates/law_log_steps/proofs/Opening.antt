@@ -136,7 +136,7 @@ module _ (tells : Bool) (old : DiskState) (mark : ℕ) (v : LogStoreValue) (root
   abbrev commits : CommitsValue
   commits = commits_on mark r.heap.members r.heap.end.floors r.heap.end.mark
 
-  read : IsHeapRead roots.extents (root_of roots) (image_of old.areas).heap r.heap
+  abbrev read : IsHeapRead roots.extents (root_of roots) (image_of old.areas).heap r.heap
   read = read-is tells old mark v roots h floors tells_so are_sound image opens
 
   chains-same : read.chains ≡ l.chains
@@ -211,7 +211,7 @@ module _ (tells : Bool) (old : DiskState) (mark : ℕ) (v : LogStoreValue) (root
     kept_of = tt;
     names = names-are;
     count = length r.heap.members.commits.items;
-    published_are = refl;
+    published_are = omega arith;
     many = many;
   }
 
