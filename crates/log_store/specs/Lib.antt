@@ -2,4 +2,5 @@ pub mod Values
 pub mod Submits
 pub mod Pumps
 pub mod Calls
+pub mod Queries
 pub mod Formats

@@ -5,6 +5,7 @@ mod answers;
 mod creating;
 mod formatting;
 mod pump;
+mod queries;
 mod store;
 mod submit;
 
