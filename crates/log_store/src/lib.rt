@@ -6,6 +6,7 @@ mod creating;
 mod formatting;
 mod opening;
 mod pump;
+mod queries;
 mod store;
 mod submit;
 

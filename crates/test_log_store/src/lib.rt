@@ -5,3 +5,5 @@
 mod groups;
 #[cfg(test)]
 mod on_disk;
+#[cfg(test)]
+mod queries;

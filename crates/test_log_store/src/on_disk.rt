@@ -6,6 +6,15 @@ use log_store::{Did, LogStore};
 use std::alloc::Global;
 use std::process::Abort;
 
+/// The steps of a group of one commit in one extent.
+pub const ONE_EXTENT: &[Did] = &[
+    Did::WroteExtent,
+    Did::GateClosed,
+    Did::HeapSynced,
+    Did::GateWritten,
+    Did::Published(1),
+];
+
 /// A store in a heap of 64 extents.
 pub fn new_store(rt: &impl Abort, alloc: Global) -> LogStore<MemDisk> {
     match LogStore::create(alloc, MemDisk::new(alloc), 1, 64) {
