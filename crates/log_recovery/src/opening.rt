@@ -2,6 +2,7 @@
 
 ghost use Rattle.std.specs.Prelude.{◌≡◌, ◌⊎◌, ◌↔◌, ℕ, List, ◌<◌, ◌≤◌, ◌^◌, IsTrue, IfOk, IfErr, IfSome, MatchOption, Some, is_some, length, option_to_list};
 ghost use Rattle.std.specs.List.{AllByRecursion};
+ghost use Rattle.wire.specs.Spelling.{IsRun};
 ghost use Rattle.chains.specs.KeyWrites.{latest};
 ghost use Rattle.log_entries.specs.Ranges.{AreNone, AreSome};
 ghost use Rattle.log_recovery.specs.Chains.{HasEntry};
@@ -174,7 +175,11 @@ pub struct LogHeap {
 fn seen_log(kept: Option<usize>, ends_right: bool, anchors_fit: bool) -> Option<usize>
     ensures { MatchOption result (¬ (IsTrue (is_some kept) × IsTrue ends_right × IsTrue anchors_fit)) (λ count. (kept ≡ Some count) × IsTrue ends_right × IsTrue anchors_fit) }
 {
-    if ends_right && anchors_fit { kept } else { None }
+    if ends_right && anchors_fit {
+        kept
+    } else {
+        None
+    }
 }
 
 // The members of a log, and where it ends.
@@ -191,6 +196,7 @@ fn finish_heap(
     requires latest { latest read.anchors.versions ≤ read.log.end.mark }
     ensures ends_early { IfOk result (λ heap. AllByRecursion EndsEarly (end_parts heap.end)) }
     ensures mark { IfOk result (λ heap. heap.end.mark < 2 ^ 63) }
+    ensures runs { IfOk result (λ heap. AllByRecursion IsRun heap.end.runs.items) }
     ensures found { (bytes : List ℕ) → heap.len ≡ length bytes → IsAnchoredLog heap.most root bytes read → IfOk result (IsHeapRead heap.most root bytes) }
     ensures fault { (bytes : List ℕ) → heap.len ≡ length bytes → IsAnchoredLog heap.most root bytes read → IfErr result (IsHeapFault heap.most root bytes) }
     ensures in_memory { IfErr result IsInMemoryFault }
@@ -230,6 +236,7 @@ pub(crate) fn read_heap<D: Disk>(
     requires root { IsNumberOf heap.most root }
     ensures ends_early { IfOk result (λ read. AllByRecursion EndsEarly (end_parts read.end)) }
     ensures mark { IfOk result (λ read. read.end.mark < 2 ^ 63) }
+    ensures runs { IfOk result (λ read. AllByRecursion IsRun read.end.runs.items) }
     ensures found { IsTrue D.tells → IfOk result (IsHeapRead heap.most root (D.state disk.old).areas.heap.bytes) }
     ensures fault { IsTrue D.tells → IfErr result (IsHeapFault heap.most root (D.state disk.old).areas.heap.bytes) }
     ensures reads { D.state disk.new ≡ after_reads result (D.state disk.old) }

@@ -28,9 +28,8 @@ module _ (commits rest after : List CommitName) (commit : CommitName) (heads : L
   -- where it is, it stands behind the others
   pub stands_next : (news : List CommitHead) → news ≡ heads ++ head_as commit ∷ [] → IsRisingAfter 0 heads → (last < commit.time) × (commit.time < 2 ^ 63)
       → (news ++ map head_as after ≡ map head_as commits) × IsRisingAfter 0 news × (commit.time ≡ last_time_after 0 news)
-  stands_next news is rising both =
-      (
-        ap (λ (hs : List CommitHead). hs ++ map head_as after) is ∙ append_assoc heads (head_as commit ∷ []) (map head_as after) ∙ split,
-        subst (IsRisingAfter 0) (sym is) (IsRisingAfter-push 0 heads (head_as commit) rising (subst (λ (n : ℕ). n < commit.time) last_is both.0) both.1),
-        sym (ap (last_time_after 0) is ∙ last_time-push 0 heads (head_as commit)),
-      )
+  stands_next news is rising both = (
+    ap (λ (hs : List CommitHead). hs ++ map head_as after) is ∙ append_assoc heads (head_as commit ∷ []) (map head_as after) ∙ split,
+    subst (IsRisingAfter 0) (sym is) (IsRisingAfter-push 0 heads (head_as commit) rising (subst (λ (n : ℕ). n < commit.time) last_is both.0) both.1),
+    sym (ap (last_time_after 0) is ∙ last_time-push 0 heads (head_as commit)),
+  )

@@ -4,3 +4,4 @@ pub mod Created
 pub mod Rooms
 pub mod Places
 pub mod Heads
+pub mod Entries

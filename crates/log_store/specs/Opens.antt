@@ -1,10 +1,13 @@
 -- What an opened store holds, and why none is opened.
-use Rattle.std.specs.Prelude.{ℕ, ◌≡◌, ◌≤◌, Bool, true, false, IsTrue, [], length, map, max, None, Err}
+use Rattle.std.specs.Prelude.{ℕ, ◌≡◌, ◌≤◌, Bool, true, false, IsTrue, List, [], ◌∷◌, length, map, max, None, Err}
 use Rattle.disk.specs.Areas.{image_of, settled_on, LeavesNoMore}
 use Rattle.disk.specs.Calls.{DiskState}
 use Rattle.disk.specs.declared.area.Area.TheVariants.{Heap}
 use Rattle.chains.specs.KeyWrites.{IsOrdered}
-use Rattle.floors.specs.Floors.{FloorsValue}
+use Rattle.floors.specs.Floors.{FloorsValue, no_floors}
+use Rattle.wire.specs.declared.slot.Run.{Run}
+use Rattle.archive.specs.declared.run.RunEntry.{RunEntry}
+use Rattle.timequery.specs.Archives.{ArchiveValue, IsUnread}
 use Rattle.group.specs.declared.commit_order.CommitHead.{CommitHead}
 use Rattle.group.specs.CommitOrder.{IsRisingAfter, last_time}
 use Rattle.commits.specs.Values.{CommitsValue}
@@ -27,6 +30,19 @@ use Rattle.log_store.specs.declared.opening.MemoryParts.{MemoryParts}
 -- no ticket of it is out
 abbrev pub head_as : CommitName → CommitHead
 head_as name = record { time = name.time; label = name.label; awaited = false }
+
+-- These are the runs of a log, each with the archive mark before it, and the first with this one. Of none is it said that it begins behind a floor.
+abbrev pub AreEntriesFrom : ℕ → List Run → List RunEntry → Type 0
+AreEntriesFrom mark [] [] = Unit {0}
+AreEntriesFrom mark [] (entry ∷ entries) = ⊥
+AreEntriesFrom mark (run ∷ runs) [] = ⊥
+AreEntriesFrom mark (run ∷ runs) (entry ∷ entries) =
+    (entry.slot ≡ run) × (entry.mark ≡ mark) × (entry.floors ≡ no_floors) × AreEntriesFrom run.upto runs entries
+
+-- the archive has these runs, and nothing of it is read
+pub record HasRuns (runs : List Run) (archive : ArchiveValue) : Type 0 where
+  pub are : AreEntriesFrom 0 runs archive.runs
+  pub unread : IsUnread archive.runs archive
 
 -- The members are in a commit order: their times rise, and the last of the versions is no later than the last of them, or than the reclaim mark.
 pub record AreInOrder (members : MembersRead) (reclaimed : ℕ) : Type 0 where
@@ -62,6 +78,7 @@ pub record ArePartsOf (mark : ℕ) (read : LogRecovered) (parts : MemoryParts) :
   pub roots : parts.roots ≡ read.roots
   pub commits : parts.commits ≡ commits_on mark read.heap.members read.heap.end.floors read.heap.end.mark
   pub room : parts.room ≡ room_on read.heap
+  pub archive : HasRuns read.heap.end.runs.items parts.archive
   pub ordered : IsOrdered read.heap.members.versions
 
 -- why it has nothing: memory was short, or what was read has no place in it
@@ -72,13 +89,14 @@ IsPartsFault read Device = ⊥
 IsPartsFault read NoMemory = Unit {0}
 
 -- the store on what was read
-abbrev pub opened_on : ℕ → LogRecovered → DiskState → LogStoreValue
-opened_on mark read disk = record {
+abbrev pub opened_on : ℕ → LogRecovered → ArchiveValue → DiskState → LogStoreValue
+opened_on mark read archive disk = record {
   roots = read.roots;
   commits = commits_on mark read.heap.members read.heap.end.floors read.heap.end.mark;
   contents = [];
   room = room_on read.heap;
   turn = None;
+  archive = archive;
   disk = disk;
 }
 
@@ -86,7 +104,8 @@ opened_on mark read disk = record {
 pub record Opens (tells : Bool) (old : DiskState) (mark : ℕ) (v : LogStoreValue) : Type 0 where
   pub recovered : LogRecovered
   pub read : IsTrue tells → IsReadFrom (image_of old.areas) recovered
-  pub new_is : v ≡ opened_on mark recovered v.disk
+  pub new_is : v ≡ opened_on mark recovered v.archive v.disk
+  pub archive : HasRuns recovered.heap.end.runs.items v.archive
   pub ordered : IsOrdered v.commits.versions
   pub settled : IsTrue tells → v.disk.areas ≡ settled_on (image_of old.areas)
   pub left : IsTrue tells → LeavesNoMore old.areas v.disk.areas

@@ -1,9 +1,12 @@
 //! Opening a store.
 ghost use Rattle.std.specs.Prelude.{◌≡◌, ◌<◌, ◌^◌, ◌↔◌, IsTrue, IfOk, IfErr, MatchOption, MatchResult, map};
+ghost use Rattle.std.specs.List.{AllByRecursion};
+ghost use Rattle.wire.specs.Spelling.{IsRun};
 ghost use Rattle.group.specs.CommitOrder.{IsRisingAfter, last_time};
-ghost use Rattle.log_store.specs.Opens.{head_as, AreInOrder, commits_on, IsPartsFault, ArePartsOf, Opens, OpenRefuses};
+ghost use Rattle.log_store.specs.Opens.{head_as, AreEntriesFrom, AreInOrder, commits_on, IsPartsFault, ArePartsOf, Opens, OpenRefuses};
 
 use crate::store::LogStore;
+use archive::RunEntry;
 use commits::Commits;
 use disk::{Area, Disk};
 use floors::Floors;
@@ -14,6 +17,8 @@ use log_roots::Roots;
 use recovery::OpenFault;
 use std::alloc::{AllocError, Global};
 use std::collections::VecDeque;
+use timequery::StoreArchive;
+use wire::Run;
 
 /// Commit times are less than this, in microseconds since 1970.
 const TIME_END: u64 = 1 << 63;
@@ -71,18 +76,41 @@ fn commits_of(
     Ok(Some(Commits::of_recovered(alloc, mark, heads, members.versions, floors, reclaimed)))
 }
 
+// The runs of the log, each with the archive mark before it. A run may have been made of others that are older than a floor, so none is
+// said to begin behind one.
+fn entries_of(alloc: Global, runs: &[Run]) -> Result<Vec<RunEntry>, AllocError>
+    requires in_range { AllByRecursion IsRun runs.now }
+    ensures { IfOk result (λ entries. AreEntriesFrom 0 runs.now entries.items) }
+{
+    let mut entries = Vec::with_capacity(alloc, runs.len())?;
+    let mut mark = 0;
+    let mut rest = runs;
+    while let Some((run, after)) = rest.split_first() {
+        entries.push(RunEntry {
+            slot: *run,
+            mark,
+            floors: Floors::none(),
+        })?;
+        mark = run.upto;
+        rest = after;
+    }
+    Ok(entries)
+}
+
 /// What a store has in memory.
 #[derive(Drop)]
 struct MemoryParts {
     roots: Roots,
     commits: Commits,
     room: HeapRoom,
+    archive: StoreArchive,
 }
 
 // What a store has in memory by what was read of its image. `Damaged` with the root where that has no place in memory: it is not what a
 // heap holds.
 fn parts_of(alloc: Global, mark: u64, read: LogRecovered) -> Result<MemoryParts, OpenFault>
     requires mark { read.heap.end.mark < 2 ^ 63 }
+    requires runs { AllByRecursion IsRun read.heap.end.runs.items }
     ensures { MatchResult result (ArePartsOf mark read) (IsPartsFault read) }
 {
     let LogRecovered { roots, heap } = read;
@@ -97,6 +125,7 @@ fn parts_of(alloc: Global, mark: u64, read: LogRecovered) -> Result<MemoryParts,
     let LogEnd {
         mark: reclaimed,
         floors,
+        runs,
         ..
     } = end;
     // The versions are in the order of their keys.
@@ -105,11 +134,13 @@ fn parts_of(alloc: Global, mark: u64, read: LogRecovered) -> Result<MemoryParts,
     let Some(room) = HeapRoom::opened(space, next, log, members.sizes.len) else {
         return Err(damaged);
     };
+    let archive = StoreArchive::new(alloc, entries_of(alloc, &runs)?)?;
     match commits_of(alloc, mark, members, floors, reclaimed)? {
         Some(commits) => Ok(MemoryParts {
             roots,
             commits,
             room,
+            archive,
         }),
         None => Err(damaged),
     }
@@ -140,6 +171,7 @@ impl<D: Disk> LogStore<D> {
                 contents: VecDeque::new(alloc),
                 room: parts.room,
                 turn: None,
+                archive: parts.archive,
                 disk,
             }),
         }

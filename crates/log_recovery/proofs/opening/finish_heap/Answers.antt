@@ -1,7 +1,8 @@
-use Rattle.std.proofs.Common.{◌≡◌, ℕ, ◌+◌, ◌^◌, ◌<◌, List, map, refl, sym, ap, subst}
+use Rattle.std.proofs.Common.{◌≡◌, ℕ, ◌+◌, ◌^◌, ◌<◌, List, [], map, refl, sym, ap, subst}
 use Rattle.std.specs.Prelude.{◌↔◌, IsTrue, is_some}
 use Rattle.std.specs.List.{AllByRecursion}
 use Rattle.wire.specs.declared.slot.Run.{Run}
+use Rattle.wire.specs.Spelling.{IsRun}
 use Rattle.law_image.specs.Log.{AreRisingAfter}
 use Rattle.log_entries.specs.declared.entry.Roll.{Roll}
 use Rattle.law_log_layout.specs.HeapLog.{PlacedChain, AreSpansInRow, run_span}
@@ -11,7 +12,7 @@ use Rattle.log_sizes.specs.Counted.{AreSizesBehind}
 use Rattle.log_recovery.specs.Ends.{EndsEarly, IsEndSeen}
 use Rattle.log_recovery.specs.Opening.{FailsHeap, AtEnd}
 use Rattle.log_recovery.proofs.HeapRead.{mark_is_time, members_rise_behind, fault_of_members}
-use Rattle.log_recovery.proofs.Rows.{runs_in_row, rolls_in_row}
+use Rattle.log_recovery.proofs.Rows.{runs_in_row, rolls_in_row, runs_in_range}
 use Rattle.log_recovery.proofs.Walking.{all_joined}
 use Rattle.log_recovery.proofs.Finishing.{holds_anchors, three_decide, IsKept, kept_decides, kept_count}
 use Rattle.log_recovery.proofs.opening.finish_heap.Goals as goal
@@ -123,3 +124,7 @@ returns-clause-ends_early c =
     let rolls = subst (λ (l : List Roll). AllByRecursion EndsEarly (map roll_part l)) (sym c.requires.end.rolls_are)
     (rolls_in_row (mark_of chains) c.args.heap.most chains c.requires.entries c.requires.end.keeps).early in
     all_joined EndsEarly (map run_span c.args.read.log.end.runs.items) (map roll_part c.args.read.log.end.rolls.items) runs rolls
+
+pub returns-clause-runs : goal.returns-clause-runs
+returns-clause-runs c =
+    subst (AllByRecursion IsRun) (sym c.requires.end.runs_are) (runs_in_range c.args.heap.most [] c.args.read.log.chains.items tt c.requires.entries)

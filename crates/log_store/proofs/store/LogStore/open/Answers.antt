@@ -31,8 +31,10 @@ returns-in-Ok-parts_of-clause-ok g c =
         contents = c.new.ensures.items i;
         room = parts.room i;
         turn = None;
+        archive = c.in-Ok-parts_of.parts.archive;
         disk = disk;
       };
+      archive = parts.archive;
       ordered = subst (λ (cs : CommitsValue). IsOrdered cs.versions) (sym parts.commits) parts.ordered;
       settled = c.in-Ok.ensures.settled;
       left = c.in-Ok.ensures.left;
