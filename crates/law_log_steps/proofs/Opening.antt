@@ -11,7 +11,7 @@ use Rattle.history.specs.declared.time.TimedWrite.{TimedWrite}
 use Rattle.history.specs.Time.{IsRisingAfter, writes_after}
 use Rattle.history.specs.Versions.{ends_after, versions}
 use Rattle.history.specs.Histories.{Commit, History, versions_of, writes_of}
-use Rattle.history.specs.Machine.{opened}
+use Rattle.history.specs.Machine.{opened_by}
 use Rattle.history.proofs.Orders.{is_lt, not_lt}
 use Rattle.history.proofs.Histories.{writes_of-commits_after}
 use Rattle.history.proofs.Members.{Contains-nil}
@@ -49,7 +49,7 @@ use Rattle.log_store.specs.Opens.{Opens, commits_on, head_as}
 use Rattle.log_store.proofs.Places.{has-place}
 use Rattle.law_log_store.specs.Standing.{IsImageOf, StandsOnHeap}
 use Rattle.law_log_store.proofs.Opening.{facts-are, members-same, open-stands, read as read-is, same as same-log}
-use Rattle.law_log_steps.specs.Store.{IsStoreOf}
+use Rattle.law_log_steps.specs.Store.{gate_of, IsStoreOf}
 use Rattle.law_log_steps.proofs.Resting.{stands-opened}
 
 -- ---- names
@@ -256,7 +256,7 @@ module _ (tells : Bool) (old : DiskState) (mark : ℕ) (v : LogStoreValue) (root
 
   -- ---- the store
 
-  memory : StandsInMemory commits (opened h floors)
+  memory : StandsInMemory commits (opened_by 1024 h floors)
   memory = record {
     names = names;
     rising =
@@ -270,9 +270,15 @@ module _ (tells : Bool) (old : DiskState) (mark : ℕ) (v : LogStoreValue) (root
     failed = refl;
   }
 
-  pub is-opened : IsStoreOf v (opened h floors)
+  pub is-opened : IsStoreOf v (opened_by 1024 h floors)
   is-opened =
       let on = open-stands tells old mark v roots h floors tells_so are_sound image opens in
       let same : v.commits ≡ commits = ap (λ (x : LogStoreValue). x.commits) opens.new_is in
       stands-opened v h floors reading stands on.1 (ap (λ (c : CommitsValue). c.failed) same) (ap (λ (c : CommitsValue). c.queue) same)
-      (subst (λ (c : CommitsValue). StandsInMemory c (opened h floors)) (sym same) memory)
+      (record {
+        most = refl;
+        group = sym (ap (λ (c : CommitsValue). c.group) same);
+        raising = refl;
+        gate = λ works. ap gate_of (sym (ap (λ (x : LogStoreValue). x.turn) opens.new_is));
+      })
+      (subst (λ (c : CommitsValue). StandsInMemory c (opened_by 1024 h floors)) (sym same) memory)

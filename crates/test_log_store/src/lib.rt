@@ -7,3 +7,5 @@ mod groups;
 mod on_disk;
 #[cfg(test)]
 mod queries;
+#[cfg(test)]
+mod stops;
