@@ -8,4 +8,6 @@ mod on_disk;
 #[cfg(test)]
 mod queries;
 #[cfg(test)]
+mod refused;
+#[cfg(test)]
 mod stops;
