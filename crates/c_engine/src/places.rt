@@ -229,7 +229,8 @@ impl Places {
 
     /// Takes a transaction out.
     pub fn take_transaction(&mut self, number: u64) -> Option<Txn>
-        ensures { MatchOption result ((transaction_in (named self.old number) ≡ None) × (self.new ≡ self.old)) (λ txn. (transaction_in (named self.old number) ≡ Some txn) × IsTaken number self.old self.new) }
+        ensures { MatchOption result ((transaction_in (named self.old number) ≡ None) × (self.new ≡ self.old))
+            (λ txn. (transaction_in (named self.old number) ≡ Some txn) × IsTaken number self.old self.new) }
     {
         self.transaction(number)?;
         match self.take(number) {
@@ -243,7 +244,8 @@ impl Places {
 
     /// Takes a view out.
     pub fn take_view(&mut self, number: u64) -> Option<View>
-        ensures { MatchOption result ((view_in (named self.old number) ≡ None) × (self.new ≡ self.old)) (λ view. (view_in (named self.old number) ≡ Some view) × IsTaken number self.old self.new) }
+        ensures { MatchOption result ((view_in (named self.old number) ≡ None) × (self.new ≡ self.old))
+            (λ view. (view_in (named self.old number) ≡ Some view) × IsTaken number self.old self.new) }
     {
         self.view(number)?;
         match self.take(number) {
@@ -257,7 +259,8 @@ impl Places {
 
     /// Takes a ticket out.
     pub fn take_ticket(&mut self, number: u64) -> Option<Ticket>
-        ensures { MatchOption result ((ticket_in (named self.old number) ≡ None) × (self.new ≡ self.old)) (λ ticket. (ticket_in (named self.old number) ≡ Some ticket) × IsTaken number self.old self.new) }
+        ensures { MatchOption result ((ticket_in (named self.old number) ≡ None) × (self.new ≡ self.old))
+            (λ ticket. (ticket_in (named self.old number) ≡ Some ticket) × IsTaken number self.old self.new) }
     {
         self.ticket(number)?;
         match self.take(number) {
@@ -277,7 +280,8 @@ impl Places {
         key: Key,
         value: &[u8],
     ) -> Option<Result<(), TxnFault>>
-        ensures { MatchOption result ((transaction_in (named self.old number) ≡ None) × (self.new ≡ self.old)) (λ outcome. IsWritten number (Puts key value.now) outcome self.old self.new) }
+        ensures { MatchOption result ((transaction_in (named self.old number) ≡ None) × (self.new ≡ self.old))
+            (λ outcome. IsWritten number (Puts key value.now) outcome self.old self.new) }
     {
         self.transaction(number)?;
         let at = (number % STAMP_UNIT) as usize;
@@ -289,7 +293,8 @@ impl Places {
 
     /// Deletes in a transaction; none where the number names none.
     pub fn delete(&mut self, number: u64, key: Key) -> Option<Result<(), TxnFault>>
-        ensures { MatchOption result ((transaction_in (named self.old number) ≡ None) × (self.new ≡ self.old)) (λ outcome. IsWritten number (Deletes key) outcome self.old self.new) }
+        ensures { MatchOption result ((transaction_in (named self.old number) ≡ None) × (self.new ≡ self.old))
+            (λ outcome. IsWritten number (Deletes key) outcome self.old self.new) }
     {
         self.transaction(number)?;
         let at = (number % STAMP_UNIT) as usize;

@@ -75,7 +75,8 @@ impl Copying {
 
     // Copies one row; where one does not fit, none behind it is copied.
     fn copy(&mut self, row: Row, value: &Value, rows: &mut [Row], out: &mut [u8])
-        ensures { (shown : List Shown) → length shown < 2 ^ 63 → AreLaid shown self.old rows.old out.old → AreLaid (shown ++ shown_as row value.now ∷ []) self.new rows.new out.new }
+        ensures { (shown : List Shown) → length shown < 2 ^ 63 → AreLaid shown self.old rows.old out.old
+            → AreLaid (shown ++ shown_as row value.now ∷ []) self.new rows.new out.new }
     {
         self.fits = self.place(row, value, rows, out);
         self.rows = self.rows.saturating_add(1);

@@ -15,7 +15,8 @@ use snapshot::Txn;
 impl Engine {
     ghost use Rattle.c_engine.specs.Queries.{Sees, SeesScan};
     ghost use Rattle.c_engine.specs.Writes.{Puts, Deletes};
-    ghost use Rattle.c_engine.specs.Engines.{BeginsEngine, TakesTransaction, Writes, SubmitsEngine, SubmitsTaken, AbortsEngine, AbortsTaken, PumpsEngine, RedeemsEngine, RedeemsTaken, KeepsTicket, GivesUp, was_published};
+    ghost use Rattle.c_engine.specs.Engines.{BeginsEngine, TakesTransaction, Writes, SubmitsEngine, SubmitsTaken, AbortsEngine, AbortsTaken};
+    ghost use Rattle.c_engine.specs.Engines.{PumpsEngine, RedeemsEngine, RedeemsTaken, KeepsTicket, GivesUp, was_published};
 
     /// A transaction on what is published now; its number and the time of its snapshot are told.
     pub fn begin(&mut self, info: &mut Info) -> Code

@@ -33,7 +33,8 @@ fn extents_beside(end: &LogEnd) -> usize
 
 /// Whether the log and the base keep their shares of a heap of so many extents.
 pub(crate) fn are_shares_kept(most: u32, chains: &[LogChain], end: &LogEnd) -> bool
-    ensures { IsTrue result ↔ ((length (counted_in chains.now) + (1 + open_of end.now.archived (max end.now.mark end.now.last)) ≤ most / 2) × AreBasesSmall most chains.now) }
+    ensures { IsTrue result
+        ↔ ((length (counted_in chains.now) + (1 + open_of end.now.archived (max end.now.mark end.now.last)) ≤ most / 2) × AreBasesSmall most chains.now) }
 {
     fits_half(most, chains, extents_beside(end)) && are_bases_small(most, chains)
 }

@@ -29,7 +29,8 @@ impl<D: Disk, L: Opening> SharedStore<D, L> {
         key: Key,
         time: u64,
     ) -> Result<Option<SharedValue>, QueryFault>
-        ensures says { OfSeen L.start view.old.seen (λ m. SaysAt (IsSure D.tells view.old.shown.reclaimed time) (answers.at_answer m.published m.floors key time) result) }
+        ensures says { OfSeen L.start view.old.seen
+            (λ m. SaysAt (IsSure D.tells view.old.shown.reclaimed time) (answers.at_answer m.published m.floors key time) result) }
         ensures kept { view.new ≡ view.old }
     {
         self.locked.lock(rt).at(rt, &self.cell, view, key, time)
@@ -80,7 +81,8 @@ impl<D: Disk, L: Opening> SharedStore<D, L> {
         a: u64,
         b: u64,
     ) -> Result<Vec<(u64, Version<SharedValue>)>, QueryFault>
-        ensures says { OfSeen L.start view.old.seen (λ m. SaysScanBetween (IsSure D.tells view.old.shown.reclaimed a) m.published m.floors relation a b result) }
+        ensures says { OfSeen L.start view.old.seen
+            (λ m. SaysScanBetween (IsSure D.tells view.old.shown.reclaimed a) m.published m.floors relation a b result) }
         ensures kept { view.new ≡ view.old }
     {
         self.locked

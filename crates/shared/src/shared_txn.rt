@@ -82,7 +82,8 @@ impl<L: Opening> SharedTxn<L> {
     /// `TooManyKeys`, `BadValue` or `NoMemory`.
     pub fn put(&mut self, alloc: Global, key: Key, fields: &[&[u8]]) -> Result<(), TxnFault>
         ensures ok { OnOk result (self.new ≡ record self.old { txn = with_put self.old.txn key (map (λ field. field.now) fields.now) }) }
-        ensures by_key { OnOk result ((q : Key) → value_for self.new q ≡ (if same_key key q then Some (map (λ field. field.now) fields.now) else value_for self.old q)) }
+        ensures by_key { OnOk result ((q : Key)
+            → value_for self.new q ≡ (if same_key key q then Some (map (λ field. field.now) fields.now) else value_for self.old q)) }
         ensures missing { result ≢ Err TxnFault.Missing }
         ensures too_many { (result ≡ Err TxnFault.TooManyKeys) ↔ IsFullFor self.old.txn.writes key }
         ensures bad { (result ≡ Err TxnFault.BadValue) ↔ ((¬ IsFullFor self.old.txn.writes key) × (¬ HasSizes (map (λ field. field.now) fields.now))) }
