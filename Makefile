@@ -85,7 +85,7 @@ rates: build
 	if command -v valgrind >/dev/null; then bench/rates.py $(PROGRAM) --instructions && tests/growths.py $(PROGRAM); fi
 
 # Every example of the documents, its answers compared; the small store of docs/FORMAT.md byte by byte; that each example of a page
-# crates/NAME/CALLING.md is a test; and that README and docs/USING.md are no longer than they may be.
+# crates/NAME/CALLING.md is a test; and that pages, and lines of code and proofs, are no longer than they may be.
 examples: build
 	tests/using_test.py $(PROGRAM) README.md docs/USING.md
 	tests/format_test.py $(PROGRAM) docs/FORMAT.md
