@@ -1,7 +1,7 @@
 #!/usr/bin/env python3
 """Checks pages and lines: each example of crates/NAME/CALLING.md is a test of the repository, word for word; the pages
-that everyone reads have no more words than they may; each crate has a page of its own, of few lines; and no line of code
-or proof is too long. Is called at the top of the repository."""
+that everyone reads have no more words than they may; each crate has a page of its own, of few lines; no line of code or
+proof is too long; and the table of wrong bodies has those that there are. Is called at the top of the repository."""
 import glob
 import os
 import re
@@ -59,8 +59,17 @@ def long_lines() -> int:
     return found
 
 
+def untold_edits() -> int:
+    """How many edits of crates/NAME/must-fail the table of docs/WRONG_BODIES.md lacks, or has and there are not; each is named."""
+    told = set(re.findall(r"`(\w+/\w+)`", read("docs/WRONG_BODIES.md"))) - {f"crates/{name}" for name in os.listdir("crates")}
+    there = {f"{path.split('/')[1]}/{path.split('/')[3].removesuffix('.edit')}" for path in glob.glob("crates/*/must-fail/*.edit")}
+    for name in sorted(told ^ there):
+        print(f"docs/WRONG_BODIES.md: {name} is " + ("not in the table" if name in there else "no edit"))
+    return len(told ^ there)
+
+
 def main() -> int:
-    """The exit status: 0 where every example is a test, each crate has its page, and no page or line is too long."""
+    """The exit status: 0 where every example is a test, each crate has its page, no page or line is too long, and each edit is told."""
     tests = [read(path) for pattern in TESTS for path in glob.glob(pattern)]
     pages = sorted(glob.glob("crates/*/CALLING.md"))
     missing = sum(missing_examples(page, tests) for page in pages)
@@ -68,9 +77,9 @@ def main() -> int:
     long = [page for page, most in MOST_WORDS.items() if is_too_long(page, most)]
     crates = [line.split(":")[0].split()[0] for line in read("crates.txt").splitlines() if ":" in line.split("#")[0]]
     without = [crate for crate in crates if lacks_page(crate)]
-    lines = long_lines()
+    lines, edits = long_lines(), untold_edits()
     print(f"{len(crates)} crates, {len(without)} without a page of {MOST_LINES} lines or fewer; {lines} lines that are too long")
-    return 1 if missing or not pages or long or without or lines else 0
+    return 1 if missing or not pages or long or without or lines or edits else 0
 
 
 if __name__ == "__main__":
