@@ -8,9 +8,8 @@ use crate::engine::{Engine, EngineState};
 use crate::places::Held;
 use crate::rows::{records_out, value_out};
 use crate::step::Step;
-use group::{Redeemed, Submitted, Ticket};
 use history::Key;
-use snapshot::Txn;
+use store::{Redeemed, Submitted, Ticket, Txn};
 
 impl Engine {
     ghost use Rattle.c_engine.specs.Queries.{Sees, SeesScan};

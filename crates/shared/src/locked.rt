@@ -34,7 +34,6 @@ use crate::noting::{
 use crate::observer::Observer;
 use crate::shared_view::{SharedView, taken_at};
 use crate::signals::Signals;
-use chains::SharedValue;
 use disk::Disk;
 use history::{Key, Version};
 use std::alloc::AllocError;
@@ -42,8 +41,8 @@ use std::marker::Model;
 use std::sync::Wait;
 use std::sync::ledger::{Book, Share};
 use store::{
-    BeginFault, Did, JobDid, PumpFault, QueryFault, Redeemed, StartFault, Store, SubmitFault,
-    Submitted, Ticket, Txn,
+    BeginFault, Did, JobDid, PumpFault, QueryFault, Redeemed, SharedValue, StartFault, Store,
+    SubmitFault, Submitted, Ticket, Txn,
 };
 
 /// A store that stands for a state that steps of the machine lead to from the opening one, the book

@@ -11,12 +11,11 @@ use crate::naming::Opening;
 use crate::observer::Observer;
 use crate::shared::SharedStore;
 use crate::shared_view::SharedView;
-use chains::SharedValue;
 use disk::Disk;
 use history::{Key, Version};
 use std::alloc::AllocError;
 use std::sync::Wait;
-use store::QueryFault;
+use store::{QueryFault, SharedValue};
 
 impl<D: Disk, L: Opening> SharedStore<D, L> {
     /// The value of a key at a time, as the view's moment knows it: from memory, and below the reclaim

@@ -12,11 +12,10 @@ ghost use Rattle.shared.specs.Shared.{SeenReached};
 
 use crate::naming::Opening;
 use crate::observer::Observer;
-use chains::SharedValue;
 use history::Key;
 use std::alloc::{AllocError, Global};
 use std::marker::Model;
-use store::{Txn, TxnFault};
+use store::{SharedValue, Txn, TxnFault};
 
 /// An open transaction: it reads what was published when it began, with its own writes over it, and
 /// takes no lock. It is submitted or aborted; it can't be dropped.
