@@ -3,7 +3,7 @@
 import ctypes
 from collections.abc import Callable, Iterator
 from types import TracebackType
-from typing import Any, Generic, Self, TypeVar, cast
+from typing import Any, Generic, Self, TypeVar
 
 from ._native import SMALL, Info, ask, library
 from ._refused import Conflict, Refused, Unknown
@@ -24,11 +24,6 @@ _Result = TypeVar("_Result")
 _Store = TypeVar("_Store", bound="CommonStore[Any, Any]")
 _Transaction = TypeVar("_Transaction", bound="CommonTransaction[Any]")
 _View = TypeVar("_View", bound="CommonView[Any]")
-
-
-def call_of(name: str) -> Callable[..., int]:
-    """The library's call of this name."""
-    return cast(Callable[..., int], getattr(library, name))
 
 
 class CommonStore(Generic[_Transaction, _View]):
@@ -193,8 +188,9 @@ class Given(Generic[_Store]):
             raise Unknown("unknown")
         return self._number
 
-    def _call(self, name: str) -> Callable[..., int]:
-        return call_of(self._calls + name)
+    def _call(self, name: str) -> Any:
+        """The library's call of this name."""
+        return getattr(library, self._calls + name)
 
     def _end(self) -> None:
         """Gives it back, if it was not. Where that is refused it is still to be given back."""
@@ -202,7 +198,7 @@ class Given(Generic[_Store]):
         if number is None:
             return
         try:
-            self._store._do(call_of(self._back), number)
+            self._store._do(getattr(library, self._back), number)
         except BaseException:
             self._number = number
             raise
@@ -211,7 +207,7 @@ class Given(Generic[_Store]):
         """Gives it back, on any thread and whatever became of its store."""
         number, self._number = self._number, None
         if number is not None:
-            self._store._give_back(call_of(self._back), number)
+            self._store._give_back(getattr(library, self._back), number)
 
     def __del__(self) -> None:
         self._drop()
