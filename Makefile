@@ -100,7 +100,7 @@ bench: build
 	cd crates/bench && rt run > /dev/null
 	bench/store_bench.py $(BENCH) --program $(PROGRAM) $(if $(FOLDER),--folder $(FOLDER))
 	bench/shared_bench.py $(BENCH) $(if $(FOLDER),--folder $(FOLDER))
-	bench/bench.py $(PROGRAM) $(FOLDER)
+	bench/program_bench.py $(PROGRAM) $(FOLDER)
 	bench/rates.py $(PROGRAM) $(if $(FOLDER),--folder $(FOLDER))
 	bench/status_growth.py $(PROGRAM) $(if $(FOLDER),--folder $(FOLDER))
 	bench/copies.py $(PROGRAM)
