@@ -43,7 +43,8 @@ c1   commits a second of one record each, COUNT by one writer; c2, c4, c8, c16, 
 r1   views a second, COUNT by one reader beside a writer; r2, r3, r4: by so many, COUNT each
 q1   values a second by one view, COUNT by one reader beside a writer; q2, q3, q4: by so many, COUNT each
 h    microseconds that the lock is held, over COUNT groups of 16 commits and a vacuum
-soak a line for each thing that a thread was told: 8 writers in COUNT rounds of 40 ms, 8 readers, a committer and a vacuum, with numbers that begin with NUMBER; rush: with no pause
+soak a line for each thing that a thread was told: 8 writers in COUNT rounds of 40 ms, 8 readers, \
+a committer and a vacuum, with numbers that begin with NUMBER; rush: with no pause
 ";
 
 /// The status of words that ask for nothing.

@@ -117,7 +117,8 @@ pub record AreRollsInRow (rolls : List Roll) : Type 0 where
   pub early : AllByRecursion EndsEarly (map roll_part rolls)
 
 rolls_all : (mark most : ℕ) (s : LogState) (chains : List PlacedChain) → AllByRecursion (λ (c : PlacedChain). IsEntry most c.entry) chains
-    → MayAllComeBehind mark s chains → AreSpansInRow s.rolls_end (map roll_part (rolls_named chains)) × AllByRecursion EndsEarly (map roll_part (rolls_named chains))
+    → MayAllComeBehind mark s chains
+    → AreSpansInRow s.rolls_end (map roll_part (rolls_named chains)) × AllByRecursion EndsEarly (map roll_part (rolls_named chains))
 rolls_all mark most s [] each may = (tt, tt)
 rolls_all mark most s (c ∷ chains) each may =
     let rest = rolls_all mark most (state_behind mark s c.entry) chains each.1 may.1 in

@@ -8,7 +8,8 @@ use Rattle.law_log.specs.Chains.{reading_of}
 use Rattle.deltas.specs.Extents.{extent_start}
 use Rattle.log_extents.specs.Chains.{count_of, IsNumberOf, IsNew}
 use Rattle.log_entries.specs.declared.entry.Roll.{Roll}
-use Rattle.law_log_layout.specs.HeapLog.{PlacedChain, PlacedAnchors, HeapLog, Span, run_span, chains_told, runs_from, rolls_in, AreSpansApart, KeepsShares, counted_of, IsBaseSmall}
+use Rattle.law_log_layout.specs.HeapLog.{PlacedChain, PlacedAnchors, HeapLog, Span, run_span, chains_told, runs_from, rolls_in, AreSpansApart}
+use Rattle.law_log_layout.specs.HeapLog.{KeepsShares, counted_of, IsBaseSmall}
 use Rattle.log_space.specs.Uses.{IsFree}
 use Rattle.log_recovery.specs.declared.rules.LogEnd.{LogEnd}
 use Rattle.log_recovery.specs.Chains.{numbers_of}

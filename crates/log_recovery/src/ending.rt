@@ -34,7 +34,8 @@ fn extents_beside(end: &LogEnd) -> usize
 /// How many extents the log has, those of the base aside. None where the log or the base does not keep its share of a
 /// heap of so many extents.
 pub(crate) fn kept_log(most: u32, chains: &[LogChain], end: &LogEnd) -> Option<usize>
-    ensures kept { MatchOption result (¬ KeepsLogShare most chains.now end.now) (λ count. KeepsLogShare most chains.now end.now × (count ≡ length (counted_in chains.now))) }
+    ensures kept { MatchOption result (¬ KeepsLogShare most chains.now end.now)
+        (λ count. KeepsLogShare most chains.now end.now × (count ≡ length (counted_in chains.now))) }
     ensures few { IfSome result (λ count. count ≤ most / 2) }
 {
     let half = most as usize / 2;

@@ -145,7 +145,8 @@ fn a_record_runs_on_into_the_next_extent(rt: HostRuntime) -> Result<(), Fail> {
             &mut disk,
             Area::Heap,
             0,
-            b"\xc7\0\0\0\x01\0\0\0\x02\0\0\0\xe8\x1f\0\0\x03\0\0\0\0\0\0\0\x05\x01\0\0\0\0\0\0\0\x64\0\0\0\0\0\0\0\x02\0\x01\x01\0\x01\0\0\0\0\0\0\0\x10\xffxxxxxxxx",
+            b"\xc7\0\0\0\x01\0\0\0\x02\0\0\0\xe8\x1f\0\0\x03\0\0\0\0\0\0\0\x05\x01\0\0\0\0\0\0\0\x64\0\0\0\0\0\0\0\x02\0\
+              \x01\x01\0\x01\0\0\0\0\0\0\0\x10\xffxxxxxxxx",
         )
     );
     assert!(rt;

@@ -3,9 +3,8 @@
 use crate::fault::Fault;
 use crate::records;
 use disk::Disk;
-use snapshot::Txn;
 use std::alloc::Global;
-use store::{Did, Redeemed, Store, Submitted, Ticket};
+use store::{Did, Redeemed, Store, Submitted, Ticket, Txn};
 
 /// The label of each commit.
 pub(crate) const LABEL: u64 = 9;
