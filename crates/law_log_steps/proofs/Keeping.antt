@@ -101,7 +101,8 @@ begin-stands old new answer m is begins = by-answer answer (begin-step old.commi
   where
     keeps : (n : Machine Value) → StandsInMemory new.commits n → IsMachine IsValue n → IsAlike m n → IsStoreOf new n
     keeps n stands machine alike =
-        store-keeps old new m n is (begin-keeps old new answer begins) (begin-alone old.commits new.commits answer begins.is) (ap (λ (v : LogStoreValue). v.turn) begins.new_is) stands machine alike
+        store-keeps old new m n is (begin-keeps old new answer begins) (begin-alone old.commits new.commits answer begins.is) (ap (λ
+        (v : LogStoreValue). v.turn) begins.new_is) stands machine alike
 
     by-answer : (a : Result TxnValue BeginFault) → memory.BeginsTo m a new.commits → BeginsTo m a new
     by-answer (Ok txn) to = (
@@ -122,7 +123,8 @@ abort-stands old new txn m is aborts = by-own (is_own old.commits txn) (abort-st
   where
     keeps : (n : Machine Value) → StandsInMemory new.commits n → IsMachine IsValue n → IsAlike m n → IsStoreOf new n
     keeps n stands machine alike =
-        store-keeps old new m n is (abort-keeps old new txn aborts) (abort-alone old.commits new.commits txn aborts.is) (ap (λ (v : LogStoreValue). v.turn) aborts.new_is) stands machine alike
+        store-keeps old new m n is (abort-keeps old new txn aborts) (abort-alone old.commits new.commits txn aborts.is) (ap (λ
+        (v : LogStoreValue). v.turn) aborts.new_is) stands machine alike
 
     by-own : (b : Bool) → MatchBool b (memory.Goes new.commits m (Aborted txn.snapshot)) (StandsInMemory new.commits m)
         → MatchBool b (Goes new m (Aborted txn.snapshot)) (IsStoreOf new m)
@@ -138,6 +140,7 @@ pub redeem-stands : (old new : LogStoreValue) (ticket : TicketValue) (answer : R
 redeem-stands old new ticket answer m is redeems =
     let to = redeem-step old.commits new.commits ticket answer m is.memory is.machine redeems.is in (
       to.0,
-      store-keeps old new m m is (redeem-keeps old new ticket answer redeems) (redeem-alone old.commits new.commits ticket answer redeems.is) (ap (λ (v : LogStoreValue). v.turn) redeems.new_is) to.1 is.machine
+      store-keeps old new m m is (redeem-keeps old new ticket answer redeems) (redeem-alone old.commits new.commits ticket answer redeems.is) (ap (λ
+          (v : LogStoreValue). v.turn) redeems.new_is) to.1 is.machine
           (itself m),
     )

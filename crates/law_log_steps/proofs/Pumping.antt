@@ -393,7 +393,13 @@ module _ (tells : Bool) (old new : LogStoreValue) (answer : Result Did PumpFault
           stands = record {
             memory = gated-memory new.commits (steps.broken m) fails.group fails.gate memory.stands;
             machine = run-machine IsValue m after (begins_in m ++ breaks_in m.gate) is.machine fails.run;
-            writing = record { most = is.writing.most; group = fails.group_is; raising = is.writing.raising; gate = λ on. absurd (let no : true ≡ false = on in cc) };
+            writing = record {
+              most = is.writing.most;
+              group = fails.group_is;
+              raising = is.writing.raising;
+              gate = λ on. absurd
+                  (let no : true ≡ false = on in cc);
+            };
             fresh = memory.fresh;
             disk = subst (λ (b : Bool). MatchBool b (StopsOnHeap new m.published m.queue m.floors) (StandsOnHeap new m.published m.queue m.floors))
                 (sym steps-to.failed) steps-to.stops;

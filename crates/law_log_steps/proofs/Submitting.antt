@@ -271,7 +271,8 @@ module _ (old new : LogStoreValue) (txn : TxnValue) (label now : ℕ) (answer : 
           (subst (λ (a : Result Submitted SubmitFault). memory.AnswersSubmit (over old.commits txn.number) txn label now a new.commits) (sym so.0)
           (failed, ap (λ (x : LogStoreValue). x.commits) so.1))
       by-failed own false works so =
-          own-stands are range own (same-turn (spent old txn.number) new txn label now answer so) (answers-so (spent old txn.number) new txn label now answer works so)
+          own-stands are range own (same-turn (spent old txn.number) new txn label now answer so) (answers-so
+          (spent old txn.number) new txn label now answer works so)
 
       by-own : (b : Bool) → is_own old.commits txn ≡ b
           → MatchBool b (SubmitsOwn (spent old txn.number) txn label now answer new) ((answer ≡ Err refused.Stranger) × (new ≡ old))

@@ -104,7 +104,8 @@ fn read_base<D: Disk>(
     requires most { heap.most < 2 ^ 32 }
     requires mark { mark < 2 ^ 63 }
     requires entries { AllByRecursion (HasEntry heap.most) chains.now }
-    ensures found { IsTrue D.tells → IfOk result (TakesAnchors heap.most mark (D.state disk.old).areas.heap.bytes space.old space.new (first_names chains.now)) }
+    ensures found { IsTrue D.tells → IfOk result (TakesAnchors heap.most mark (D.state disk.old).areas.heap.bytes space.old space.new
+        (first_names chains.now)) }
     ensures latest { IfOk result (λ read. latest read.versions ≤ mark) }
     ensures fault { IsTrue D.tells → IfErr result (IsAnchorsFault heap.most mark (D.state disk.old).areas.heap.bytes space.old (first_names chains.now)) }
     ensures reads { D.state disk.new ≡ after_reads result (D.state disk.old) }
@@ -173,7 +174,8 @@ pub struct LogHeap {
 
 // How many extents the log has, where it ends right and the anchors keep their share.
 fn seen_log(kept: Option<usize>, ends_right: bool, anchors_fit: bool) -> Option<usize>
-    ensures { MatchOption result (¬ (IsTrue (is_some kept) × IsTrue ends_right × IsTrue anchors_fit)) (λ count. (kept ≡ Some count) × IsTrue ends_right × IsTrue anchors_fit) }
+    ensures { MatchOption result (¬ (IsTrue (is_some kept) × IsTrue ends_right × IsTrue anchors_fit)) (λ count. (kept ≡ Some count) × IsTrue ends_right
+        × IsTrue anchors_fit) }
 {
     if ends_right && anchors_fit {
         kept

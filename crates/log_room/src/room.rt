@@ -30,6 +30,7 @@ pub struct HeapRoom {
 
 /// The fewest extents that a heap has, and the most.
 const LEAST_EXTENTS: u32 = 64;
+
 const MOST_EXTENTS: u32 = 1 << 20;
 
 // Whether a heap may be opened where these extents are in use, the log ends at `next` and has so many extents with that one, and the
@@ -83,7 +84,8 @@ impl HeapRoom {
     /// As `of_opened`. None where such a heap may not be opened.
     pub fn opened(space: Space, next: u32, log: u32, anchors: u64) -> Option<HeapRoom>
         ensures { MatchOption result (¬ MayOpen space next log anchors)
-            (λ room. MayOpen space next log anchors × (room ≡ record { used = with_use space next true; next = next; log = log; promised = 0; anchors = anchors })) }
+            (λ room. MayOpen space next log anchors × (room ≡ record
+            { used = with_use space next true; next = next; log = log; promised = 0; anchors = anchors })) }
     {
         if !may_open(&space, next, log, anchors) {
             return None;

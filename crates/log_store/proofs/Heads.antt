@@ -14,7 +14,8 @@ pub next_of : (t : ℕ) (xs : List CommitHead) (y : CommitHead) (ys : List Commi
 next_of t [] y ys rising = (rising.0, rising.1)
 next_of t (x ∷ xs) y ys rising = next_of x.time xs y ys rising.2
 
-module _ (commits rest after : List CommitName) (commit : CommitName) (heads : List CommitHead) (last : ℕ) (all : heads ++ map head_as rest ≡ map head_as commits)
+module _ (commits rest after : List CommitName) (commit : CommitName) (heads : List CommitHead) (last : ℕ)
+    (all : heads ++ map head_as rest ≡ map head_as commits)
     (front : rest ≡ commit ∷ after) (last_is : last ≡ last_time_after 0 heads) where
   split : heads ++ head_as commit ∷ map head_as after ≡ map head_as commits
   split = subst (λ (ns : List CommitName). heads ++ map head_as ns ≡ map head_as commits) front all

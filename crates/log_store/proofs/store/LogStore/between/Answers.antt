@@ -26,5 +26,6 @@ returns g c =
     let own = asked.is_own s.commits.mark s.archive view in
     let says = subst (λ (mark : ℕ). asked.AnswersRows alone tells mark (s.archive, before) view c.args.key c.args.a c.args.b c.between.result (archive, after))
     c.mark-mark.ensures c.between.ensures in
-    subst (λ (x : LogStoreValue). AnswersRows tells x view c.args.key c.args.a c.args.b c.between.result (record v { archive = archive; disk = after })) c.self.view_is
+    subst (λ (x : LogStoreValue). AnswersRows tells x view c.args.key c.args.a c.args.b c.between.result (record v
+    { archive = archive; disk = after })) c.self.view_is
     (carried in_log_store tells v view archive after refl refl c.between.result own _ _ _ _ _ says)

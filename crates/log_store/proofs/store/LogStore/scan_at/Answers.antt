@@ -26,5 +26,6 @@ returns g c =
     let own = asked.is_own s.commits.mark s.archive view in
     let says = subst (λ (mark : ℕ). asked.AnswersScanAt alone tells mark (s.archive, before) view c.args.relation c.args.time c.scan_at.result (archive, after))
     c.mark-mark.ensures c.scan_at.ensures in
-    subst (λ (x : LogStoreValue). AnswersScanAt tells x view c.args.relation c.args.time c.scan_at.result (record v { archive = archive; disk = after })) c.self.view_is
+    subst (λ (x : LogStoreValue). AnswersScanAt tells x view c.args.relation c.args.time c.scan_at.result (record v
+    { archive = archive; disk = after })) c.self.view_is
     (carried in_log_store tells v view archive after refl refl c.scan_at.result own _ _ _ _ _ says)

@@ -24,7 +24,9 @@ returns g c =
       disk = before;
     } in
     let own = asked.is_own s.commits.mark s.archive view in
-    let says = subst (λ (mark : ℕ). asked.AnswersScanRows alone tells mark (s.archive, before) view c.args.relation c.args.a c.args.b c.scan_between.result (archive, after))
+    let says = subst (λ (mark : ℕ). asked.AnswersScanRows alone tells mark (s.archive, before) view c.args.relation c.args.a c.args.b c.scan_between.result
+    (archive, after))
     c.mark-mark.ensures c.scan_between.ensures in
-    subst (λ (x : LogStoreValue). AnswersScanRows tells x view c.args.relation c.args.a c.args.b c.scan_between.result (record v { archive = archive; disk = after })) c.self.view_is
+    subst (λ (x : LogStoreValue). AnswersScanRows tells x view c.args.relation c.args.a c.args.b c.scan_between.result (record v
+    { archive = archive; disk = after })) c.self.view_is
     (carried in_log_store tells v view archive after refl refl c.scan_between.result own _ _ _ _ _ says)

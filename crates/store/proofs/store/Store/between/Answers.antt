@@ -17,7 +17,9 @@ returns g c =
     let after = g.D.Disk.state c.between.new.disk in
     let v : StoreValue = parts_of s.transactions s.log s.turn s.job s.archived.upto s.archived.runs_end s.archived.archive before in
     let own = asked.is_own s.transactions.mark s.archived.archive view in
-    let says = subst (λ (mark : ℕ). asked.AnswersRows alone tells mark (s.archived.archive, before) view c.args.key c.args.a c.args.b c.between.result (archive, after))
+    let says = subst (λ (mark : ℕ). asked.AnswersRows alone tells mark (s.archived.archive, before) view c.args.key c.args.a c.args.b c.between.result
+    (archive, after))
     c.mark-mark.ensures c.between.ensures in
-    subst (λ (x : StoreValue). AnswersRows tells x view c.args.key c.args.a c.args.b c.between.result (record v { archive = archive; disk = after })) c.self.view_is
+    subst (λ (x : StoreValue). AnswersRows tells x view c.args.key c.args.a c.args.b c.between.result (record v
+    { archive = archive; disk = after })) c.self.view_is
     (carried in_store tells v view archive after refl refl c.between.result own _ _ _ _ _ says)
