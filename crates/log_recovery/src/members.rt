@@ -12,7 +12,8 @@ ghost use Rattle.log_extents.specs.Chains.{first_or};
 ghost use Rattle.law_log_sizes.specs.Sizes.{anchors_len};
 ghost use Rattle.log_sizes.specs.Counted.{AreSizes, AreSizesBehind};
 ghost use Rattle.log_recovery.specs.Chains.{HasEntry};
-ghost use Rattle.log_recovery.specs.Members.{later_of, later_in, heads_told, HasFacts, values_behind, values_of, members_of_all, AreAllStored, IsMembersFault, IsInMemoryFault, live_told, lives_of, last_in, AreWritesOf};
+ghost use Rattle.log_recovery.specs.Members.{later_of, later_in, heads_told, HasFacts, values_behind, values_of, members_of_all};
+ghost use Rattle.log_recovery.specs.Members.{AreAllStored, IsMembersFault, IsInMemoryFault, live_told, lives_of, last_in, AreWritesOf};
 
 use crate::chain::LogChain;
 use crate::members_read::{CommitName, MembersRead};

@@ -9,7 +9,8 @@ use Rattle.log_entries.specs.declared.entry.Entry.{Entry}
 use Rattle.log_entries.specs.Ranges.{IsEntry}
 use Rattle.law_log_layout.specs.HeapLog.{PlacedChain}
 use Rattle.log_sizes.specs.Counted.{AreSizesBehind}
-use Rattle.log_recovery.specs.Members.{later_in, heads_told, members_of_all, values_behind, values_of, HasFacts, FailsMembers, live_told, lives_of, last_in, AreWritesOf}
+use Rattle.log_recovery.specs.Members.{later_in, heads_told, members_of_all, values_behind, values_of, HasFacts, FailsMembers}
+use Rattle.log_recovery.specs.Members.{live_told, lives_of, last_in, AreWritesOf}
 use Rattle.log_recovery.proofs.Groups.{AreUnderWay, chains_start, chain_more, chain_fails, chains_end, rise_in_turn}
 use Rattle.log_recovery.proofs.Counting.{IsCountedUpto, counts_start, count_goes_on, count_ends}
 use Rattle.log_recovery.proofs.members.read_members.Goals as goal

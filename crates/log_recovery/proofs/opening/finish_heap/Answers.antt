@@ -88,7 +88,8 @@ returns-clause-found c = λ bytes len is.
     let facts = subst (λ (m : ℕ). HasFacts m olds (members_of_all m chains) c.in-Ok.members.read) mark_is read.1 in
     let sizes = subst (λ (m : ℕ). AreSizesBehind olds (members_of_all m chains) c.in-Ok.members.read.sizes) mark_is
     (c.in-Ok.ensures.sizes olds is.takes.writes (sym is.takes.len_is)) in
-    let kept_here = subst (λ (l : List PlacedChain). IsKept most l c.args.read.log.end c.kept_log-kept.result) c.deref.ensures.value c.kept_log-kept.ensures.kept in
+    let kept_here = subst (λ (l : List PlacedChain). IsKept most l c.args.read.log.end c.kept_log-kept.result) c.deref.ensures.value
+    c.kept_log-kept.ensures.kept in
     let kept = kept_decides most chains c.args.read.log.end c.kept_log-kept.result kept_here in
     let ends = subst (λ (n : ℕ). IsTrue c.is_end_right-ends_right.result ↔ IsEndSeen n c.args.read.log.next c.args.read.log.space c.args.read.log.end) len
     c.is_end_right-ends_right.ensures in
