@@ -23,7 +23,7 @@ use Rattle.law_commits.proofs.Answering.{redeem-step}
 use Rattle.law_log_store.specs.Standing.{StandsOnHeap, StopsOnHeap}
 use Rattle.law_log_store.specs.Calls.{KeepsDisk}
 use Rattle.law_log_store.proofs.Calls.{AreNamesAlone, begin-alone, abort-alone, redeem-alone, begin-keeps, abort-keeps, redeem-keeps}
-use Rattle.law_log_steps.specs.Store.{OnDisk, AreFresh, gate_of, IsWriting, IsStoreOf}
+use Rattle.law_log_steps.specs.Store.{OnDisk, AreFresh, gate_of, gate_left, IsWriting, IsStoreOf}
 use Rattle.law_log_steps.specs.Laws.{BeginsTo, Goes}
 
 -- what the disk stands for is kept
@@ -55,6 +55,7 @@ writes-on old new m n is group turn same = record {
   group = same.group ∙ is.group ∙ sym group;
   raising = same.raising ∙ is.raising;
   gate = λ works. same.gate ∙ is.gate (sym same.failed ∙ works) ∙ ap gate_of (sym turn);
+  left = λ fails. same.gate ∙ is.left (sym same.failed ∙ fails) ∙ ap gate_left (sym turn);
 }
 
 -- the machine has the same history, queue and floors

@@ -3,3 +3,4 @@ pub mod Submitting
 pub mod Pumping
 pub mod Resting
 pub mod Opening
+pub mod Fronts

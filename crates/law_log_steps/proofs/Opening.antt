@@ -280,5 +280,6 @@ module _ (tells : Bool) (old : DiskState) (mark : ℕ) (v : LogStoreValue) (root
         group = sym (ap (λ (c : CommitsValue). c.group) same);
         raising = refl;
         gate = λ works. ap gate_of (sym (ap (λ (x : LogStoreValue). x.turn) opens.new_is));
+        left = λ fails. absurd (let no : false ≡ true = fails in cc);
       })
       (subst (λ (c : CommitsValue). StandsInMemory c (opened_by 1024 h floors)) (sym same) memory)

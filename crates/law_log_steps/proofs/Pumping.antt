@@ -34,7 +34,7 @@ use Rattle.law_log_store.specs.Calls.{count_in, StepsTo}
 use Rattle.law_log_store.proofs.Beginning.{has-begun}
 use Rattle.law_log_store.proofs.Pumping.{pump-steps, failed-rests}
 use Rattle.law_log_store.proofs.Submitting.{group-within}
-use Rattle.law_log_steps.specs.Store.{HaveMark, AreFresh, gate_at, gate_of, IsStoreOf}
+use Rattle.law_log_steps.specs.Store.{HaveMark, AreFresh, gate_at, gate_of, gate_behind, gate_left, IsStoreOf}
 use Rattle.law_log_steps.specs.Laws.{begins_in, ends_in, breaks_in, events_in, Runs}
 
 -- ---- marks
@@ -157,6 +157,7 @@ record Failing (m : Machine Value) (events : List (Event Value)) (new : LogStore
   gate : Gate
   run : Run IsValue m events (record (steps.broken m) { group = group; gate = gate })
   group_is : group ≡ new.commits.group
+  gate_is : gate ≡ gate_left new.turn
 
 abbrev GoesBy : Result Did PumpFault → Machine Value → LogStoreValue → Type 0
 GoesBy (Ok what) m new = Gone m (ends_in what) (count_in what) new
@@ -221,35 +222,44 @@ module _ (tells : Bool) (w : WriterState) (old new : LogStoreValue) (m : Machine
       }
       by-stage Done same call next = absurd call
 
-  call-breaks : (why : PumpFault) → Advances tells w old (Err why) new → Failing m (breaks_in m.gate) new
-  call-breaks why advances = by-gate m.gate refl
+  call-breaks : (why : PumpFault) → old.turn ≡ Some w → Advances tells w old (Err why) new → Failing m (breaks_in m.gate) new
+  call-breaks why turn_is advances = by-stage w.stage refl
     where
       same-group : m.group ≡ new.commits.group
       same-group = group_is ∙ ap (λ (v : LogStoreValue). v.commits.group) (sym advances.answer.1)
 
-      only-breaks : Failing m (Broke ∷ []) new
-      only-breaks = record { group = m.group; gate = m.gate; run = (steps.broken m, (works, refl), refl); group_is = same-group }
+      left-behind : (k : Stage) → w.stage ≡ k → gate_behind k ≡ gate_left new.turn
+      left-behind k same = ap gate_behind (sym same) ∙ ap gate_left (sym turn_is) ∙ ap (λ (v : LogStoreValue). gate_left v.turn) (sym advances.answer.1)
 
-      by-gate : (k : Gate) → m.gate ≡ k → Failing m (breaks_in k) new
-      by-gate Shut same = only-breaks
-      by-gate (Due OfGroup) same = record {
-        group = m.group;
-        gate = MayBeOpen OfGroup;
-        run = (
-          gated m (MayBeOpen OfGroup),
-          (works, same, refl),
-          steps.broken (gated m (MayBeOpen OfGroup)),
-          (works, refl),
-          refl,
-        );
-        group_is = same-group;
-      }
-      by-gate (Due OfFloor) same = only-breaks
-      by-gate (MayBeOpen change) same = only-breaks
+      here : (k : Gate) → m.gate ≡ k → Failing m (breaks_in k) new → Failing m (breaks_in m.gate) new
+      here k same fails = subst (λ (g : Gate). Failing m (breaks_in g) new) (sym same) fails
 
-  call-runs : (answer : Result Did PumpFault) → Advances tells w old answer new → GoesBy answer m new
-  call-runs (Ok what) advances = call-goes what advances
-  call-runs (Err why) advances = call-breaks why advances
+      only-breaks : m.gate ≡ gate_left new.turn → Failing m (Broke ∷ []) new
+      only-breaks left = record { group = m.group; gate = m.gate; run = (steps.broken m, (works, refl), refl); group_is = same-group; gate_is = left }
+
+      by-stage : (k : Stage) → w.stage ≡ k → Failing m (breaks_in m.gate) new
+      by-stage (Writing d rest) same =
+          let shut : m.gate ≡ Shut = gate_is ∙ ap gate_at same in here Shut shut (only-breaks (shut ∙ left-behind (Writing d rest) same))
+      by-stage Syncing same = let shut : m.gate ≡ Shut = gate_is ∙ ap gate_at same in here Shut shut (only-breaks (shut ∙ left-behind Syncing same))
+      by-stage Opening same =
+          let due : m.gate ≡ Due OfGroup = gate_is ∙ ap gate_at same in
+          here (Due OfGroup) due (record {
+            group = m.group;
+            gate = MayBeOpen OfGroup;
+            run = (gated m (MayBeOpen OfGroup), (works, due, refl), steps.broken (gated m (MayBeOpen OfGroup)), (works, refl), refl);
+            group_is = same-group;
+            gate_is = left-behind Opening same;
+          })
+      by-stage Settling same =
+          let may : m.gate ≡ MayBeOpen OfGroup = gate_is ∙ ap gate_at same in
+          here (MayBeOpen OfGroup) may (only-breaks (may ∙ left-behind Settling same))
+      by-stage Done same =
+          let may : m.gate ≡ MayBeOpen OfGroup = gate_is ∙ ap gate_at same in
+          here (MayBeOpen OfGroup) may (only-breaks (may ∙ left-behind Done same))
+
+  call-runs : (answer : Result Did PumpFault) → old.turn ≡ Some w → Advances tells w old answer new → GoesBy answer m new
+  call-runs (Ok what) turn_is advances = call-goes what advances
+  call-runs (Err why) turn_is advances = call-breaks why turn_is advances
 
 -- ---- memory, disk and events
 
@@ -292,6 +302,7 @@ as-begun (Err pump.Failed) new m began step memory goes = (
     gate = goes.gate;
     run = (grouped m, step, goes.run);
     group_is = goes.group_is;
+    gate_is = goes.gate_is;
   }),
 )
 
@@ -335,7 +346,7 @@ module _ (tells : Bool) (old new : LogStoreValue) (answer : Result Did PumpFault
         as-begun answer new m (begins-some m none waiting)
         (works-here, none, (λ empty. let zero-long = ap (λ (h : History Value). length h) empty in absurd (omega (arith, waiting, zero-long))), refl)
         (call-memory tells has.writer begun.0 new answer m tell memory is.machine within advances)
-        (call-runs tells has.writer begun.0 new (grouped m) tell works-here group more gate answer advances)
+        (call-runs tells has.writer begun.0 new (grouped m) tell works-here group more gate answer has.turn advances)
 
     by-queue : (b : Bool) → (length old.commits.queue == 0) ≡ b → old.turn ≡ None
         → MatchBool b ((answer ≡ Ok did.Idle) × (new ≡ old)) (BeginsGroup tells old answer new) → StepBy answer new m
@@ -360,7 +371,8 @@ module _ (tells : Bool) (old new : LogStoreValue) (answer : Result Did PumpFault
         let has : stores.HasTurn old.commits.group (Some w) = subst (stores.HasTurn old.commits.group) standing step.turn in
         as-standing answer new m (begins-none m (omega (arith, has.0, is.writing.group)))
         (call-memory tells w old new answer m tell (record { stands = is.memory; fresh = is.fresh }) is.machine (group-within old step) next)
-        (call-runs tells w old new m tell works-here is.writing.group has.0 (is.writing.gate works-here ∙ ap gate_of standing) answer next)
+        (call-runs tells w old new m tell works-here is.writing.group has.0 (is.writing.gate works-here ∙ ap gate_of standing) answer
+        standing next)
 
     by-answer : (a : Result Did PumpFault) → StepBy a new m → StepsTo a old new m.published m.queue m.floors → Runs m (events_in m a) new
     by-answer (Ok what) by steps-to =
@@ -374,7 +386,13 @@ module _ (tells : Bool) (old new : LogStoreValue) (answer : Result Did PumpFault
           stands = record {
             memory = gated-memory new.commits (with_published (count_in what) m) gone.group gone.gate memory.stands;
             machine = run-machine IsValue m after (begins_in m ++ ends_in what) is.machine gone.run;
-            writing = record { most = is.writing.most; group = gone.group_is; raising = is.writing.raising; gate = λ on. gone.gate_is };
+            writing = record {
+              most = is.writing.most;
+              group = gone.group_is;
+              raising = is.writing.raising;
+              gate = λ on. gone.gate_is;
+              left = λ fails. absurd (let no : false ≡ true = sym works-here ∙ fails in cc);
+            };
             fresh = memory.fresh;
             disk = subst (λ (b : Bool). MatchBool b (StopsOnHeap new (m.published ++ take (count_in what) m.queue) (drop (count_in what) m.queue) m.floors)
                 (StandsOnHeap new (m.published ++ take (count_in what) m.queue) (drop (count_in what) m.queue) m.floors)) (sym works-on) steps-to;
@@ -398,8 +416,8 @@ module _ (tells : Bool) (old new : LogStoreValue) (answer : Result Did PumpFault
               most = is.writing.most;
               group = fails.group_is;
               raising = is.writing.raising;
-              gate = λ on. absurd
-                  (let no : true ≡ false = on in cc);
+              gate = λ on. absurd (let no : true ≡ false = on in cc);
+              left = λ on. fails.gate_is;
             };
             fresh = memory.fresh;
             disk = subst (λ (b : Bool). MatchBool b (StopsOnHeap new m.published m.queue m.floors) (StandsOnHeap new m.published m.queue m.floors))

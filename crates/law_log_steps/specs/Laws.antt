@@ -1,6 +1,7 @@
 -- The calls of a store whose log lies in the heap are steps of the machine.
 use Rattle.std.specs.Prelude.{ℕ, ◌≡◌, ◌<◌, ◌^◌, ◌==◌, ◌&&◌, nat_lt, Bool, false, IsTrue, List, [], ◌∷◌, ◌++◌, length, Result, Ok, Err, MatchBool}
 use Rattle.std.specs.Prelude.{if◌then◌else◌}
+use Rattle.history.specs.Fronts.{OnFront}
 use Rattle.history.specs.Histories.{History}
 use Rattle.history.specs.Machine.{Machine, Gate, Shut, Due, MayBeOpen, OfGroup, OfFloor, opened_by}
 use Rattle.history.specs.Answers as answers
@@ -25,7 +26,9 @@ use Rattle.log_store.specs.Values.{LogStoreValue, IsInStep}
 use Rattle.log_store.specs.Calls as calls
 use Rattle.log_store.specs.Submits.{Submits}
 use Rattle.log_store.specs.Pumps.{Pumps}
-use Rattle.log_store.specs.Opens.{Opens}
+use Rattle.log_store.specs.Opens.{Opens, OpenRefuses}
+use Rattle.recovery.specs.declared.fault.OpenFault.{OpenFault}
+use Rattle.law_log_opening.specs.Laws.{SaysNothing}
 use Rattle.log_store.specs.declared.answers.Did.{Did}
 use Rattle.log_store.specs.declared.answers.Did.TheVariants as did
 use Rattle.log_recovery.specs.Opening.{ReadsRoots}
@@ -59,6 +62,24 @@ OpenStands =
 abbrev pub RestsOnFront : Type 0
 RestsOnFront = (v : LogStoreValue) (m : Machine Value) (image : Image) → IsInStep v → IsStoreOf v m → LeavesImage v.disk.areas image
     → IsFront v image m.published m.queue m.floors
+
+-- it is one of the machine: what is published, or, once the group's gate may be open, that with the whole group
+abbrev pub LeavesFronts : Type 0
+LeavesFronts = (v : LogStoreValue) (m : Machine Value) (image : Image) → IsInStep v → IsStoreOf v m → LeavesImage v.disk.areas image
+    → OnFront (IsImageOf v.roots image) m
+
+-- So a store that is opened on what a stop left stands for a machine that is opened on a front. A front has all that is published.
+abbrev pub StopReopens : Type 0
+StopReopens =
+    (tells : Bool) (v : LogStoreValue) (m : Machine Value) (old : DiskState) (mark : ℕ) (again : LogStoreValue) → IsTrue tells → IsInStep v → IsStoreOf v m
+    → LeavesImage v.disk.areas (image_of old.areas) → AreSound old.areas → Opens tells old mark again
+    → OnFront (λ h floors. IsStoreOf again (opened_by 1024 h floors)) m
+
+-- and no opening is refused for what is left
+abbrev pub StopOpens : Type 0
+StopOpens =
+    (tells : Bool) (v : LogStoreValue) (m : Machine Value) (old new : DiskState) (why : OpenFault) → IsTrue tells → IsInStep v → IsStoreOf v m
+    → LeavesImage v.disk.areas (image_of old.areas) → OpenRefuses tells old why new → SaysNothing why
 
 -- ---- transactions and tickets
 

@@ -1,5 +1,5 @@
 -- The state of the machine that a store whose log lies in the heap stands for.
-use Rattle.std.specs.Prelude.{ℕ, ◌≡◌, false, MatchBool, List, Option, None, Some}
+use Rattle.std.specs.Prelude.{ℕ, ◌≡◌, true, false, MatchBool, List, Option, None, Some}
 use Rattle.std.specs.List.{AllByRecursion}
 use Rattle.history.specs.Histories.{History}
 use Rattle.history.specs.Machine.{Machine, Gate, Shut, Due, MayBeOpen, OfGroup, IsMachine}
@@ -37,12 +37,25 @@ abbrev pub gate_of : Option WriterState → Gate
 gate_of None = Shut
 gate_of (Some w) = gate_at w.stage
 
--- The machine's group is the store's, of at most 1,024 commits, and while the store works its gate is where the group's chain is. No floor is in the making.
+-- and of a store that has failed: a refused write of the gate may have opened it
+abbrev pub gate_behind : Stage → Gate
+gate_behind (Writing done rest) = Shut
+gate_behind Syncing = Shut
+gate_behind Opening = MayBeOpen OfGroup
+gate_behind Settling = MayBeOpen OfGroup
+gate_behind Done = MayBeOpen OfGroup
+
+abbrev pub gate_left : Option WriterState → Gate
+gate_left None = Shut
+gate_left (Some w) = gate_behind w.stage
+
+-- The machine's group is the store's, of at most 1,024 commits, and its gate is where the group's chain is. No floor is in the making.
 pub record IsWriting (v : LogStoreValue) (m : Machine Value) : Type 0 where
   pub most : m.most ≡ 1024
   pub group : m.group ≡ v.commits.group
   pub raising : m.raising ≡ None
   pub gate : m.failed ≡ false → m.gate ≡ gate_of v.turn
+  pub left : m.failed ≡ true → m.gate ≡ gate_left v.turn
 
 -- Memory and disk stand for one state of the machine.
 pub record IsStoreOf (v : LogStoreValue) (m : Machine Value) : Type 0 where
