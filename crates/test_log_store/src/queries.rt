@@ -14,9 +14,9 @@ const SEVEN: Key = Key {
 };
 
 /// A row: from when, up to when, and its value's one field.
-type Row = (u64, u64, &'static [u8]);
+pub type Row = (u64, u64, &'static [u8]);
 
-fn is_value(value: &SharedValue, field: &[u8]) -> bool {
+pub fn is_value(value: &SharedValue, field: &[u8]) -> bool {
     value.value().len() == 1 && value.value().field(0) == Some(field)
 }
 
@@ -36,7 +36,7 @@ fn are_values(found: &[(u64, SharedValue)], want: &[(u64, &'static [u8])]) -> bo
     found.len() == want.len()
 }
 
-fn are_rows(rows: &[Version<SharedValue>], want: &[Row]) -> bool {
+pub fn are_rows(rows: &[Version<SharedValue>], want: &[Row]) -> bool {
     for (place, row) in rows.iter().enumerate() {
         let Some(part) = want.get(place) else {
             return false;
