@@ -25,7 +25,8 @@ after_sync area image (Ok done) old new is syncs =
 after_sync area image (Err why) old new is syncs = syncs.same ∙ is
 
 -- syncs leave areas that are settled as they are
-settled_still : (image : Image) (areas : List Area) (old : DiskState) (moments : List DiskState) → old.areas ≡ settled_on image → AreSyncs true areas old moments
+settled_still : (image : Image) (areas : List Area) (old : DiskState) (moments : List DiskState) → old.areas ≡ settled_on image
+    → AreSyncs true areas old moments
     → (last_moment old moments).areas ≡ settled_on image
 settled_still image areas old [] is syncs = is
 settled_still image [] old (m ∷ ms) is syncs = absurd syncs

@@ -74,5 +74,11 @@ pub opened-stands : (v : LogStoreValue) (image : Image) (l : HeapLog) (reading :
     → StandsInMemory v.commits (opened_by 1024 h floors) → IsStoreOf v (opened_by 1024 h floors)
 opened-stands v image l reading h floors same sound reads is held stands on works memory =
     stands-opened v h floors reading stands (rooms.opened-stands v image l reading h floors same sound reads is held stands on) works on.queue
-    (record { most = refl; group = sym on.group; raising = refl; gate = λ works. ap gate_of (sym on.turn); left = λ fails. absurd (let no : false ≡ true = fails in cc) })
+    (record {
+      most = refl;
+      group = sym on.group;
+      raising = refl;
+      gate = λ works. ap gate_of (sym on.turn);
+      left = λ fails. absurd (let no : false ≡ true = fails in cc);
+    })
     memory
