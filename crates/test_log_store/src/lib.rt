@@ -14,4 +14,6 @@ mod refused;
 #[cfg(test)]
 mod reopened;
 #[cfg(test)]
+mod shares;
+#[cfg(test)]
 mod stops;
