@@ -46,7 +46,8 @@ room-alike n b v w of-v of-w =
 full-fork : (n together f : ℕ) (fs : List ℕ) → 32 ≤ f → has_room n together (f ∷ fs) ≡ has_room n together fs
 full-fork n together f fs full = ap (λ (b : Bool). b || has_room n together fs) (le-ltb f 32 full)
 
-module _ {self : Shape Write} {bs : List (Shape Write)} (fork : IsFork self bs) {b : Shape Write} (some : 1 ≤ length bs) (is : b ≡ get_or bs (length bs - 1) b) where
+module _ {self : Shape Write} {bs : List (Shape Write)} (fork : IsFork self bs) {b : Shape Write} (some : 1 ≤ length bs)
+    (is : b ≡ get_or bs (length bs - 1) b) where
   forks-are : self.forks ≡ length bs ∷ b.forks
   forks-are = fork.forks ∙ ap (λ (t : Shape Write). length bs ∷ t.forks) (last-is bs b some is)
 

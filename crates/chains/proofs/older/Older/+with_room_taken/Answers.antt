@@ -38,7 +38,8 @@ returns-then-has_room_for-clause-taken t c =
     room-alike n c.last-item.result c.writes-then-has_room_for.result.now c.writes.result.now c.writes-then-has_room_for.ensures.branch c.writes.ensures.branch
     ∙ sym c.has_room_for.ensures.is
     ∙ c.if-has_room_for.true in
-    let some : 0 < length longer.pieces = rw c.in_ok-longer.ensures.is (omega (arith, length-append c.writes-then-has_room_for.result.now.pieces c.args.piece, c.with_room_taken.ensures.some)) in
+    let some : 0 < length longer.pieces = rw c.in_ok-longer.ensures.is
+    (omega (arith, length-append c.writes-then-has_room_for.result.now.pieces c.args.piece, c.with_room_taken.ensures.some)) in
     ok-map c.with_last.result (λ o. 0 < length longer.pieces → IsForkOf (before bs ++ as_branch longer ∷ []) o) (IsRoomTaken n c.args.self.now)
     (λ o shape.
     taken-below c.in-Branches.ensures c.in-len1-up.len_at_least c.last-item.is n c.writes-then-has_room_for.result.now
