@@ -24,6 +24,7 @@ FOLDER is there and empty; COUNT says how often
 w1   commits a second of one record each, one at a time
 w2g  commits a second of one record each, 16 under one gate
 w3   records a second, in commits of 1,024
+e1   commits a second of one record each, one at a time, of a store whose log lies in the heap; e16, e64, e1024: so many under one gate
 w4   values a second, each of a key as of a random time; for w4 to w6 and w8 each key has NUMBER versions
 w5   rows a second, of all versions of a key
 w5w  the same, walked over in a loan

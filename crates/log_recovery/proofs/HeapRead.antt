@@ -20,7 +20,7 @@ use Rattle.log_recovery.specs.Taking.{AreClaimable}
 use Rattle.log_recovery.specs.Chains.{numbers_of, uses_of, HasEntry}
 use Rattle.log_recovery.specs.Rules.{no_log, mark_of, MayAllComeBehind}
 use Rattle.log_recovery.specs.Anchored.{AreRightAnchors, anchor_names, first_names, FailsAnchors, AreAnchorsAt, TakesAnchors, HasNoAnchors, IsFirstOf}
-use Rattle.log_recovery.specs.Anchored.IsAnchorsFault
+use Rattle.log_recovery.specs.Anchored.{IsAnchorsFault}
 use Rattle.log_recovery.specs.Members.{values_of, heads_told, members_of_all, FailsMembers, IsMembersFault}
 use Rattle.log_recovery.specs.Opening.{KeepsRules, HoldsAnchors, FailsHeap, AtAnchors, AtMembers, IsHeapFault}
 use Rattle.log_recovery.specs.declared.anchors.AnchorsRead.{AnchorsRead}

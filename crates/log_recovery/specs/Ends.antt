@@ -56,6 +56,11 @@ AreBasesSmall most chains = AllByRecursion (λ (c : PlacedChain). IsBaseSmall mo
 abbrev pub open_of : ℕ → ℕ → ℕ
 open_of archived told = if nat_lt archived told then 1 else 0
 
+-- log and base keep their shares of a heap of so many extents
+abbrev pub KeepsLogShare : ℕ → List PlacedChain → LogEnd → Type 0
+KeepsLogShare most chains end =
+    (length (counted_in chains) + (1 + open_of end.archived (max end.mark end.last)) ≤ most / 2) × AreBasesSmall most chains
+
 -- what is looked at of the end that was read, its shares aside: the flags of the extents, and the end of the log
 pub record IsEndSeen (heap_len next : ℕ) (flags : List Bool) (end : LogEnd) : Type 0 where
   pub within : extent_start next + 1 ≤ heap_len

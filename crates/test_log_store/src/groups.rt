@@ -1,18 +1,9 @@
 //! Groups of commits: the steps of their chains, and the bytes of their extents.
-use crate::on_disk::{has_bytes, has_run, new_store, pumps, queue};
+use crate::on_disk::{ONE_EXTENT, has_bytes, has_run, new_store, pumps, queue};
 use disk::{Area, Disk};
 use group::Redeemed;
 use log_store::Did;
 use std::test::Fail;
-
-/// The steps of a group in one extent.
-const ONE_EXTENT: &[Did] = &[
-    Did::WroteExtent,
-    Did::GateClosed,
-    Did::HeapSynced,
-    Did::GateWritten,
-    Did::Published(1),
-];
 
 #[test]
 fn a_commit_takes_five_calls(rt: HostRuntime) -> Result<(), Fail> {

@@ -3,7 +3,7 @@ use Rattle.std.specs.Prelude.{option_to_list}
 use Rattle.std.proofs.lemmas.Bool.Decides.{nat_tests}
 use Rattle.chains.specs.KeyNodes.{IsKeyFork}
 use Rattle.chains.specs.KeyWrites.{KeyWrites, IsOrdered, latest, with_commit}
-use Rattle.chains.specs.Shapes.{Shape, all_of, highest}
+use Rattle.chains.specs.Shapes.{Shape, all_of, highest, leaf}
 use Rattle.chains.proofs.CommitParts.{commit-nothing, commit-two, latest-parts, ordered-with_commit, parted-first}
 use Rattle.chains.proofs.Order.{ordered-back}
 use Rattle.chains.proofs.Shapes.{all_of-append, highest-append, nothing, popped}
@@ -23,7 +23,7 @@ returns-then-is_empty t c =
 
 pub add_leaves-requires : goal.add_leaves-requires
 add_leaves-requires t c =
-    let own : (c.args.self ≡ record { pieces = c.in-Ok-Chains.chains.items; height = 0 }) × IsOrdered c.in-Ok-Chains.chains.items =
+    let own : (c.args.self ≡ leaf c.in-Ok-Chains.chains.items) × IsOrdered c.in-Ok-Chains.chains.items =
     rw c.in-Ok-Chains.field-0-is at c.in-Ok-Chains.ensures in
     rw c.in_ok-all-in-Ok-Chains.ensures (ordered-with_commit c.in-Ok-Chains.chains.items c.args.time c.args.writes.now own.1)
 
