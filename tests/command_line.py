@@ -7,10 +7,11 @@ standard error with status 2, and a time that is none refused with status 1.
 import os
 import sys
 import tempfile
+from time import time_ns
 
 from trial import run
 
-COMMANDS = ("format", "run", "at", "between", "dump")
+COMMANDS = ("format", "run", "at", "between", "dump", "get", "scan", "history", "times", "put", "del")
 LIMITS = ("16 to 65536", "65536 extents of 8 KiB", "1 to 1024 keys", "1 to 16 fields of 0 to 255 bytes",
           "1 to 9223372036854775807", "status full", "heap full", "Exit status: 0 done, 1 refused, 2 words that are no command")
 LINES = ("begin NAME", "put NAME REL REC F..", "del NAME REL REC", "get NAME REL REC", "submit NAME LABEL TIME", "abort NAME",
@@ -37,7 +38,9 @@ def no_commands(program, folder):
     for words in (["forget", folder], ["format"], ["format", folder, "--slots", "4294967296"], ["format", folder, "--slots", "many"],
                   ["run"], ["run", folder, "more"], ["at", folder, "1", "7"], ["at", folder, "65536", "7", "1"],
                   ["at", folder, "1", "18446744073709551616", "1"], ["at", folder, "1", "-7", "1"],
-                  ["between", folder, "1", "7", "0"], ["dump"], ["dump", folder, "more"], ["--slots", "16"]):
+                  ["between", folder, "1", "7", "0"], ["dump"], ["dump", folder, "more"], ["--slots", "16"], ["get", folder, "1"],
+                  ["scan", folder, "1", "2", "3"], ["history", folder, "65536", "7"], ["times", folder], ["put", folder, "1", "7"],
+                  ["put", folder, "1", "7"] + ["-"] * 17, ["del", folder, "1", "7", "--label", "-1"]):
         status, said, told = run(program, words)
         assert (status, said) == (2, ""), (words, status, said)
         assert told.startswith("error: ") and told.endswith("\n"), (words, told)
@@ -47,9 +50,34 @@ def no_commands(program, folder):
 def no_times(program, folder):
     for time in ("soon", "-1", "", "2001-02-29T00:00:00Z", "2001-09-09T01:46:60Z", "18446744073709551616", "000000000000000000007"):
         for words in (["at", folder, "1", "7", "--", time], ["between", folder, "1", "7", "--", time, "9"],
-                      ["between", folder, "1", "7", "--", "0", time]):
+                      ["between", folder, "1", "7", "--", "0", time], ["get", folder, "1", "7", "--", time], ["scan", folder, "1", "--", time],
+                      ["history", folder, "1", "7", "--", time], ["history", folder, "1", "7", "--", "0", time]):
             assert run(program, words)[:2] == (1, "refused: bad time\n"), words
     assert os.listdir(folder) == []
+
+
+def says_version(program):
+    assert run(program, ["--version"]) == run(program, ["-V"]) == (0, "timestore 3\n", "")
+
+
+def one_record(program, folder):
+    """A write has the clock's time, and what was written is asked for with and without a time."""
+    assert run(program, ["format", folder])[0] == 0
+    before = time_ns() // 1000
+    times = []
+    for words in (["put", folder, "1", "7", "61", "-", "--label", "3"], ["put", folder, "1", "7", "62"], ["del", folder, "1", "7"]):
+        status, said, told = run(program, words)
+        assert (status, told) == (0, "") and said.startswith("done "), (words, status, said, told)
+        times.append(int(said.removeprefix("done ")))
+    assert before <= times[0] < times[1] < times[2] <= time_ns() // 1000 + 3
+    answers = {("get",): "none\n", ("get", "now"): "none\n", ("get", str(times[0])): "value 61 -\n",
+               ("history",): f"{times[0]} {times[1]} 61 -\n{times[1]} {times[2]} 62\nrows 2\n",
+               ("history", str(times[1])): f"{times[1]} {times[2]} 62\nrows 1\n"}
+    for (command, *more), answer in answers.items():
+        assert run(program, [command, folder, "1", "7", *more]) == (0, answer, ""), (command, more)
+    assert run(program, ["scan", folder, "1", str(times[1])]) == (0, "7 62\nrows 1\n", "")
+    assert run(program, ["times", folder, "3"]) == (0, f"times {times[0]}\n", "")
+    assert run(program, ["del", folder, "1", "7"]) == (1, "refused: missing\n", "")
 
 
 def main():
@@ -58,6 +86,8 @@ def main():
         helps(program)
         no_commands(program, folder)
         no_times(program, folder)
+        says_version(program)
+        one_record(program, folder)
     print("command line: ok")
 
 

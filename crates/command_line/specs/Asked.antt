@@ -1,12 +1,16 @@
 -- What a parsed command line asks for.
-use Rattle.std.specs.Prelude.{◌≡◌, ℕ, List, Option, Some, None, Ok, codes, MatchBool}
+use Rattle.std.specs.Prelude.{◌≡◌, ℕ, List, Option, Some, None, Ok, codes, MatchBool, MatchOption}
+use Rattle.std.specs.Borrow.{Bor}
 use Rattle.std.specs.Str.{bytes_eq}
 use Rattle.std.specs.Str.Parse.{ParsesUnsigned}
-use Rattle.clap.specs.Words.{Row, Text, first_of, one_of}
+use Rattle.clap.specs.Words.{Row, Text, all_of, first_of, one_of}
 use Rattle.history.specs.declared.key.Key.{Key}
 use Rattle.script.specs.Lines.{time_in}
 use Rattle.command_line.specs.declared.action.Action.{Action}
 use Rattle.command_line.specs.declared.action.Action.TheVariants as action
+use Rattle.command_line.specs.declared.question.Question.TheVariants as question
+use Rattle.command_line.specs.declared.question.When.TheVariants as when
+use Rattle.command_line.specs.Questions.{records_of, rows_of_key, texts, value_of, when_of}
 
 -- the argument has a text, which spells n in digits, n below 2 ^ bits
 abbrev pub HasNumber : ℕ → Text → List Row → ℕ → Type 0
@@ -63,22 +67,71 @@ AsksStress rows (action.Stress writers readers rounds) = HasNumber 8 (codes "WRI
     × HasNumber 8 (codes "READERS") rows readers × HasNumber 16 (codes "ROUNDS") rows rounds
 AsksStress rows _ = ⊥
 
--- a subcommand's name, and the rows of its arguments
-abbrev pub AsksCommand : Text → List Row → Action → Type 0
-AsksCommand name rows a = MatchBool (bytes_eq name (codes "format")) (AsksFormat rows a)
+-- `get` is asked for: the value of this key at the time that the words spell, or at that of the last commit
+abbrev pub AsksGet : List Row → Action → Type 0
+AsksGet rows (action.Ask dir asked) = (first_of (codes "DIR") rows ≡ Some dir.now)
+    × (key : Key) × HasKey rows key × (asked ≡ value_of key (when_of when.Now (first_of (codes "TIME") rows)))
+AsksGet rows _ = ⊥
+
+-- `scan` is asked for: the records of this relation at the time that the words spell, or at that of the last commit
+abbrev pub AsksScan : List Row → Action → Type 0
+AsksScan rows (action.Ask dir asked) = (first_of (codes "DIR") rows ≡ Some dir.now)
+    × (relation : ℕ) × HasNumber 16 (codes "REL") rows relation × (asked ≡ records_of relation (when_of when.Now (first_of (codes "TIME") rows)))
+AsksScan rows _ = ⊥
+
+-- `history` is asked for: the rows of this key, from the first time that is kept where the words spell none, and up to now where they spell none
+abbrev pub AsksHistory : List Row → Action → Type 0
+AsksHistory rows (action.Ask dir asked) = (first_of (codes "DIR") rows ≡ Some dir.now) × (key : Key) × HasKey rows key
+    × (asked ≡ rows_of_key key (when_of when.First (first_of (codes "FROM") rows)) (when_of when.Now (first_of (codes "TO") rows)))
+AsksHistory rows _ = ⊥
+
+-- `times` is asked for, of this label
+abbrev pub AsksTimes : List Row → Action → Type 0
+AsksTimes rows (action.Ask dir asked) = (first_of (codes "DIR") rows ≡ Some dir.now)
+    × (label : ℕ) × HasNumber 64 (codes "LABEL") rows label × (asked ≡ Some (question.Times label))
+AsksTimes rows _ = ⊥
+
+-- the arguments have these words as fields
+abbrev pub HasFields : List Row → Bor (List (Bor Text)) → Type 0
+HasFields rows fields = all_of (codes "FIELD") rows ≡ Some (texts fields)
+
+-- `put` is asked for, of this key, with these fields and this label, at the clock's time
+abbrev pub AsksPut : ℕ → List Row → Action → Type 0
+AsksPut now rows (action.Write dir write) = (first_of (codes "DIR") rows ≡ Some dir.now) × HasKey rows write.key
+    × MatchOption write.fields ⊥ (λ fields. HasFields rows fields) × HasNumber 64 (codes "label") rows write.label × (write.now ≡ now)
+AsksPut now rows _ = ⊥
+
+-- `del` is asked for, of this key, with this label, at the clock's time
+abbrev pub AsksDelete : ℕ → List Row → Action → Type 0
+AsksDelete now rows (action.Write dir write) = (first_of (codes "DIR") rows ≡ Some dir.now) × HasKey rows write.key
+    × (write.fields ≡ None) × HasNumber 64 (codes "label") rows write.label × (write.now ≡ now)
+AsksDelete now rows _ = ⊥
+
+-- a command on one record or relation, and the rows of its arguments; the clock says now
+abbrev pub AsksOfRecord : ℕ → Text → List Row → Action → Type 0
+AsksOfRecord now name rows a = MatchBool (bytes_eq name (codes "get")) (AsksGet rows a)
+    (MatchBool (bytes_eq name (codes "scan")) (AsksScan rows a)
+    (MatchBool (bytes_eq name (codes "history")) (AsksHistory rows a)
+    (MatchBool (bytes_eq name (codes "times")) (AsksTimes rows a)
+    (MatchBool (bytes_eq name (codes "put")) (AsksPut now rows a)
+    (MatchBool (bytes_eq name (codes "del")) (AsksDelete now rows a) ⊥)))))
+
+-- a subcommand's name, and the rows of its arguments; the clock says now
+abbrev pub AsksCommand : ℕ → Text → List Row → Action → Type 0
+AsksCommand now name rows a = MatchBool (bytes_eq name (codes "format")) (AsksFormat rows a)
     (MatchBool (bytes_eq name (codes "run")) (AsksRun rows a)
     (MatchBool (bytes_eq name (codes "at")) (AsksAt rows a)
     (MatchBool (bytes_eq name (codes "between")) (AsksBetween rows a)
     (MatchBool (bytes_eq name (codes "vacuum")) (AsksVacuum rows a)
     (MatchBool (bytes_eq name (codes "grow")) (AsksGrow rows a)
     (MatchBool (bytes_eq name (codes "dump")) (AsksDump rows a)
-    (MatchBool (bytes_eq name (codes "stress")) (AsksStress rows a) ⊥)))))))
+    (MatchBool (bytes_eq name (codes "stress")) (AsksStress rows a) (AsksOfRecord now name rows a))))))))
 
 -- without a subcommand the example is asked for
-abbrev pub Asks : Option (Text × List Row) → Action → Type 0
-Asks None a = a ≡ action.Example
-Asks (Some p) a = AsksCommand p.0 p.1 a
+abbrev pub Asks : ℕ → Option (Text × List Row) → Action → Type 0
+Asks now None a = a ≡ action.Example
+Asks now (Some p) a = AsksCommand now p.0 p.1 a
 
 -- no action is asked for
-abbrev pub AsksNothing : Option (Text × List Row) → Type 0
-AsksNothing met = (a : Action) → Asks met a → ⊥
+abbrev pub AsksNothing : ℕ → Option (Text × List Row) → Type 0
+AsksNothing now met = (a : Action) → Asks now met a → ⊥

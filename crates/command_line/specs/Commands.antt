@@ -1,5 +1,6 @@
 -- The command line as clap sees it.
 use Rattle.std.specs.Prelude.{◌≡◌, ◌∷◌, [], Some, codes, true, false, pos}
+use Rattle.clap.specs.Simple.{on_top}
 use Rattle.clap.specs.Words.{App, Rule, Text, app_of, rule_of, new_app, new_rule, with_rule, with_subcommand}
 use Rattle.clap.specs.declared.builder.arg.Arg.{Arg}
 use Rattle.clap.specs.declared.builder.command.Command.{Command}
@@ -34,6 +35,18 @@ from = text (codes "FROM")
 abbrev pub to : Rule
 to = text (codes "TO")
 
+-- the time that is asked about, which may be left out
+abbrev pub time_or_now : Rule
+time_or_now = new_rule (codes "TIME")
+
+-- where the interval begins, which may be left out
+abbrev pub from_or_first : Rule
+from_or_first = new_rule (codes "FROM")
+
+-- where the interval ends, which may be left out
+abbrev pub to_or_now : Rule
+to_or_now = new_rule (codes "TO")
+
 -- the relation of a key, of 16 bits
 abbrev pub relation : Rule
 relation = record (text (codes "REL")) { parser = Some (parser.Signed (pos 0) (pos 65_535)) }
@@ -41,6 +54,23 @@ relation = record (text (codes "REL")) { parser = Some (parser.Signed (pos 0) (p
 -- the record of a key, of 64 bits
 abbrev pub record_number : Rule
 record_number = record (text (codes "REC")) { parser = Some (parser.Unsigned 0 18_446_744_073_709_551_615) }
+
+-- the label of the commits that are looked for, of 64 bits
+abbrev pub label_number : Rule
+label_number = record (text (codes "LABEL")) { parser = Some (parser.Unsigned 0 18_446_744_073_709_551_615) }
+
+-- the label of a commit: 0 unless the option says another number
+abbrev pub label : Rule
+label = record (new_rule (codes "label")) {
+  long = Some (codes "label");
+  value_names = 1;
+  parser = Some (parser.Unsigned 0 18_446_744_073_709_551_615);
+  defaults = codes "0" ∷ [];
+}
+
+-- the fields of a value, 1 to 16
+abbrev pub fields : Rule
+fields = record (text (codes "FIELD")) { range = Some (record { start_inclusive = 1; end_inclusive = 16 }) }
 
 -- how many slots a new store has: 1024 unless the option says another number
 abbrev pub slots : Rule
@@ -83,6 +113,30 @@ at = with_rule (of_record (codes "at")) time
 abbrev pub between : App
 between = with_rule (with_rule (of_record (codes "between")) from) to
 
+-- `get DIR REL REC [TIME]`: asks for a record's value
+abbrev pub get : App
+get = with_rule (of_record (codes "get")) time_or_now
+
+-- `scan DIR REL [TIME]`: asks for the records of a relation
+abbrev pub scan : App
+scan = with_rule (with_rule (with_rule (new_app (codes "scan")) dir) relation) time_or_now
+
+-- `history DIR REL REC [FROM [TO]]`: asks for a record's rows
+abbrev pub history : App
+history = with_rule (with_rule (of_record (codes "history")) from_or_first) to_or_now
+
+-- `times DIR LABEL`: asks for the times of the commits with a label
+abbrev pub times : App
+times = with_rule (with_rule (new_app (codes "times")) dir) label_number
+
+-- `put DIR REL REC FIELD.. [--label N]`: writes a record's value
+abbrev pub put : App
+put = with_rule (with_rule (of_record (codes "put")) fields) label
+
+-- `del DIR REL REC [--label N]`: deletes a record's value
+abbrev pub del : App
+del = with_rule (of_record (codes "del")) label
+
 -- `vacuum DIR TIME`: archives up to a time, and then reclaims
 abbrev pub vacuum : App
 vacuum = with_rule (with_rule (new_app (codes "vacuum")) dir) time
@@ -99,9 +153,13 @@ dump = with_rule (new_app (codes "dump")) dir
 abbrev pub stress : App
 stress = with_rule (with_rule (with_rule (new_app (codes "stress")) writers) readers) rounds
 
+-- the command with no subcommand yet, which has a version
+abbrev pub top : App
+top = on_top (λ s. record s { has_version = true }) (new_app (codes "timestore"))
+
 -- the commands that make a store and run scripts
 abbrev pub making : App
-making = with_subcommand (with_subcommand (new_app (codes "timestore")) format.top) run.top
+making = with_subcommand (with_subcommand top format.top) run.top
 
 -- these, and the commands that ask about a record
 abbrev pub asking : App
@@ -115,6 +173,14 @@ working = with_subcommand (with_subcommand asking vacuum.top) grow.top
 abbrev pub keeping : App
 keeping = with_subcommand working dump.top
 
+-- these, and the commands that ask about what stands now
+abbrev pub reading : App
+reading = with_subcommand (with_subcommand (with_subcommand (with_subcommand keeping get.top) scan.top) history.top) times.top
+
+-- these, and the commands that write one record
+abbrev pub writing : App
+writing = with_subcommand (with_subcommand reading put.top) del.top
+
 -- the whole command line: these, and the command that tries a store with threads
 abbrev pub timestore : App
-timestore = with_subcommand keeping stress.top
+timestore = with_subcommand writing stress.top

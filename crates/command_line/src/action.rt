@@ -1,4 +1,5 @@
 //! What the words of a command line ask for.
+use crate::question::{Question, RecordWrite};
 use history::Key;
 
 /// What to do. A time is in microseconds since 1970, and `None` where its word spells none.
@@ -27,6 +28,16 @@ pub enum Action<'a> {
         key: Key,
         from: Option<u64>,
         to: Option<u64>,
+    },
+    /// Asks the store in a folder a question, or `None` where a word that is to be a time is none.
+    Ask {
+        dir: &'a str,
+        question: Option<Question>,
+    },
+    /// Writes a record of the store in a folder, in a commit of its own.
+    Write {
+        dir: &'a str,
+        write: RecordWrite<'a>,
     },
     /// Archives what ended in the store in a folder by a time, and reclaims its space.
     Vacuum {

@@ -9,6 +9,9 @@ use clap::builder::ValueParser;
 use clap::{Arg, ArgMatches, Command, Error, value_parser};
 use std::alloc::{AllocError, Global};
 
+/// The profile of the files that `format` makes, by which a version is named.
+const VERSION: &str = "3";
+
 /// The folder of a store.
 fn dir<'a>(alloc: Global) -> Arg<'a>
     ensures { told.IsArg result told.dir }
@@ -45,6 +48,27 @@ fn to<'a>(alloc: Global) -> Arg<'a>
         .help("Where it ends: this time is no longer in it")
 }
 
+/// A time that may be left out.
+fn time_or_now<'a>(alloc: Global) -> Arg<'a>
+    ensures { told.IsArg result told.time_or_now }
+{
+    Arg::new(alloc, "TIME").help("A time as of `at`, or `now`, which it is unless it is said")
+}
+
+/// Where an interval begins, if not at the first time that is kept.
+fn from_or_first<'a>(alloc: Global) -> Arg<'a>
+    ensures { told.IsArg result told.from_or_first }
+{
+    Arg::new(alloc, "FROM").help("Where the interval begins, unless at the first time that is kept")
+}
+
+/// Where an interval ends, if not just after the last commit.
+fn to_or_now<'a>(alloc: Global) -> Arg<'a>
+    ensures { told.IsArg result told.to_or_now }
+{
+    Arg::new(alloc, "TO").help("Where it ends, unless just after the last commit")
+}
+
 /// A relation's number.
 fn relation<'a>(alloc: Global) -> Arg<'a>
     ensures { told.IsArg result told.relation }
@@ -63,6 +87,38 @@ fn record_number<'a>(alloc: Global) -> Arg<'a>
         .required(true)
         .value_parser(value_parser!(u64))
         .help("The record's number in its relation")
+}
+
+/// The label of the commits that are looked for.
+fn label_number<'a>(alloc: Global) -> Arg<'a>
+    ensures { told.IsArg result told.label_number }
+{
+    Arg::new(alloc, "LABEL")
+        .required(true)
+        .value_parser(value_parser!(u64))
+        .help("The label of the commits")
+}
+
+/// The label of a commit.
+fn label<'a>(alloc: Global) -> Arg<'a>
+    ensures { told.IsArg result told.label }
+{
+    Arg::new(alloc, "label")
+        .long("label")
+        .value_name("N")
+        .value_parser(value_parser!(u64))
+        .default_value("0")
+        .help("The label of the commit, by which `times` finds it")
+}
+
+/// The fields of a value.
+fn fields<'a>(alloc: Global) -> Arg<'a>
+    ensures { told.IsArg result told.fields }
+{
+    Arg::new(alloc, "FIELD")
+        .required(true)
+        .num_args(1..=16)
+        .help("A field in lower-case hexadecimal, `-` if empty")
 }
 
 /// How many slots a store is made with.
@@ -143,10 +199,15 @@ fn run<'a>(alloc: Global) -> Result<Command<'a>, AllocError>
 }
 
 /// A command about one record of a store.
-fn of_record<'a>(alloc: Global, name: &'a str, about: &'a str) -> Result<Command<'a>, AllocError>
+fn of_record<'a>(
+    alloc: Global,
+    name: &'a str,
+    about: &'a str,
+    more: &'a str,
+) -> Result<Command<'a>, AllocError>
     ensures { IfOk result (λ c. told.IsCommand c (told.of_record name.entry.now)) }
 {
-    let command = command(alloc, name, about, help::TIMES);
+    let command = command(alloc, name, about, more);
     let command = with_arg(Ok(command), dir(alloc));
     let command = with_arg(command, relation(alloc));
     with_arg(command, record_number(alloc))
@@ -155,7 +216,12 @@ fn of_record<'a>(alloc: Global, name: &'a str, about: &'a str) -> Result<Command
 fn at<'a>(alloc: Global) -> Result<Command<'a>, AllocError>
     ensures { IfOk result (λ c. told.IsCommand c told.at) }
 {
-    let command = of_record(alloc, "at", "Show the value of a record at a time");
+    let command = of_record(
+        alloc,
+        "at",
+        "Show the value of a record at a time",
+        help::TIMES,
+    );
     with_arg(command, time(alloc))
 }
 
@@ -163,9 +229,61 @@ fn between<'a>(alloc: Global) -> Result<Command<'a>, AllocError>
     ensures { IfOk result (λ c. told.IsCommand c told.between) }
 {
     let about = "Show what stood in a record from one time up to another";
-    let command = of_record(alloc, "between", about);
+    let command = of_record(alloc, "between", about, help::TIMES);
     let command = with_arg(command, from(alloc));
     with_arg(command, to(alloc))
+}
+
+fn get<'a>(alloc: Global) -> Result<Command<'a>, AllocError>
+    ensures { IfOk result (λ c. told.IsCommand c told.get) }
+{
+    let command = of_record(alloc, "get", "Show the value of a record", help::TIMES);
+    with_arg(command, time_or_now(alloc))
+}
+
+fn scan<'a>(alloc: Global) -> Result<Command<'a>, AllocError>
+    ensures { IfOk result (λ c. told.IsCommand c told.scan) }
+{
+    let about = "Show the records of a relation";
+    let command = command(alloc, "scan", about, help::TIMES);
+    let command = with_arg(Ok(command), dir(alloc));
+    let command = with_arg(command, relation(alloc));
+    with_arg(command, time_or_now(alloc))
+}
+
+fn history<'a>(alloc: Global) -> Result<Command<'a>, AllocError>
+    ensures { IfOk result (λ c. told.IsCommand c told.history) }
+{
+    let about = "Show what stood in a record, all that is kept of it or an interval";
+    let command = of_record(alloc, "history", about, help::TIMES);
+    let command = with_arg(command, from_or_first(alloc));
+    with_arg(command, to_or_now(alloc))
+}
+
+fn times<'a>(alloc: Global) -> Result<Command<'a>, AllocError>
+    ensures { IfOk result (λ c. told.IsCommand c told.times) }
+{
+    let about = "Show the times of the commits with a label";
+    let command = command(alloc, "times", about, help::LABELS);
+    let command = with_arg(Ok(command), dir(alloc));
+    with_arg(command, label_number(alloc))
+}
+
+fn put<'a>(alloc: Global) -> Result<Command<'a>, AllocError>
+    ensures { IfOk result (λ c. told.IsCommand c told.put) }
+{
+    let about = "Write the value of a record in a commit of its own";
+    let command = of_record(alloc, "put", about, help::WRITES);
+    let command = with_arg(command, fields(alloc));
+    with_arg(command, label(alloc))
+}
+
+fn del<'a>(alloc: Global) -> Result<Command<'a>, AllocError>
+    ensures { IfOk result (λ c. told.IsCommand c told.del) }
+{
+    let about = "Delete the value of a record in a commit of its own";
+    let command = of_record(alloc, "del", about, help::WRITES);
+    with_arg(command, label(alloc))
 }
 
 fn vacuum<'a>(alloc: Global) -> Result<Command<'a>, AllocError>
@@ -217,7 +335,7 @@ fn with_command<'a>(
 
 /// The command with no subcommand yet, which help calls `timestore` whatever its file is called.
 fn top<'a>(alloc: Global) -> Result<Command<'a>, AllocError>
-    ensures { IfOk result (λ c. told.IsCommand c (new_app (codes "timestore"))) }
+    ensures { IfOk result (λ c. told.IsCommand c told.top) }
 {
     command(
         alloc,
@@ -226,6 +344,7 @@ fn top<'a>(alloc: Global) -> Result<Command<'a>, AllocError>
          standard input on a new store of 16 slots in memory",
         help::LIMITS,
     )
+    .version(VERSION)
     .bin_name("timestore")
 }
 
@@ -260,15 +379,37 @@ fn keeping<'a>(alloc: Global) -> Result<Command<'a>, AllocError>
     with_command(working(alloc), dump(alloc))
 }
 
+/// These, and the commands that ask about what stands now.
+fn reading<'a>(alloc: Global) -> Result<Command<'a>, AllocError>
+    ensures { IfOk result (λ c. told.IsCommand c told.reading) }
+{
+    let command = with_command(keeping(alloc), get(alloc));
+    let command = with_command(command, scan(alloc));
+    let command = with_command(command, history(alloc));
+    with_command(command, times(alloc))
+}
+
+/// These, and the commands that write one record.
+fn writing<'a>(alloc: Global) -> Result<Command<'a>, AllocError>
+    ensures { IfOk result (λ c. told.IsCommand c told.writing) }
+{
+    let command = with_command(reading(alloc), put(alloc));
+    with_command(command, del(alloc))
+}
+
 /// The whole command line.
 fn timestore<'a>(alloc: Global) -> Result<Command<'a>, AllocError>
     ensures { IfOk result (λ c. told.IsCommand c told.timestore) }
 {
-    with_command(keeping(alloc), stress(alloc))
+    with_command(writing(alloc), stress(alloc))
 }
 
-/// What the words say, as `clap` reads them.
-pub fn matches<'a>(alloc: Global, words: &'a [&'a str]) -> Result<ArgMatches<'a>, Error>
+/// What the words say, as `clap` reads them; the first word is the program's.
+///
+/// # Errors
+///
+/// Where `clap` refuses the words or they ask for help or the version, with a text to print.
+pub fn read_words<'a>(alloc: Global, words: &'a [&'a str]) -> Result<ArgMatches<'a>, Error>
     ensures met { IfOk result (λ m. subcommand_rows_of m ≡ subcommand_of told.timestore (map (λ w. w.now) words.entry.now)) }
     ensures faults { FailsBy (fault_of told.timestore (map (λ w. w.now) words.entry.now)) result }
 {

@@ -52,7 +52,25 @@ of the input. A line of no such form ends it with status 1.
   not growable  the store may not have 256 slots more
 The store is this process's alone until it ends.";
 
-/// Of `at` and `between`.
+/// Of `put` and `del`.
+pub const WRITES: &str =
+    "A value is 1 to 16 fields of 0 to 255 bytes. The commit is durable once it is
+answered, and has the clock's time, or one just after the last commit. It is what
+this script does, where NOW is the clock's time:
+  begin t, put t REL REC F.. or del t REL REC, submit t LABEL NOW, flush, redeem t
+The last answer is said, `done T` with the commit's time, or the first refusal:
+  missing       there is no value to delete
+  bad value     a field of more than 255 bytes, or not in hexadecimal
+  status full   no slot is left for the commit
+  heap full     no extents are left for it
+After `failed`, `times LABEL` tells whether the store has the commit.";
+
+/// Of `times`.
+pub const LABELS: &str =
+    "The line is `times`, and the times of the commits with this label, rising, in
+microseconds since 1970.";
+
+/// Of `at`, `between`, `get`, `scan` and `history`.
 pub const TIMES: &str =
     "A time is microseconds since 1970, or the text YYYY-MM-DDTHH:MM:SSZ. One after
 the last commit is refused: `not yet` and the time of that commit; so is one before

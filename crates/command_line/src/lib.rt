@@ -4,7 +4,10 @@
 mod action;
 mod command;
 mod help;
+mod question;
 mod read;
 
 pub use action::Action;
-pub use read::{WordsFault, read_words};
+pub use command::read_words;
+pub use question::{Question, RecordWrite, When};
+pub use read::action_of;

@@ -1,32 +1,22 @@
 //! From words to an action.
-ghost use Rattle.std.specs.Prelude.{◌≡◌, ℕ, IfOk, IfErr, IfSome, IfNone, Some, None, map};
-ghost use Rattle.clap.specs.Words.{first_of, found_of, rows_of, subcommand_of, subcommand_rows_of};
+ghost use Rattle.std.specs.Prelude.{◌≡◌, ℕ, List, IfSome, IfNone, Some, None};
+ghost use Rattle.std.specs.Borrow.{Bor};
+ghost use Rattle.clap.specs.Words.{first_of, found_of, rows_of, subcommand_rows_of};
 ghost use Rattle.history.specs.declared.key.Key.{Key as AnyKey};
 ghost use Rattle.script.specs.Lines.{time_in};
 ghost use Rattle.command_line.specs.declared.action.Action.{Action as Asked};
-ghost use Rattle.command_line.specs.Commands as told;
 ghost use Rattle.command_line.specs.Asked.{HasKey, HasNumber, Asks, AsksFormat, AsksNothing, AsksRun, AsksAt, AsksBetween, AsksVacuum, AsksGrow, AsksDump};
-ghost use Rattle.command_line.specs.Asked.{AsksStress};
-ghost use Rattle.command_line.specs.Refused.{IsRefusal};
+ghost use Rattle.command_line.specs.Asked.{AsksCommand, AsksStress, AsksGet, AsksScan, AsksHistory, AsksTimes, AsksPut, AsksDelete, AsksOfRecord, HasFields};
+ghost use Rattle.command_line.specs.Questions.{records_of, rows_of_key, value_of, when_in, when_of};
 
 use crate::action::Action;
-use crate::command;
-use clap::{ArgMatches, Error};
+use crate::question::{Question, RecordWrite, When};
+use clap::ArgMatches;
 use history::Key;
 use script::read_time;
-use std::alloc::Global;
-
-/// The words are no command line.
-#[derive(Debug, Drop)]
-pub enum WordsFault {
-    /// `clap` refused them, they ask for help, or memory ran out.
-    Usage(Error),
-    /// `clap` took them, and they ask for nothing that is known.
-    Unread,
-}
 
 /// The text of an argument.
-fn text<'a>(matches: &ArgMatches<'a>, name: &str) -> Option<&'a str>
+fn text<'m>(matches: &'m ArgMatches<'_>, name: &str) -> Option<&'m str>
     ensures some { IfSome result (λ s. first_of name.now (rows_of (found_of matches.now)) ≡ Some s.now) }
     ensures none { IfNone result (first_of name.now (rows_of (found_of matches.now)) ≡ None) }
 {
@@ -38,6 +28,29 @@ fn time_of(text: &str) -> Option<u64>
     ensures { result ≡ time_in text.now }
 {
     read_time(text.as_bytes())
+}
+
+/// The time that a word spells, or that of the last commit.
+fn when_in(word: &str) -> Option<When>
+    ensures { result ≡ when_in word.now }
+{
+    if word == "now" {
+        return Some(When::Now);
+    }
+    match time_of(word) {
+        Some(time) => Some(When::At(time)),
+        None => None,
+    }
+}
+
+/// The time of an argument that may be left out.
+fn when_of(matches: &ArgMatches<'_>, name: &str, absent: When) -> Option<When>
+    ensures { result ≡ when_of absent (first_of name.now (rows_of (found_of matches.now))) }
+{
+    match text(matches, name) {
+        Some(word) => when_in(word),
+        None => Some(absent),
+    }
 }
 
 fn u8_of(matches: &ArgMatches<'_>, name: &str) -> Option<u8>
@@ -68,7 +81,7 @@ fn u64_of(matches: &ArgMatches<'_>, name: &str) -> Option<u64>
     matches.get_one::<u64>(name)
 }
 
-fn format<'a>(matches: &ArgMatches<'a>) -> Option<Action<'a>>
+fn format<'m>(matches: &'m ArgMatches<'_>) -> Option<Action<'m>>
     ensures some { IfSome result (AsksFormat (rows_of (found_of matches.now))) }
     ensures none { IfNone result ((a : Asked) → AsksFormat (rows_of (found_of matches.now)) a → ⊥) }
 {
@@ -78,7 +91,7 @@ fn format<'a>(matches: &ArgMatches<'a>) -> Option<Action<'a>>
     })
 }
 
-fn run<'a>(matches: &ArgMatches<'a>) -> Option<Action<'a>>
+fn run<'m>(matches: &'m ArgMatches<'_>) -> Option<Action<'m>>
     ensures some { IfSome result (AsksRun (rows_of (found_of matches.now))) }
     ensures none { IfNone result ((a : Asked) → AsksRun (rows_of (found_of matches.now)) a → ⊥) }
 {
@@ -98,7 +111,7 @@ fn key(matches: &ArgMatches<'_>) -> Option<Key>
     })
 }
 
-fn at<'a>(matches: &ArgMatches<'a>) -> Option<Action<'a>>
+fn at<'m>(matches: &'m ArgMatches<'_>) -> Option<Action<'m>>
     ensures some { IfSome result (AsksAt (rows_of (found_of matches.now))) }
     ensures none { IfNone result ((a : Asked) → AsksAt (rows_of (found_of matches.now)) a → ⊥) }
 {
@@ -109,7 +122,7 @@ fn at<'a>(matches: &ArgMatches<'a>) -> Option<Action<'a>>
     })
 }
 
-fn between<'a>(matches: &ArgMatches<'a>) -> Option<Action<'a>>
+fn between<'m>(matches: &'m ArgMatches<'_>) -> Option<Action<'m>>
     ensures some { IfSome result (AsksBetween (rows_of (found_of matches.now))) }
     ensures none { IfNone result ((a : Asked) → AsksBetween (rows_of (found_of matches.now)) a → ⊥) }
 {
@@ -121,7 +134,114 @@ fn between<'a>(matches: &ArgMatches<'a>) -> Option<Action<'a>>
     })
 }
 
-fn vacuum<'a>(matches: &ArgMatches<'a>) -> Option<Action<'a>>
+/// The question for a key's value, if there is a time.
+fn value_of(key: Key, time: Option<When>) -> Option<Question>
+    ensures { result ≡ value_of key time }
+{
+    Some(Question::Value(key, time?))
+}
+
+/// The question for a relation's records, if there is a time.
+fn records_of(relation: u16, time: Option<When>) -> Option<Question>
+    ensures { result ≡ records_of relation time }
+{
+    Some(Question::Records(relation, time?))
+}
+
+/// The question for a key's rows, if there are both times.
+fn rows_asked(key: Key, from: Option<When>, to: Option<When>) -> Option<Question>
+    ensures { result ≡ rows_of_key key from to }
+{
+    Some(Question::Rows(key, from?, to?))
+}
+
+fn get<'m>(matches: &'m ArgMatches<'_>) -> Option<Action<'m>>
+    ensures some { IfSome result (AsksGet (rows_of (found_of matches.now))) }
+    ensures none { IfNone result ((a : Asked) → AsksGet (rows_of (found_of matches.now)) a → ⊥) }
+{
+    let key = key(matches)?;
+    Some(Action::Ask {
+        dir: text(matches, "DIR")?,
+        question: value_of(key, when_of(matches, "TIME", When::Now)),
+    })
+}
+
+fn scan<'m>(matches: &'m ArgMatches<'_>) -> Option<Action<'m>>
+    ensures some { IfSome result (AsksScan (rows_of (found_of matches.now))) }
+    ensures none { IfNone result ((a : Asked) → AsksScan (rows_of (found_of matches.now)) a → ⊥) }
+{
+    let relation = u16_of(matches, "REL")?;
+    Some(Action::Ask {
+        dir: text(matches, "DIR")?,
+        question: records_of(relation, when_of(matches, "TIME", When::Now)),
+    })
+}
+
+fn history<'m>(matches: &'m ArgMatches<'_>) -> Option<Action<'m>>
+    ensures some { IfSome result (AsksHistory (rows_of (found_of matches.now))) }
+    ensures none { IfNone result ((a : Asked) → AsksHistory (rows_of (found_of matches.now)) a → ⊥) }
+{
+    let key = key(matches)?;
+    let from = when_of(matches, "FROM", When::First);
+    let to = when_of(matches, "TO", When::Now);
+    Some(Action::Ask {
+        dir: text(matches, "DIR")?,
+        question: rows_asked(key, from, to),
+    })
+}
+
+fn times<'m>(matches: &'m ArgMatches<'_>) -> Option<Action<'m>>
+    ensures some { IfSome result (AsksTimes (rows_of (found_of matches.now))) }
+    ensures none { IfNone result ((a : Asked) → AsksTimes (rows_of (found_of matches.now)) a → ⊥) }
+{
+    let label = u64_of(matches, "LABEL")?;
+    Some(Action::Ask {
+        dir: text(matches, "DIR")?,
+        question: Some(Question::Times(label)),
+    })
+}
+
+/// The words of the fields.
+fn fields<'m>(matches: &'m ArgMatches<'_>) -> Option<&'m [&'m str]>
+    ensures some { IfSome result (HasFields (rows_of (found_of matches.now))) }
+    ensures none { IfNone result ((f : Bor (List (Bor (List ℕ)))) → HasFields (rows_of (found_of matches.now)) f → ⊥) }
+{
+    matches.get_raw("FIELD")
+}
+
+fn put<'m>(matches: &'m ArgMatches<'_>, now: u64) -> Option<Action<'m>>
+    ensures some { IfSome result (AsksPut now (rows_of (found_of matches.now))) }
+    ensures none { IfNone result ((a : Asked) → AsksPut now (rows_of (found_of matches.now)) a → ⊥) }
+{
+    let write = RecordWrite {
+        key: key(matches)?,
+        fields: Some(fields(matches)?),
+        label: u64_of(matches, "label")?,
+        now,
+    };
+    Some(Action::Write {
+        dir: text(matches, "DIR")?,
+        write,
+    })
+}
+
+fn del<'m>(matches: &'m ArgMatches<'_>, now: u64) -> Option<Action<'m>>
+    ensures some { IfSome result (AsksDelete now (rows_of (found_of matches.now))) }
+    ensures none { IfNone result ((a : Asked) → AsksDelete now (rows_of (found_of matches.now)) a → ⊥) }
+{
+    let write = RecordWrite {
+        key: key(matches)?,
+        fields: None,
+        label: u64_of(matches, "label")?,
+        now,
+    };
+    Some(Action::Write {
+        dir: text(matches, "DIR")?,
+        write,
+    })
+}
+
+fn vacuum<'m>(matches: &'m ArgMatches<'_>) -> Option<Action<'m>>
     ensures some { IfSome result (AsksVacuum (rows_of (found_of matches.now))) }
     ensures none { IfNone result ((a : Asked) → AsksVacuum (rows_of (found_of matches.now)) a → ⊥) }
 {
@@ -132,7 +252,7 @@ fn vacuum<'a>(matches: &ArgMatches<'a>) -> Option<Action<'a>>
     })
 }
 
-fn grow<'a>(matches: &ArgMatches<'a>) -> Option<Action<'a>>
+fn grow<'m>(matches: &'m ArgMatches<'_>) -> Option<Action<'m>>
     ensures some { IfSome result (AsksGrow (rows_of (found_of matches.now))) }
     ensures none { IfNone result ((a : Asked) → AsksGrow (rows_of (found_of matches.now)) a → ⊥) }
 {
@@ -141,7 +261,7 @@ fn grow<'a>(matches: &ArgMatches<'a>) -> Option<Action<'a>>
     })
 }
 
-fn dump<'a>(matches: &ArgMatches<'a>) -> Option<Action<'a>>
+fn dump<'m>(matches: &'m ArgMatches<'_>) -> Option<Action<'m>>
     ensures some { IfSome result (AsksDump (rows_of (found_of matches.now))) }
     ensures none { IfNone result ((a : Asked) → AsksDump (rows_of (found_of matches.now)) a → ⊥) }
 {
@@ -150,7 +270,7 @@ fn dump<'a>(matches: &ArgMatches<'a>) -> Option<Action<'a>>
     })
 }
 
-fn stress<'a>(matches: &ArgMatches<'a>) -> Option<Action<'a>>
+fn stress<'m>(matches: &'m ArgMatches<'_>) -> Option<Action<'m>>
     ensures some { IfSome result (AsksStress (rows_of (found_of matches.now))) }
     ensures none { IfNone result ((a : Asked) → AsksStress (rows_of (found_of matches.now)) a → ⊥) }
 {
@@ -161,50 +281,62 @@ fn stress<'a>(matches: &ArgMatches<'a>) -> Option<Action<'a>>
     })
 }
 
-/// What the matches ask for.
-fn action<'a>(matches: &ArgMatches<'a>) -> Option<Action<'a>>
-    ensures some { IfSome result (Asks (subcommand_rows_of matches.now)) }
-    ensures none { IfNone result (AsksNothing (subcommand_rows_of matches.now)) }
+/// What the matches of a command on one record or relation ask for.
+fn of_record<'m>(name: &str, matches: &'m ArgMatches<'_>, now: u64) -> Option<Action<'m>>
+    ensures some { IfSome result (AsksOfRecord now name.now (rows_of (found_of matches.now))) }
+    ensures none { IfNone result ((a : Asked) → AsksOfRecord now name.now (rows_of (found_of matches.now)) a → ⊥) }
 {
-    let Some((name, inner)) = matches.subcommand() else {
-        return Some(Action::Example);
-    };
-    if name == "format" {
-        format(inner)
-    } else if name == "run" {
-        run(inner)
-    } else if name == "at" {
-        at(inner)
-    } else if name == "between" {
-        between(inner)
-    } else if name == "vacuum" {
-        vacuum(inner)
-    } else if name == "grow" {
-        grow(inner)
-    } else if name == "dump" {
-        dump(inner)
-    } else if name == "stress" {
-        stress(inner)
+    if name == "get" {
+        get(matches)
+    } else if name == "scan" {
+        scan(matches)
+    } else if name == "history" {
+        history(matches)
+    } else if name == "times" {
+        times(matches)
+    } else if name == "put" {
+        put(matches, now)
+    } else if name == "del" {
+        del(matches, now)
     } else {
         None
     }
 }
 
-/// The action that the words ask for, as `clap` reads them; the first word is the program's.
-///
-/// # Errors
-///
-/// [`WordsFault::Usage`] where `clap` refuses the words or they ask for help, with a text to print.
-/// [`WordsFault::Unread`] exactly where it takes them and they ask for no action.
-pub fn read_words<'a>(alloc: Global, words: &'a [&'a str]) -> Result<Action<'a>, WordsFault>
-    ensures asked { IfOk result (Asks (subcommand_of told.timestore (map (λ w. w.now) words.entry.now))) }
-    ensures refused { IfErr result (IsRefusal (map (λ w. w.now) words.entry.now)) }
+/// What the matches of a command ask for.
+fn command_of<'m>(name: &str, matches: &'m ArgMatches<'_>, now: u64) -> Option<Action<'m>>
+    ensures some { IfSome result (AsksCommand now name.now (rows_of (found_of matches.now))) }
+    ensures none { IfNone result ((a : Asked) → AsksCommand now name.now (rows_of (found_of matches.now)) a → ⊥) }
 {
-    match command::matches(alloc, words) {
-        Ok(matches) => match action(&matches) {
-            Some(action) => Ok(action),
-            None => Err(WordsFault::Unread),
-        },
-        Err(error) => Err(WordsFault::Usage(error)),
+    if name == "format" {
+        format(matches)
+    } else if name == "run" {
+        run(matches)
+    } else if name == "at" {
+        at(matches)
+    } else if name == "between" {
+        between(matches)
+    } else if name == "vacuum" {
+        vacuum(matches)
+    } else if name == "grow" {
+        grow(matches)
+    } else if name == "dump" {
+        dump(matches)
+    } else if name == "stress" {
+        stress(matches)
+    } else {
+        of_record(name, matches, now)
+    }
+}
+
+/// The action that the matches of the words ask for, if they ask for one. A commit is to have the time that
+/// the clock says now, in microseconds since 1970.
+pub fn action_of<'m>(matches: &'m ArgMatches<'_>, now: u64) -> Option<Action<'m>>
+    ensures some { IfSome result (Asks now (subcommand_rows_of matches.now)) }
+    ensures none { IfNone result (AsksNothing now (subcommand_rows_of matches.now)) }
+{
+    match matches.subcommand() {
+        Some((name, inner)) => command_of(name, inner, now),
+        None => Some(Action::Example),
     }
 }

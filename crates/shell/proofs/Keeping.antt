@@ -1,23 +1,29 @@
 -- Each action keeps the promise.
-use Rattle.std.proofs.Common.{ℕ, ◌≡◌, ◌⊎◌, inl, inr, Bool, false, IsTrue, List, [], Option, Some, None, Result, Ok, Err, Vec, ap, refl, sym, subst, ◌∙◌}
+use Rattle.std.proofs.Common.{ℕ, ◌≡◌, ◌⊎◌, inl, inr, Bool, true, false, IsTrue, List, [], ◌∷◌, Option, Some, None, Result, Ok, Err, Vec, ap, refl, sym, subst, ◌∙◌}
 use Rattle.std.specs.declared.alloc.Global.{Global}
-use Rattle.std.specs.Prelude.{MatchOption}
+use Rattle.std.specs.Prelude.{MatchBool, MatchOption}
 use Rattle.disk.specs.Areas.{AreSound, image_of}
 use Rattle.disk.specs.Calls.{DiskState}
-use Rattle.history.specs.Answers.{QueryRefusal, at_answer, between_answer}
+use Rattle.history.specs.Answers as answers
+use Rattle.history.specs.Answers.{QueryRefusal, at_answer, between_answer, times_of}
 use Rattle.history.specs.declared.key.Key.{Key}
 use Rattle.history.specs.declared.time.Version.{Version}
-use Rattle.history.specs.Histories.{History}
+use Rattle.history.specs.Histories.{History, last}
 use Rattle.law_image.specs.Values.{Value}
 use Rattle.history.specs.Machine as machine
+use Rattle.history.specs.Machine.{Machine}
+use Rattle.floors.specs.Floors.{floor_at}
 use Rattle.law_opening.proofs.Formatted.{formatted-leaves, formatted-stands}
 use Rattle.status.specs.declared.header.Header.{Header}
 use Rattle.status.specs.Header.{new_header}
 use Rattle.law_refinement.specs.OnDisk.{IsImageOf}
 use Rattle.law_refinement.specs.Homes.{IsSure}
-use Rattle.law_refinement.specs.Laws.{Says, SaysAt}
+use Rattle.law_refinement.specs.Laws.{Says, SaysAt, SaysScanAt}
+use Rattle.law_refinement.specs.Standing.{StandsInMemory}
+use Rattle.law_refinement.proofs.Answering.{times-of_label}
+use Rattle.law_refinement.proofs.Memory.{last-is}
 use Rattle.law_refinement.specs.Stands.{Stands}
-use Rattle.law_refinement.proofs.Views.{at-answered, between-answered, view-of-history}
+use Rattle.law_refinement.proofs.Views.{at-answered, between-answered, scan_at-answered, view-of-history}
 use Rattle.law_opening.proofs.Opened.{image-header, open-stands}
 use Rattle.law_opening.proofs.Reopened.{open-refuses}
 use Rattle.run.proofs.Survival.{kept-as}
@@ -29,24 +35,37 @@ use Rattle.store.specs.Values.{StoreValue}
 use Rattle.script.specs.declared.line.Line.{Line}
 use Rattle.script.specs.declared.line.Line.TheVariants as line
 use Rattle.session.specs.Session as session
-use Rattle.session.specs.Session.{State, AtStep, BetweenStep, Closes, Step, fresh}
+use Rattle.session.specs.Session.{State, AtStep, BetweenStep, ScanStep, Closes, Step, fresh}
+use Rattle.session.specs.Texts.{Text}
 use Rattle.session.specs.declared.reply.Reply.{Reply}
 use Rattle.session.specs.declared.reply.Reply.TheVariants as reply
 use Rattle.status.specs.declared.fault.LogFault.{LogFault}
 use Rattle.status.specs.declared.fault.LogFault.TheVariants as log
 use Rattle.status.specs.Reading.{refused_by}
 use Rattle.law_script.specs.ScriptMoments.{ScriptMoment, first_script_moment}
-use Rattle.law_script.proofs.Closing.{close-keeps, first-script}
-use Rattle.law_script.proofs.Leading.{IsScriptMoment}
-use Rattle.law_script.proofs.Lines.{archive-line, reclaim-line, grow-line, finish-line, at-line, between-line}
+use Rattle.law_script.proofs.Closing.{close-keeps, first-script, reopen-keeps}
+use Rattle.law_script.specs.Keeps.{KeepsBy, KeepsByCalls}
+use Rattle.law_script.proofs.Leading.{IsScriptMoment, LeadsTo}
+use Rattle.law_script.proofs.Lines.{pump-line, flush-line, archive-line, reclaim-line, floor-line, grow-line, job-line, finish-line, at-line, scan-line}
+use Rattle.law_script.proofs.Lines.{between-line, times-line}
+use Rattle.law_script.proofs.Steps.{begin-line, put-line, delete-line, get-line, abort-line, submit-line, redeem-line}
 use Rattle.law_script.proofs.Script.{promise}
+use Rattle.command_line.specs.declared.question.Question.{Question}
+use Rattle.command_line.specs.declared.question.Question.TheVariants as question
+use Rattle.command_line.specs.declared.question.RecordWrite.{RecordWrite}
+use Rattle.command_line.specs.declared.question.When.{When}
+use Rattle.command_line.specs.declared.question.When.TheVariants as when
 use Rattle.command_line.specs.declared.action.Action.{Action}
 use Rattle.command_line.specs.declared.action.Action.TheVariants as action
 use Rattle.shell.specs.Acts.{Acts, Asks, Dumps, Makes, Grows, GrowsStore, Input, Output, RefusesTime, Runs, RunsNew, RunsOnNew, RunsScript, SaysGrown}
-use Rattle.shell.specs.Acts.{SaysSlots, SaysVacuum, Vacuums, VacuumsStore}
-use Rattle.shell.specs.Keeps.{LineLeads, LinesKeep, RunKeeps, NewRunKeeps, KeepsPromise, VacuumKeeps, VacuumOpenedKeeps, VacuumingKeeps, GrowthKeeps}
-use Rattle.shell.specs.Keeps.{GrowthOpenedKeeps, GrowingKeeps, MakingKeeps, IsValueReply, IsRowsReply, OrGaveOut, AskingKeeps}
+use Rattle.shell.specs.Acts.{SaysSlots, SaysVacuum, Vacuums, VacuumsStore, Writes, WritesStore}
+use Rattle.shell.specs.Asking.{end_asked, line_asked, time_asked}
+use Rattle.shell.specs.Keeps.{LineLeads, LinesKeep, RunKeeps, NewRunKeeps, KeepsPromise, VacuumKeeps, VacuumingKeeps, GrowthKeeps}
+use Rattle.shell.specs.Keeps.{GrowingKeeps, MakingKeeps, IsValueReply, IsRowsReply, OrGaveOut, AskingKeeps}
+use Rattle.shell.specs.Keeps.{IsRecordsReply, IsReplyTo, IsTimesReply, WriteKeeps, WritingKeeps}
 use Rattle.shell.specs.Vacuums.{DoesAll, DoesJob, DoesPart, DoesVacuum, is_refusal}
+use Rattle.script.specs.Lines.{said}
+use Rattle.shell.specs.Writing.{AnswersInTurn, IsNotAnswered, write_lines}
 use Rattle.shell.specs.declared.vacuuming.Vacuumed.{Vacuumed}
 use Rattle.shell.specs.declared.vacuuming.Vacuumed.TheVariants as vacuumed
 
@@ -125,6 +144,47 @@ finish-led tells m is r new step =
       after = to.after;
       is_state = to.is_state;
       leads = record { step = subst (λ (s : State). Step tells m.state line.Finish r s) (sym to.is_state) step; keeps = to.keeps };
+      is = to.is;
+    }
+
+-- a line's step leads to a moment that keeps what its calls keep
+led-by : (tells : Bool) (l : Line) (m : ScriptMoment) (r : Reply) (new : State) → Step tells m.state l r new
+    → ((after : ScriptMoment) → KeepsByCalls tells l r m after → KeepsBy tells l r m after) → LeadsTo tells l r m new
+    → To tells new (λ after. LineLeads tells m l r after)
+led-by tells l m r new step by to = record {
+  after = to.after;
+  is_state = to.is_state;
+  leads = record { step = subst (λ (s : State). Step tells m.state l r s) (sym to.is_state) step; keeps = by to.after to.keeps };
+  is = to.is;
+}
+
+-- any line does, on a disk that tells its bytes
+line-led : (tells : Bool) → IsTrue tells → (l : Line) → Led tells l
+line-led tells told (line.Begin name) m is r new step = led-by tells (line.Begin name) m r new step (λ after keeps. keeps) (begin-line tells m is name r new step)
+line-led tells told (line.Put name key fields) m is r new step = led-by tells (line.Put name key fields) m r new step (λ after keeps. keeps) (put-line tells m is name key fields r new step)
+line-led tells told (line.Delete name key) m is r new step = led-by tells (line.Delete name key) m r new step (λ after keeps. keeps) (delete-line tells m is name key r new step)
+line-led tells told (line.Get name key) m is r new step = led-by tells (line.Get name key) m r new step (λ after keeps. keeps) (get-line tells m is name key r new step)
+line-led tells told (line.Submit name label now) m is r new step = led-by tells (line.Submit name label now) m r new step (λ after keeps. keeps) (submit-line tells m is name label now r new step)
+line-led tells told (line.Abort name) m is r new step = led-by tells (line.Abort name) m r new step (λ after keeps. keeps) (abort-line tells m is name r new step)
+line-led tells told (line.Redeem name) m is r new step = led-by tells (line.Redeem name) m r new step (λ after keeps. keeps) (redeem-line tells m is name r new step)
+line-led tells told line.Pump m is r new step = led-by tells line.Pump m r new step (λ after keeps. keeps) (pump-line tells m is r new step.0 step.1)
+line-led tells told line.Flush m is r new step = led-by tells line.Flush m r new step (λ after keeps. keeps) (flush-line tells m is r new step.0 step.1)
+line-led tells told (line.At key time) m is r new step = led-by tells (line.At key time) m r new step (λ after keeps. keeps) (at-line tells m is key time r new step.0 step.1)
+line-led tells told (line.Between key a b) m is r new step = led-by tells (line.Between key a b) m r new step (λ after keeps. keeps) (between-line tells m is key a b r new step.0 step.1)
+line-led tells told (line.Scan relation time) m is r new step = led-by tells (line.Scan relation time) m r new step (λ after keeps. keeps) (scan-line tells m is relation time r new step.0 step.1)
+line-led tells told (line.Times label) m is r new step = led-by tells (line.Times label) m r new step (λ after keeps. keeps) (times-line tells m is label r new step.0 step.1)
+line-led tells told (line.Archive upto) m is r new step = led-by tells (line.Archive upto) m r new step (λ after keeps. keeps) (archive-line tells m is upto r new step.0 step.1)
+line-led tells told line.Reclaim m is r new step = led-by tells line.Reclaim m r new step (λ after keeps. keeps) (reclaim-line tells m is r new step.0 step.1)
+line-led tells told (line.Floor scope floor) m is r new step = led-by tells (line.Floor scope floor) m r new step (λ after keeps. keeps) (floor-line tells m is scope floor r new step.0 step.1)
+line-led tells told line.Grow m is r new step = led-by tells line.Grow m r new step (λ after keeps. keeps) (grow-line tells m is r new step.0 step.1)
+line-led tells told line.Job m is r new step = led-by tells line.Job m r new step (λ after keeps. keeps) (job-line tells m is r new step.0 step.1)
+line-led tells told line.Finish m is r new step = led-by tells line.Finish m r new step (λ after keeps. keeps) (finish-line tells m is r new step.0 step.1)
+line-led tells told line.Reopen m is r new step =
+    let to = reopen-keeps tells told m is r new step in
+    record {
+      after = to.after;
+      is_state = to.is_state;
+      leads = record { step = subst (λ (s : State). Step tells m.state line.Reopen r s) (sym to.is_state) step; keeps = to.keeps };
       is = to.is;
     }
 
@@ -368,17 +428,17 @@ between-says tells store new h floors key a b r told stands step =
         (between-answered tells store new (machine.opened h floors) view h floors key a b step.0 stands of.0 of.1 asks.1)
 
 -- a question is asked of a store that stands for the image's history
-asking-keeps : (tells : Bool) (old new : DiskState) (asks : Line) (Is : History Value → (ℕ → ℕ) → Reply → Type 0) (output : Output) → IsTrue tells
-    → AreSound old.areas → Led tells asks
+asking-keeps : (tells : Bool) (old new : DiskState) (asks : StoreValue → Line) (Is : History Value → (ℕ → ℕ) → Reply → Type 0) (output : Output) → IsTrue tells
+    → AreSound old.areas → ((store : StoreValue) → Led tells (asks store))
     → ((store : StoreValue) (h : History Value) (floors : ℕ → ℕ) (r : Reply) (asked : State) → Stands tells store (machine.opened h floors)
-    → Step tells (fresh store) asks r asked → OrGaveOut (Is h floors) r)
+    → Step tells (fresh store) (asks store) r asked → OrGaveOut (Is h floors) r)
     → Asks tells old asks output new → AskingKeeps tells old asks Is output new
 asking-keeps tells old new asks Is output told sound led says (inl refused) =
     λ header h floors image. inl (refused.0, refused.1, (open-refuses tells old new refused.0 header h floors refused.1 told image).0, refused.2)
 asking-keeps tells old new asks Is output told sound led says (inr (inl lacks)) = λ header h floors image. inr (lacks.0, lacks.1, inl (lacks.2, lacks.3))
 asking-keeps tells old new asks Is output told sound led says (inr (inr did)) = λ header h floors image.
     let stands = open-stands tells old 1 did.opened header h floors did.opens told sound image in
-    let to = led (first_script_moment did.opened (machine.opened h floors)) (first-script tells did.opened h floors stands) did.answer did.asked did.step in
+    let to = led did.opened (first_script_moment did.opened (machine.opened h floors)) (first-script tells did.opened h floors stands) did.answer did.asked did.step in
     inr (
       did.opened,
       did.opens,
@@ -393,23 +453,169 @@ asking-keeps tells old new asks Is output told sound led says (inr (inr did)) = 
     )
 
 at-keeps : (tells : Bool) (old new : DiskState) (key : Key) (time : Option ℕ) (output : Output) → IsTrue tells → AreSound old.areas
-    → MatchOption time (RefusesTime old output new) (λ t. Asks tells old (line.At key t) output new)
-    → MatchOption time (new ≡ old) (λ t. AskingKeeps tells old (line.At key t) (λ h floors. IsValueReply (at_answer h floors key t)) output new)
+    → MatchOption time (RefusesTime old output new) (λ t. Asks tells old (λ store. line.At key t) output new)
+    → MatchOption time (new ≡ old) (λ t. AskingKeeps tells old (λ store. line.At key t) (λ h floors. IsValueReply (at_answer h floors key t)) output new)
 at-keeps tells old new key None output told sound refused = refused.0
 at-keeps tells old new key (Some t) output told sound asks =
-    asking-keeps tells old new (line.At key t) (λ h floors. IsValueReply (at_answer h floors key t)) output told sound (at-led tells key t)
+    asking-keeps tells old new (λ store. line.At key t) (λ h floors. IsValueReply (at_answer h floors key t)) output told sound (λ store. at-led tells key t)
     (λ store h floors r asked stands step. at-says tells store asked.store h floors key t r told stands step.0) asks
 
 between-keeps : (tells : Bool) (old new : DiskState) (key : Key) (from to : Option ℕ) (output : Output) → IsTrue tells → AreSound old.areas
-    → MatchOption from (RefusesTime old output new) (λ a. MatchOption to (RefusesTime old output new) (λ b. Asks tells old (line.Between key a b) output new))
+    → MatchOption from (RefusesTime old output new) (λ a. MatchOption to (RefusesTime old output new) (λ b. Asks tells old (λ store. line.Between key a b) output new))
     → MatchOption from (new
     ≡ old) (λ a. MatchOption to (new
-    ≡ old) (λ b. AskingKeeps tells old (line.Between key a b) (λ h floors. IsRowsReply (between_answer h floors key a b)) output new))
+    ≡ old) (λ b. AskingKeeps tells old (λ store. line.Between key a b) (λ h floors. IsRowsReply (between_answer h floors key a b)) output new))
 between-keeps tells old new key None to output told sound refused = refused.0
 between-keeps tells old new key (Some a) None output told sound refused = refused.0
 between-keeps tells old new key (Some a) (Some b) output told sound asks =
-    asking-keeps tells old new (line.Between key a b) (λ h floors. IsRowsReply (between_answer h floors key a b)) output told sound (between-led tells key a b)
+    asking-keeps tells old new (λ store. line.Between key a b) (λ h floors. IsRowsReply (between_answer h floors key a b)) output told sound (λ store. between-led tells key a b)
     (λ store h floors r asked stands step. between-says tells store asked.store h floors key a b r told stands step.0) asks
+
+-- ---- a question by the last commit and the floors
+
+-- records that the write sets say are replied
+records-says : (Sure : Type 0) → Sure → (h : History Value) (floors : ℕ → ℕ) (relation time : ℕ) (answer : Result (Vec (ℕ × Value) Global) QueryFault)
+    → SaysScanAt Sure h floors relation time answer → OrGaveOut (IsRecordsReply h floors relation time) (session.records_found answer)
+records-says Sure sure h floors relation time (Ok found) says = inl (Ok found.items, says sure, (found, refl, refl))
+records-says Sure sure h floors relation time (Err (query.BeforeKept floor)) says = inl (Err (answers.BeforeKept floor), says, refl)
+records-says Sure sure h floors relation time (Err (query.NotYet last)) says = inl (Err (answers.NotYet last), says, refl)
+records-says Sure sure h floors relation time (Err query.EmptyInterval) says = inl (Err answers.EmptyInterval, says, refl)
+records-says Sure sure h floors relation time (Err query.NoMemory) says = inr (inl refl)
+records-says Sure sure h floors relation time (Err query.Device) says = inr (inr refl)
+records-says Sure sure h floors relation time (Err (query.Damaged start)) says = absurd (says.0 sure)
+records-says Sure sure h floors relation time (Err query.NeedsDisk) says = absurd says
+records-says Sure sure h floors relation time (Err query.Stranger) says = absurd says
+
+scan-says : (tells : Bool) (store new : StoreValue) (h : History Value) (floors : ℕ → ℕ) (relation time : ℕ) (r : Reply) → IsTrue tells
+    → Stands tells store (machine.opened h floors) → ScanStep tells store relation time r new → OrGaveOut (IsRecordsReply h floors relation time) r
+scan-says tells store new h floors relation time r told stands step =
+    subst (OrGaveOut (IsRecordsReply h floors relation time)) (sym step.2) (by-taken step.1.0 step.1.1)
+  where
+    by-taken : (o : Option ViewValue)
+        → MatchOption o ((step.0 ≡ Err query.NoMemory) × (new ≡ store)) (λ view. stores.IsViewOf store view
+        × stores.AnswersScanAt tells store view relation time step.0 new)
+        → OrGaveOut (IsRecordsReply h floors relation time) (session.records_found step.0)
+    by-taken None lacks = inr (inl (ap session.records_found lacks.0))
+    by-taken (Some view) asks =
+        let of = view-of-history tells store view (machine.opened h floors) stands asks.0 in
+        records-says (IsSure tells view.reclaimed time) (inl told) h floors relation time step.0
+        (scan_at-answered tells store new (machine.opened h floors) view h floors relation time step.0 stands of.0 of.1 asks.1)
+
+times-says : (store : StoreValue) (m : Machine Value) (label : ℕ) (r : Reply) → StandsInMemory store.transactions m → session.TimesStep store label r
+    → OrGaveOut (IsTimesReply (times_of m.published label)) r
+times-says store m label (reply.Times times) stands of = inl (inl (times, of ∙ times-of_label store.transactions m label stands, refl))
+times-says store m label (reply.Snapshot x) stands of = inl (inr of)
+times-says store m label reply.Ok stands of = inl (inr of)
+times-says store m label (reply.Found x) stands of = inl (inr of)
+times-says store m label reply.Queued stands of = inl (inr of)
+times-says store m label (reply.ReadOnly x) stands of = inl (inr of)
+times-says store m label (reply.Done x) stands of = inl (inr of)
+times-says store m label reply.Waiting stands of = inl (inr of)
+times-says store m label reply.InDoubt stands of = inl (inr of)
+times-says store m label (reply.Did x) stands of = inl (inr of)
+times-says store m label reply.Started stands of = inl (inr of)
+times-says store m label (reply.JobDid x) stands of = inl (inr of)
+times-says store m label (reply.Rows x) stands of = inl (inr of)
+times-says store m label (reply.Records x) stands of = inl (inr of)
+times-says store m label (reply.Opened x y) stands of = inl (inr of)
+times-says store m label (reply.OpenedByRelation x y) stands of = inl (inr of)
+times-says store m label (reply.Refused x) stands of = inl (inr of)
+
+-- the store's last commit and floors are those of the history
+time-same : (tells : Bool) (store : StoreValue) (h : History Value) (floors : ℕ → ℕ) (relation : ℕ) (w : When) → Stands tells store (machine.opened h floors)
+    → time_asked (floor_at (stores.floors store) relation) (stores.last store) w ≡ time_asked (floors relation) (last h) w
+time-same tells store h floors relation when.First stands = stands.memory.floors relation
+time-same tells store h floors relation (when.At t) stands = refl
+time-same tells store h floors relation when.Now stands = last-is store.transactions (machine.opened h floors) stands.memory
+
+end-same : (tells : Bool) (store : StoreValue) (h : History Value) (floors : ℕ → ℕ) (relation : ℕ) (w : When) → Stands tells store (machine.opened h floors)
+    → end_asked (floor_at (stores.floors store) relation) (stores.last store) w ≡ end_asked (floors relation) (last h) w
+end-same tells store h floors relation when.First stands = stands.memory.floors relation
+end-same tells store h floors relation (when.At t) stands = refl
+end-same tells store h floors relation when.Now stands =
+    ap (λ (n : ℕ). end_asked 0 n when.Now) (last-is store.transactions (machine.opened h floors) stands.memory)
+
+question-says : (tells : Bool) (store : StoreValue) (asked : State) (h : History Value) (floors : ℕ → ℕ) (q : Question) (r : Reply) → IsTrue tells
+    → Stands tells store (machine.opened h floors) → Step tells (fresh store) (line_asked q store) r asked → OrGaveOut (IsReplyTo q h floors) r
+question-says tells store asked h floors (question.Value key time) r told stands step =
+    let before = time_asked (floor_at (stores.floors store) key.relation) (stores.last store) time in
+    subst (λ (t : ℕ). OrGaveOut (IsValueReply (at_answer h floors key t)) r) (time-same tells store h floors key.relation time stands)
+    (at-says tells store asked.store h floors key before r told stands step.0)
+question-says tells store asked h floors (question.Records relation time) r told stands step =
+    let before = time_asked (floor_at (stores.floors store) relation) (stores.last store) time in
+    subst (λ (t : ℕ). OrGaveOut (IsRecordsReply h floors relation t) r) (time-same tells store h floors relation time stands)
+    (scan-says tells store asked.store h floors relation before r told stands step.0)
+question-says tells store asked h floors (question.Rows key from to) r told stands step =
+    let a = time_asked (floor_at (stores.floors store) key.relation) (stores.last store) from in
+    let b = end_asked (floor_at (stores.floors store) key.relation) (stores.last store) to in
+    let first = time_asked (floors key.relation) (last h) from in
+    subst (λ (t : ℕ). OrGaveOut (IsRowsReply (between_answer h floors key first t)) r) (end-same tells store h floors key.relation to stands)
+    (subst (λ (t : ℕ). OrGaveOut (IsRowsReply (between_answer h floors key t b)) r) (time-same tells store h floors key.relation from stands)
+    (between-says tells store asked.store h floors key a b r told stands step.0))
+question-says tells store asked h floors (question.Times label) r told stands step =
+    times-says store (machine.opened h floors) label r stands.memory step.0
+
+ask-keeps : (tells : Bool) (old new : DiskState) (asked : Option Question) (output : Output) → IsTrue tells → AreSound old.areas
+    → MatchOption asked (RefusesTime old output new) (λ q. Asks tells old (line_asked q) output new)
+    → MatchOption asked (new ≡ old) (λ q. AskingKeeps tells old (line_asked q) (IsReplyTo q) output new)
+ask-keeps tells old new None output told sound refused = refused.0
+ask-keeps tells old new (Some q) output told sound asks =
+    asking-keeps tells old new (line_asked q) (IsReplyTo q) output told sound (λ store. line-led tells told (line_asked q store))
+    (λ store h floors r asked stands step. question-says tells store asked h floors q r told stands step) asks
+
+-- ---- one write
+
+text-led : (tells : Bool) → IsTrue tells → (o : Option Line) (m : ScriptMoment) → IsScriptMoment tells m → (state : State) → m.state ≡ state
+    → (r : Reply) (new : State)
+    → MatchOption o (IsNotAnswered state r new) (λ l. Step tells state l r new ⊎ ((l ≡ line.Reopen) × IsNotAnswered state r new))
+    → To tells new (λ after. MatchOption o (IsNotAnswered m r after) (λ l. LineLeads tells m l r after ⊎ ((l ≡ line.Reopen) × IsNotAnswered m r after)))
+text-led tells told None m is state same r new none = record { after = m; is_state = same ∙ sym none.1; leads = (none.0, refl); is = is }
+text-led tells told (Some l) m is state same r new (inl step) =
+    let to = led-from tells l (line-led tells told l) m is state new same r step in
+    record { after = to.after; is_state = to.is_state; leads = inl to.leads; is = to.is }
+text-led tells told (Some l) m is state same r new (inr none) =
+    record { after = m; is_state = same ∙ sym none.1.1; leads = inr (none.0, (none.1.0, refl)); is = is }
+
+in_turn-led : (tells : Bool) → IsTrue tells → (before : Reply) (lines : List Text) (m : ScriptMoment) → IsScriptMoment tells m → (state : State)
+    → m.state ≡ state → (r : Reply) (new : State) → AnswersInTurn (Step tells) before lines state r new
+    → To tells new (λ after. AnswersInTurn (LineLeads tells) before lines m r after)
+in_turn-led tells told before [] m is state same r new does =
+    record { after = m; is_state = same ∙ sym does.1; leads = (does.0, refl); is = is }
+in_turn-led tells told before (text ∷ rest) m is state same r new does =
+    let first = text-led tells told (said text) m is state same does.0 does.1 does.2 in
+    let second = by-refusal first.after first.is first.is_state
+    (λ more. in_turn-led tells told does.0 rest first.after first.is does.1 first.is_state r new more) (is_refusal does.0) does.3 in
+    record { after = second.after; is_state = second.is_state; leads = (does.0, first.after, first.leads, second.leads); is = second.is }
+  where
+    by-refusal : (mid : ScriptMoment) → IsScriptMoment tells mid → mid.state ≡ does.1
+        → (AnswersInTurn (Step tells) does.0 rest does.1 r new → To tells new (λ after. AnswersInTurn (LineLeads tells) does.0 rest mid r after))
+        → (b : Bool) → MatchBool b ((r ≡ does.0) × (new ≡ does.1)) (AnswersInTurn (Step tells) does.0 rest does.1 r new)
+        → To tells new (λ after. MatchBool b ((r ≡ does.0) × (after ≡ mid)) (AnswersInTurn (LineLeads tells) does.0 rest mid r after))
+    by-refusal mid mid_is mid_same go_on true ends = record { after = mid; is_state = mid_same ∙ sym ends.1; leads = (ends.0, refl); is = mid_is }
+    by-refusal mid mid_is mid_same go_on false more = go_on more
+
+store-write-keeps : (tells : Bool) (old new : DiskState) (lines : List Text) (output : Output) (header : Header) (h : History Value) (floors : ℕ → ℕ)
+    → IsTrue tells → AreSound old.areas → IsImageOf header (image_of old.areas) h floors
+    → (did : WritesStore tells old lines output new) → WriteKeeps tells h floors did.opened lines output new
+store-write-keeps tells old new lines output header h floors told sound image did =
+    let first = first-script tells did.opened h floors (open-stands tells old 1 did.opened header h floors did.opens told sound image) in
+    let to = in_turn-led tells told reply.Ok lines (first_script_moment did.opened (machine.opened h floors)) first (fresh did.opened) refl did.answer did.asked
+    did.does in
+    record {
+      answer = did.answer;
+      after = to.after;
+      does = to.leads;
+      closed = (close-keeps tells to.after to.is new (subst (λ (s : State). Closes s new) (sym to.is_state) did.closes)).closed;
+      printed = did.told;
+    }
+
+write-keeps : (tells : Bool) (old new : DiskState) (write : RecordWrite) (output : Output) → IsTrue tells → AreSound old.areas
+    → Writes tells old write output new → WritingKeeps tells old (write_lines write) output new
+write-keeps tells old new write output told sound (inl lacks) = inl lacks.0
+write-keeps tells old new write output told sound (inr (inl refused)) = inr (λ header h floors image. inl (refused.0, refused.1))
+write-keeps tells old new write output told sound (inr (inr (inl lacks))) = inr (λ header h floors image. inr (lacks.0, lacks.1, inl lacks.2))
+write-keeps tells old new write output told sound (inr (inr (inr did))) = inr (λ header h floors image.
+    inr (did.opened, did.opens, inr (store-write-keeps tells old new (write_lines write) output header h floors told sound image did)))
 
 -- ---- dump
 
@@ -428,6 +634,8 @@ keeps-acts tells (action.Run dir) old new input output told sound acts =
 keeps-acts tells (action.Format dir slots) old new input output told sound acts = making-keeps tells old new slots output told acts
 keeps-acts tells (action.At dir key time) old new input output told sound acts = at-keeps tells old new key time output told sound acts
 keeps-acts tells (action.Between dir key from to) old new input output told sound acts = between-keeps tells old new key from to output told sound acts
+keeps-acts tells (action.Ask dir asked) old new input output told sound acts = ask-keeps tells old new asked output told sound acts
+keeps-acts tells (action.Write dir write) old new input output told sound acts = write-keeps tells old new write output told sound acts
 keeps-acts tells (action.Vacuum dir time) old new input output told sound acts = upto-keeps tells old new time output told sound acts
 keeps-acts tells (action.Grow dir) old new input output told sound acts = growth-keeps tells old new output told sound acts
 keeps-acts tells (action.Dump dir) old new input output told sound acts = dump-holds tells old new output acts

@@ -1,7 +1,7 @@
 -- What was said stays said when it is given out; where that is refused, the status is 1.
-use Rattle.std.proofs.Common.{◌≡◌, ◌≢◌, ◌∙◌, ◌⊎◌, inl, inr, ℕ, ◌++◌, Bool, true, false, [], Option, Some, None, refl, sym, subst, append-nil}
+use Rattle.std.proofs.Common.{◌≡◌, ◌≢◌, ◌∙◌, ◌⊎◌, inl, inr, ℕ, Bool, true, false, [], Option, Some, None, sym, subst, append-nil}
 use Rattle.std.specs.Prelude.{MatchOption, MatchBool}
-use Rattle.std.specs.Io.KnownBytes.{Appends, Keeps}
+use Rattle.std.specs.Io.KnownBytes.{Appends}
 use Rattle.std.proofs.KnownBytes.{Appends-kept}
 use Rattle.disk.specs.Calls.{DiskState}
 use Rattle.script.specs.declared.line.Line.{Line}
@@ -11,11 +11,15 @@ use Rattle.session.specs.Texts.{Text, text_of}
 use Rattle.session.specs.declared.ending.Ending.{Ending}
 use Rattle.session.specs.declared.ending.Ending.TheVariants.{OutputRefused, Whole}
 use Rattle.session.specs.declared.reply.Reply.{Reply}
+use Rattle.store.specs.Values.{StoreValue}
+use Rattle.command_line.specs.declared.question.Question.{Question}
+use Rattle.command_line.specs.declared.question.RecordWrite.{RecordWrite}
 use Rattle.command_line.specs.declared.action.Action.{Action}
 use Rattle.command_line.specs.declared.action.Action.TheVariants as action
 use Rattle.shell.specs.Acts.{Acts, Asks, Dumps, DoesNotOpen, GivesOut, Grows, HasNoMemory, HasStatusOf, Input, IsRefused, IsSaid, IsTold, Makes, Output}
-use Rattle.shell.specs.Acts.{RefusesTime, RefusesToMake, Runs, RunsNew, RunsScript, SaysAll, SaysArchived, SaysBoth, SaysFront, SaysGrown, SaysSlots}
-use Rattle.shell.specs.Acts.{SaysVacuum, Vacuums}
+use Rattle.shell.specs.Acts.{RefusesTime, RefusesToMake, RunsNew, RunsScript, SaysAll, SaysArchived, SaysBoth, SaysFront, SaysGrown, SaysSlots}
+use Rattle.shell.specs.Acts.{SaysVacuum, Vacuums, Writes}
+use Rattle.shell.specs.Asking.{line_asked}
 use Rattle.shell.specs.Vacuums.{is_refusal}
 use Rattle.shell.specs.declared.vacuuming.Vacuumed.{Vacuumed}
 use Rattle.shell.specs.declared.vacuuming.Vacuumed.TheVariants as vacuumed
@@ -120,7 +124,7 @@ runs_new-kept tells old new input o v gives (inl refused) = inl (unmade-kept tel
 runs_new-kept tells old new input o v gives (inr runs) =
     inr (record { made = runs.made; formatted = runs.formatted; sound = runs.sound; runs = runs-kept tells runs.made new input o v gives runs.runs })
 
-asks-kept : (tells : Bool) (old new : DiskState) (asks : Line) (o v : Output) → GivesOut o v → Asks tells old asks o new → Asks tells old asks v new
+asks-kept : (tells : Bool) (old new : DiskState) (asks : StoreValue → Line) (o v : Output) → GivesOut o v → Asks tells old asks o new → Asks tells old asks v new
 asks-kept tells old new asks o v gives (inl refused) = inl (not_opened-kept tells old new o v gives refused)
 asks-kept tells old new asks o v gives (inr (inl lacks)) = inr (inl (no_memory-kept tells old new o v gives lacks))
 asks-kept tells old new asks o v gives (inr (inr asked)) = inr (inr (record {
@@ -137,16 +141,37 @@ time-kept : (old new : DiskState) (o v : Output) → GivesOut o v → RefusesTim
 time-kept old new o v gives refused = (refused.0, refused-kept o v _ gives refused.1)
 
 at-kept : (tells : Bool) (old new : DiskState) (time : Option ℕ) (line : ℕ → Line) (o v : Output) → GivesOut o v
-    → MatchOption time (RefusesTime old o new) (λ t. Asks tells old (line t) o new)
-    → MatchOption time (RefusesTime old v new) (λ t. Asks tells old (line t) v new)
+    → MatchOption time (RefusesTime old o new) (λ t. Asks tells old (λ store. line t) o new)
+    → MatchOption time (RefusesTime old v new) (λ t. Asks tells old (λ store. line t) v new)
 at-kept tells old new None line o v gives refused = time-kept old new o v gives refused
-at-kept tells old new (Some t) line o v gives asks = asks-kept tells old new (line t) o v gives asks
+at-kept tells old new (Some t) line o v gives asks = asks-kept tells old new (λ store. line t) o v gives asks
 
 between-kept : (tells : Bool) (old new : DiskState) (from to : Option ℕ) (line : ℕ → ℕ → Line) (o v : Output) → GivesOut o v
-    → MatchOption from (RefusesTime old o new) (λ s. MatchOption to (RefusesTime old o new) (λ t. Asks tells old (line s t) o new))
-    → MatchOption from (RefusesTime old v new) (λ s. MatchOption to (RefusesTime old v new) (λ t. Asks tells old (line s t) v new))
+    → MatchOption from (RefusesTime old o new) (λ s. MatchOption to (RefusesTime old o new) (λ t. Asks tells old (λ store. line s t) o new))
+    → MatchOption from (RefusesTime old v new) (λ s. MatchOption to (RefusesTime old v new) (λ t. Asks tells old (λ store. line s t) v new))
 between-kept tells old new None to line o v gives refused = time-kept old new o v gives refused
 between-kept tells old new (Some s) to line o v gives asks = at-kept tells old new to (line s) o v gives asks
+
+ask-kept : (tells : Bool) (old new : DiskState) (asked : Option Question) (o v : Output) → GivesOut o v
+    → MatchOption asked (RefusesTime old o new) (λ q. Asks tells old (line_asked q) o new)
+    → MatchOption asked (RefusesTime old v new) (λ q. Asks tells old (line_asked q) v new)
+ask-kept tells old new None o v gives refused = time-kept old new o v gives refused
+ask-kept tells old new (Some q) o v gives asks = asks-kept tells old new (line_asked q) o v gives asks
+
+writes-kept : (tells : Bool) (old new : DiskState) (write : RecordWrite) (o v : Output) → GivesOut o v → Writes tells old write o new
+    → Writes tells old write v new
+writes-kept tells old new write o v gives (inl lacks) = inl (lacks.0, refused-kept o v _ gives lacks.1)
+writes-kept tells old new write o v gives (inr (inl refused)) = inr (inl (not_opened-kept tells old new o v gives refused))
+writes-kept tells old new write o v gives (inr (inr (inl lacks))) = inr (inr (inl (no_memory-kept tells old new o v gives lacks)))
+writes-kept tells old new write o v gives (inr (inr (inr did))) = inr (inr (inr (record {
+  opened = did.opened;
+  opens = did.opens;
+  answer = did.answer;
+  asked = did.asked;
+  does = did.does;
+  told = told-kept o v did.answer gives did.told;
+  closes = did.closes;
+})))
 
 archived-kept : (tells : Bool) (upto : ℕ) (given new : DiskState) (refusal : Reply) (o v : Output) → GivesOut o v → SaysArchived tells upto given refusal o new
     → SaysArchived tells upto given refusal v new
@@ -237,6 +262,8 @@ acts-kept tells (action.Format dir slots) old new input o v gives acts = makes-k
 acts-kept tells (action.Run dir) old new input o v gives acts = runs-kept tells old new input o v gives acts
 acts-kept tells (action.At dir key time) old new input o v gives acts = at-kept tells old new time (λ t. line.At key t) o v gives acts
 acts-kept tells (action.Between dir key from to) old new input o v gives acts = between-kept tells old new from to (λ s t. line.Between key s t) o v gives acts
+acts-kept tells (action.Ask dir asked) old new input o v gives acts = ask-kept tells old new asked o v gives acts
+acts-kept tells (action.Write dir write) old new input o v gives acts = writes-kept tells old new write o v gives acts
 acts-kept tells (action.Vacuum dir time) old new input o v gives acts = upto-kept tells old new time o v gives acts
 acts-kept tells (action.Grow dir) old new input o v gives acts = grows-kept tells old new o v gives acts
 acts-kept tells (action.Dump dir) old new input o v gives acts = dumps-kept tells old new o v gives acts

@@ -2,3 +2,4 @@ pub mod DumpLemmas
 pub mod Kept
 pub mod Keeping
 pub mod Said
+mod Turns

@@ -1,5 +1,5 @@
 -- What was said, and the status.
-use Rattle.std.proofs.Common.{◌≡◌, ◌≢◌, ◌≤◌, ◌⊎◌, ◌∙◌, inl, inr, ℕ, ◌++◌, [], ap, Bool, true, false, Option, Some, None, Result, Ok, Err, refl, sym, subst}
+use Rattle.std.proofs.Common.{◌≡◌, ◌≢◌, ◌≤◌, ◌⊎◌, ◌∙◌, inl, inr, ℕ, ◌++◌, [], ap, Bool, true, false, Option, Some, None, Result, Ok, Err, sym, subst}
 use Rattle.std.proofs.Common.{arith, append_assoc}
 use Rattle.std.specs.Prelude.{MatchBool, MatchOption, MatchResult}
 use Rattle.disk.specs.Calls.{DiskState}
@@ -12,10 +12,14 @@ use Rattle.session.specs.Texts.{Text, text_of}
 use Rattle.session.specs.declared.ending.Ending.{Ending}
 use Rattle.session.specs.declared.ending.Ending.TheVariants.{Whole}
 use Rattle.session.specs.declared.reply.Reply.{Reply}
+use Rattle.store.specs.Values.{StoreValue}
+use Rattle.command_line.specs.declared.question.Question.{Question}
+use Rattle.command_line.specs.declared.question.RecordWrite.{RecordWrite}
 use Rattle.command_line.specs.declared.action.Action.{Action}
 use Rattle.command_line.specs.declared.action.Action.TheVariants as action
 use Rattle.shell.specs.Acts.{Acts, Asks, Grows, HasStatusOf, Input, IsRefused, IsSaid, IsTold, Makes, Output, RefusesTime, RunsNew, RunsScript, SaysAll}
-use Rattle.shell.specs.Acts.{SaysFront, SaysGrown, SaysSlots, SaysVacuum, Vacuums}
+use Rattle.shell.specs.Acts.{SaysFront, SaysGrown, SaysSlots, SaysVacuum, Vacuums, Writes}
+use Rattle.shell.specs.Asking.{line_asked}
 use Rattle.shell.specs.Vacuums.{is_refusal}
 use Rattle.shell.specs.declared.vacuuming.Vacuumed.{Vacuumed}
 use Rattle.shell.specs.declared.vacuuming.Vacuumed.TheVariants as vacuumed
@@ -102,7 +106,7 @@ runs_new-status : (tells : Bool) (old new : DiskState) (input : Input) (o : Outp
 runs_new-status tells old new input o (inl refused) = refused-status o _ refused.2
 runs_new-status tells old new input o (inr runs) = runs-status tells runs.made new input o runs.runs
 
-asks-status : (tells : Bool) (old new : DiskState) (asks : Line) (o : Output) → Asks tells old asks o new → o.status ≤ 1
+asks-status : (tells : Bool) (old new : DiskState) (asks : StoreValue → Line) (o : Output) → Asks tells old asks o new → o.status ≤ 1
 asks-status tells old new asks o (inl refused) = refused-status o _ refused.2
 asks-status tells old new asks o (inr (inl lacks)) = refused-status o _ lacks.3
 asks-status tells old new asks o (inr (inr asked)) = told-status o asked.answer asked.told
@@ -111,14 +115,25 @@ time-status : (old new : DiskState) (o : Output) → RefusesTime old o new → o
 time-status old new o refused = refused-status o _ refused.1
 
 at-status : (tells : Bool) (old new : DiskState) (time : Option ℕ) (line : ℕ → Line) (o : Output)
-    → MatchOption time (RefusesTime old o new) (λ t. Asks tells old (line t) o new) → o.status ≤ 1
+    → MatchOption time (RefusesTime old o new) (λ t. Asks tells old (λ store. line t) o new) → o.status ≤ 1
 at-status tells old new None line o refused = time-status old new o refused
-at-status tells old new (Some t) line o asks = asks-status tells old new (line t) o asks
+at-status tells old new (Some t) line o asks = asks-status tells old new (λ store. line t) o asks
 
 between-status : (tells : Bool) (old new : DiskState) (from to : Option ℕ) (line : ℕ → ℕ → Line) (o : Output)
-    → MatchOption from (RefusesTime old o new) (λ s. MatchOption to (RefusesTime old o new) (λ t. Asks tells old (line s t) o new)) → o.status ≤ 1
+    → MatchOption from (RefusesTime old o new) (λ s. MatchOption to (RefusesTime old o new) (λ t. Asks tells old (λ store. line s t) o new)) → o.status ≤ 1
 between-status tells old new None to line o refused = time-status old new o refused
 between-status tells old new (Some s) to line o asks = at-status tells old new to (line s) o asks
+
+ask-status : (tells : Bool) (old new : DiskState) (asked : Option Question) (o : Output)
+    → MatchOption asked (RefusesTime old o new) (λ q. Asks tells old (line_asked q) o new) → o.status ≤ 1
+ask-status tells old new None o refused = time-status old new o refused
+ask-status tells old new (Some q) o asks = asks-status tells old new (line_asked q) o asks
+
+writes-status : (tells : Bool) (old new : DiskState) (write : RecordWrite) (o : Output) → Writes tells old write o new → o.status ≤ 1
+writes-status tells old new write o (inl lacks) = refused-status o _ lacks.1
+writes-status tells old new write o (inr (inl refused)) = refused-status o _ refused.2
+writes-status tells old new write o (inr (inr (inl lacks))) = refused-status o _ lacks.3
+writes-status tells old new write o (inr (inr (inr did))) = told-status o did.answer did.told
 
 vacuum_said-status : (tells : Bool) (upto : ℕ) (given new : DiskState) (done : Vacuumed) (o : Output) → SaysVacuum tells upto given done o new → o.status ≤ 1
 vacuum_said-status tells upto given new (vacuumed.Nothing refusal) o said = refused-status o _ said.1
@@ -156,6 +171,8 @@ acts-status tells (action.Format dir slots) old new input o acts = makes-status 
 acts-status tells (action.Run dir) old new input o acts = runs-status tells old new input o acts
 acts-status tells (action.At dir key time) old new input o acts = at-status tells old new time (λ t. line.At key t) o acts
 acts-status tells (action.Between dir key from to) old new input o acts = between-status tells old new from to (λ s t. line.Between key s t) o acts
+acts-status tells (action.Ask dir asked) old new input o acts = ask-status tells old new asked o acts
+acts-status tells (action.Write dir write) old new input o acts = writes-status tells old new write o acts
 acts-status tells (action.Vacuum dir time) old new input o acts = upto-status tells old new time o acts
 acts-status tells (action.Grow dir) old new input o acts = grows-status tells old new o acts
 acts-status tells (action.Dump dir) old new input o (inl (inl lacks)) = refused-status o _ lacks.said

@@ -1,5 +1,5 @@
 -- What an action does to the disk and writes.
-use Rattle.std.specs.Prelude.{[], ◌≡◌, ◌≢◌, ◌⊎◌, ◌+◌, ℕ, ◌++◌, Bool, true, false, IsTrue, List, Option, Some, None, Err, codes, MatchBool, MatchOption}
+use Rattle.std.specs.Prelude.{[], ◌≡◌, ◌≢◌, ◌⊎◌, ◌+◌, ℕ, ◌++◌, Bool, true, IsTrue, List, Option, Some, None, Err, codes, MatchBool, MatchOption}
 use Rattle.std.specs.Fmt.{decimal}
 use Rattle.std.specs.Io.KnownBytes.{Appends, Keeps}
 use Rattle.disk.specs.Areas.{AreSound}
@@ -30,10 +30,14 @@ use Rattle.session.specs.declared.fault.Fault.TheVariants as fault
 use Rattle.session.specs.declared.input.Lines.{Lines}
 use Rattle.session.specs.declared.output.Answers.{Answers}
 use Rattle.session.specs.declared.reply.Reply.{Reply}
+use Rattle.session.specs.declared.reply.Reply.TheVariants as reply
+use Rattle.shell.specs.Asking.{line_asked}
 use Rattle.shell.specs.Dump.{IsDump}
 use Rattle.shell.specs.Vacuums.{DoesJob, DoesVacuum, HasLog, HasNoHeaderFor, LacksLog, archived_line, is_refusal, reclaimed_line}
+use Rattle.shell.specs.Writing.{AnswersInTurn, write_lines}
 use Rattle.shell.specs.declared.vacuuming.Vacuumed.{Vacuumed}
 use Rattle.shell.specs.declared.vacuuming.Vacuumed.TheVariants as vacuumed
+use Rattle.command_line.specs.declared.question.RecordWrite.{RecordWrite}
 use Rattle.command_line.specs.declared.action.Action.{Action}
 use Rattle.command_line.specs.declared.action.Action.TheVariants as action
 
@@ -149,18 +153,18 @@ RunsNew tells old input output new = RefusesToMake tells old 16 output new ⊎ R
 abbrev pub IsTold : Output → Reply → Type 0
 IsTold o r = MatchBool (is_refusal r) (IsRefused o (text_of r)) (IsSaid o (text_of r))
 
--- the store opens, and answers one line of a script
-pub record AsksStore (tells : Bool) (old : DiskState) (asks : Line) (output : Output) (new : DiskState) : Type 0 where
+-- the store opens, and answers the one line of a script that asks this of it
+pub record AsksStore (tells : Bool) (old : DiskState) (asks : StoreValue → Line) (output : Output) (new : DiskState) : Type 0 where
   pub opened : StoreValue
   pub opens : Opens tells old 1 opened
   pub answer : Reply
   pub asked : State
-  pub step : Step tells (fresh opened) asks answer asked
+  pub step : Step tells (fresh opened) (asks opened) answer asked
   pub told : IsTold output answer
   pub closes : Closes asked new
 
 -- a question, as one line: the store answers it, or is not asked, and why is said
-abbrev pub Asks : Bool → DiskState → Line → Output → DiskState → Type 0
+abbrev pub Asks : Bool → DiskState → (StoreValue → Line) → Output → DiskState → Type 0
 Asks tells old asks output new = DoesNotOpen tells old output new ⊎ (HasNoMemory tells old output new ⊎ AsksStore tells old asks output new)
 
 -- what is of no disk is not done, and nothing is said
@@ -170,6 +174,27 @@ DoesNothing old output new = (new ≡ old) × IsRefused output []
 -- a time that is none is refused, and the disk is as it was
 abbrev pub RefusesTime : DiskState → Output → DiskState → Type 0
 RefusesTime old output new = (new ≡ old) × IsRefused output (refusal_line fault.Time)
+
+-- ---- one write
+
+-- the store opens, and answers the lines of a script in turn, up to the first that is refused; the last answer is said
+pub record WritesStore (tells : Bool) (old : DiskState) (lines : List Text) (output : Output) (new : DiskState) : Type 0 where
+  pub opened : StoreValue
+  pub opens : Opens tells old 1 opened
+  pub answer : Reply
+  pub asked : State
+  pub does : AnswersInTurn (Step tells) reply.Ok lines (fresh opened) answer asked
+  pub told : IsTold output answer
+  pub closes : Closes asked new
+
+-- there is no memory for the lines
+abbrev pub LacksLines : DiskState → Output → DiskState → Type 0
+LacksLines old output new = (new ≡ old) × IsRefused output (refusal_line fault.NoMemory)
+
+-- `put` and `del`: the store answers the lines of the write, or is not asked, and why is said
+abbrev pub Writes : Bool → DiskState → RecordWrite → Output → DiskState → Type 0
+Writes tells old write output new = LacksLines old output new
+    ⊎ (DoesNotOpen tells old output new ⊎ (HasNoMemory tells old output new ⊎ WritesStore tells old (write_lines write) output new))
 
 -- ---- dump
 
@@ -295,9 +320,12 @@ abbrev pub Acts : Bool → Action → DiskState → Input → Output → DiskSta
 Acts tells action.Example old input output new = RunsNew tells old input output new
 Acts tells (action.Format dir slots) old input output new = Makes tells old slots output new
 Acts tells (action.Run dir) old input output new = RunsScript tells old input output new
-Acts tells (action.At dir key time) old input output new = MatchOption time (RefusesTime old output new) (λ t. Asks tells old (line.At key t) output new)
+Acts tells (action.At dir key time) old input output new = MatchOption time (RefusesTime old output new) (λ t. Asks tells old (λ store. line.At key t) output new)
 Acts tells (action.Between dir key from to) old input output new =
-    MatchOption from (RefusesTime old output new) (λ a. MatchOption to (RefusesTime old output new) (λ b. Asks tells old (line.Between key a b) output new))
+    MatchOption from (RefusesTime old output new) (λ a. MatchOption to (RefusesTime old output new) (λ b. Asks tells old (λ store. line.Between key a b) output new))
+Acts tells (action.Ask dir question) old input output new =
+    MatchOption question (RefusesTime old output new) (λ asked. Asks tells old (line_asked asked) output new)
+Acts tells (action.Write dir write) old input output new = Writes tells old write output new
 Acts tells (action.Vacuum dir time) old input output new = MatchOption time (RefusesTime old output new) (λ t. Vacuums tells old t output new)
 Acts tells (action.Grow dir) old input output new = Grows tells old output new
 Acts tells (action.Dump dir) old input output new = Dumps tells old output new

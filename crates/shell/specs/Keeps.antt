@@ -5,8 +5,8 @@ use Rattle.std.specs.declared.vec.Vec.{Vec}
 use Rattle.disk.specs.Areas.{Image, LeavesImage, image_of}
 use Rattle.disk.specs.Calls.{DiskState}
 use Rattle.history.specs.Answers as answers
-use Rattle.history.specs.Answers.{QueryRefusal, at_answer, between_answer}
-use Rattle.history.specs.Histories.{History}
+use Rattle.history.specs.Answers.{IsScanAtAnswer, QueryRefusal, at_answer, between_answer, times_of}
+use Rattle.history.specs.Histories.{History, last}
 use Rattle.history.specs.Machine as machine
 use Rattle.history.specs.declared.time.Version.{Version}
 use Rattle.law_image.specs.Values.{Value}
@@ -33,10 +33,14 @@ use Rattle.session.specs.declared.ending.Ending.{Ending}
 use Rattle.law_script.specs.Keeps.{Closed, LineKeeps}
 use Rattle.law_script.specs.ScriptMoments.{ScriptMoment, first_script_moment}
 use Rattle.law_script.specs.Promise.{ScriptKeeps}
+use Rattle.command_line.specs.declared.question.Question.{Question}
+use Rattle.command_line.specs.declared.question.Question.TheVariants as question
 use Rattle.command_line.specs.declared.action.Action.{Action}
 use Rattle.command_line.specs.declared.action.Action.TheVariants as action
 use Rattle.shell.specs.Acts.{Input, IsRefused, IsTold, Output, SaysAll, SaysGrown, SaysVacuum}
+use Rattle.shell.specs.Asking.{end_asked, line_asked, time_asked}
 use Rattle.shell.specs.Vacuums.{DoesJob, DoesVacuum}
+use Rattle.shell.specs.Writing.{AnswersInTurn, write_lines}
 use Rattle.shell.specs.declared.vacuuming.Vacuumed.{Vacuumed}
 
 -- The lines of the input are run, all or a front of them, and the run keeps the promise: at every moment whatever a stop may leave survives, with every commit
@@ -138,6 +142,28 @@ abbrev pub IsRowsReply : Result (List (Version Value)) QueryRefusal → Reply �
 IsRowsReply (Ok rows) r = (found : Vec (Version Value) Global) × (found.items ≡ rows) × (r ≡ reply.Rows found)
 IsRowsReply (Err why) r = r ≡ refusal_of why
 
+-- the reply of records that were found, or of a refusal
+abbrev pub IsFoundReply : Result (List (ℕ × Value)) QueryRefusal → Reply → Type 0
+IsFoundReply (Ok records) r = (found : Vec (ℕ × Value) Global) × (found.items ≡ records) × (r ≡ reply.Records found)
+IsFoundReply (Err why) r = r ≡ refusal_of why
+
+-- the reply is the records of a relation at a time that the write sets say, or their refusal
+abbrev pub IsRecordsReply : History Value → (ℕ → ℕ) → ℕ → ℕ → Reply → Type 0
+IsRecordsReply h floors relation time r =
+    (said : Result (List (ℕ × Value)) QueryRefusal) × IsScanAtAnswer h floors relation time said × IsFoundReply said r
+
+-- the reply is these times, or that there is no memory for them
+abbrev pub IsTimesReply : List ℕ → Reply → Type 0
+IsTimesReply times r = ((found : Vec ℕ Global) × (found.items ≡ times) × (r ≡ reply.Times found)) ⊎ (r ≡ reply.Refused fault.NoMemory)
+
+-- the reply to a question is what the write sets say: at the floor of the relation, at the time that was said, or at that of the last commit
+abbrev pub IsReplyTo : Question → History Value → (ℕ → ℕ) → Reply → Type 0
+IsReplyTo (question.Value key time) h floors r = IsValueReply (at_answer h floors key (time_asked (floors key.relation) (last h) time)) r
+IsReplyTo (question.Records relation time) h floors r = IsRecordsReply h floors relation (time_asked (floors relation) (last h) time) r
+IsReplyTo (question.Rows key from to) h floors r =
+    IsRowsReply (between_answer h floors key (time_asked (floors key.relation) (last h) from) (end_asked (floors key.relation) (last h) to)) r
+IsReplyTo (question.Times label) h floors r = IsTimesReply (times_of h label) r
+
 -- this is replied, or that memory or the device gave out
 abbrev pub OrGaveOut : (Reply → Type 0) → Reply → Type 0
 OrGaveOut Is r = Is r ⊎ ((r ≡ reply.Refused (fault.Query query.NoMemory)) ⊎ (r ≡ reply.Refused (fault.Query query.Device)))
@@ -154,21 +180,42 @@ pub record QuestionKeeps (tells : Bool) (h : History Value) (floors : ℕ → �
   pub says : OrGaveOut Is answer
 
 -- the store opens as this history; there is no memory for a session, or the question is answered by the history
-abbrev pub QuestionOpenedKeeps : Bool → History Value → (ℕ → ℕ) → DiskState → Line → (Reply → Type 0) → Output → DiskState → Type 0
+abbrev pub QuestionOpenedKeeps : Bool → History Value → (ℕ → ℕ) → DiskState → (StoreValue → Line) → (Reply → Type 0) → Output → DiskState → Type 0
 QuestionOpenedKeeps tells h floors old asks Is output new =
     (store : StoreValue) × Opens tells old 1 store
-    × (((new ≡ store.disk) × IsRefused output (refusal_line fault.NoMemory)) ⊎ QuestionKeeps tells h floors store asks Is output new)
+    × (((new ≡ store.disk) × IsRefused output (refusal_line fault.NoMemory)) ⊎ QuestionKeeps tells h floors store (asks store) Is output new)
 
 -- of whatever history the image stands for: the store does not open, since the device or memory gives out, or the question is answered by that history
-abbrev pub AskingKeeps : Bool → DiskState → Line → (History Value → (ℕ → ℕ) → Reply → Type 0) → Output → DiskState → Type 0
+abbrev pub AskingKeeps : Bool → DiskState → (StoreValue → Line) → (History Value → (ℕ → ℕ) → Reply → Type 0) → Output → DiskState → Type 0
 AskingKeeps tells old asks Is output new = (header : Header) (h : History Value) (floors : ℕ → ℕ) → IsImageOf header (image_of old.areas) h floors
     → ((f : OpenFault) × OpenRefuses tells old f new × IsReadFault f × IsRefused output (open_line f))
     ⊎ QuestionOpenedKeeps tells h floors old asks (Is h floors) output new
 
+-- ---- one write
+
+-- The lines of a write are answered as those of a script, up to the first that is refused, and the store is closed: at every moment whatever a stop may leave
+-- survives, with the commit once `done` is its answer. The last answer is printed.
+pub record WriteKeeps (tells : Bool) (h : History Value) (floors : ℕ → ℕ) (store : StoreValue) (lines : List Text) (output : Output) (new : DiskState) : Type 0 where
+  pub answer : Reply
+  pub after : ScriptMoment
+  pub does : AnswersInTurn (LineLeads tells) reply.Ok lines (first_script_moment store (machine.opened h floors)) answer after
+  pub closed : Closed tells after new
+  pub printed : IsTold output answer
+
+-- the store opens as this history; no line is answered, or lines are
+abbrev pub WriteOpenedKeeps : Bool → History Value → (ℕ → ℕ) → DiskState → List Text → Output → DiskState → Type 0
+WriteOpenedKeeps tells h floors old lines output new =
+    (store : StoreValue) × Opens tells old 1 store × ((new ≡ store.disk) ⊎ WriteKeeps tells h floors store lines output new)
+
+-- the disk is as it was; or of whatever history the image stands for: the store does not open, or the write keeps the promise
+abbrev pub WritingKeeps : Bool → DiskState → List Text → Output → DiskState → Type 0
+WritingKeeps tells old lines output new = (new ≡ old) ⊎ ((header : Header) (h : History Value) (floors : ℕ
+    → ℕ) → IsImageOf header (image_of old.areas) h floors → ((f : OpenFault) × OpenRefuses tells old f new) ⊎ WriteOpenedKeeps tells h floors old lines output new)
+
 -- ---- actions
 
 -- What each action keeps. A script is run on an empty store, or on the one that a disk holds, of whatever history its image stands for, and so are the lines of
--- a vacuum, of a growth and of a question: at every moment whatever a stop may leave survives. What is printed of a question is what the write sets of that
+-- a vacuum, of a growth, of a question and of a write: at every moment whatever a stop may leave survives. What is printed of a question is what the write sets of that
 -- history say. A store that was made is kept as the empty history, and a dump leaves the areas as they were.
 abbrev pub KeepsPromise : Bool → Action → DiskState → Input → Output → DiskState → Type 0
 KeepsPromise tells action.Example old input output new = ((f : FormatFault) × FormatRefuses tells 16 old f new) ⊎ NewRunKeeps tells old input output new
@@ -176,11 +223,14 @@ KeepsPromise tells (action.Run dir) old input output new =
     (header : Header) (h : History Value) (floors : ℕ → ℕ) → IsImageOf header (image_of old.areas) h floors → RunKeeps tells h floors old input output new
 KeepsPromise tells (action.Format dir slots) old input output new = MakingKeeps tells old slots new
 KeepsPromise tells (action.At dir key time) old input output new =
-    MatchOption time (new ≡ old) (λ t. AskingKeeps tells old (line.At key t) (λ h floors. IsValueReply (at_answer h floors key t)) output new)
+    MatchOption time (new ≡ old) (λ t. AskingKeeps tells old (λ store. line.At key t) (λ h floors. IsValueReply (at_answer h floors key t)) output new)
 KeepsPromise tells (action.Between dir key from to) old input output new =
     MatchOption from (new
     ≡ old) (λ a. MatchOption to (new
-    ≡ old) (λ b. AskingKeeps tells old (line.Between key a b) (λ h floors. IsRowsReply (between_answer h floors key a b)) output new))
+    ≡ old) (λ b. AskingKeeps tells old (λ store. line.Between key a b) (λ h floors. IsRowsReply (between_answer h floors key a b)) output new))
+KeepsPromise tells (action.Ask dir asked) old input output new =
+    MatchOption asked (new ≡ old) (λ q. AskingKeeps tells old (line_asked q) (IsReplyTo q) output new)
+KeepsPromise tells (action.Write dir write) old input output new = WritingKeeps tells old (write_lines write) output new
 KeepsPromise tells (action.Vacuum dir time) old input output new = MatchOption time (new ≡ old) (λ t. VacuumingKeeps tells old t output new)
 KeepsPromise tells (action.Grow dir) old input output new = GrowingKeeps tells old output new
 KeepsPromise tells (action.Dump dir) old input output new = new.areas ≡ old.areas

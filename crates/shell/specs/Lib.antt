@@ -1,4 +1,6 @@
 pub mod Vacuums
+pub mod Asking
+pub mod Writing
 pub mod Acts
 pub mod Dump
 pub mod Needs

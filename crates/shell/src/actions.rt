@@ -1,19 +1,23 @@
 //! What an action does.
 ghost use Rattle.std.specs.Prelude.{◌++◌, codes, ◌≡◌, ◌≢◌, ◌≤◌, ◌⊎◌, Option, IfOk, IsTrue, MatchOption, MatchResult};
 ghost use Rattle.std.specs.Fmt.{decimal};
-ghost use Rattle.script.specs.declared.line.Line.TheVariants.{At, Between, Grow, Reopen};
+ghost use Rattle.script.specs.declared.line.Line.TheVariants.{At, Between, Grow};
 ghost use Rattle.session.specs.Streams.{Says, is_output_refused, text_said};
 ghost use Rattle.session.specs.Texts.{Text, open_line, refusal_line, text_of};
 ghost use Rattle.session.specs.declared.ending.Ending.TheVariants.{Whole};
 ghost use Rattle.shell.specs.Acts.{Acts, Asks, Dumps, GivesOut, Grows, IsRefused, IsTold, Makes, RefusesTime, RunsNew, RunsScript, SaysArchived, SaysBoth};
 ghost use Rattle.shell.specs.Acts.{SaysGrown, SaysSlots, SaysVacuum, Vacuums, given, open_fault_of, told};
+ghost use Rattle.shell.specs.Acts.{Writes};
+ghost use Rattle.shell.specs.Asking.{line_asked};
 ghost use Rattle.shell.specs.Dump.{IsDump};
 ghost use Rattle.shell.specs.Keeps.{KeepsPromise};
 ghost use Rattle.shell.specs.Vacuums.{archived_line, reclaimed_line};
 
+use crate::asking::line_asked;
 use crate::dump::{DumpFault, write_dump};
-use crate::vacuuming::{Job, Vacuumed, do_job, do_jobs, is_refusal, log_of, records_in};
-use command_line::Action;
+use crate::vacuuming::{Job, Vacuumed, answer, do_job, do_jobs, is_refusal, log_of, records_in};
+use crate::writing::{answer_write, lines_of};
+use command_line::{Action, Question, RecordWrite, When};
 use disk::{Area, Disk};
 use history::Key;
 use script::Line;
@@ -134,16 +138,56 @@ fn tell<W: Write>(output: &mut Answers<W>, reply: &Reply) -> u8
     status_of(said)
 }
 
-/// Asks what a line of a script asks for, on a store opened for it.
+/// Asks a question of a store opened for it.
 fn ask<D: Disk, W: Write>(
     alloc: Global,
     disk: D,
-    line: Line<'_>,
+    question: Question,
     output: &mut Answers<W>,
 ) -> (u8, D)
-    requires { line ≢ Reopen }
-    ensures { Asks D.tells (D.state disk) line.entry (told W.contents result.0 output.old output.new) (D.state result.1) }
+    ensures { Asks D.tells (D.state disk) (line_asked question) (told W.contents result.0 output.old output.new) (D.state result.1) }
 {
+    let store = match Store::open(alloc, disk, MARK) {
+        Ok(store) => store,
+        Err((fault, disk)) => return (refuse(output, Fault::Open(fault)), disk),
+    };
+    let line = line_asked(question, &store);
+    let mut session = match Session::new(alloc, store) {
+        Ok(session) => session,
+        Err(store) => return (refuse(output, Fault::NoMemory), store.close()),
+    };
+    let reply = answer(&mut session, alloc, line);
+    (tell(output, &reply), session.close())
+}
+
+/// Asks a question, if the words spelled its times.
+fn ask_if<D: Disk, W: Write>(
+    alloc: Global,
+    disk: D,
+    question: Option<Question>,
+    output: &mut Answers<W>,
+) -> (u8, D)
+    ensures { MatchOption question (RefusesTime (D.state disk) (told W.contents result.0 output.old output.new) (D.state result.1))
+        (λ q. Asks D.tells (D.state disk) (line_asked q) (told W.contents result.0 output.old output.new) (D.state result.1)) }
+{
+    match question {
+        Some(question) => ask(alloc, disk, question, output),
+        None => (refuse(output, Fault::Time), disk),
+    }
+}
+
+/// Writes a record in a commit of its own, in a store opened for it.
+fn write<D: Disk, W: Write>(
+    alloc: Global,
+    disk: D,
+    write: &RecordWrite<'_>,
+    output: &mut Answers<W>,
+) -> (u8, D)
+    ensures { Writes D.tells (D.state disk) write.entry.now (told W.contents result.0 output.old output.new) (D.state result.1) }
+{
+    let Ok(lines) = lines_of(alloc, write) else {
+        return (refuse(output, Fault::NoMemory), disk);
+    };
     let store = match Store::open(alloc, disk, MARK) {
         Ok(store) => store,
         Err((fault, disk)) => return (refuse(output, Fault::Open(fault)), disk),
@@ -152,10 +196,8 @@ fn ask<D: Disk, W: Write>(
         Ok(session) => session,
         Err(store) => return (refuse(output, Fault::NoMemory), store.close()),
     };
-    match session.answer(alloc, line) {
-        Some(reply) => (tell(output, &reply), session.close()),
-        None => unreachable!(),
-    }
+    let reply = answer_write(&mut session, alloc, &lines);
+    (tell(output, &reply), session.close())
 }
 
 /// Asks for the value of a key at a time, if the words spelled one.
@@ -167,10 +209,10 @@ fn ask_at<D: Disk, W: Write>(
     output: &mut Answers<W>,
 ) -> (u8, D)
     ensures { MatchOption time (RefusesTime (D.state disk) (told W.contents result.0 output.old output.new) (D.state result.1))
-        (λ t. Asks D.tells (D.state disk) (At key t) (told W.contents result.0 output.old output.new) (D.state result.1)) }
+        (λ t. Asks D.tells (D.state disk) (λ _. At key t) (told W.contents result.0 output.old output.new) (D.state result.1)) }
 {
     match time {
-        Some(time) => ask(alloc, disk, Line::At(key, time), output),
+        Some(time) => ask(alloc, disk, Question::Value(key, When::At(time)), output),
         None => (refuse(output, Fault::Time), disk),
     }
 }
@@ -186,10 +228,13 @@ fn ask_between<D: Disk, W: Write>(
 ) -> (u8, D)
     ensures { MatchOption from (RefusesTime (D.state disk) (told W.contents result.0 output.old output.new) (D.state result.1))
         (λ a. MatchOption to (RefusesTime (D.state disk) (told W.contents result.0 output.old output.new) (D.state result.1))
-        (λ b. Asks D.tells (D.state disk) (Between key a b) (told W.contents result.0 output.old output.new) (D.state result.1))) }
+        (λ b. Asks D.tells (D.state disk) (λ _. Between key a b) (told W.contents result.0 output.old output.new) (D.state result.1))) }
 {
     match (from, to) {
-        (Some(a), Some(b)) => ask(alloc, disk, Line::Between(key, a, b), output),
+        (Some(a), Some(b)) => {
+            let question = Question::Rows(key, When::At(a), When::At(b));
+            ask(alloc, disk, question, output)
+        }
         _ => (refuse(output, Fault::Time), disk),
     }
 }
@@ -443,6 +488,11 @@ fn perform<D: Disk, R: LineInput, W: Write>(
             from,
             to,
         } => ask_between(alloc, disk, key, from, to, output),
+        Action::Ask { dir: _, question } => ask_if(alloc, disk, question, output),
+        Action::Write {
+            dir: _,
+            write: asked,
+        } => write(alloc, disk, &asked, output),
         Action::Vacuum { dir: _, time } => vacuum_upto(alloc, disk, time, output),
         Action::Grow { dir: _ } => grow(alloc, disk, output),
         Action::Dump { dir: _ } => dump(alloc, disk, output),

@@ -2,13 +2,15 @@
 #![tactic(auto)]
 
 mod actions;
+mod asking;
 mod dump;
 mod needs;
 mod stress_answer;
 mod vacuuming;
+mod writing;
 
 pub use actions::{act, refuse_folder};
-pub use command_line::{Action, WordsFault, read_words};
+pub use command_line::{Action, Question, RecordWrite, When, action_of, read_words};
 pub use dump::{DumpFault, write_dump};
 pub use needs::{Need, folder_need};
 pub use recovery::OpenFault;

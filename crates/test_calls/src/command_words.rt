@@ -1,6 +1,6 @@
 //! Words of the command line: what they ask for, and the texts of help and usage faults.
-use clap::Error;
-use command_line::{Action, WordsFault, read_words};
+use clap::{ArgMatches, Error};
+use command_line::{Action, Question, RecordWrite, When, action_of, read_words};
 use history::Key;
 use std::alloc::Global;
 use std::test::Fail;
@@ -14,6 +14,9 @@ const SEVEN: Key = Key {
     relation: 1,
     record: 7,
 };
+
+/// What the clock says.
+const NOW: u64 = 1_795_424_400_000_000;
 
 /// Words, and what they ask for.
 const ASKED: &[(&[&str], Action<'static>)] = &[
@@ -68,6 +71,91 @@ const ASKED: &[(&[&str], Action<'static>)] = &[
         },
     ),
     (
+        &["timestore", "get", "d", "1", "7"],
+        Action::Ask {
+            dir: "d",
+            question: Some(Question::Value(SEVEN, When::Now)),
+        },
+    ),
+    (
+        &["timestore", "get", "d", "1", "7", "120"],
+        Action::Ask {
+            dir: "d",
+            question: Some(Question::Value(SEVEN, When::At(120))),
+        },
+    ),
+    (
+        &["timestore", "get", "d", "1", "7", "soon"],
+        Action::Ask {
+            dir: "d",
+            question: None,
+        },
+    ),
+    (
+        &["timestore", "scan", "d", "1", "now"],
+        Action::Ask {
+            dir: "d",
+            question: Some(Question::Records(1, When::Now)),
+        },
+    ),
+    (
+        &["timestore", "history", "d", "1", "7"],
+        Action::Ask {
+            dir: "d",
+            question: Some(Question::Rows(SEVEN, When::First, When::Now)),
+        },
+    ),
+    (
+        &["timestore", "history", "d", "1", "7", "5", "now"],
+        Action::Ask {
+            dir: "d",
+            question: Some(Question::Rows(SEVEN, When::At(5), When::Now)),
+        },
+    ),
+    (
+        &["timestore", "times", "d", "18446744073709551615"],
+        Action::Ask {
+            dir: "d",
+            question: Some(Question::Times(u64::MAX)),
+        },
+    ),
+    (
+        &["timestore", "put", "d", "1", "7", "61", "-"],
+        Action::Write {
+            dir: "d",
+            write: RecordWrite {
+                key: SEVEN,
+                fields: Some(&["61", "-"]),
+                label: 0,
+                now: NOW,
+            },
+        },
+    ),
+    (
+        &["timestore", "put", "--label", "3", "d", "1", "7", "61"],
+        Action::Write {
+            dir: "d",
+            write: RecordWrite {
+                key: SEVEN,
+                fields: Some(&["61"]),
+                label: 3,
+                now: NOW,
+            },
+        },
+    ),
+    (
+        &["timestore", "del", "d", "1", "7", "--label=3"],
+        Action::Write {
+            dir: "d",
+            write: RecordWrite {
+                key: SEVEN,
+                fields: None,
+                label: 3,
+                now: NOW,
+            },
+        },
+    ),
+    (
         &["timestore", "vacuum", "d", "120"],
         Action::Vacuum {
             dir: "d",
@@ -84,9 +172,17 @@ const ASKED: &[(&[&str], Action<'static>)] = &[
     ),
 ];
 
+/// Whether the matches of words ask for this action.
+fn is_meant(matches: &ArgMatches<'_>, action: &Action<'_>) -> bool {
+    match action_of(matches, NOW) {
+        Some(asked) => asked == *action,
+        None => false,
+    }
+}
+
 fn is_asked(alloc: Global, words: &[&str], action: &Action<'_>) -> bool {
     match read_words(alloc, words) {
-        Ok(asked) => asked == *action,
+        Ok(matches) => is_meant(&matches, action),
         Err(_) => false,
     }
 }
@@ -100,8 +196,8 @@ fn words_ask_for_actions(rt: HostRuntime) {
 
 fn usage<'a>(alloc: Global, words: &'a [&'a str]) -> Result<Error, Fail> {
     match read_words(alloc, words) {
-        Err(WordsFault::Usage(error)) => Ok(error),
-        _ => Err(Fail::from("the words are taken")),
+        Err(error) => Ok(error),
+        Ok(_) => Err(Fail::from("the words are taken")),
     }
 }
 
@@ -140,6 +236,43 @@ const FAULTS: &[(&str, &[&str])] = &[
         "vacuum with two times",
         &["timestore", "vacuum", "d", "1", "2"],
     ),
+    ("put without a field", &["timestore", "put", "d", "1", "7"]),
+    (
+        "put with 17 fields",
+        &[
+            "timestore",
+            "put",
+            "d",
+            "1",
+            "7",
+            "-",
+            "-",
+            "-",
+            "-",
+            "-",
+            "-",
+            "-",
+            "-",
+            "-",
+            "-",
+            "-",
+            "-",
+            "-",
+            "-",
+            "-",
+            "-",
+            "-",
+        ],
+    ),
+    (
+        "a label that is no number",
+        &["timestore", "del", "d", "1", "7", "--label", "x"],
+    ),
+    ("times without a label", &["timestore", "times", "d"]),
+    (
+        "scan of two times",
+        &["timestore", "scan", "d", "1", "2", "3"],
+    ),
     ("no such command", &["timestore", "forget", "d"]),
     ("slots without a command", &["timestore", "--slots", "16"]),
 ];
@@ -147,8 +280,8 @@ const FAULTS: &[(&str, &[&str])] = &[
 /// Whether words are refused with an exit status of 2, on standard error.
 fn is_refused(alloc: Global, words: &[&str]) -> bool {
     match read_words(alloc, words) {
-        Err(WordsFault::Usage(error)) => error.exit_code() == 2 && error.use_stderr(),
-        _ => false,
+        Err(error) => error.exit_code() == 2 && error.use_stderr(),
+        Ok(_) => false,
     }
 }
 
@@ -191,6 +324,12 @@ const NAMED: &[&str] = &[
     "\n  vacuum ",
     "\n  grow ",
     "\n  dump ",
+    "\n  get ",
+    "\n  scan ",
+    "\n  history ",
+    "\n  times ",
+    "\n  put ",
+    "\n  del ",
     "16 to 65536",
     "1 to 16\n             commits",
     "65536 extents of 8 KiB",
@@ -283,6 +422,27 @@ const HELP: &[(&str, &[&str])] = &[
             "reclaimed N",
             "first refusal",
         ],
+    ),
+    ("get", &["<DIR>", "<REL>", "<REC>", "[TIME]", "`now`"]),
+    ("scan", &["<DIR>", "<REL>", "[TIME]", "`now`"]),
+    ("history", &["<DIR>", "<REL>", "<REC>", "[FROM]", "[TO]"]),
+    ("times", &["<DIR>", "<LABEL>"]),
+    (
+        "put",
+        &[
+            "<DIR>",
+            "<REL>",
+            "<REC>",
+            "<FIELD>...",
+            "--label <N>",
+            "[default: 0]",
+            "done T",
+            "bad value",
+        ],
+    ),
+    (
+        "del",
+        &["<DIR>", "<REL>", "<REC>", "--label <N>", "missing"],
     ),
     ("grow", &["<DIR>", "slots N", "not growable"]),
     (

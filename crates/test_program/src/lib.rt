@@ -45,6 +45,8 @@ mod machine;
 #[cfg(test)]
 mod names;
 #[cfg(test)]
+mod one_shots;
+#[cfg(test)]
 mod raised_floors;
 #[cfg(test)]
 mod records;

@@ -5,8 +5,9 @@ use crate::machine::{KEY, Machine, NEWEST, NO_FAULT, SCRIPT};
 use crate::second_stops::again_behind;
 use crate::write_sets::Written;
 use disk::{Area, Disk, Fault, FaultDisk, MemDisk};
+use history::Key;
 use script::read_time;
-use shell::Action;
+use shell::{Action, Question, RecordWrite};
 use std::alloc::{AllocError, Global};
 
 /// What is done to a disk, and what must come of it. Lines and bytes are those of the newest profile.
@@ -37,6 +38,11 @@ pub enum Step {
     Rows(&'static str, &'static str, &'static str, u8),
     /// A script and a question are refused with this text.
     Refuses(&'static str),
+    /// A question, what is answered, and the status.
+    Asks(Question, &'static str, u8),
+    /// A record's fields, or none where it is deleted, with the label and the clock's time: what is answered,
+    /// and the status.
+    Writes(Key, Option<&'static [&'static str]>, (u64, u64), &'static str, u8),
     /// The log's text, with the status; nothing is written.
     Dumps(&'static str, u8),
     /// The key's value at a time, as `at` answers; a refusal has status 1.
@@ -85,6 +91,29 @@ fn rows(from: &str, to: &str) -> Action<'static> {
         from: read_time(from.as_bytes()),
         to: read_time(to.as_bytes()),
     }
+}
+
+/// A question.
+fn asks(question: Question) -> Action<'static> {
+    Action::Ask {
+        dir: "",
+        question: Some(question),
+    }
+}
+
+/// A write of a record with a label, when the clock says so.
+fn writes(
+    key: Key,
+    fields: Option<&'static [&'static str]>,
+    (label, now): (u64, u64),
+) -> Action<'static> {
+    let write = RecordWrite {
+        key,
+        fields,
+        label,
+        now,
+    };
+    Action::Write { dir: "", write }
 }
 
 /// A vacuum up to the time that a text spells.
@@ -252,6 +281,10 @@ impl Machine {
             }
             Step::Vacuums(time, lines, status) => self.says(vacuum(time), "", lines, status),
             Step::Rows(from, to, lines, status) => self.says(rows(from, to), "", lines, status),
+            Step::Asks(question, lines, status) => self.says(asks(question), "", lines, status),
+            Step::Writes(key, fields, times, lines, status) => {
+                self.says(writes(key, fields, times), "", lines, status)
+            }
             Step::Dumps(text, status) => self.dumps(text, status),
             Step::At(time, line) => self.shows(time, line),
             _ => self.touches(step),

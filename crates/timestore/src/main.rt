@@ -7,11 +7,11 @@ ghost use Rattle.timestore.specs.Folders.{LacksFile};
 mod stress;
 
 use crate::stress::run_stress;
-use clap::Error;
+use clap::{ArgMatches, Error};
 use disk::MemDisk;
 use disk_file::{Access, FileDisk, FolderFault};
 use session::{Answers, LineInput, Lines};
-use shell::{Action, Need, OpenFault, WordsFault, act, folder_need, read_words, refuse_folder};
+use shell::{Action, Need, OpenFault, act, action_of, folder_need, read_words, refuse_folder};
 use status::{LogFault, read_header};
 use std::alloc::{AllocError, Global};
 use std::env::Args;
@@ -19,7 +19,10 @@ use std::fs::File;
 use std::io;
 use std::io::{BufReader, BufWriter, Write};
 use std::process::ExitCode;
-use std::rt::Files;
+use std::rt::{Clock, Files, Runtime};
+use std::sync::Wait;
+use std::thread::Threads;
+use std::time::SystemTime;
 use workload::Plan;
 
 /// The bytes of the script that are read ahead, and those of answers that are gathered.
@@ -100,16 +103,28 @@ fn texts_of(alloc: Global, words: &[String]) -> Result<Vec<&str>, AllocError> {
     Ok(texts)
 }
 
-fn main(rt: HostRuntime) -> io::Result<ExitCode> {
-    let alloc = rt.alloc();
-    let words = words_of(alloc, std::env::args(&rt)?)?;
-    let texts = texts_of(alloc, &words)?;
-    let action = match read_words(alloc, texts.as_slice()) {
-        Ok(action) => action,
-        Err(WordsFault::Usage(error)) => return print_usage(&rt, &error),
-        Err(WordsFault::Unread) => return Ok(ExitCode::from(2)),
+/// What the clock says, in microseconds since 1970. Where it says nothing, 0: a commit then comes just after
+/// the last.
+fn clock_time(rt: &impl Clock) -> u64 {
+    let Ok(now) = SystemTime::now(rt) else {
+        return 0;
     };
-    let mut writer = BufWriter::with_capacity(alloc, BUFFER, io::writer(&rt))?;
+    match now.duration_since(SystemTime::UNIX_EPOCH) {
+        Ok(time) => u64::try_from(time.as_micros()).unwrap_or(0),
+        Err(_) => 0,
+    }
+}
+
+/// Does what the matches of the words ask for.
+fn answer<R: Runtime + Files<File = File> + AllocGlobal + Threads + Wait + Sync>(
+    rt: &R,
+    alloc: Global,
+    matches: &ArgMatches<'_>,
+) -> io::Result<ExitCode> {
+    let Some(action) = action_of(matches, clock_time(rt)) else {
+        return Ok(ExitCode::from(2));
+    };
+    let mut writer = BufWriter::with_capacity(alloc, BUFFER, io::writer(rt))?;
     if let Action::Stress {
         writers,
         readers,
@@ -121,15 +136,25 @@ fn main(rt: HostRuntime) -> io::Result<ExitCode> {
             readers,
             rounds,
         };
-        return Ok(ExitCode::from(run_stress(&rt, alloc, plan, &mut writer)));
+        return Ok(ExitCode::from(run_stress(rt, alloc, plan, &mut writer)));
     }
     let mut input = Lines::new(alloc, BufReader::with_capacity(alloc, BUFFER, rt.reader())?);
     let mut output = Answers::new(alloc, writer);
     let status = match folder_need(&action) {
         Need::Nothing => act(alloc, action, MemDisk::new(alloc), &mut input, &mut output).0,
-        Need::Make(dir) => act_in(&rt, action, dir, Access::Make, &mut input, &mut output),
-        Need::Change(dir) => act_in(&rt, action, dir, Access::Change, &mut input, &mut output),
-        Need::Read(dir) => act_in(&rt, action, dir, Access::Read, &mut input, &mut output),
+        Need::Make(dir) => act_in(rt, action, dir, Access::Make, &mut input, &mut output),
+        Need::Change(dir) => act_in(rt, action, dir, Access::Change, &mut input, &mut output),
+        Need::Read(dir) => act_in(rt, action, dir, Access::Read, &mut input, &mut output),
     };
     Ok(ExitCode::from(status))
+}
+
+fn main(rt: HostRuntime) -> io::Result<ExitCode> {
+    let alloc = rt.alloc();
+    let words = words_of(alloc, std::env::args(&rt)?)?;
+    let texts = texts_of(alloc, &words)?;
+    match read_words(alloc, texts.as_slice()) {
+        Ok(matches) => answer(&rt, alloc, &matches),
+        Err(error) => print_usage(&rt, &error),
+    }
 }

@@ -1,6 +1,8 @@
 use Rattle.std.proofs.Common.{ap, subst, inl, inr, ◌∙◌}
+use Rattle.script.specs.declared.line.Line.{Line}
 use Rattle.session.specs.Session.{State, Step}
 use Rattle.store.specs.Values.{StoreValue}
+use Rattle.shell.specs.Asking.{line_asked}
 use Rattle.shell.proofs.actions.ask.Goals as goal
 
 pub returns-in-Err : goal.returns-in-Err
@@ -14,9 +16,12 @@ pub returns : goal.returns
 returns g c = inr (inr (record {
   opened = c.in-Ok.store;
   opens = c.in-Ok.ensures.ok;
-  answer = c.in-Some.reply;
-  asked = c.answer.new.self;
-  step = subst (λ (s : State). Step g.D.Disk.tells s c.args.line c.in-Some.reply c.answer.new.self) c.in-Ok-new.ensures.ok c.in-Some.ensures;
+  answer = c.answer-reply.result;
+  asked = c.answer-reply.new.session;
+  step = subst (λ (s : State). Step g.D.Disk.tells s (line_asked c.args.question c.in-Ok.store) c.answer-reply.result c.answer-reply.new.session)
+      c.in-Ok-new.ensures.ok
+      (subst (λ (l : Line). Step g.D.Disk.tells c.in-Ok-new.session l c.answer-reply.result c.answer-reply.new.session) c.line_asked-line.ensures.line
+      c.answer-reply.ensures);
   told = c.tell.ensures;
-  closes = c.close-in-Some.ensures;
+  closes = c.close-2.ensures;
 }))

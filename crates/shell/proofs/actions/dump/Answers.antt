@@ -1,4 +1,4 @@
-use Rattle.std.proofs.Common.{◌≡◌, List, subst, inl, inr, refl, sym, ◌∙◌}
+use Rattle.std.proofs.Common.{◌≡◌, List, subst, inl, inr, ◌∙◌}
 use Rattle.disk.specs.Calls.{DiskState}
 use Rattle.status.specs.Reading.{HoldsLog, IsLogFault, refused_by}
 use Rattle.wire.specs.declared.slot.Slot.{Slot}

@@ -6,6 +6,12 @@ returns-in-At g c = rw c.in-At.is c.ask_at.ensures
 pub returns-in-Between : goal.returns-in-Between
 returns-in-Between g c = rw c.in-Between.is c.ask_between.ensures
 
+pub returns-in-Ask : goal.returns-in-Ask
+returns-in-Ask g c = rw c.in-Ask.is c.ask_if.ensures
+
+pub returns-in-Write : goal.returns-in-Write
+returns-in-Write g c = rw c.in-Write.is c.write.ensures
+
 pub returns-in-Vacuum : goal.returns-in-Vacuum
 returns-in-Vacuum g c = rw c.in-Vacuum.is c.vacuum_upto.ensures
 

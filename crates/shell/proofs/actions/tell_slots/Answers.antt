@@ -1,6 +1,6 @@
 use Rattle.std.proofs.Common.{ℕ, ◌++◌, codes, subst, inl, inr}
 use Rattle.std.specs.Fmt.{decimal}
-use Rattle.shell.specs.Acts.{IsSaid, told, slots_line}
+use Rattle.shell.specs.Acts.{IsSaid, told}
 use Rattle.shell.proofs.Said.{said-by}
 use Rattle.shell.proofs.actions.tell_slots.Goals as goal
 

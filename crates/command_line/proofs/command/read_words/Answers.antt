@@ -2,7 +2,7 @@ use Rattle.std.proofs.Common.{◌≡◌, List, ℕ, Bor, map, subst, refl, true,
 use Rattle.std.specs.Prelude.{IfOk}
 use Rattle.clap.specs.Words.{App, FailsBy, HasMatchesOf, fault_of, is_simple, is_simple_and_free}
 use Rattle.command_line.specs.Commands.{timestore}
-use Rattle.command_line.proofs.command.matches.Goals as goal
+use Rattle.command_line.proofs.command.read_words.Goals as goal
 
 if_ok-more : {T E : Type 0} {P Q : T → Type 0} (r : Result T E) → ((x : T) → P x → Q x) → IfOk r P → IfOk r Q
 if_ok-more (Ok x) more holds = more x holds

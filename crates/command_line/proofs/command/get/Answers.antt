@@ -1,0 +1,7 @@
+use Rattle.std.proofs.Common.{codes}
+use Rattle.command_line.specs.Commands.{of_record, time_or_now}
+use Rattle.command_line.proofs.command.get.Goals as goal
+
+pub returns : goal.returns
+returns c =
+    c.with_arg.ensures (of_record (codes "get")) time_or_now c.of_record-command.ensures c.time_or_now.ensures

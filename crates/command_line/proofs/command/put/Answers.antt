@@ -1,0 +1,10 @@
+use Rattle.std.proofs.Common.{codes}
+use Rattle.clap.specs.Words.{App, with_rule}
+use Rattle.command_line.specs.Commands.{of_record, fields, label}
+use Rattle.command_line.proofs.command.put.Goals as goal
+
+pub returns : goal.returns
+returns c =
+    let record_named : App = of_record (codes "put") in
+    c.with_arg.ensures (with_rule record_named fields) label (c.with_arg-command.ensures record_named fields c.of_record-command.ensures c.fields.ensures)
+    c.label.ensures

@@ -1,0 +1,6 @@
+use Rattle.clap.specs.Words.{found_of, rows_of}
+use Rattle.command_line.proofs.AskLemmas.{no_key_get}
+use Rattle.command_line.proofs.read.get.Goals as goal
+
+pub returns-in_err-key-clause-none : goal.returns-in_err-key-clause-none
+returns-in_err-key-clause-none c = rw c.from_residual.ensures (no_key_get (rows_of (found_of c.args.matches.now)) c.in_err-key.ensures.none)

@@ -1,0 +1,6 @@
+pub mod Fields
+pub mod Times
+pub mod Json
+pub mod Lines
+pub mod Shown
+pub mod Laws
