@@ -6,7 +6,8 @@ use Rattle.history.specs.declared.key.Key.{Key}
 use Rattle.command_line.specs.declared.action.Action.{Action}
 use Rattle.command_line.specs.declared.action.Action.TheVariants as action
 use Rattle.command_line.specs.declared.question.RecordWrite.{RecordWrite}
-use Rattle.command_line.specs.Asked.{AsksAt, AsksBetween, AsksDelete, AsksFormat, AsksGet, AsksHistory, AsksPut, AsksScan, AsksStress, AsksTimes, HasKey, HasNumber}
+use Rattle.command_line.specs.Asked.{AsksAt, AsksBetween, AsksDelete, AsksFormat, AsksGet, AsksHistory}
+use Rattle.command_line.specs.Asked.{AsksPut, AsksScan, AsksStress, AsksTimes, HasKey, HasNumber}
 
 pub no_slots : (rows : List Row) → ((n : ℕ) → HasNumber 32 (codes "slots") rows n → ⊥) → (a : Action) → AsksFormat rows a → ⊥
 no_slots rows none action.Example asked = asked
@@ -113,7 +114,8 @@ no_label rows none (action.Grow dir) asked = asked
 no_label rows none (action.Dump dir) asked = asked
 no_label rows none (action.Stress writers readers rounds) asked = asked
 
-pub no_put : (now : ℕ) (rows : List Row) → ((dir : Bor Text) (write : RecordWrite) → AsksPut now rows (action.Write dir write) → ⊥) → (a : Action) → AsksPut now rows a → ⊥
+pub no_put : (now : ℕ) (rows : List Row) → ((dir : Bor Text) (write : RecordWrite) → AsksPut now rows (action.Write dir write) → ⊥) → (a : Action)
+    → AsksPut now rows a → ⊥
 no_put now rows none action.Example asked = asked
 no_put now rows none (action.Format dir slots) asked = asked
 no_put now rows none (action.Run dir) asked = asked
@@ -126,7 +128,8 @@ no_put now rows none (action.Grow dir) asked = asked
 no_put now rows none (action.Dump dir) asked = asked
 no_put now rows none (action.Stress writers readers rounds) asked = asked
 
-pub no_delete : (now : ℕ) (rows : List Row) → ((dir : Bor Text) (write : RecordWrite) → AsksDelete now rows (action.Write dir write) → ⊥) → (a : Action) → AsksDelete now rows a → ⊥
+pub no_delete : (now : ℕ) (rows : List Row) → ((dir : Bor Text) (write : RecordWrite) → AsksDelete now rows (action.Write dir write) → ⊥) → (a : Action)
+    → AsksDelete now rows a → ⊥
 no_delete now rows none action.Example asked = asked
 no_delete now rows none (action.Format dir slots) asked = asked
 no_delete now rows none (action.Run dir) asked = asked

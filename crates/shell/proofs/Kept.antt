@@ -124,7 +124,8 @@ runs_new-kept tells old new input o v gives (inl refused) = inl (unmade-kept tel
 runs_new-kept tells old new input o v gives (inr runs) =
     inr (record { made = runs.made; formatted = runs.formatted; sound = runs.sound; runs = runs-kept tells runs.made new input o v gives runs.runs })
 
-asks-kept : (tells : Bool) (old new : DiskState) (asks : StoreValue → Line) (o v : Output) → GivesOut o v → Asks tells old asks o new → Asks tells old asks v new
+asks-kept : (tells : Bool) (old new : DiskState) (asks : StoreValue → Line) (o v : Output) → GivesOut o v → Asks tells old asks o new
+    → Asks tells old asks v new
 asks-kept tells old new asks o v gives (inl refused) = inl (not_opened-kept tells old new o v gives refused)
 asks-kept tells old new asks o v gives (inr (inl lacks)) = inr (inl (no_memory-kept tells old new o v gives lacks))
 asks-kept tells old new asks o v gives (inr (inr asked)) = inr (inr (record {
