@@ -1,3 +1,0 @@
-pub mod EachLemmas
-pub mod EscapeLemmas
-pub mod TextLemmas

@@ -1,6 +1,0 @@
-pub mod Fields
-pub mod Times
-pub mod Json
-pub mod Lines
-pub mod Shown
-pub mod Laws
