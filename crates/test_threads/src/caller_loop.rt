@@ -140,7 +140,9 @@ fn serve_beside<D: Disk + Send, L: Opening + Send + Sync, R: Threads + Wait + Ab
     join(
         rt,
         move || serve(rt, store, other, count),
-        move || call_watched(rt, store, share, me, count),
+        move ||
+            requires { 0 < share.parts }
+        { call_watched(rt, store, share, me, count) },
     );
 }
 
