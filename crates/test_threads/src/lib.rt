@@ -2,6 +2,10 @@
 #![tactic(auto)]
 
 #[cfg(test)]
+mod caller_loop;
+#[cfg(test)]
+mod committer_loop;
+#[cfg(test)]
 mod counted_disk;
 #[cfg(test)]
 mod device_calls;
@@ -12,11 +16,15 @@ mod grown;
 #[cfg(test)]
 mod latest_views;
 #[cfg(test)]
+mod loops;
+#[cfg(test)]
 mod moved_view;
 #[cfg(test)]
 mod noted;
 #[cfg(test)]
 mod refused;
+#[cfg(test)]
+mod vacuum_loop;
 #[cfg(test)]
 mod vacuumed;
 #[cfg(test)]
