@@ -85,11 +85,13 @@ rates: build
 	if command -v valgrind >/dev/null; then bench/rates.py $(PROGRAM) --instructions && tests/growths.py $(PROGRAM); fi
 
 # Every example of the documents, its answers compared; the small store of docs/FORMAT.md byte by byte; that each example of a page
-# crates/NAME/CALLING.md is a test; and that README and docs/USING.md are no longer than they may be.
+# crates/NAME/CALLING.md is a test; that README and docs/USING.md are no longer than they may be; and that the man page and the completions are
+# what the program's help gives.
 examples: build
 	tests/using_test.py $(PROGRAM) README.md docs/USING.md
 	tests/format_test.py $(PROGRAM) docs/FORMAT.md
 	tests/pages_test.py
+	library/man/from_help.py $(PROGRAM)
 
 # All that is measured, in one command, for a machine at rest. FOLDER=DIR measures the disk of DIR.
 bench: build

@@ -3,4 +3,5 @@ pub mod Times
 pub mod Json
 pub mod Lines
 pub mod Shown
+pub mod Styles
 pub mod Laws

@@ -11,4 +11,4 @@ mod text_field;
 
 pub use lines::{spell_count, spell_found, spell_record, spell_row, spell_times};
 pub use style::{Form, Style};
-pub use text_field::{field_of, spell_text_field};
+pub use text_field::{field_of, spell_hex_field, spell_text_field};

@@ -12,8 +12,6 @@ use crate::json_line;
 use crate::moment::{Shown, instant_if};
 use crate::style::{Form, Style};
 use std::alloc::{AllocError, Global};
-use std::io;
-use std::io::Write;
 use wire::Value;
 
 /// Spells a value or none in words.
@@ -179,17 +177,26 @@ pub fn spell_row(
     spell_shown_row(alloc, text, style.form, begin, end, value)
 }
 
+/// Spells a line of words and a number.
+fn spell_counted(text: &mut Vec<u8>, words: &str, count: usize) -> Result<(), AllocError>
+    ensures { OnOk result (Appends (Some text.old.items) (Some text.new.items) (words.now ++ (decimal count ++ codes "\n"))) }
+{
+    text.extend_from_slice(words.as_bytes())?;
+    spell_number(text, count as u64)?;
+    Ok(text.push(b'\n')?)
+}
+
 /// Spells how many lines came before; JSON has no such line.
 ///
 /// # Errors
 ///
 /// Where there is no memory for it.
-pub fn spell_count(text: &mut Vec<u8>, form: Form, count: usize) -> io::Result<()>
+pub fn spell_count(text: &mut Vec<u8>, form: Form, count: usize) -> Result<(), AllocError>
     ensures { OnOk result (Appends (Some text.old.items) (Some text.new.items) (told.count_text form count)) }
 {
     match form {
-        Form::Hex => writeln!(text, "rows {count}"),
-        Form::Text => writeln!(text, "rows\t{count}"),
+        Form::Hex => spell_counted(text, "rows ", count),
+        Form::Text => spell_counted(text, "rows\t", count),
         Form::Json => Ok(()),
     }
 }
