@@ -8,7 +8,7 @@ BENCH = crates/bench/out/bench
 # tell its speed is given as much longer for the gate.
 BUDGET = 200
 
-.PHONY: demo test more-edits build try examples bench trials torture torture-short soak hostile try-refused planted rates lib install library-test library-bench rados-test rados-bench
+.PHONY: demo test more-edits build try examples pages bench trials torture torture-short soak hostile try-refused planted rates lib install library-test library-bench rados-test rados-bench
 
 test:
 	@command -v rt >/dev/null || { echo "the Rattle kit's command rt is not on PATH" >&2; exit 1; }
@@ -84,21 +84,25 @@ rates: build
 	bench/rates.py $(PROGRAM) $(if $(FOLDER),--folder $(FOLDER))
 	if command -v valgrind >/dev/null; then bench/rates.py $(PROGRAM) --instructions && tests/growths.py $(PROGRAM); fi
 
-# Every example of the documents, its answers compared; the small store of docs/FORMAT.md byte by byte; that each example of a page
-# crates/NAME/CALLING.md is a test; that README and docs/USING.md are no longer than they may be; and that the man page and the completions are
-# what the program's help gives.
-examples: build
+# Every example of the documents, its answers compared; the small store of docs/FORMAT.md byte by byte; and that the man page and the completions
+# are what the program's help gives.
+examples: build pages
 	tests/using_test.py $(PROGRAM) README.md docs/USING.md
 	tests/format_test.py $(PROGRAM) docs/FORMAT.md
-	tests/pages_test.py
 	library/man/from_help.py $(PROGRAM)
+
+# What needs no program: that each example of a page crates/NAME/CALLING.md is a test; that pages, and lines of code and proofs, are no longer
+# than they may be; that the table of docs/WRONG_BODIES.md has the edits that there are, and each edit fits the code.
+pages:
+	tests/pages_test.py
+	docs/wrong_bodies.py > /dev/null
 
 # All that is measured, in one command, for a machine at rest. FOLDER=DIR measures the disk of DIR.
 bench: build
 	cd crates/bench && rt run > /dev/null
 	bench/store_bench.py $(BENCH) --program $(PROGRAM) $(if $(FOLDER),--folder $(FOLDER))
 	bench/shared_bench.py $(BENCH) $(if $(FOLDER),--folder $(FOLDER))
-	bench/bench.py $(PROGRAM) $(FOLDER)
+	bench/program_bench.py $(PROGRAM) $(FOLDER)
 	bench/rates.py $(PROGRAM) $(if $(FOLDER),--folder $(FOLDER))
 	bench/status_growth.py $(PROGRAM) $(if $(FOLDER),--folder $(FOLDER))
 	bench/copies.py $(PROGRAM)

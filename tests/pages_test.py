@@ -1,13 +1,18 @@
 #!/usr/bin/env python3
-"""Checks pages: each example of crates/NAME/CALLING.md is a test of the repository, word for word; and the pages that
-everyone reads have no more words than they may. Is called at the top of the repository."""
+"""Checks pages and lines: each example of crates/NAME/CALLING.md is a test of the repository, word for word; the pages
+that everyone reads have no more words than they may; each crate has a page of its own, of few lines; no line of code or
+proof is too long; and the table of wrong bodies has those that there are. Is called at the top of the repository."""
 import glob
+import os
 import re
 import sys
 
 TESTS = ["crates/test_calls/src/*.rt", "crates/test_storage/src/*.rt"]
 # The most words of a page, as `wc -w` counts them.
-MOST_WORDS = {"README.md": 900, "docs/USING.md": 3_000}
+MOST_WORDS = {"README.md": 700, "docs/USING.md": 3_000}
+# The most lines of crates/NAME/README.md, and the most characters of a line of code or proof.
+MOST_LINES = 40
+MOST_CHARACTERS = 160
 
 
 def read(path: str) -> str:
@@ -33,14 +38,48 @@ def is_too_long(page: str, most: int) -> bool:
     return words > most
 
 
+def lacks_page(crate: str) -> bool:
+    """Whether a crate has no page, or one of too many lines; says which."""
+    page = f"crates/{crate}/README.md"
+    lines = len(read(page).splitlines()) if os.path.isfile(page) else None
+    if lines is None or lines > MOST_LINES:
+        print(f"{page}: " + ("is missing" if lines is None else f"{lines} lines, and {MOST_LINES} are the most"))
+    return lines is None or lines > MOST_LINES
+
+
+def long_lines() -> int:
+    """How many lines of code and proofs are too long; each is named."""
+    found = 0
+    for folder in ("src", "specs", "proofs"):
+        for path in sorted(glob.glob(f"crates/*/{folder}/**/*.*", recursive=True)):
+            for number, line in enumerate(read(path).split("\n") if path.endswith((".rt", ".antt")) else [], 1):
+                if len(line) > MOST_CHARACTERS:
+                    print(f"{path}:{number}: {len(line)} characters, and {MOST_CHARACTERS} are the most")
+                    found += 1
+    return found
+
+
+def untold_edits() -> int:
+    """How many edits of crates/NAME/must-fail the table of docs/WRONG_BODIES.md lacks, or has and there are not; each is named."""
+    told = set(re.findall(r"`(\w+/\w+)`", read("docs/WRONG_BODIES.md"))) - {f"crates/{name}" for name in os.listdir("crates")}
+    there = {f"{path.split('/')[1]}/{path.split('/')[3].removesuffix('.edit')}" for path in glob.glob("crates/*/must-fail/*.edit")}
+    for name in sorted(told ^ there):
+        print(f"docs/WRONG_BODIES.md: {name} is " + ("not in the table" if name in there else "no edit"))
+    return len(told ^ there)
+
+
 def main() -> int:
-    """The exit status: 0 where every example is a test and no page is too long."""
+    """The exit status: 0 where every example is a test, each crate has its page, no page or line is too long, and each edit is told."""
     tests = [read(path) for pattern in TESTS for path in glob.glob(pattern)]
     pages = sorted(glob.glob("crates/*/CALLING.md"))
     missing = sum(missing_examples(page, tests) for page in pages)
     print(f"{len(pages)} pages, {missing} examples that are no test")
     long = [page for page, most in MOST_WORDS.items() if is_too_long(page, most)]
-    return 1 if missing or not pages or long else 0
+    crates = [line.split(":")[0].split()[0] for line in read("crates.txt").splitlines() if ":" in line.split("#")[0]]
+    without = [crate for crate in crates if lacks_page(crate)]
+    lines, edits = long_lines(), untold_edits()
+    print(f"{len(crates)} crates, {len(without)} without a page of {MOST_LINES} lines or fewer; {lines} lines that are too long")
+    return 1 if missing or not pages or long or without or lines or edits else 0
 
 
 if __name__ == "__main__":

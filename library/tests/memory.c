@@ -2,35 +2,9 @@
  * folder of its own in it. A call that is refused memory is made again, and answers as if it had not been. Where
  * the device call could not be noted, the store is failed: it goes on answering, and is opened again.
  * It is linked with --wrap of malloc, calloc and realloc. */
-#include "check.h"
-#include <stdbool.h>
-#include <sys/stat.h>
+#include "refused_memory.h"
 
-void *__real_malloc(size_t size);
-void *__real_calloc(size_t count, size_t size);
-void *__real_realloc(void *at, size_t size);
-void *__wrap_malloc(size_t size);
-void *__wrap_calloc(size_t count, size_t size);
-void *__wrap_realloc(void *at, size_t size);
-
-static uint64_t grown, refused_growth, failures;
-
-static bool is_refused(void) { return ++grown == refused_growth; }
-
-void *__wrap_malloc(size_t size) { return is_refused() ? NULL : __real_malloc(size); }
-void *__wrap_calloc(size_t count, size_t size) { return is_refused() ? NULL : __real_calloc(count, size); }
-void *__wrap_realloc(void *at, size_t size) { return is_refused() ? NULL : __real_realloc(at, size); }
-
-/* Makes a call again where memory was refused. */
-#define ASK(code, call)                      \
-    do (code) = (call);                      \
-    while ((code) == TS_NO_MEMORY)
-#define DOES(call)                           \
-    do {                                     \
-        int32_t code_;                       \
-        ASK(code_, call);                    \
-        CHECK(TS_OK, code_);                 \
-    } while (0)
+static uint64_t failures;
 
 typedef struct life {
     const char *folder;
@@ -45,19 +19,17 @@ static void open_life(life *l) {
     l->last = info.a;
 }
 
-static const char *const TEXTS[] = {NULL, "a", "b", "c"};
-
 /* Whether a record had this text at a time. */
 static void answers(life *l, uint64_t time) {
     ts *h = ts_file_store(l->file);
-    uint8_t value[TS_VALUE_MOST], wanted[258];
+    uint8_t value[TS_VALUE_MOST];
     const uint8_t *archive;
-    size_t len, wanted_len = value_of(TEXTS[time / 100], wanted);
+    size_t len;
     ts_info view, info;
     DOES(ts_view(h, &view));
     DOES(ts_file_archive(l->file, &archive, &len));
     DOES(ts_at(h, view.a, 1, 7, time, archive, len, value, sizeof value, &info));
-    HOLDS(info.a == wanted_len && memcmp(value, wanted, wanted_len) == 0);
+    HOLDS(is_text_of(time, value, info.a));
     CHECK(TS_OK, ts_end(h, view.a));
 }
 
@@ -66,8 +38,7 @@ static void times(life *l, uint64_t last) {
     uint64_t found[8];
     ts_info info;
     DOES(ts_times_of(ts_file_store(l->file), 9, found, 8, &info));
-    HOLDS(info.a == last / 100);
-    for (uint64_t i = 0; i < info.a; i++) HOLDS(found[i] == 100 * (i + 1));
+    HOLDS(are_times(found, info.a, last));
 }
 
 /* The store has failed: what was published answers, and it is opened again. */
@@ -176,10 +147,8 @@ int main(int argc, char **argv) {
     char folder[4096];
     if (argc != 2) return 2;
     uint64_t growth = 0;
-    do {
-        snprintf(folder, sizeof folder, "%s/%" PRIu64, argv[1], ++growth);
-        HOLDS(mkdir(folder, 0777) == 0);
-    } while (live(folder, growth));
+    do new_folder(folder, argv[1], "", ++growth);
+    while (live(folder, growth));
     printf("refused %" PRIu64 " growths, %" PRIu64 " of them of a device call\n", growth - 1, failures);
     HOLDS(growth - 1 >= 50 && failures > 0);
     return 0;

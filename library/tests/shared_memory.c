@@ -1,41 +1,11 @@
 /* Refuses each growth of memory in turn of the life of a store that threads share: shared_memory FOLDER, one that is there;
  * each trial has a folder of its own in it. What is refused memory is asked again, and answers as if it had not been; a commit
  * and a job that were on their way go on. It is linked with --wrap of malloc, calloc and realloc. */
-#include "check.h"
+#include "refused_memory.h"
 #include <pthread.h>
-#include <stdatomic.h>
-#include <stdbool.h>
-#include <sys/stat.h>
 #include <timestore_shared.h>
 
-void *__real_malloc(size_t size);
-void *__real_calloc(size_t count, size_t size);
-void *__real_realloc(void *at, size_t size);
-void *__wrap_malloc(size_t size);
-void *__wrap_calloc(size_t count, size_t size);
-void *__wrap_realloc(void *at, size_t size);
-
-static atomic_uint_fast64_t grown, refused_growth; /* of all threads */
 static uint64_t failures, waited, stopped_jobs;
-
-static bool is_refused(void) { return atomic_fetch_add(&grown, 1) + 1 == atomic_load(&refused_growth); }
-
-void *__wrap_malloc(size_t size) { return is_refused() ? NULL : __real_malloc(size); }
-void *__wrap_calloc(size_t count, size_t size) { return is_refused() ? NULL : __real_calloc(count, size); }
-void *__wrap_realloc(void *at, size_t size) { return is_refused() ? NULL : __real_realloc(at, size); }
-
-/* Makes a call again where memory was refused. */
-#define ASK(code, call)                      \
-    do (code) = (call);                      \
-    while ((code) == TS_NO_MEMORY)
-#define DOES(call)                           \
-    do {                                     \
-        int32_t code_;                       \
-        ASK(code_, call);                    \
-        CHECK(TS_OK, code_);                 \
-    } while (0)
-
-static const char *const TEXTS[] = {NULL, "a", "b", "c"};
 static const char *folder;
 static ts_shared *s;
 static uint64_t last;
@@ -49,12 +19,11 @@ static void open_it(void) {
 
 /* Whether a record had this text at a time. */
 static void answers(uint64_t time) {
-    uint8_t value[TS_VALUE_MOST], wanted[258];
-    size_t wanted_len = value_of(TEXTS[time / 100], wanted);
+    uint8_t value[TS_VALUE_MOST];
     ts_info view, info;
     DOES(ts_shared_view(s, &view));
     DOES(ts_shared_at(s, view.a, 1, 7, time, value, sizeof value, &info));
-    HOLDS(info.a == wanted_len && memcmp(value, wanted, wanted_len) == 0);
+    HOLDS(is_text_of(time, value, info.a));
     CHECK(TS_OK, ts_shared_end(s, view.a));
 }
 
@@ -62,8 +31,7 @@ static void times(void) {
     uint64_t found[8];
     ts_info info;
     DOES(ts_shared_times_of(s, 9, found, 8, &info));
-    HOLDS(info.a == last / 100);
-    for (uint64_t i = 0; i < info.a; i++) HOLDS(found[i] == 100 * (i + 1));
+    HOLDS(are_times(found, info.a, last));
 }
 
 /* The store has failed: what was published answers, and it is opened again. */
@@ -197,11 +165,6 @@ static void live_beside(uint64_t refuse) {
     answers(150);
     answers(last);
     ts_shared_free(s);
-}
-
-static void new_folder(char *path, const char *top, const char *kind, uint64_t growth) {
-    snprintf(path, 4096, "%s/%s%" PRIu64, top, kind, growth);
-    HOLDS(mkdir(path, 0777) == 0);
 }
 
 int main(int argc, char **argv) {

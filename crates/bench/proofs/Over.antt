@@ -19,7 +19,8 @@ turns-over v disk t = record { turning = t.turning; writing = t.writing; turn = 
 step-over : (v : StoreValue) (disk : DiskState) → IsInStep v → IsInStep (record v { disk = disk })
 step-over v disk s = record { slots = s.slots; used = s.used; turns = λ works. turns-over v disk (s.turns works) }
 
-place-over : (o : Option Job) (v : StoreValue) (m : Machine Value) (disk : DiskState) → MatchOption o (Unit {0}) (λ job. HasPlace job.work v m) → MatchOption o (Unit {0}) (λ job. HasPlace job.work (record v { disk = disk }) m)
+place-over : (o : Option Job) (v : StoreValue) (m : Machine Value) (disk : DiskState) → MatchOption o (Unit {0}) (λ job. HasPlace job.work v m)
+    → MatchOption o (Unit {0}) (λ job. HasPlace job.work (record v { disk = disk }) m)
 place-over None v m disk p = p
 place-over (Some job) v m disk p = by-work job.work p
   where
@@ -47,7 +48,8 @@ still-over tells v m disk s = record {
   runs = λ told. untold told;
 }
 
-growing-over : (tells : Bool) (growth : GrowthState) (v : StoreValue) (m : Machine Value) (disk : DiskState) → StandsGrowing tells growth v m → StandsGrowing false growth (record v { disk = disk }) m
+growing-over : (tells : Bool) (growth : GrowthState) (v : StoreValue) (m : Machine Value) (disk : DiskState) → StandsGrowing tells growth v m
+    → StandsGrowing false growth (record v { disk = disk }) m
 growing-over tells growth v m disk s = record {
   job = s.job;
   slots = s.slots;

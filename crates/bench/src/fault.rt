@@ -2,10 +2,11 @@
 
 use disk::DeviceFault;
 use disk_file::FolderFault;
-use recovery::{FormatFault, OpenFault};
 use std::alloc::AllocError;
 use std::io;
-use store::{BeginFault, PumpFault, QueryFault, StartFault, SubmitFault, TxnFault};
+use store::{
+    BeginFault, FormatFault, OpenFault, PumpFault, QueryFault, StartFault, SubmitFault, TxnFault,
+};
 use thiserror::Error;
 
 #[derive(Debug, Drop, Error)]

@@ -24,6 +24,7 @@ FOLDER is there and empty; COUNT says how often
 w1   commits a second of one record each, one at a time
 w2g  commits a second of one record each, 16 under one gate
 w3   records a second, in commits of 1,024
+e1   commits a second of one record each, one at a time, of a store whose log lies in the heap; e16, e64, e1024: so many under one gate
 w4   values a second, each of a key as of a random time; for w4 to w6 and w8 each key has NUMBER versions
 w5   rows a second, of all versions of a key
 w5w  the same, walked over in a loan
@@ -42,7 +43,8 @@ c1   commits a second of one record each, COUNT by one writer; c2, c4, c8, c16, 
 r1   views a second, COUNT by one reader beside a writer; r2, r3, r4: by so many, COUNT each
 q1   values a second by one view, COUNT by one reader beside a writer; q2, q3, q4: by so many, COUNT each
 h    microseconds that the lock is held, over COUNT groups of 16 commits and a vacuum
-soak a line for each thing that a thread was told: 8 writers in COUNT rounds of 40 ms, 8 readers, a committer and a vacuum, with numbers that begin with NUMBER; rush: with no pause
+soak a line for each thing that a thread was told: 8 writers in COUNT rounds of 40 ms, 8 readers, \
+a committer and a vacuum, with numbers that begin with NUMBER; rush: with no pause
 ";
 
 /// The status of words that ask for nothing.

@@ -5,6 +5,7 @@
 mod asking;
 mod committing;
 mod copying;
+mod log_writing;
 mod memory;
 mod opening;
 mod past;
@@ -37,6 +38,9 @@ pub(crate) fn measure(
     let runs = request.number.unwrap_or(1);
     match verb {
         Verb::Commits(shape) => writing::measure(rt, alloc, folder, shape, count),
+        Verb::LogCommits(commits, extents) => {
+            log_writing::measure(rt, alloc, folder, commits, extents, count)
+        }
         Verb::Queries(question) => asking::measure(rt, alloc, folder, question, count, versions),
         Verb::Opening => opening::measure(rt, alloc, folder, count),
         Verb::Size => asking::measure_size(rt, alloc, folder, versions),

@@ -3,7 +3,7 @@
 use crate::fault::Fault;
 use crate::stores;
 use std::alloc::Global;
-use std::fs::{File, OpenOptions};
+use std::fs::{File, OpenOptions, create_dir};
 use std::io;
 use std::os::unix::fs::FileExt;
 use std::rt::Files;
@@ -75,5 +75,47 @@ impl RawFiles {
         self.status.sync_data()?;
         self.status.write_all_at(&OPEN, slot)?;
         self.status.sync_data()
+    }
+}
+
+/// The file of a heap that no store writes.
+#[derive(Drop)]
+pub(crate) struct RawLog {
+    heap: File,
+    extents: u64,
+}
+
+impl RawLog {
+    /// Makes a folder with an empty heap, below this one.
+    pub(crate) fn new<R: Files<File = File> + AllocGlobal>(
+        rt: &R,
+        alloc: Global,
+        folder: &str,
+    ) -> Result<RawLog, Fault> {
+        let folder = format!(in alloc; "{folder}/raw")?;
+        create_dir(rt, folder.as_str())?;
+        let path = format!(in alloc; "{folder}/heap")?;
+        let heap = OpenOptions::new()
+            .read(true)
+            .write(true)
+            .create_new(true)
+            .open(rt, path.as_str())?;
+        Ok(RawLog { heap, extents: 0 })
+    }
+
+    /// Writes so many extents, and a gate behind them; then the gate in front, with a sync after each of the two.
+    pub(crate) fn write_group(&mut self, extents: u64) -> io::Result<()> {
+        let extent = [(self.extents % 251) as u8; EXTENT_LEN as usize];
+        let first = self.extents.wrapping_mul(EXTENT_LEN);
+        for _ in 0..extents {
+            self.heap
+                .write_all_at(&extent, self.extents.wrapping_mul(EXTENT_LEN))?;
+            self.extents = self.extents.wrapping_add(1);
+        }
+        self.heap
+            .write_all_at(&[0], self.extents.wrapping_mul(EXTENT_LEN))?;
+        self.heap.sync_data()?;
+        self.heap.write_all_at(&OPEN, first)?;
+        self.heap.sync_data()
     }
 }

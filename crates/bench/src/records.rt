@@ -1,8 +1,8 @@
 //! The records that are written and asked for: values of four fields of 16 bytes.
 
 use byteorder::{ByteOrder, LittleEndian};
-use chains::SharedValue;
 use history::Key;
+use store::SharedValue;
 
 /// The relation of all records.
 pub(crate) const RELATION: u16 = 1;

@@ -2,11 +2,10 @@
 
 use crate::fault::Fault;
 use disk_file::{Access, FileDisk};
-use recovery::format;
 use std::alloc::Global;
 use std::fs::{File, create_dir};
 use std::rt::Files;
-use store::Store;
+use store::{Store, format};
 
 /// The mark of the one store that is open.
 pub(crate) const MARK: u64 = 1;

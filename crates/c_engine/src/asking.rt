@@ -6,11 +6,9 @@ ghost use Rattle.c_engine.specs.Queries.{IsOver, over};
 
 use crate::{RelayDisk, SliceDisk};
 use archive::ArchiveReader;
-use chains::SharedValue;
 use history::{Key, Version};
 use std::alloc::{AllocError, Global};
-use store::Store;
-use timequery::{QueryFault, View};
+use store::{QueryFault, SharedValue, Store, View};
 
 /// The store under an engine.
 pub type Kept = Store<RelayDisk>;

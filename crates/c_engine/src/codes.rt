@@ -6,10 +6,9 @@ ghost use Rattle.c_engine.specs.Queries.{IsFaultCode};
 
 use crate::code::{Code, Info};
 use disk::Area;
-use group::{BeginFault, Did, PumpFault, SubmitFault};
-use snapshot::TxnFault;
-use store::{JobDid, OpenFault, StartFault};
-use timequery::QueryFault;
+use store::{
+    BeginFault, Did, JobDid, OpenFault, PumpFault, QueryFault, StartFault, SubmitFault, TxnFault,
+};
 
 pub(crate) fn area_number(area: Area) -> u32
     ensures { result ≡ area_number area }

@@ -9,10 +9,9 @@ use crate::places::Places;
 use crate::step::Step;
 use crate::values::copy_bytes;
 use disk::{Area, Disk};
-use group::PumpFault;
 use std::alloc::Global;
 use std::mem;
-use timequery::View;
+use store::{PumpFault, View};
 
 /// Whether the engine's store is asked now.
 #[derive(Clone, Copy, Debug, PartialEq, Eq)]

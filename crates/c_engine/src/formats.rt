@@ -10,7 +10,7 @@ use crate::{RelayDisk, SliceDisk};
 use disk::{Area, Disk, MemDisk};
 use recovery::FormatFault;
 use std::alloc::Global;
-use store::{OpenFault, Store};
+use store::Store;
 
 /// The bytes of the status area of a new store. The host writes them from 512 on, syncs, writes the
 /// first 512, and syncs; the other areas are empty.
@@ -50,8 +50,6 @@ pub fn open(
     ensures refused { IfErr result (λ code. RefusesEngine status.now heap.now archive.now code info.new) }
 {
     match Store::open(alloc, SliceDisk::new(status, heap, archive), mark) {
-        // Bytes that are lent refuse no read, and an opening makes too few calls to come to the greatest count.
-        Err((OpenFault::Device, _)) => Err(Code::NoMemory),
         Err((fault, _)) => Err(open_code(fault, info)),
         Ok(store) => {
             info.a = store.last();

@@ -4,12 +4,10 @@ ghost use Rattle.c_engine.specs.FreePlaces.{AreChained};
 ghost use Rattle.c_engine.specs.Numbers.{place_in, stamp_in, tag_in};
 
 use crate::values;
-use group::Ticket;
 use history::Key;
-use snapshot::{Txn, TxnFault};
 use std::alloc::Global;
 use std::mem;
-use timequery::View;
+use store::{Ticket, Txn, TxnFault, View};
 
 /// So many values are held at a time.
 const MAX_PLACES: usize = 65_536;
@@ -229,7 +227,8 @@ impl Places {
 
     /// Takes a transaction out.
     pub fn take_transaction(&mut self, number: u64) -> Option<Txn>
-        ensures { MatchOption result ((transaction_in (named self.old number) ≡ None) × (self.new ≡ self.old)) (λ txn. (transaction_in (named self.old number) ≡ Some txn) × IsTaken number self.old self.new) }
+        ensures { MatchOption result ((transaction_in (named self.old number) ≡ None) × (self.new ≡ self.old))
+            (λ txn. (transaction_in (named self.old number) ≡ Some txn) × IsTaken number self.old self.new) }
     {
         self.transaction(number)?;
         match self.take(number) {
@@ -243,7 +242,8 @@ impl Places {
 
     /// Takes a view out.
     pub fn take_view(&mut self, number: u64) -> Option<View>
-        ensures { MatchOption result ((view_in (named self.old number) ≡ None) × (self.new ≡ self.old)) (λ view. (view_in (named self.old number) ≡ Some view) × IsTaken number self.old self.new) }
+        ensures { MatchOption result ((view_in (named self.old number) ≡ None) × (self.new ≡ self.old))
+            (λ view. (view_in (named self.old number) ≡ Some view) × IsTaken number self.old self.new) }
     {
         self.view(number)?;
         match self.take(number) {
@@ -257,7 +257,8 @@ impl Places {
 
     /// Takes a ticket out.
     pub fn take_ticket(&mut self, number: u64) -> Option<Ticket>
-        ensures { MatchOption result ((ticket_in (named self.old number) ≡ None) × (self.new ≡ self.old)) (λ ticket. (ticket_in (named self.old number) ≡ Some ticket) × IsTaken number self.old self.new) }
+        ensures { MatchOption result ((ticket_in (named self.old number) ≡ None) × (self.new ≡ self.old))
+            (λ ticket. (ticket_in (named self.old number) ≡ Some ticket) × IsTaken number self.old self.new) }
     {
         self.ticket(number)?;
         match self.take(number) {
@@ -277,7 +278,8 @@ impl Places {
         key: Key,
         value: &[u8],
     ) -> Option<Result<(), TxnFault>>
-        ensures { MatchOption result ((transaction_in (named self.old number) ≡ None) × (self.new ≡ self.old)) (λ outcome. IsWritten number (Puts key value.now) outcome self.old self.new) }
+        ensures { MatchOption result ((transaction_in (named self.old number) ≡ None) × (self.new ≡ self.old))
+            (λ outcome. IsWritten number (Puts key value.now) outcome self.old self.new) }
     {
         self.transaction(number)?;
         let at = (number % STAMP_UNIT) as usize;
@@ -289,7 +291,8 @@ impl Places {
 
     /// Deletes in a transaction; none where the number names none.
     pub fn delete(&mut self, number: u64, key: Key) -> Option<Result<(), TxnFault>>
-        ensures { MatchOption result ((transaction_in (named self.old number) ≡ None) × (self.new ≡ self.old)) (λ outcome. IsWritten number (Deletes key) outcome self.old self.new) }
+        ensures { MatchOption result ((transaction_in (named self.old number) ≡ None) × (self.new ≡ self.old))
+            (λ outcome. IsWritten number (Deletes key) outcome self.old self.new) }
     {
         self.transaction(number)?;
         let at = (number % STAMP_UNIT) as usize;

@@ -12,10 +12,9 @@ use crate::engine::{Engine, EngineState, Published};
 use crate::places::{Held, Places};
 use crate::rows::{records_out, rows_out, scan_out, value_out};
 use archive::RunEntry;
-use chains::SharedValue;
 use history::{Key, Version};
 use std::alloc::Global;
-use timequery::{QueryFault, View};
+use store::{QueryFault, SharedValue, View};
 
 // The view of a number; the last one names that of what was published before a device call.
 fn view_of<'a>(places: &'a Places, before: &'a Option<Published>, number: u64) -> Option<&'a View>

@@ -23,14 +23,14 @@ pub struct RelayDisk {
 }
 
 impl RelayDisk {
-    ghost use Rattle.disk.specs.Areas.{area_of};
+    ghost use Rattle.disk.specs.Areas.{area_of, image_of, settled_on};
     ghost use Rattle.disk.specs.Calls.{Counts, refused_answer};
     ghost use Rattle.c_engine.specs.LastWrites.{last_write, noted_write};
     ghost use Rattle.c_engine.specs.RelayState.{relay_state, slices_state};
 
-    /// A disk whose areas are these.
+    /// A disk whose areas have these bytes, all of them synced.
     pub fn new(alloc: Global, areas: &SliceDisk<'_>) -> RelayDisk
-        ensures { relay_state result ≡ record { areas = (slices_state areas.now).areas; made = 0; refused = 0 } }
+        ensures { relay_state result ≡ record { areas = settled_on (image_of (slices_state areas.now).areas); made = 0; refused = 0 } }
     {
         let note = Note::Holds(areas.status, areas.heap, areas.archive);
         RelayDisk {

@@ -8,8 +8,8 @@ ghost use Rattle.c_engine.specs.Rows.{Shown, shown_record, shown_version, shown_
 
 use crate::code::{Code, Info, Row};
 use crate::values::{copy_out, length_of};
-use chains::SharedValue;
 use history::Version;
+use store::SharedValue;
 use wire::Value;
 
 /// Copies a value out; none has its own code.
@@ -75,7 +75,8 @@ impl Copying {
 
     // Copies one row; where one does not fit, none behind it is copied.
     fn copy(&mut self, row: Row, value: &Value, rows: &mut [Row], out: &mut [u8])
-        ensures { (shown : List Shown) → length shown < 2 ^ 63 → AreLaid shown self.old rows.old out.old → AreLaid (shown ++ shown_as row value.now ∷ []) self.new rows.new out.new }
+        ensures { (shown : List Shown) → length shown < 2 ^ 63 → AreLaid shown self.old rows.old out.old
+            → AreLaid (shown ++ shown_as row value.now ∷ []) self.new rows.new out.new }
     {
         self.fits = self.place(row, value, rows, out);
         self.rows = self.rows.saturating_add(1);

@@ -1,10 +1,19 @@
 //! Bytes that a host lends.
-ghost use Rattle.std.specs.Prelude.{◌≡◌};
+ghost use Rattle.std.specs.Prelude.{◌≡◌, ◌<◌, ◌-◌, ◌^◌, None};
 ghost use Rattle.disk.specs.Areas.{AreBytes};
 
 use disk::{Area, DeviceFault, Disk};
 
-/// A disk that reads three areas where a host has them, and writes nothing. The host has synced them.
+/// So many bytes of an area, from a place on.
+#[derive(Clone, Copy, Drop)]
+struct Range {
+    area: Area,
+    at: u64,
+    len: u64,
+}
+
+/// A disk that reads three areas where a host has them, and writes nothing. The host has synced them. It refuses
+/// writes, and all syncs behind the first of them, but no read.
 #[derive(Drop)]
 pub struct SliceDisk<'a> {
     pub(crate) status: &'a [u8],
@@ -12,6 +21,9 @@ pub struct SliceDisk<'a> {
     pub(crate) archive: &'a [u8],
     made: u64,
     refused: u64,
+    // Where the first write was to go. For all that a caller is told, a part of it may have been made.
+    torn: Option<Range>,
+    pub ghost served: { torn ≡ None → made < 2 ^ 64 - 1 → refused ≡ 0 },
     pub ghost status_bytes: { AreBytes status.now },
     pub ghost heap_bytes: { AreBytes heap.now },
     pub ghost archive_bytes: { AreBytes archive.now },
@@ -32,6 +44,7 @@ impl<'a> SliceDisk<'a> {
             archive,
             made: 0,
             refused: 0,
+            torn: None,
         }
     }
 
@@ -66,14 +79,19 @@ impl<'a> Disk for SliceDisk<'a> {
         Ok(())
     }
 
-    fn write_at(&mut self, _area: Area, _at: u64, _bytes: &[u8]) -> Result<(), DeviceFault> {
+    fn write_at(&mut self, area: Area, at: u64, bytes: &[u8]) -> Result<(), DeviceFault> {
+        if self.made < u64::MAX && self.torn.is_none() {
+            let len = bytes.len() as u64;
+            self.torn = Some(Range { area, at, len });
+        }
         self.made = self.made.saturating_add(1);
         self.refused = self.refused.saturating_add(1);
         Err(DeviceFault)
     }
 
     fn sync(&mut self, _area: Area) -> Result<(), DeviceFault> {
-        if self.made == u64::MAX {
+        if self.made == u64::MAX || self.torn.is_some() {
+            self.made = self.made.saturating_add(1);
             self.refused = self.refused.saturating_add(1);
             return Err(DeviceFault);
         }

@@ -6,8 +6,7 @@ use crate::code::Info;
 use crate::codes::{did_number, job_number};
 use crate::device_call::DeviceCall;
 use disk::Area;
-use group::Did;
-use store::JobDid;
+use store::{Did, JobDid};
 
 /// What a step of a store did.
 #[derive(Clone, Copy, Debug, PartialEq, Eq)]

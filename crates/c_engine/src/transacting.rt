@@ -8,14 +8,14 @@ use crate::engine::{Engine, EngineState};
 use crate::places::Held;
 use crate::rows::{records_out, value_out};
 use crate::step::Step;
-use group::{Redeemed, Submitted, Ticket};
 use history::Key;
-use snapshot::Txn;
+use store::{Redeemed, Submitted, Ticket, Txn};
 
 impl Engine {
     ghost use Rattle.c_engine.specs.Queries.{Sees, SeesScan};
     ghost use Rattle.c_engine.specs.Writes.{Puts, Deletes};
-    ghost use Rattle.c_engine.specs.Engines.{BeginsEngine, TakesTransaction, Writes, SubmitsEngine, SubmitsTaken, AbortsEngine, AbortsTaken, PumpsEngine, RedeemsEngine, RedeemsTaken, KeepsTicket, GivesUp, was_published};
+    ghost use Rattle.c_engine.specs.Engines.{BeginsEngine, TakesTransaction, Writes, SubmitsEngine, SubmitsTaken, AbortsEngine, AbortsTaken};
+    ghost use Rattle.c_engine.specs.Engines.{PumpsEngine, RedeemsEngine, RedeemsTaken, KeepsTicket, GivesUp, was_published};
 
     /// A transaction on what is published now; its number and the time of its snapshot are told.
     pub fn begin(&mut self, info: &mut Info) -> Code

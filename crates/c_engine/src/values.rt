@@ -4,8 +4,8 @@ ghost use Rattle.wire.specs.Values.{IsValue, value_bytes};
 ghost use Rattle.c_engine.specs.Writes.{SpellsValue, Puts};
 
 use history::Key;
-use snapshot::{Txn, TxnFault};
 use std::alloc::{AllocError, Global};
+use store::{Txn, TxnFault};
 use wire::{Value, take_fields};
 
 /// Copies a value to the front; none where there is no room.

@@ -2,7 +2,7 @@
 use Rattle.std.specs.Prelude.{ℕ, ◌≡◌, ◌+◌, ◌<◌, ◌≤◌, List, [], ◌∷◌, ◌++◌, length, take}
 use Rattle.history.specs.Time.{IsRisingAfter}
 use Rattle.history.specs.Versions.{first_time}
-use Rattle.chains.specs.Shapes.{Shape, all_of, highest}
+use Rattle.chains.specs.Shapes.{Shape, all_of, highest, leaf, last_of, fork_of}
 use Rattle.chains.specs.Writes.{Write}
 use Rattle.chains.specs.declared.older.Parts.{Parts}
 use Rattle.chains.specs.declared.older.Parts.TheVariants.{Writes, Branches}
@@ -11,15 +11,16 @@ use Rattle.chains.specs.declared.older.Inside.TheVariants.{Nothing, Few, Full, F
 
 -- the writes, oldest first, and how many forks and branches stand above one another among them
 abbrev pub older_in : Inside → Shape Write
-older_in Nothing = record { pieces = []; height = 0 }
-older_in (Few shared) = record { pieces = shared.value.items; height = 0 }
-older_in (Full shared) = record { pieces = shared.value; height = 0 }
-older_in (Fork shared) = record { pieces = all_of shared.value.items; height = highest shared.value.items + 1 }
-older_in (Wide count shared) = record { pieces = all_of (take count shared.value); height = highest shared.value + 1 }
+older_in Nothing = leaf []
+older_in (Few shared) = leaf shared.value.items
+older_in (Full shared) = leaf shared.value
+older_in (Fork shared) = fork_of (highest shared.value.items + 1) shared.value.items
+older_in (Wide count shared) = fork_of (highest shared.value + 1) (take count shared.value)
 
--- they rise by their times, and no more branches are told of than can lie together
+-- they rise by their times, a fork has some branches, and no more are told of than can lie together
 abbrev pub IsOlder : Inside → Type 0
-IsOlder (Wide count shared) = IsRisingAfter 0 (all_of (take count shared.value)) × (count ≤ 32)
+IsOlder (Fork shared) = IsRisingAfter 0 (all_of shared.value.items) × (0 < length shared.value.items)
+IsOlder (Wide count shared) = IsRisingAfter 0 (all_of (take count shared.value)) × (count ≤ 32) × (0 < length (take count shared.value))
 IsOlder inside = IsRisingAfter 0 (older_in inside).pieces
 
 -- some writes by rising times, of which the first was made at that time
@@ -31,10 +32,13 @@ pub record IsFork (fork : Shape Write) (branches : List (Shape Write)) : Type 0 
   pub writes : all_of branches ≡ fork.pieces
   pub height : highest branches < fork.height
   pub rising : IsRisingAfter 0 (all_of branches)
+  pub some : 0 < length branches
+  pub forks : fork.forks ≡ length branches ∷ (last_of branches).forks
+  pub together : fork.together ≡ (last_of branches).together
 
 -- what older writes are made of
 abbrev pub IsMadeOf : Shape Write → Parts → Type 0
-IsMadeOf older (Writes writes) = (older ≡ record { pieces = writes.now; height = 0 }) × IsRisingAfter 0 writes.now
+IsMadeOf older (Writes writes) = (older ≡ leaf writes.now) × IsRisingAfter 0 writes.now
 IsMadeOf older (Branches branches) = IsFork older branches.now
 
 -- there are branches, of which the first begins by a time

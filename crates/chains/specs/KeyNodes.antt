@@ -10,7 +10,7 @@ use Rattle.chains.specs.declared.key_node.KeyInside.{KeyInside}
 use Rattle.chains.specs.declared.key_node.KeyInside.TheVariants.{Leaf, Fork}
 use Rattle.chains.specs.Bounds.{is_in}
 use Rattle.chains.specs.KeyWrites.{KeyWrites, IsOrdered}
-use Rattle.chains.specs.Shapes.{Shape, all_of, highest}
+use Rattle.chains.specs.Shapes.{Shape, all_of, highest, leaf, fork_of}
 
 -- the chains of the node on top, if there is one
 abbrev pub chains_below : Option (Shape KeyWrites) → List KeyWrites
@@ -19,8 +19,8 @@ chains_below (Some node) = node.pieces
 
 -- what lies in a node, in the order of the keys, and how many forks stand above one another in it
 abbrev pub chains_in : KeyInside → Shape KeyWrites
-chains_in (Leaf first shared) = record { pieces = shared.value.items; height = 0 }
-chains_in (Fork first shared) = record { pieces = all_of shared.value.items; height = highest shared.value.items + 1 }
+chains_in (Leaf first shared) = leaf shared.value.items
+chains_in (Fork first shared) = fork_of (highest shared.value.items + 1) shared.value.items
 
 -- there are chains, of which the first is of this key
 abbrev pub BeginAt : Key → List KeyWrites → Type 0
@@ -41,12 +41,12 @@ pub record IsKeyFork (fork : Shape KeyWrites) (nodes : List (Shape KeyWrites)) :
 
 -- what a node is made of
 abbrev pub AreKeyParts : Shape KeyWrites → KeyParts → Type 0
-AreKeyParts node (Chains chains) = (node ≡ record { pieces = chains.now; height = 0 }) × IsOrdered chains.now
+AreKeyParts node (Chains chains) = (node ≡ leaf chains.now) × IsOrdered chains.now
 AreKeyParts node (Nodes nodes) = IsKeyFork node nodes.now
 
 -- what a node is made of, that can be given away
 abbrev pub IsMadeOf : Shape KeyWrites → OwnParts → Type 0
-IsMadeOf node (own.Chains chains) = (node ≡ record { pieces = chains.items; height = 0 }) × IsOrdered chains.items
+IsMadeOf node (own.Chains chains) = (node ≡ leaf chains.items) × IsOrdered chains.items
 IsMadeOf node (own.Nodes nodes) = IsKeyFork node nodes.items
 
 -- what a node is made of, or else the node itself

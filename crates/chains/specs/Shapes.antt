@@ -1,10 +1,13 @@
--- Trees as what they hold in order and their height.
-use Rattle.std.specs.Prelude.{ℕ, max, List, [], ◌∷◌, ◌++◌}
+-- Trees as what they hold in order, their height, and the way to what stands last.
+use Rattle.std.specs.Prelude.{ℕ, max, List, [], ◌∷◌, ◌++◌, length}
 
--- what a tree holds, in order, and how many nodes stand below one another in it
+-- What a tree holds, in order, and how many nodes stand below one another in it. Of the way from the top to what stands last: how many branches each fork on it
+-- has, and how many pieces lie together at its end.
 pub record Shape (E : Type 0) : Type 0 where
   pub pieces : List E
   pub height : ℕ
+  pub forks : List ℕ
+  pub together : ℕ
 
 -- what several trees hold, one behind another
 abbrev pub all_of : {E : Type 0} → List (Shape E) → List E
@@ -15,3 +18,20 @@ all_of (t ∷ ts) = t.pieces ++ all_of ts
 abbrev pub highest : {E : Type 0} → List (Shape E) → ℕ
 highest [] = 0
 highest (t ∷ ts) = max t.height (highest ts)
+
+-- these lie together
+abbrev pub leaf : {E : Type 0} → List E → Shape E
+leaf pieces = record { pieces = pieces; height = 0; forks = []; together = length pieces }
+
+-- the last of several trees, or this one where there is none
+abbrev pub last_or : {E : Type 0} → Shape E → List (Shape E) → Shape E
+last_or t [] = t
+last_or t (u ∷ us) = last_or u us
+
+-- the last of several trees
+abbrev pub last_of : {E : Type 0} → List (Shape E) → Shape E
+last_of ts = last_or (leaf []) ts
+
+-- several trees below a fork of this height
+abbrev pub fork_of : {E : Type 0} → ℕ → List (Shape E) → Shape E
+fork_of height ts = record { pieces = all_of ts; height = height; forks = length ts ∷ (last_of ts).forks; together = (last_of ts).together }

@@ -2,7 +2,8 @@
 ghost use Rattle.std.specs.Prelude.{◌≡◌, ◌<◌, ◌≤◌, ◌-◌, ◌++◌, IfOk, OnOk, drop, length, take};
 ghost use Rattle.history.specs.Time.{IsRisingAfter};
 ghost use Rattle.chains.specs.Branches.{BeginBy, BeginAfter, IsFrom};
-ghost use Rattle.chains.specs.Shapes.{all_of};
+ghost use Rattle.chains.specs.Growth.{branches_of};
+ghost use Rattle.chains.specs.Shapes.{all_of, highest};
 ghost use Rattle.chains.specs.Rows as specs;
 
 use crate::older::{Branch, Older};
@@ -30,6 +31,7 @@ pub(crate) fn padded(branches: Vec<Branch>) -> Result<Vec<Branch>, AllocError>
     requires few { length branches.items ≤ 32 }
     ensures front { IfOk result (λ all. take (length branches.items) all.items ≡ branches.items) }
     ensures full { IfOk result (λ all. length all.items ≡ 32) }
+    ensures low { IfOk result (λ all. highest all.items ≤ highest branches.items) }
 {
     let mut all = branches;
     while all.len() < WIDTH {
@@ -41,7 +43,8 @@ pub(crate) fn padded(branches: Vec<Branch>) -> Result<Vec<Branch>, AllocError>
 
 /// Puts a branch of older writes behind others, where there are some.
 pub(crate) fn add_branch(branches: &mut Vec<Branch>, older: Older) -> Result<(), AllocError>
-    ensures { OnOk result (all_of branches.new.items ≡ all_of branches.old.items ++ older.pieces) }
+    ensures pieces { OnOk result (all_of branches.new.items ≡ all_of branches.old.items ++ older.pieces) }
+    ensures branches { OnOk result (branches.new.items ≡ branches.old.items ++ branches_of older older.pieces) }
 {
     if let Some(branch) = Branch::of(older) {
         branches.push(branch)?;

@@ -3,7 +3,8 @@ ghost use Rattle.std.specs.Prelude.{◌≡◌, ◌<◌, ◌≤◌, [], IfOk, IfS
 ghost use Rattle.history.specs.Time.{IsRisingAfter};
 ghost use Rattle.history.specs.Versions.{first_time};
 ghost use Rattle.chains.specs.Branches.{IsMadeOf};
-ghost use Rattle.chains.specs.Shapes.{all_of};
+ghost use Rattle.chains.specs.Growth.{IsForkOf, as_branch};
+ghost use Rattle.chains.specs.Shapes.{all_of, leaf};
 
 use crate::branching::{NEARLY_ALL, WIDTH, padded};
 use crate::full_piece::FullPiece;
@@ -81,13 +82,14 @@ impl Model for Older {
 }
 
 impl Model for Branch {
-    ghost use Rattle.std.specs.Prelude.{◌+◌};
     ghost use Rattle.chains.specs.Shapes.{Shape};
     ghost use Rattle.chains.specs.Writes.{Write};
 
     ghost Value = { Shape Write };
 
-    ghost view = { λ b. record { pieces = b.older.pieces; height = b.older.height + 1 } };
+    ghost use Rattle.chains.specs.Growth.{as_branch};
+
+    ghost view = { λ b. as_branch b.older };
 
     ghost use Rattle.chains.specs.Branches.{BeginAt};
 
@@ -128,7 +130,7 @@ impl Share for Branch {
 impl Older {
     /// Without any write.
     pub(crate) fn new() -> Self
-        ensures { result.pieces ≡ [] }
+        ensures { result ≡ leaf [] }
     {
         Older {
             inside: Inside::Nothing,
@@ -138,7 +140,7 @@ impl Older {
     /// The writes of one piece.
     pub(crate) fn few(writes: Arc<Vec<StampedWrite>>) -> Self
         requires { IsRisingAfter 0 writes.value.items }
-        ensures { result.pieces ≡ writes.value.items }
+        ensures { result ≡ leaf writes.value.items }
     {
         Older {
             inside: Inside::Few(writes),
@@ -148,7 +150,7 @@ impl Older {
     /// The writes of one piece, as many as it has at most.
     pub(crate) fn full(writes: Arc<FullPiece>) -> Self
         requires { IsRisingAfter 0 writes.value }
-        ensures { result.pieces ≡ writes.value }
+        ensures { result ≡ leaf writes.value }
     {
         Older {
             inside: Inside::Full(writes),
@@ -158,9 +160,13 @@ impl Older {
     /// The writes of branches, one behind another.
     pub(crate) fn fork(alloc: Global, branches: Vec<Branch>) -> Result<Self, AllocError>
         requires { IsRisingAfter 0 (all_of branches.items) }
-        ensures { IfOk result (λ o. o.pieces ≡ all_of branches.items) }
+        ensures is { IfOk result (λ o. o.pieces ≡ all_of branches.items) }
+        ensures shape { IfOk result (λ o. 0 < length branches.items → IsForkOf branches.items o) }
     {
         let count = branches.len();
+        if count == 0 {
+            return Ok(Self::new());
+        }
         if NEARLY_ALL <= count && count <= WIDTH {
             return Self::wide(alloc, branches);
         }
@@ -175,7 +181,8 @@ impl Older {
         requires rising { IsRisingAfter 0 (all_of branches.items) }
         requires some { 0 < length branches.items }
         requires few { length branches.items ≤ 32 }
-        ensures { IfOk result (λ o. o.pieces ≡ all_of branches.items) }
+        ensures is { IfOk result (λ o. o.pieces ≡ all_of branches.items) }
+        ensures shape { IfOk result (IsForkOf branches.items) }
     {
         let count = branches.len() as u8;
         let Ok(full) = <[Branch; WIDTH]>::try_from(padded(branches)?) else {
@@ -189,7 +196,7 @@ impl Older {
 
     /// Whether there are none.
     pub(crate) fn is_empty(&self) -> bool
-        ensures { IsTrue result → self.now.pieces ≡ [] }
+        ensures { IsTrue result → self.now ≡ leaf [] }
     {
         matches!(&self.inside, Inside::Nothing)
     }
@@ -241,7 +248,8 @@ impl Older {
 impl Branch {
     /// The same writes, where there are some.
     pub(crate) fn of(older: Older) -> Option<Self>
-        ensures { MatchOption result (older.pieces ≡ []) (λ b. b.pieces ≡ older.pieces) }
+        ensures is { MatchOption result (older.pieces ≡ []) (λ b. b ≡ as_branch older) }
+        ensures some { IfSome result (λ b. 0 < length older.pieces) }
     {
         let first = match older.parts() {
             Parts::Writes(writes) => writes.first()?.time(),
@@ -265,6 +273,7 @@ impl Branch {
     pub(crate) fn writes(&self) -> &Older
         ensures is { result.now.pieces ≡ self.now.pieces }
         ensures lower { result.now.height < self.now.height }
+        ensures branch { self.now ≡ as_branch result.now }
     {
         &self.older
     }

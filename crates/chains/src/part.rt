@@ -38,7 +38,8 @@ impl Model for Part {
 /// Whether a write has a version that ends at `to`, after the time.
 fn is_ending_after(write: &StampedWrite, to: u64, time: u64) -> bool
     ensures none { result ≡ false → find (ends_after time) (version_of write.now.time to write.now.write) ≡ None }
-    ensures found { IsTrue result → find (ends_after time) (version_of write.now.time to write.now.write) ≡ slice_get (version_of write.now.time to write.now.write) 0 }
+    ensures found { IsTrue result
+        → find (ends_after time) (version_of write.now.time to write.now.write) ≡ slice_get (version_of write.now.time to write.now.write) 0 }
     ensures some { IsTrue result → 0 < length (version_of write.now.time to write.now.write) }
 {
     let Some(_) = write.value() else {

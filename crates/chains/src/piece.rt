@@ -3,6 +3,7 @@ ghost use Rattle.std.specs.Prelude.{◌≡◌, ◌<◌, ◌^◌, ◌∷◌, ◌+
 ghost use Rattle.history.specs.Time.{IsRisingAfter};
 ghost use Rattle.history.specs.Versions.{first_time};
 ghost use Rattle.chains.specs.Pieces.{held};
+ghost use Rattle.chains.specs.Shapes.{leaf};
 ghost use Rattle.chains.specs.Stamps.{write_of_loan};
 ghost use Rattle.chains.specs.Writes.{last_time, kept_after};
 
@@ -136,7 +137,8 @@ impl Piece {
         later: &Piece,
     ) -> Result<Self, AllocError>
         requires { IsRisingAfter 0 (earlier.now ++ later.now) }
-        ensures { IfOk result (λ p. p ≡ earlier.now ++ later.now) }
+        ensures is { IfOk result (λ p. p ≡ earlier.now ++ later.now) }
+        ensures some { 0 < length later.now }
     {
         let later = later.as_slice();
         let mut both = shared(alloc, earlier, later.len())?;
@@ -146,7 +148,8 @@ impl Piece {
 
     /// Its writes as older ones: a full piece's in the form of full ones, where nothing else holds them.
     pub(crate) fn into_older(self, alloc: Global) -> Result<Older, AllocError>
-        ensures { IfOk result (λ o. o.pieces ≡ self) }
+        ensures is { IfOk result (λ o. o ≡ leaf self) }
+        ensures some { 0 < length self }
     {
         match self.slots {
             Slots::One(write) => {
@@ -292,7 +295,7 @@ fn packed(alloc: Global, writes: Vec<StampedWrite>) -> Result<Arc<FullPiece>, Al
 fn older_of(alloc: Global, shared: Arc<Vec<StampedWrite>>) -> Result<Older, AllocError>
     requires rising { IsRisingAfter 0 shared.value.items }
     requires full { length shared.value.items ≡ 32 }
-    ensures { IfOk result (λ o. o.pieces ≡ shared.value.items) }
+    ensures { IfOk result (λ o. o ≡ leaf shared.value.items) }
 {
     match Arc::try_unwrap(shared) {
         Ok(writes) => Ok(Older::full(packed(alloc, writes)?)),

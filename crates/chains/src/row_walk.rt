@@ -55,7 +55,8 @@ fn next_row(
 ) -> Option<(Version<&SharedValue>, &[StampedWrite])>
     requires { IsRisingAfter 0 writes.now }
     ensures rising { IfSome result (λ found. IsRisingAfter 0 found.1.now) }
-    ensures is { MatchOption result (rows (versions_upto end writes.now) from upto ≡ []) (λ found. rows (versions_upto end writes.now) from upto ≡ version_of_loan found.0 ∷ rows (versions_upto end found.1.now) from upto) }
+    ensures is { MatchOption result (rows (versions_upto end writes.now) from upto ≡ [])
+        (λ found. rows (versions_upto end writes.now) from upto ≡ version_of_loan found.0 ∷ rows (versions_upto end found.1.now) from upto) }
 {
     let mut rest = writes;
     while let [first, after @ ..] = rest {
@@ -89,7 +90,8 @@ fn next_piece<'a>(
     time: u64,
     upto: u64,
 ) -> Option<(&'a [StampedWrite], u64)>
-    ensures { MatchOption result (rows (versions (writes_in (option_copied chain.entry))) time upto ≡ []) (λ found. IsNextPiece time upto (versions (writes_in (option_copied chain.entry))) found.0.now found.1) }
+    ensures { MatchOption result (rows (versions (writes_in (option_copied chain.entry))) time upto ≡ [])
+        (λ found. IsNextPiece time upto (versions (writes_in (option_copied chain.entry))) found.0.now found.1) }
 {
     if upto <= time {
         return None;

@@ -1,5 +1,6 @@
 -- How the fields of a value are spelled.
-use Rattle.std.specs.Prelude.{◌≡◌, ℕ, ◌==◌, ◌&&◌, ◌||◌, nat_le, Bool, true, false, not, if◌then◌else◌, List, [], ◌∷◌, ◌++◌, take, drop, Option, Some, None, codes}
+use Rattle.std.specs.Prelude.{◌≡◌, ℕ, ◌==◌, ◌&&◌, ◌||◌, nat_le, Bool, true, false, not}
+use Rattle.std.specs.Prelude.{if◌then◌else◌, List, [], ◌∷◌, ◌++◌, take, drop, Option, Some, None, codes}
 use Rattle.std.specs.Option.{option_map, option_and_then}
 use Rattle.std.specs.Result.{result_ok}
 use Rattle.std.specs.List.{flat_map, list_all}
@@ -64,7 +65,8 @@ prepended before more = option_map (λ (bs : Text). before ++ bs) more
 
 -- a byte was read: whatever follows it means the same, where it is told whether that stands after a backslash
 abbrev pub ReadsByte : Text → Bool → ℕ → Text → Option Bool → Type 0
-ReadsByte old is_after b new read = (rest : Text) → prepended old (unescaped is_after (b ∷ rest)) ≡ option_and_then (λ (after : Bool). prepended new (unescaped after rest)) read
+ReadsByte old is_after b new read = (rest : Text) → prepended old (unescaped is_after (b ∷ rest)) ≡ option_and_then (λ (after : Bool). prepended new
+    (unescaped after rest)) read
 
 -- the bytes that these digits spell, if they are digits
 abbrev pub bytes_of_digits : Text → Option Text

@@ -1,5 +1,6 @@
 -- How a time is spelled.
-use Rattle.std.specs.Prelude.{◌≡◌, ℕ, ◌+◌, ◌-◌, ◌/◌, ◌%◌, Bool, true, false, [], ◌∷◌, ◌++◌, length, take, ◌==◌, if◌then◌else◌, nat_lt, Option, Some, None, MatchBool, MatchOption, codes}
+use Rattle.std.specs.Prelude.{◌≡◌, ℕ, ◌+◌, ◌-◌, ◌/◌, ◌%◌, Bool, true, false, [], ◌∷◌}
+use Rattle.std.specs.Prelude.{◌++◌, length, take, ◌==◌, if◌then◌else◌, nat_lt, Option, Some, None, MatchBool, MatchOption, codes}
 use Rattle.std.specs.Fmt.{decimal}
 use Rattle.clock.specs.Instant.{Spells, second_at}
 use Rattle.json.specs.Token.{Token, number, string}

@@ -176,7 +176,8 @@ pub fn spell_row(
     to: Shown<'_>,
     value: &Value,
 ) -> Result<(), AllocError>
-    ensures { OnOk result (Appends (Some text.old.items) (Some text.new.items) (told.json_line (told.row_tokens (moment_of from.entry) (moment_of to.entry) value.now))) }
+    ensures { OnOk result (Appends (Some text.old.items) (Some text.new.items) (told.json_line (told.row_tokens (moment_of from.entry)
+        (moment_of to.entry) value.now))) }
 {
     let mut line = begin(alloc, text);
     write_row(alloc, &mut line, from, to, value)?;

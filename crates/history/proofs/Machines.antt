@@ -7,7 +7,7 @@ use Rattle.std.proofs.lemmas.List.{append-nil}
 use Rattle.std.proofs.lemmas.List.Sorted.{IsPermutation-sym, Contains-permutation}
 use Rattle.history.specs.Floors.{Raising, covers, raised}
 use Rattle.history.specs.Histories.{History, last_after, last, IsHistory, HasRisingTimes}
-use Rattle.history.specs.Machine.{Machine, Gate, Due, MayBeOpen, commit_order, opened, IsRaisable, MayRaise, IsKeptSnapshot, IsMachine}
+use Rattle.history.specs.Machine.{Machine, Gate, Due, MayBeOpen, commit_order, opened, opened_by, IsRaisable, MayRaise, IsKeptSnapshot, IsMachine}
 use Rattle.history.specs.Submissions.{Decision, Reads, Conflicts, Ends, Queues}
 use Rattle.history.specs.Steps.{Event, Began, BeginRefused, Aborted, Decided, Refused, GroupBegan, Published, FloorStarted, FloorRefused, FloorPublished}
 use Rattle.history.specs.Steps.{GateDue, GateWritten, Broke, begun, decided, grouped, group_published, floor_started, floor_published, gated, broken, GivesUp}
@@ -73,9 +73,9 @@ kept-later floors s t snapshot le kept = record { published = omega (arith, kept
 raise-later : (floors : ℕ → ℕ) (s t : ℕ) (snapshots : List ℕ) (r : Raising) → s ≤ t → IsRaisable floors s snapshots r → IsRaisable floors t snapshots r
 raise-later floors s t snapshots r le may = record { rises = may.rises; upto_last = omega (arith, may.upto_last); in_use = may.in_use }
 
-pub opened-machine : {V : Type 0} (IsValue : V → Type 0) (h : History V) (floors : ℕ → ℕ) → IsHistory IsValue h → ((relation : ℕ) → floors relation ≤ last h)
-    → IsMachine IsValue (opened h floors)
-opened-machine IsValue h floors history reached = record {
+pub opened_by-machine : {V : Type 0} (IsValue : V → Type 0) (most : ℕ) (h : History V) (floors : ℕ → ℕ) → IsHistory IsValue h
+    → ((relation : ℕ) → floors relation ≤ last h) → IsMachine IsValue (opened_by most h floors)
+opened_by-machine IsValue most h floors history reached = record {
   history = subst (IsHistory IsValue) (sym (append-nil h)) history;
   group_few = omega arith;
   group_queued = omega arith;
@@ -83,6 +83,10 @@ opened-machine IsValue h floors history reached = record {
   snapshots = tt;
   raising = tt;
 }
+
+pub opened-machine : {V : Type 0} (IsValue : V → Type 0) (h : History V) (floors : ℕ → ℕ) → IsHistory IsValue h → ((relation : ℕ) → floors relation ≤ last h)
+    → IsMachine IsValue (opened h floors)
+opened-machine IsValue h floors history reached = opened_by-machine IsValue 16 h floors history reached
 
 module _ {V : Type 0} (IsValue : V → Type 0) (old : Machine V) (is : IsMachine IsValue old) where
   after-begun : IsHistory IsValue (commit_order old) → IsMachine IsValue (begun old)

@@ -50,9 +50,9 @@ decided m (Conflicts key) = m
 decided m Ends = m
 decided m (Queues commit) = record m { queue = m.queue ++ commit ∷ [] }
 
--- a group takes up to 16 of the queue
+-- a group takes as many of the queue as it may have
 abbrev pub grouped : {V : Type 0} → Machine V → Machine V
-grouped m = record m { group = min 16 (length m.queue) }
+grouped m = record m { group = min m.most (length m.queue) }
 
 -- the commits of the group are published, and no group stands
 abbrev pub group_published : {V : Type 0} → Machine V → Machine V

@@ -164,8 +164,8 @@ StoredIsGroup =
 -- where the machine publishes a group, the image with the group's slot stands for what is then published
 abbrev pub GroupPublishes : Type 0
 GroupPublishes = (reading : Reading) (old new : Machine Value) (size : ℕ)
-    → StandsFor reading old.published old.floors → IsMachine IsValue old → Step IsValue old (Published size) new → HasRoom reading
-    → StandsFor (with_group reading (stored_members (values_now reading) (take old.group old.queue))) new.published new.floors
+    → StandsFor reading old.published old.floors → IsMachine IsValue old → old.most ≤ most_members reading.profile → Step IsValue old (Published size) new
+    → HasRoom reading → StandsFor (with_group reading (stored_members (values_now reading) (take old.group old.queue))) new.published new.floors
 
 -- a floor that may be raised may come next in the log, and where the machine publishes it, the image with its slot stands for what is then so
 abbrev pub RaiseMayCome : Type 0

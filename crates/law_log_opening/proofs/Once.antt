@@ -18,7 +18,7 @@ module _ (most root : ℕ) (heap : List ℕ) (few : most < 2 ^ 32) where
   chains-once cs n ds m h k =
       stopped-same most heap [] root cs ds n m few (holds-stopped most root heap cs n h) (holds-stopped most root heap ds m k)
 
-  anchors-once : (cs : List PlacedChain) (n : ℕ) (a : PlacedAnchors) (ds : List PlacedChain) (m : ℕ) (b : PlacedAnchors)
+  pub anchors-once : (cs : List PlacedChain) (n : ℕ) (a : PlacedAnchors) (ds : List PlacedChain) (m : ℕ) (b : PlacedAnchors)
       → HoldsAnchors most root heap cs n a → HoldsAnchors most root heap ds m b → ((cs ≡ ds) × (n ≡ m)) × (a ≡ b)
   anchors-once cs n a ds m b h k =
       let same = chains-once cs n ds m h.before.chains_hold k.before.chains_hold in (

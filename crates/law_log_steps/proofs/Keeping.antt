@@ -23,7 +23,7 @@ use Rattle.law_commits.proofs.Answering.{redeem-step}
 use Rattle.law_log_store.specs.Standing.{StandsOnHeap, StopsOnHeap}
 use Rattle.law_log_store.specs.Calls.{KeepsDisk}
 use Rattle.law_log_store.proofs.Calls.{AreNamesAlone, begin-alone, abort-alone, redeem-alone, begin-keeps, abort-keeps, redeem-keeps}
-use Rattle.law_log_steps.specs.Store.{OnDisk, AreFresh, IsStoreOf}
+use Rattle.law_log_steps.specs.Store.{OnDisk, AreFresh, gate_of, gate_left, IsWriting, IsStoreOf}
 use Rattle.law_log_steps.specs.Laws.{BeginsTo, Goes}
 
 -- what the disk stands for is kept
@@ -37,12 +37,33 @@ on-disk old new h queue floors keeps same disk =
     by-failed true stops = keeps.stops h queue floors stops
     by-failed false stands = keeps.stands h queue floors stands
 
+-- the machine has the same group, which is as far as it was
+pub record HasSameGroup (m n : Machine Value) : Type 0 where
+  pub most : n.most ≡ m.most
+  pub group : n.group ≡ m.group
+  pub raising : n.raising ≡ m.raising
+  pub gate : n.gate ≡ m.gate
+  pub failed : n.failed ≡ m.failed
+
+pub same-group : (m : Machine Value) → HasSameGroup m m
+same-group m = record { most = refl; group = refl; raising = refl; gate = refl; failed = refl }
+
+pub writes-on : (old new : LogStoreValue) (m n : Machine Value) → IsWriting old m → new.commits.group ≡ old.commits.group → new.turn ≡ old.turn
+    → HasSameGroup m n → IsWriting new n
+writes-on old new m n is group turn same = record {
+  most = same.most ∙ is.most;
+  group = same.group ∙ is.group ∙ sym group;
+  raising = same.raising ∙ is.raising;
+  gate = λ works. same.gate ∙ is.gate (sym same.failed ∙ works) ∙ ap gate_of (sym turn);
+  left = λ fails. same.gate ∙ is.left (sym same.failed ∙ fails) ∙ ap gate_left (sym turn);
+}
+
 -- the machine has the same history, queue and floors
 pub record IsAlike (m n : Machine Value) : Type 0 where
   pub published : m.published ≡ n.published
   pub queue : m.queue ≡ n.queue
   pub floors : m.floors ≡ n.floors
-  pub group : n.group ≡ m.group
+  pub group : HasSameGroup m n
 
 pub disk-alike : (v : LogStoreValue) (m n : Machine Value) → IsAlike m n → OnDisk v m.published m.queue m.floors → OnDisk v n.published n.queue n.floors
 disk-alike v m n alike disk =
@@ -51,22 +72,22 @@ disk-alike v m n alike disk =
     (subst (λ (floors : ℕ → ℕ). OnDisk v m.published m.queue floors) alike.floors disk))
 
 pub itself : (m : Machine Value) → IsAlike m m
-itself m = record { published = refl; queue = refl; floors = refl; group = refl }
+itself m = record { published = refl; queue = refl; floors = refl; group = same-group m }
 
 pub other-snapshots : (m n : Machine Value) (snapshots : List ℕ) → n ≡ record m { snapshots = snapshots } → IsAlike m n
 other-snapshots m n snapshots is = record {
   published = ap (λ (x : Machine Value). x.published) (sym is);
   queue = ap (λ (x : Machine Value). x.queue) (sym is);
   floors = ap (λ (x : Machine Value). x.floors) (sym is);
-  group = ap (λ (x : Machine Value). x.group) is;
+  group = subst (HasSameGroup m) (sym is) (record { most = refl; group = refl; raising = refl; gate = refl; failed = refl });
 }
 
 pub store-keeps : (old new : LogStoreValue) (m n : Machine Value) → IsStoreOf old m → KeepsDisk old new → AreNamesAlone old.commits new.commits
-    → StandsInMemory new.commits n → IsMachine IsValue n → IsAlike m n → IsStoreOf new n
-store-keeps old new m n is keeps alone stands machine alike = record {
+    → new.turn ≡ old.turn → StandsInMemory new.commits n → IsMachine IsValue n → IsAlike m n → IsStoreOf new n
+store-keeps old new m n is keeps alone turn stands machine alike = record {
   memory = stands;
   machine = machine;
-  none = alike.group ∙ is.none;
+  writing = writes-on old new m n is.writing (ap (λ (c : CommitsValue). c.group) alone.new_is) turn alike.group;
   fresh = subst AreFresh (sym alone.new_is) is.fresh;
   disk =
       disk-alike new m n alike
@@ -81,7 +102,8 @@ begin-stands old new answer m is begins = by-answer answer (begin-step old.commi
   where
     keeps : (n : Machine Value) → StandsInMemory new.commits n → IsMachine IsValue n → IsAlike m n → IsStoreOf new n
     keeps n stands machine alike =
-        store-keeps old new m n is (begin-keeps old new answer begins) (begin-alone old.commits new.commits answer begins.is) stands machine alike
+        store-keeps old new m n is (begin-keeps old new answer begins) (begin-alone old.commits new.commits answer begins.is) (ap (λ
+        (v : LogStoreValue). v.turn) begins.new_is) stands machine alike
 
     by-answer : (a : Result TxnValue BeginFault) → memory.BeginsTo m a new.commits → BeginsTo m a new
     by-answer (Ok txn) to = (
@@ -90,7 +112,7 @@ begin-stands old new answer m is begins = by-answer answer (begin-step old.commi
         published = refl;
         queue = refl;
         floors = refl;
-        group = refl;
+        group = record { most = refl; group = refl; raising = refl; gate = refl; failed = refl };
       }),
     )
     by-answer (Err fault.NoMemory) to = (to.0, keeps m to.1 is.machine (itself m))
@@ -102,7 +124,8 @@ abort-stands old new txn m is aborts = by-own (is_own old.commits txn) (abort-st
   where
     keeps : (n : Machine Value) → StandsInMemory new.commits n → IsMachine IsValue n → IsAlike m n → IsStoreOf new n
     keeps n stands machine alike =
-        store-keeps old new m n is (abort-keeps old new txn aborts) (abort-alone old.commits new.commits txn aborts.is) stands machine alike
+        store-keeps old new m n is (abort-keeps old new txn aborts) (abort-alone old.commits new.commits txn aborts.is) (ap (λ
+        (v : LogStoreValue). v.turn) aborts.new_is) stands machine alike
 
     by-own : (b : Bool) → MatchBool b (memory.Goes new.commits m (Aborted txn.snapshot)) (StandsInMemory new.commits m)
         → MatchBool b (Goes new m (Aborted txn.snapshot)) (IsStoreOf new m)
@@ -118,6 +141,7 @@ pub redeem-stands : (old new : LogStoreValue) (ticket : TicketValue) (answer : R
 redeem-stands old new ticket answer m is redeems =
     let to = redeem-step old.commits new.commits ticket answer m is.memory is.machine redeems.is in (
       to.0,
-      store-keeps old new m m is (redeem-keeps old new ticket answer redeems) (redeem-alone old.commits new.commits ticket answer redeems.is) to.1 is.machine
+      store-keeps old new m m is (redeem-keeps old new ticket answer redeems) (redeem-alone old.commits new.commits ticket answer redeems.is) (ap (λ
+          (v : LogStoreValue). v.turn) redeems.new_is) to.1 is.machine
           (itself m),
     )

@@ -1,36 +1,41 @@
 -- A step of a group is a step of the machine.
-use Rattle.std.proofs.Common.{◌≡◌, ℕ, zero, suc, ◌==◌, ◌<◌, ◌≤◌, Bool, true, false, List, [], ◌∷◌, ◌++◌, length, take, drop, Option, None, Some}
+use Rattle.std.proofs.Common.{◌≡◌, ℕ, zero, suc, ◌==◌, ◌<◌, ◌≤◌, ◌&&◌, nat_lt, min, Bool, true}
+use Rattle.std.proofs.Common.{false, cond, List, [], ◌∷◌, ◌++◌, length, take, drop, Option, None, Some}
 use Rattle.std.proofs.Common.{Result, Ok, Err}
 use Rattle.std.proofs.Common.{refl, arith, ap, sym, subst, ◌∙◌, append-nil, inl, inr}
 use Rattle.std.specs.Prelude.{IsTrue, MatchBool, MatchResult}
 use Rattle.std.proofs.lemmas.Bool.Decides.{nat_tests}
 use Rattle.history.specs.Histories.{History}
-use Rattle.history.specs.Machine.{Machine, IsMachine}
+use Rattle.history.specs.Machine.{Machine, Gate, Shut, Due, MayBeOpen, OfGroup, OfFloor, IsMachine}
+use Rattle.history.specs.Steps.{Event, Step, Run, GroupBegan, Published, GateDue, GateWritten, Broke, gated, grouped, group_published}
 use Rattle.history.specs.Steps as steps
+use Rattle.history.proofs.Machines.{run-machine}
 use Rattle.disk.specs.Areas.{AreSound}
 use Rattle.law_image.specs.Values.{Value, IsValue}
 use Rattle.group.specs.declared.answers.PumpFault.{PumpFault}
 use Rattle.group.specs.declared.answers.PumpFault.TheVariants as pump
-use Rattle.log_writer.specs.Turns.{Stage, Writing, Syncing, Opening, Settling, Done, IsCallOf}
+use Rattle.log_writer.specs.Turns.{Stage, Writing, Syncing, Opening, Settling, Done, IsCallOf, stage_after}
 use Rattle.log_writer.specs.Writer.{WriterState, turn}
 use Rattle.log_writer.specs.Writer as writers
 use Rattle.commits.specs.Values.{CommitsValue, WaitingValue, mark_after}
 use Rattle.commits.specs.Steps.{members, published}
 use Rattle.log_store.specs.Values.{LogStoreValue, IsInStep}
-use Rattle.log_store.specs.Pumps.{Pumps, TakesStep, BeginsGroup, AdvancesGroup, Advances, after_call, with_failure, did_of, disk_answer}
+use Rattle.log_store.specs.Values as stores
+use Rattle.log_store.specs.Pumps.{Pumps, TakesStep, BeginsGroup, AdvancesGroup, Advances, after_call, at_next, with_failure, did_of, disk_answer}
 use Rattle.log_store.specs.declared.answers.Did.{Did}
 use Rattle.log_store.specs.declared.answers.Did.TheVariants as did
 use Rattle.law_commits.specs.Standing.{StandsInMemory}
 use Rattle.law_commits.specs.Laws.{with_published}
-use Rattle.law_commits.proofs.Publishing.{publishes, published-machine, breaks}
+use Rattle.law_commits.proofs.Publishing.{publishes, breaks}
 use Rattle.law_commits.proofs.Beside.{begins}
+use Rattle.law_commits.proofs.Waiting.{as-many}
 use Rattle.law_log_store.specs.Standing.{StandsOnHeap, StopsOnHeap}
 use Rattle.law_log_store.specs.Calls.{count_in, StepsTo}
 use Rattle.law_log_store.proofs.Beginning.{has-begun}
 use Rattle.law_log_store.proofs.Pumping.{pump-steps, failed-rests}
 use Rattle.law_log_store.proofs.Submitting.{group-within}
-use Rattle.law_log_steps.specs.Store.{HaveMark, AreFresh, IsStoreOf}
-use Rattle.law_log_steps.specs.Laws.{PumpsTo}
+use Rattle.law_log_steps.specs.Store.{HaveMark, AreFresh, gate_at, gate_of, gate_behind, gate_left, IsStoreOf}
+use Rattle.law_log_steps.specs.Laws.{begins_in, ends_in, breaks_in, events_in, Runs}
 
 -- ---- marks
 
@@ -104,41 +109,222 @@ call-memory tells w old new answer m tell is machine within advances = by-answer
           (record { stands = breaks old.commits m is.stands; fresh = is.fresh }),
     )
 
--- ---- memory and disk
-
--- what memory has after a step, by its answer
-abbrev MemoryAfter : Result Did PumpFault → LogStoreValue → Machine Value → Type 0
-MemoryAfter (Ok what) new m = IsMemoryOf new.commits (with_published (count_in what) m)
-MemoryAfter (Err pump.Busy) new m = Unit {0}
-MemoryAfter (Err pump.NoMemory) new m = Unit {0}
-MemoryAfter (Err pump.Failed) new m = IsMemoryOf new.commits (steps.broken m)
-
-as-after : (answer : Result Did PumpFault) (new : LogStoreValue) (m : Machine Value) → MemoryBy answer new.commits m → MemoryAfter answer new m
-as-after (Ok what) new m by = by
-as-after (Err pump.Busy) new m by = tt
-as-after (Err pump.NoMemory) new m by = tt
-as-after (Err pump.Failed) new m by = by.1
-
-broken-machine : (m : Machine Value) → IsMachine IsValue m → IsMachine IsValue (steps.broken m)
-broken-machine m is = record {
-  history = is.history;
-  group_few = is.group_few;
-  group_queued = is.group_queued;
-  floors_reached = is.floors_reached;
-  snapshots = is.snapshots;
-  raising = is.raising;
+-- memory says nothing of the group that the machine has
+gated-memory : (v : CommitsValue) (m : Machine Value) (group : ℕ) (gate : Gate) → StandsInMemory v m
+    → StandsInMemory v (record m { group = group; gate = gate })
+gated-memory v m group gate stands = record {
+  names = stands.names;
+  rising = stands.rising;
+  versions = stands.versions;
+  forgot = stands.forgot;
+  recent = stands.recent;
+  queue = stands.queue;
+  snapshots = stands.snapshots;
+  floors = stands.floors;
+  failed = stands.failed;
 }
+
+-- ---- events
+
+begins-some : (m : Machine Value) → m.group ≡ 0 → 0 < length m.queue → begins_in m ≡ GroupBegan ∷ []
+begins-some m none some =
+    let first : (m.group == 0) ≡ true = grind (arith, nat_tests, none) in
+    let second : nat_lt 0 (length m.queue) ≡ true = grind (arith, nat_tests, some) in
+    λ i. cond (first i && second i) (GroupBegan ∷ []) []
+
+begins-none : (m : Machine Value) → 0 < m.group → begins_in m ≡ []
+begins-none m some =
+    let first : (m.group == 0) ≡ false = grind (arith, nat_tests, some) in
+    λ i. cond (first i && nat_lt 0 (length m.queue)) (GroupBegan ∷ []) []
+
+begins-idle : (m : Machine Value) → m.group ≡ 0 → length m.queue ≡ 0 → begins_in m ≡ []
+begins-idle m none empty =
+    let first : (m.group == 0) ≡ true = grind (arith, nat_tests, none) in
+    let second : nat_lt 0 (length m.queue) ≡ false = grind (arith, nat_tests, empty) in
+    λ i. cond (first i && second i) (GroupBegan ∷ []) []
+
+-- the machine has published so many and gone on
+record Gone (m : Machine Value) (events : List (Event Value)) (count : ℕ) (new : LogStoreValue) : Type 0 where
+  group : ℕ
+  gate : Gate
+  run : Run IsValue m events (record (with_published count m) { group = group; gate = gate })
+  group_is : group ≡ new.commits.group
+  gate_is : gate ≡ gate_of new.turn
+
+-- or it has failed
+record Failing (m : Machine Value) (events : List (Event Value)) (new : LogStoreValue) : Type 0 where
+  group : ℕ
+  gate : Gate
+  run : Run IsValue m events (record (steps.broken m) { group = group; gate = gate })
+  group_is : group ≡ new.commits.group
+  gate_is : gate ≡ gate_left new.turn
+
+abbrev GoesBy : Result Did PumpFault → Machine Value → LogStoreValue → Type 0
+GoesBy (Ok what) m new = Gone m (ends_in what) (count_in what) new
+GoesBy (Err why) m new = Failing m (breaks_in m.gate) new
+
+-- a call of the group's chain
+module _ (tells : Bool) (w : WriterState) (old new : LogStoreValue) (m : Machine Value) (tell : IsTrue tells) (works : m.failed ≡ false)
+    (group_is : m.group ≡ old.commits.group) (some : 0 < old.commits.group) (gate_is : m.gate ≡ gate_at w.stage) where
+  some-here : 0 < m.group
+  some-here = omega (arith, some, group_is)
+
+  stays : (next : Gate) → (mid : Machine Value) → mid ≡ gated m next → record (with_published 0 m) { gate = next } ≡ mid
+  stays next mid is = ap (λ (h : History Value). record m { published = h; gate = next }) (append-nil m.published) ∙ sym is
+
+  call-goes : (what : Did) → Advances tells w old (Ok what) new → Gone m (ends_in what) (count_in what) new
+  call-goes what advances =
+      subst (λ (d : Did). Gone m (ends_in d) (count_in d) new) (sym advances.answer.0) (by-stage w.stage refl (advances.call tell) advances.answer.1)
+    where
+      next-turn : (k : Stage) → w.stage ≡ k → new ≡ record (at_next old w) { disk = new.disk } → gate_at (stage_after k) ≡ gate_of new.turn
+      next-turn k same next = ap (λ (j : Stage). gate_at (stage_after j)) (sym same) ∙ ap (λ (v : LogStoreValue). gate_of v.turn) (sym next)
+
+      by-stage : (k : Stage) → w.stage ≡ k → IsCallOf (turn w) k (Ok tt) old.disk.areas new.disk.areas → new ≡ record (after_call old w k) { disk = new.disk }
+          → Gone m (ends_in (did_of (writers.did k) old.commits.group)) (count_in (did_of (writers.did k) old.commits.group)) new
+      by-stage (Writing d []) same call next = record {
+        group = m.group;
+        gate = m.gate;
+        run = stays m.gate m refl;
+        group_is = group_is ∙ ap (λ (v : LogStoreValue). v.commits.group) (sym next);
+        gate_is = gate_is ∙ ap gate_at same ∙ next-turn (Writing d []) same next;
+      }
+      by-stage (Writing d (p ∷ rest)) same call next = record {
+        group = m.group;
+        gate = m.gate;
+        run = stays m.gate m refl;
+        group_is = group_is ∙ ap (λ (v : LogStoreValue). v.commits.group) (sym next);
+        gate_is = gate_is ∙ ap gate_at same ∙ next-turn (Writing d (p ∷ rest)) same next;
+      }
+      by-stage Syncing same call next = record {
+        group = m.group;
+        gate = Due OfGroup;
+        run = (gated m (Due OfGroup), (works, some-here, gate_is ∙ ap gate_at same, refl), stays (Due OfGroup) (gated m (Due OfGroup)) refl);
+        group_is = group_is ∙ ap (λ (v : LogStoreValue). v.commits.group) (sym next);
+        gate_is = next-turn Syncing same next;
+      }
+      by-stage Opening same call next = record {
+        group = m.group;
+        gate = MayBeOpen OfGroup;
+        run = (gated m (MayBeOpen OfGroup), (works, gate_is ∙ ap gate_at same, refl), stays (MayBeOpen OfGroup) (gated m (MayBeOpen OfGroup)) refl);
+        group_is = group_is ∙ ap (λ (v : LogStoreValue). v.commits.group) (sym next);
+        gate_is = next-turn Opening same next;
+      }
+      by-stage Settling same call next = record {
+        group = 0;
+        gate = Shut;
+        run = (
+          group_published m,
+          (works, some, sym group_is, gate_is ∙ ap gate_at same, refl),
+          ap (λ (n : ℕ). record m { published = m.published ++ take n m.queue; queue = drop n m.queue; group = 0; gate = Shut }) (sym group_is),
+        );
+        group_is = ap (λ (v : LogStoreValue). v.commits.group) (sym next);
+        gate_is = ap (λ (v : LogStoreValue). gate_of v.turn) (sym next);
+      }
+      by-stage Done same call next = absurd call
+
+  call-breaks : (why : PumpFault) → old.turn ≡ Some w → Advances tells w old (Err why) new → Failing m (breaks_in m.gate) new
+  call-breaks why turn_is advances = by-stage w.stage refl
+    where
+      same-group : m.group ≡ new.commits.group
+      same-group = group_is ∙ ap (λ (v : LogStoreValue). v.commits.group) (sym advances.answer.1)
+
+      left-behind : (k : Stage) → w.stage ≡ k → gate_behind k ≡ gate_left new.turn
+      left-behind k same = ap gate_behind (sym same) ∙ ap gate_left (sym turn_is) ∙ ap (λ (v : LogStoreValue). gate_left v.turn) (sym advances.answer.1)
+
+      here : (k : Gate) → m.gate ≡ k → Failing m (breaks_in k) new → Failing m (breaks_in m.gate) new
+      here k same fails = subst (λ (g : Gate). Failing m (breaks_in g) new) (sym same) fails
+
+      only-breaks : m.gate ≡ gate_left new.turn → Failing m (Broke ∷ []) new
+      only-breaks left = record { group = m.group; gate = m.gate; run = (steps.broken m, (works, refl), refl); group_is = same-group; gate_is = left }
+
+      by-stage : (k : Stage) → w.stage ≡ k → Failing m (breaks_in m.gate) new
+      by-stage (Writing d rest) same =
+          let shut : m.gate ≡ Shut = gate_is ∙ ap gate_at same in here Shut shut (only-breaks (shut ∙ left-behind (Writing d rest) same))
+      by-stage Syncing same = let shut : m.gate ≡ Shut = gate_is ∙ ap gate_at same in here Shut shut (only-breaks (shut ∙ left-behind Syncing same))
+      by-stage Opening same =
+          let due : m.gate ≡ Due OfGroup = gate_is ∙ ap gate_at same in
+          here (Due OfGroup) due (record {
+            group = m.group;
+            gate = MayBeOpen OfGroup;
+            run = (gated m (MayBeOpen OfGroup), (works, due, refl), (steps.broken (gated m (MayBeOpen OfGroup)), (works, refl), refl));
+            group_is = same-group;
+            gate_is = left-behind Opening same;
+          })
+      by-stage Settling same =
+          let may : m.gate ≡ MayBeOpen OfGroup = gate_is ∙ ap gate_at same in
+          here (MayBeOpen OfGroup) may (only-breaks (may ∙ left-behind Settling same))
+      by-stage Done same =
+          let may : m.gate ≡ MayBeOpen OfGroup = gate_is ∙ ap gate_at same in
+          here (MayBeOpen OfGroup) may (only-breaks (may ∙ left-behind Done same))
+
+  call-runs : (answer : Result Did PumpFault) → old.turn ≡ Some w → Advances tells w old answer new → GoesBy answer m new
+  call-runs (Ok what) turn_is advances = call-goes what advances
+  call-runs (Err why) turn_is advances = call-breaks why turn_is advances
+
+-- ---- memory, disk and events
+
+-- what memory has after a step, and how the machine went, by the answer
+abbrev StepBy : Result Did PumpFault → LogStoreValue → Machine Value → Type 0
+StepBy (Ok what) new m = IsMemoryOf new.commits (with_published (count_in what) m) × Gone m (begins_in m ++ ends_in what) (count_in what) new
+StepBy (Err pump.Busy) new m = Unit {0}
+StepBy (Err pump.NoMemory) new m = Unit {0}
+StepBy (Err pump.Failed) new m = IsMemoryOf new.commits (steps.broken m) × Failing m (begins_in m ++ breaks_in m.gate) new
+
+-- of a group that stands
+as-standing : (answer : Result Did PumpFault) (new : LogStoreValue) (m : Machine Value) → begins_in m ≡ [] → MemoryBy answer new.commits m
+    → GoesBy answer m new → StepBy answer new m
+as-standing (Ok what) new m none memory goes =
+    (memory, subst (λ (es : List (Event Value)). Gone m (es ++ ends_in what) (count_in what) new) (sym none) goes)
+as-standing (Err pump.Busy) new m none memory goes = tt
+as-standing (Err pump.NoMemory) new m none memory goes = tt
+as-standing (Err pump.Failed) new m none memory goes =
+    (memory.1, subst (λ (es : List (Event Value)). Failing m (es ++ breaks_in m.gate) new) (sym none) goes)
+
+-- of one that begins
+as-begun : (answer : Result Did PumpFault) (new : LogStoreValue) (m : Machine Value) → begins_in m ≡ GroupBegan ∷ [] → Step IsValue m GroupBegan (grouped m)
+    → MemoryBy answer new.commits m → GoesBy answer (grouped m) new → StepBy answer new m
+as-begun (Ok what) new m began step memory goes = (
+  memory,
+  subst (λ (es : List (Event Value)). Gone m (es ++ ends_in what) (count_in what) new) (sym began) (record {
+    group = goes.group;
+    gate = goes.gate;
+    run = (grouped m, step, goes.run);
+    group_is = goes.group_is;
+    gate_is = goes.gate_is;
+  }),
+)
+as-begun (Err pump.Busy) new m began step memory goes = tt
+as-begun (Err pump.NoMemory) new m began step memory goes = tt
+as-begun (Err pump.Failed) new m began step memory goes = (
+  memory.1,
+  subst (λ (es : List (Event Value)). Failing m (es ++ breaks_in m.gate) new) (sym began) (record {
+    group = goes.group;
+    gate = goes.gate;
+    run = (grouped m, step, goes.run);
+    group_is = goes.group_is;
+    gate_is = goes.gate_is;
+  }),
+)
 
 module _ (tells : Bool) (old new : LogStoreValue) (answer : Result Did PumpFault) (m : Machine Value) (tell : IsTrue tells) (step : IsInStep old)
     (sound : AreSound new.disk.areas) (is : IsStoreOf old m) where
+  many : length old.commits.queue ≡ length m.queue
+  many = as-many old.commits.reclaimed old.commits.versions old.commits.queue m.queue is.memory.queue
+
   -- a store that works
   module _ (works : old.commits.failed ≡ false) (takes : TakesStep tells old old.turn answer new) (pumps : Pumps tells old answer new) where
+    works-here : m.failed ≡ false
+    works-here = sym is.memory.failed ∙ works
+
     stands : StandsOnHeap old m.published m.queue m.floors
     stands =
         subst (λ (b : Bool). MatchBool b (StopsOnHeap old m.published m.queue m.floors) (StandsOnHeap old m.published m.queue m.floors)) works is.disk
 
-    begins-so : old.turn ≡ None → 0 < length old.commits.queue → BeginsGroup tells old answer new → MemoryAfter answer new m
-    begins-so at_rest some (inl none) = subst (λ (a : Result Did PumpFault). MemoryAfter a new m) (sym none.0) tt
+    none-at-rest : old.turn ≡ None → m.group ≡ 0
+    none-at-rest at_rest = is.writing.group ∙ subst (stores.HasTurn old.commits.group) at_rest step.turn
+
+    begins-so : old.turn ≡ None → 0 < length old.commits.queue → BeginsGroup tells old answer new → StepBy answer new m
+    begins-so at_rest some (inl none) = subst (λ (a : Result Did PumpFault). StepBy a new m) (sym none.0) tt
     begins-so at_rest some (inr begun) =
         let has = has-begun old begun.0 m.published m.queue m.floors step at_rest some stands begun.1 in
         let advances : Advances tells has.writer begun.0 answer new =
@@ -150,61 +336,113 @@ module _ (tells : Bool) (old new : LogStoreValue) (answer : Result Did PumpFault
         } in
         let within : begun.0.commits.group ≤ length begun.0.commits.queue =
         subst (λ (v : CommitsValue). v.group ≤ length v.queue) (sym has.commits) (omega arith) in
-        as-after answer new m (call-memory tells has.writer begun.0 new answer m tell memory is.machine within advances)
+        let none = none-at-rest at_rest in
+        let waiting : 0 < length m.queue = omega (arith, some, many) in
+        let group : (grouped m).group ≡ begun.0.commits.group =
+        (λ i. min (is.writing.most i) (sym many i)) ∙ ap (λ (v : CommitsValue). v.group) (sym has.commits) in
+        let more : 0 < begun.0.commits.group = subst (λ (v : CommitsValue). 0 < v.group) (sym has.commits) (omega (arith, some)) in
+        let gate : (grouped m).gate ≡ gate_at has.writer.stage =
+        is.writing.gate works-here ∙ ap gate_of at_rest ∙ ap (λ (v : LogStoreValue). gate_of v.turn) (sym (begun.1).new_is) ∙ ap gate_of has.turn in
+        as-begun answer new m (begins-some m none waiting)
+        (works-here, none, (λ empty. let zero-long = ap (λ (h : History Value). length h) empty in absurd (omega (arith, waiting, zero-long))), refl)
+        (call-memory tells has.writer begun.0 new answer m tell memory is.machine within advances)
+        (call-runs tells has.writer begun.0 new (grouped m) tell works-here group more gate answer has.turn advances)
 
     by-queue : (b : Bool) → (length old.commits.queue == 0) ≡ b → old.turn ≡ None
-        → MatchBool b ((answer ≡ Ok did.Idle) × (new ≡ old)) (BeginsGroup tells old answer new) → MemoryAfter answer new m
+        → MatchBool b ((answer ≡ Ok did.Idle) × (new ≡ old)) (BeginsGroup tells old answer new) → StepBy answer new m
     by-queue true none at_rest idle =
-        subst (λ (a : Result Did PumpFault). MemoryAfter a new m) (sym idle.0)
-        (subst (λ (v : LogStoreValue). IsMemoryOf v.commits (with_published 0 m)) (sym idle.1)
-        (subst (λ (n : Machine Value). IsMemoryOf old.commits n) (none-published m) (record { stands = is.memory; fresh = is.fresh })))
+        let empty : length m.queue ≡ 0 = sym many ∙ grind (arith, nat_tests) in
+        subst (λ (a : Result Did PumpFault). StepBy a new m) (sym idle.0) (
+          subst (λ (v : LogStoreValue). IsMemoryOf v.commits (with_published 0 m)) (sym idle.1)
+              (subst (λ (n : Machine Value). IsMemoryOf old.commits n) (none-published m) (record { stands = is.memory; fresh = is.fresh })),
+          subst (λ (es : List (Event Value)). Gone m (es ++ []) 0 new) (sym (begins-idle m (none-at-rest at_rest) empty)) (record {
+            group = m.group;
+            gate = m.gate;
+            run = sym (none-published m);
+            group_is = is.writing.group ∙ ap (λ (v : LogStoreValue). v.commits.group) (sym idle.1);
+            gate_is = is.writing.gate works-here ∙ ap (λ (v : LogStoreValue). gate_of v.turn) (sym idle.1);
+          }),
+        )
     by-queue false some at_rest begun = begins-so at_rest (grind (arith, nat_tests)) begun
 
-    by-turn : (t : Option WriterState) → old.turn ≡ t → TakesStep tells old t answer new → MemoryAfter answer new m
+    by-turn : (t : Option WriterState) → old.turn ≡ t → TakesStep tells old t answer new → StepBy answer new m
     by-turn None at_rest next = by-queue (length old.commits.queue == 0) refl at_rest next
     by-turn (Some w) standing next =
-        as-after answer new m
+        let has : stores.HasTurn old.commits.group (Some w) = subst (stores.HasTurn old.commits.group) standing step.turn in
+        as-standing answer new m (begins-none m (omega (arith, has.0, is.writing.group)))
         (call-memory tells w old new answer m tell (record { stands = is.memory; fresh = is.fresh }) is.machine (group-within old step) next)
+        (call-runs tells w old new m tell works-here is.writing.group has.0 (is.writing.gate works-here ∙ ap gate_of standing) answer
+        standing next)
 
-    by-answer : (a : Result Did PumpFault) → MemoryAfter a new m → StepsTo a old new m.published m.queue m.floors → PumpsTo m a new
-    by-answer (Ok what) memory steps-to =
-        let works-on : new.commits.failed ≡ false = memory.stands.failed ∙ sym is.memory.failed ∙ works in
+    by-answer : (a : Result Did PumpFault) → StepBy a new m → StepsTo a old new m.published m.queue m.floors → Runs m (events_in m a) new
+    by-answer (Ok what) by steps-to =
+        let memory = by.0 in
+        let gone = by.1 in
+        let after : Machine Value = record (with_published (count_in what) m) { group = gone.group; gate = gone.gate } in
+        let works-on : new.commits.failed ≡ false = memory.stands.failed ∙ works-here in
         record {
-          memory = memory.stands;
-          machine = published-machine m (count_in what) is.machine is.none;
-          none = is.none;
-          fresh = memory.fresh;
-          disk = subst (λ (b : Bool). MatchBool b (StopsOnHeap new (m.published ++ take (count_in what) m.queue) (drop (count_in what) m.queue) m.floors)
-              (StandsOnHeap new (m.published ++ take (count_in what) m.queue) (drop (count_in what) m.queue) m.floors)) (sym works-on) steps-to;
+          after = after;
+          run = gone.run;
+          stands = record {
+            memory = gated-memory new.commits (with_published (count_in what) m) gone.group gone.gate memory.stands;
+            machine = run-machine IsValue m after (begins_in m ++ ends_in what) is.machine gone.run;
+            writing = record {
+              most = is.writing.most;
+              group = gone.group_is;
+              raising = is.writing.raising;
+              gate = λ on. gone.gate_is;
+              left = λ fails. absurd (let no : false ≡ true = sym works-here ∙ fails in cc);
+            };
+            fresh = memory.fresh;
+            disk = subst (λ (b : Bool). MatchBool b (StopsOnHeap new (m.published ++ take (count_in what) m.queue) (drop (count_in what) m.queue) m.floors)
+                (StandsOnHeap new (m.published ++ take (count_in what) m.queue) (drop (count_in what) m.queue) m.floors)) (sym works-on) steps-to;
+          };
         }
-    by-answer (Err pump.Busy) memory steps-to = steps-to
-    by-answer (Err pump.NoMemory) memory steps-to = subst (λ (v : LogStoreValue). IsStoreOf v m) (sym steps-to) is
-    by-answer (Err pump.Failed) memory steps-to = record {
-      memory = memory.stands;
-      machine = broken-machine m is.machine;
-      none = is.none;
-      fresh = memory.fresh;
-      disk = subst (λ (b : Bool). MatchBool b (StopsOnHeap new m.published m.queue m.floors) (StandsOnHeap new m.published m.queue m.floors))
-          (sym steps-to.failed) steps-to.stops;
-    }
+    by-answer (Err pump.Busy) by steps-to = absurd steps-to
+    by-answer (Err pump.NoMemory) by steps-to =
+        record { after = m; run = refl; stands = subst (λ (v : LogStoreValue). IsStoreOf v m) (sym steps-to) is }
+    by-answer (Err pump.Failed) by steps-to =
+        let memory = by.0 in
+        let fails = by.1 in
+        let after : Machine Value = record (steps.broken m) { group = fails.group; gate = fails.gate } in
+        subst (λ (es : List (Event Value)). Runs m es new)
+        (ap (λ (b : Bool). cond b [] (begins_in m ++ breaks_in m.gate)) (sym works-here)) (record {
+          after = after;
+          run = fails.run;
+          stands = record {
+            memory = gated-memory new.commits (steps.broken m) fails.group fails.gate memory.stands;
+            machine = run-machine IsValue m after (begins_in m ++ breaks_in m.gate) is.machine fails.run;
+            writing = record {
+              most = is.writing.most;
+              group = fails.group_is;
+              raising = is.writing.raising;
+              gate = λ on. absurd (let no : true ≡ false = on in cc);
+              left = λ on. fails.gate_is;
+            };
+            fresh = memory.fresh;
+            disk = subst (λ (b : Bool). MatchBool b (StopsOnHeap new m.published m.queue m.floors) (StandsOnHeap new m.published m.queue m.floors))
+                (sym steps-to.failed) steps-to.stops;
+          };
+        })
 
-    working : PumpsTo m answer new
+    working : Runs m (events_in m answer) new
     working =
         by-answer answer (by-turn old.turn refl takes)
         (pump-steps tells old new answer m.published m.queue m.floors tell works step sound stands pumps)
 
   -- one that has failed
-  resting : old.commits.failed ≡ true → Pumps tells old answer new → PumpsTo m answer new
+  resting : old.commits.failed ≡ true → Pumps tells old answer new → Runs m (events_in m answer) new
   resting failed pumps =
       let rests = failed-rests tells old new answer failed pumps in
-      let same : m ≡ steps.broken m = ap (λ (b : Bool). record m { failed = b }) (sym is.memory.failed ∙ failed) in
-      subst (λ (a : Result Did PumpFault). PumpsTo m a new) (sym rests.0)
-      (subst (λ (n : Machine Value). IsStoreOf new n) same (subst (λ (v : LogStoreValue). IsStoreOf v m) (sym rests.1) is))
+      let fails : m.failed ≡ true = sym is.memory.failed ∙ failed in
+      subst (λ (a : Result Did PumpFault). Runs m (events_in m a) new) (sym rests.0)
+      (subst (λ (es : List (Event Value)). Runs m es new) (ap (λ (b : Bool). cond b [] (begins_in m ++ breaks_in m.gate)) (sym fails))
+      (record { after = m; run = refl; stands = subst (λ (v : LogStoreValue). IsStoreOf v m) (sym rests.1) is }))
 
-  pub pump-stands : Pumps tells old answer new → PumpsTo m answer new
+  pub pump-stands : Pumps tells old answer new → Runs m (events_in m answer) new
   pump-stands pumps = by-failed old.commits.failed refl pumps
     where
-      by-failed : (b : Bool) → old.commits.failed ≡ b → Pumps tells old answer new → PumpsTo m answer new
+      by-failed : (b : Bool) → old.commits.failed ≡ b → Pumps tells old answer new → Runs m (events_in m answer) new
       by-failed true failed is-so = resting failed is-so
       by-failed false works is-so =
           working works

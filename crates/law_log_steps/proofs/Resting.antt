@@ -2,8 +2,8 @@
 use Rattle.std.proofs.Common.{◌≡◌, ◌⊎◌, ℕ, Bool, true, false, List, [], ◌++◌, take, Option, None, Some, refl, ap, sym, subst, inl}
 use Rattle.std.specs.Prelude.{MatchBool}
 use Rattle.history.specs.Histories.{History}
-use Rattle.history.specs.Machine.{Machine, opened}
-use Rattle.history.proofs.Machines.{opened-machine}
+use Rattle.history.specs.Machine.{Machine, opened_by}
+use Rattle.history.proofs.Machines.{opened_by-machine}
 use Rattle.disk.specs.Areas.{Image, AreSound, LeavesImage, settled_on}
 use Rattle.law_image.specs.Values.{Value, IsValue}
 use Rattle.law_image.specs.Reading.{Reading}
@@ -25,7 +25,7 @@ use Rattle.law_log_store.specs.Opened.{IsOpenedOn}
 use Rattle.law_log_store.proofs.Going.{standing-stops}
 use Rattle.law_log_store.proofs.Pumping.{either-old, either-new, grouped-stays}
 use Rattle.law_log_store.proofs.Opened as rooms
-use Rattle.law_log_steps.specs.Store.{HaveMark, IsStoreOf}
+use Rattle.law_log_steps.specs.Store.{HaveMark, gate_of, IsWriting, IsStoreOf}
 
 module _ (v : LogStoreValue) (m : Machine Value) (image : Image) (step : IsInStep v) (is : IsStoreOf v m) where
   abbrev Old : Type 0
@@ -56,15 +56,29 @@ module _ (v : LogStoreValue) (m : Machine Value) (image : Image) (step : IsInSte
       by-turn (Some w) some may =
           subst (λ (n : ℕ). Old ⊎ New n) (ap (λ (c : CommitsValue). c.group) (sym (grouped-stays v.commits some.0))) (by-failed w v.commits.failed may)
 
+-- a store that stands for a history, with nothing behind it, stands for a machine that is opened on it
+pub stands-opened : (v : LogStoreValue) (h : History Value) (floors : ℕ → ℕ) (reading : Reading) → StandsFor reading h floors → StandsOnHeap v h [] floors
+    → v.commits.failed ≡ false → v.commits.queue ≡ [] → IsWriting v (opened_by 1024 h floors) → StandsInMemory v.commits (opened_by 1024 h floors)
+    → IsStoreOf v (opened_by 1024 h floors)
+stands-opened v h floors reading stands on works none writing memory = record {
+  memory = memory;
+  machine = opened_by-machine IsValue 1024 h floors stands.opens.history (floor-range reading h floors stands);
+  writing = writing;
+  fresh = subst (λ (ws : List WaitingValue). HaveMark v.commits.reclaimed ws) (sym none) tt;
+  disk = subst (λ (b : Bool). MatchBool b (StopsOnHeap v h [] floors) (StandsOnHeap v h [] floors)) (sym works) on;
+}
+
 pub opened-stands : (v : LogStoreValue) (image : Image) (l : HeapLog) (reading : Reading) (h : History Value) (floors : ℕ → ℕ)
     → v.disk.areas ≡ settled_on image → AreSound v.disk.areas → ReadsRoots image.status v.roots → IsLogOf v.roots.extents (root_of v.roots) l reading
     → HoldsLog l image.heap image.archive → StandsFor reading h floors → IsOpenedOn v l reading → v.commits.failed ≡ false
-    → StandsInMemory v.commits (opened h floors) → IsStoreOf v (opened h floors)
-opened-stands v image l reading h floors same sound reads is held stands on works memory = record {
-  memory = memory;
-  machine = opened-machine IsValue h floors stands.opens.history (floor-range reading h floors stands);
-  none = refl;
-  fresh = subst (λ (ws : List WaitingValue). HaveMark v.commits.reclaimed ws) (sym on.queue) tt;
-  disk = subst (λ (b : Bool). MatchBool b (StopsOnHeap v h [] floors) (StandsOnHeap v h [] floors)) (sym works)
-      (rooms.opened-stands v image l reading h floors same sound reads is held stands on);
-}
+    → StandsInMemory v.commits (opened_by 1024 h floors) → IsStoreOf v (opened_by 1024 h floors)
+opened-stands v image l reading h floors same sound reads is held stands on works memory =
+    stands-opened v h floors reading stands (rooms.opened-stands v image l reading h floors same sound reads is held stands on) works on.queue
+    (record {
+      most = refl;
+      group = sym on.group;
+      raising = refl;
+      gate = λ works. ap gate_of (sym on.turn);
+      left = λ fails. absurd (let no : false ≡ true = fails in cc);
+    })
+    memory

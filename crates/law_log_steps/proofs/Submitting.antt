@@ -35,6 +35,7 @@ use Rattle.law_log_store.specs.Standing.{StandsOnHeap, StopsOnHeap}
 use Rattle.law_log_store.specs.Calls.{queued_by}
 use Rattle.law_log_store.proofs.Calls.{submit-steps, failed-queues-none}
 use Rattle.law_log_steps.specs.Store.{OnDisk, AreFresh, IsStoreOf}
+use Rattle.law_log_steps.proofs.Keeping.{HasSameGroup, writes-on}
 use Rattle.law_log_steps.specs.Laws.{Goes}
 use Rattle.law_log_steps.proofs.Pumping.{marks-after}
 
@@ -122,14 +123,14 @@ pub record IsLeft (m n : Machine Value) (more : History Value) : Type 0 where
   pub published : n.published ≡ m.published
   pub queue : n.queue ≡ m.queue ++ more
   pub floors : n.floors ≡ m.floors
-  pub group : n.group ≡ m.group
+  pub group : HasSameGroup m n
 
 gives-up : (m n : Machine Value) (snapshots : List ℕ) → n ≡ record m { snapshots = snapshots } → IsLeft m n []
 gives-up m n snapshots is = record {
   published = ap (λ (x : Machine Value). x.published) is;
   queue = ap (λ (x : Machine Value). x.queue) is ∙ sym (append-nil m.queue);
   floors = ap (λ (x : Machine Value). x.floors) is;
-  group = ap (λ (x : Machine Value). x.group) is;
+  group = subst (HasSameGroup m) (sym is) (record { most = refl; group = refl; raising = refl; gate = refl; failed = refl });
 }
 
 is-left : (m n : Machine Value) (s : Submission Value) (answer : Result Submitted SubmitFault) → Step IsValue m (event_of m s answer) n
@@ -140,7 +141,7 @@ is-left m n s (Ok (submitted.Queued ticket)) step =
       published = ap (λ (x : Machine Value). x.published) is;
       queue = ap (λ (x : Machine Value). x.queue) is;
       floors = ap (λ (x : Machine Value). x.floors) is;
-      group = ap (λ (x : Machine Value). x.group) is;
+      group = subst (HasSameGroup m) (sym is) (record { most = refl; group = refl; raising = refl; gate = refl; failed = refl });
     }
 is-left m n s (Err (refused.Conflict key)) step = gives-up m n (step.3).0 (step.3).2
 is-left m n s (Err refused.ClockEnd) step = gives-up m n (step.3).0 (step.3).2
@@ -155,11 +156,13 @@ is-left m n s (Err refused.Stranger) step = gives-up m n (step.1).0 (step.1).2
 -- memory works on, and what waits is fresh
 pub record WorksOn (old new : CommitsValue) : Type 0 where
   pub failed : new.failed ≡ old.failed
+  pub group : new.group ≡ old.group
   pub fresh : AreFresh old → AreFresh new
 
 spent-works : (old new : CommitsValue) (number : ℕ) → new ≡ over old number → WorksOn old new
 spent-works old new number is = record {
   failed = ap (λ (v : CommitsValue). v.failed) is;
+  group = ap (λ (v : CommitsValue). v.group) is;
   fresh = λ fresh. subst AreFresh (sym is) fresh;
 }
 
@@ -167,6 +170,7 @@ waits-on : (old new : CommitsValue) (number label time : ℕ) (writes : List (Ke
     → WorksOn old new
 waits-on old new number label time writes is = record {
   failed = ap (λ (v : CommitsValue). v.failed) is;
+  group = ap (λ (v : CommitsValue). v.group) is;
   fresh = λ fresh.
       subst AreFresh (sym is)
       (AllByRecursion-append (λ (w : WaitingValue). w.reclaimed ≡ old.reclaimed) old.queue
@@ -198,6 +202,12 @@ same-made v m number txn label now new (Err why) stands machine is = refl
 
 -- ---- the store after it
 
+same-turn : (v new : LogStoreValue) (txn : TxnValue) (label now : ℕ) (answer : Result Submitted SubmitFault) → AnswersSubmit v txn label now answer new
+    → new.turn ≡ v.turn
+same-turn v new txn label now (Ok (submitted.ReadOnly snapshot)) is = ap (λ (x : LogStoreValue). x.turn) is.2
+same-turn v new txn label now (Ok (submitted.Queued ticket)) is = ap (λ (x : LogStoreValue). x.turn) is.2
+same-turn v new txn label now (Err why) is = ap (λ (x : LogStoreValue). x.turn) is.1
+
 module _ (old new : LogStoreValue) (txn : TxnValue) (label now : ℕ) (answer : Result Submitted SubmitFault) (m : Machine Value) (step : IsInStep old)
     (is : IsStoreOf old m) (submits : Submits old txn label now answer new) where
   abbrev queued : History Value
@@ -220,10 +230,10 @@ module _ (old new : LogStoreValue) (txn : TxnValue) (label now : ℕ) (answer : 
       by-failed false works stands = submit-steps old new txn label now answer m.published m.queue m.floors step stands may submits
 
   -- an own transaction
-  own-stands : AreTxnWrites txn.state txn.snapshot txn.writes → label < 2 ^ 64 → is_own old.commits txn ≡ true
+  own-stands : AreTxnWrites txn.state txn.snapshot txn.writes → label < 2 ^ 64 → is_own old.commits txn ≡ true → new.turn ≡ old.turn
       → memory.AnswersSubmit (over old.commits txn.number) txn label now answer new.commits
       → Goes new m (event_of m (submission_of txn label now) answer)
-  own-stands are range own answers =
+  own-stands are range own turn answers =
       let to = submit-step old.commits new.commits txn label now answer m is.memory is.machine are range own answers in
       let n : Machine Value = to.0 in
       let left = is-left m n (submission_of txn label now) answer to.1 in
@@ -241,7 +251,7 @@ module _ (old new : LogStoreValue) (txn : TxnValue) (label now : ℕ) (answer : 
         record {
           memory = to.2;
           machine = machine;
-          none = left.group ∙ is.none;
+          writing = writes-on old new m n is.writing works.group turn left.group;
           fresh = works.fresh is.fresh;
           disk = subst (λ (h : History Value). OnDisk new h n.queue n.floors) (sym left.published)
               (subst (λ (q : History Value). OnDisk new m.published q n.floors) (sym queue)
@@ -257,10 +267,12 @@ module _ (old new : LogStoreValue) (txn : TxnValue) (label now : ℕ) (answer : 
           → MatchBool b ((answer ≡ Err refused.Failed) × (new ≡ spent old txn.number)) (AnswersSubmit (spent old txn.number) txn label now answer new)
           → Goes new m (event_of m (submission_of txn label now) answer)
       by-failed own true failed so =
-          own-stands are range own
+          own-stands are range own (ap (λ (x : LogStoreValue). x.turn) so.1)
           (subst (λ (a : Result Submitted SubmitFault). memory.AnswersSubmit (over old.commits txn.number) txn label now a new.commits) (sym so.0)
           (failed, ap (λ (x : LogStoreValue). x.commits) so.1))
-      by-failed own false works so = own-stands are range own (answers-so (spent old txn.number) new txn label now answer works so)
+      by-failed own false works so =
+          own-stands are range own (same-turn (spent old txn.number) new txn label now answer so) (answers-so
+          (spent old txn.number) new txn label now answer works so)
 
       by-own : (b : Bool) → is_own old.commits txn ≡ b
           → MatchBool b (SubmitsOwn (spent old txn.number) txn label now answer new) ((answer ≡ Err refused.Stranger) × (new ≡ old))

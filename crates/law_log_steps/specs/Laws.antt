@@ -1,11 +1,14 @@
 -- The calls of a store whose log lies in the heap are steps of the machine.
-use Rattle.std.specs.Prelude.{ℕ, ◌≡◌, ◌<◌, ◌^◌, Bool, false, IsTrue, Result, Ok, Err, MatchBool}
+use Rattle.std.specs.Prelude.{ℕ, ◌≡◌, ◌<◌, ◌^◌, ◌==◌, ◌&&◌, nat_lt, Bool, false, IsTrue, List, [], ◌∷◌, ◌++◌, length, Result, Ok, Err, MatchBool}
+use Rattle.std.specs.Prelude.{if◌then◌else◌}
+use Rattle.history.specs.Fronts.{OnFront}
 use Rattle.history.specs.Histories.{History}
-use Rattle.history.specs.Machine.{Machine, opened}
+use Rattle.history.specs.Machine.{Machine, Gate, Shut, Due, MayBeOpen, OfGroup, OfFloor, opened_by}
 use Rattle.history.specs.Answers as answers
-use Rattle.history.specs.Steps.{Event, Step, Began, BeginRefused, Aborted, begun}
+use Rattle.history.specs.Steps.{Event, Step, Run, Began, BeginRefused, Aborted, GroupBegan, Published, GateDue, GateWritten, Broke, begun}
 use Rattle.history.specs.Steps as steps
-use Rattle.disk.specs.Areas.{Image, AreSound, LeavesImage, settled_on}
+use Rattle.disk.specs.Areas.{Image, AreSound, LeavesImage, image_of, settled_on}
+use Rattle.disk.specs.Calls.{DiskState}
 use Rattle.law_image.specs.Values.{Value, IsValue}
 use Rattle.law_image.specs.Reading.{Reading}
 use Rattle.law_image.specs.StandsFor.{StandsFor}
@@ -23,15 +26,20 @@ use Rattle.log_store.specs.Values.{LogStoreValue, IsInStep}
 use Rattle.log_store.specs.Calls as calls
 use Rattle.log_store.specs.Submits.{Submits}
 use Rattle.log_store.specs.Pumps.{Pumps}
+use Rattle.log_store.specs.Opens.{Opens, OpenRefuses}
+use Rattle.recovery.specs.declared.fault.OpenFault.{OpenFault}
+use Rattle.law_log_opening.specs.Laws.{SaysNothing}
 use Rattle.log_store.specs.declared.answers.Did.{Did}
+use Rattle.log_store.specs.declared.answers.Did.TheVariants as did
 use Rattle.log_recovery.specs.Opening.{ReadsRoots}
+use Rattle.log_roots.specs.declared.roots.Roots.{Roots}
 use Rattle.log_roots.specs.Roots.{root_of}
 use Rattle.law_log_layout.specs.HeapLog.{HeapLog, IsLogOf, HoldsLog}
 use Rattle.law_refinement.specs.Laws.{submission_of, event_of, RedeemsAs}
 use Rattle.law_commits.specs.Standing.{StandsInMemory}
-use Rattle.law_commits.specs.Laws.{with_published}
-use Rattle.law_log_store.specs.Calls.{IsFront, count_in}
+use Rattle.law_log_store.specs.Calls.{IsFront}
 use Rattle.law_log_store.specs.Opened.{IsOpenedOn}
+use Rattle.law_log_store.specs.Standing.{IsImageOf}
 use Rattle.law_log_steps.specs.Store.{IsStoreOf}
 
 -- ---- opening, and stops
@@ -42,12 +50,36 @@ OpenedStands =
     (v : LogStoreValue) (image : Image) (l : HeapLog) (reading : Reading) (h : History Value) (floors : ℕ → ℕ)
     → v.disk.areas ≡ settled_on image → AreSound v.disk.areas → ReadsRoots image.status v.roots → IsLogOf v.roots.extents (root_of v.roots) l reading
     → HoldsLog l image.heap image.archive → StandsFor reading h floors → IsOpenedOn v l reading → v.commits.failed ≡ false
-    → StandsInMemory v.commits (opened h floors) → IsStoreOf v (opened h floors)
+    → StandsInMemory v.commits (opened_by 1024 h floors) → IsStoreOf v (opened_by 1024 h floors)
+
+-- so a store that was opened on an image which stands for a history
+abbrev pub OpenStands : Type 0
+OpenStands =
+    (tells : Bool) (old : DiskState) (mark : ℕ) (v : LogStoreValue) (roots : Roots) (h : History Value) (floors : ℕ → ℕ) → IsTrue tells → AreSound old.areas
+    → IsImageOf roots (image_of old.areas) h floors → Opens tells old mark v → IsStoreOf v (opened_by 1024 h floors)
 
 -- at every moment, of a store that works or has failed, whatever a stop may leave is a front
 abbrev pub RestsOnFront : Type 0
 RestsOnFront = (v : LogStoreValue) (m : Machine Value) (image : Image) → IsInStep v → IsStoreOf v m → LeavesImage v.disk.areas image
     → IsFront v image m.published m.queue m.floors
+
+-- it is one of the machine: what is published, or, once the group's gate may be open, that with the whole group
+abbrev pub LeavesFronts : Type 0
+LeavesFronts = (v : LogStoreValue) (m : Machine Value) (image : Image) → IsInStep v → IsStoreOf v m → LeavesImage v.disk.areas image
+    → OnFront (IsImageOf v.roots image) m
+
+-- So a store that is opened on what a stop left stands for a machine that is opened on a front. A front has all that is published.
+abbrev pub StopReopens : Type 0
+StopReopens =
+    (tells : Bool) (v : LogStoreValue) (m : Machine Value) (old : DiskState) (mark : ℕ) (again : LogStoreValue) → IsTrue tells → IsInStep v → IsStoreOf v m
+    → LeavesImage v.disk.areas (image_of old.areas) → AreSound old.areas → Opens tells old mark again
+    → OnFront (λ h floors. IsStoreOf again (opened_by 1024 h floors)) m
+
+-- and no opening is refused for what is left
+abbrev pub StopOpens : Type 0
+StopOpens =
+    (tells : Bool) (v : LogStoreValue) (m : Machine Value) (old new : DiskState) (why : OpenFault) → IsTrue tells → IsInStep v → IsStoreOf v m
+    → LeavesImage v.disk.areas (image_of old.areas) → OpenRefuses tells old why new → SaysNothing why
 
 -- ---- transactions and tickets
 
@@ -84,15 +116,41 @@ SubmitStands =
 
 -- ---- steps of a group
 
--- what a step leads to, by its answer: as many of the first commits of the queue are published as it says, or the machine has failed
-abbrev pub PumpsTo : Machine Value → Result Did PumpFault → LogStoreValue → Type 0
-PumpsTo m (Ok what) new = IsStoreOf new (with_published (count_in what) m)
-PumpsTo m (Err pump.Busy) new = ⊥
-PumpsTo m (Err pump.NoMemory) new = IsStoreOf new m
-PumpsTo m (Err pump.Failed) new = IsStoreOf new (steps.broken m)
+-- a group begins in a step, where none stands and commits wait
+abbrev pub begins_in : Machine Value → List (Event Value)
+begins_in m = if (m.group == 0) && nat_lt 0 (length m.queue) then GroupBegan ∷ [] else []
+
+-- and what else a step is, by its answer: once the heap is synced the gate is due
+abbrev pub ends_in : Did → List (Event Value)
+ends_in did.Idle = []
+ends_in did.WroteExtent = []
+ends_in did.GateClosed = []
+ends_in did.HeapSynced = GateDue OfGroup ∷ []
+ends_in did.GateWritten = GateWritten OfGroup ∷ []
+ends_in (did.Published count) = Published count ∷ []
+
+-- a refused write of the gate may have opened it
+abbrev pub breaks_in : Gate → List (Event Value)
+breaks_in Shut = Broke ∷ []
+breaks_in (Due OfGroup) = GateWritten OfGroup ∷ Broke ∷ []
+breaks_in (Due OfFloor) = Broke ∷ []
+breaks_in (MayBeOpen change) = Broke ∷ []
+
+-- the machine's events in a step, by its answer: without memory, and of a machine that has failed, there are none
+abbrev pub events_in : Machine Value → Result Did PumpFault → List (Event Value)
+events_in m (Ok what) = begins_in m ++ ends_in what
+events_in m (Err pump.Busy) = []
+events_in m (Err pump.NoMemory) = []
+events_in m (Err pump.Failed) = if m.failed then [] else begins_in m ++ breaks_in m.gate
+
+-- the machine runs through these events to one that the store stands for
+pub record Runs (m : Machine Value) (events : List (Event Value)) (new : LogStoreValue) : Type 0 where
+  pub after : Machine Value
+  pub run : Run IsValue m events after
+  pub stands : IsStoreOf new after
 
 -- so it is on a device that tells of its calls
 abbrev pub PumpStands : Type 0
 PumpStands =
     (tells : Bool) (old new : LogStoreValue) (answer : Result Did PumpFault) (m : Machine Value) → IsTrue tells → IsInStep old → AreSound new.disk.areas
-    → IsStoreOf old m → Pumps tells old answer new → PumpsTo m answer new
+    → IsStoreOf old m → Pumps tells old answer new → Runs m (events_in m answer) new

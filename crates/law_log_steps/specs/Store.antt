@@ -1,9 +1,11 @@
 -- The state of the machine that a store whose log lies in the heap stands for.
-use Rattle.std.specs.Prelude.{ℕ, ◌≡◌, MatchBool, List}
+use Rattle.std.specs.Prelude.{ℕ, ◌≡◌, true, false, MatchBool, List, Option, None, Some}
 use Rattle.std.specs.List.{AllByRecursion}
 use Rattle.history.specs.Histories.{History}
-use Rattle.history.specs.Machine.{Machine, IsMachine}
+use Rattle.history.specs.Machine.{Machine, Gate, Shut, Due, MayBeOpen, OfGroup, IsMachine}
 use Rattle.law_image.specs.Values.{Value, IsValue}
+use Rattle.log_writer.specs.Turns.{Stage, Writing, Syncing, Opening, Settling, Done}
+use Rattle.log_writer.specs.Writer.{WriterState}
 use Rattle.commits.specs.Values.{CommitsValue, WaitingValue}
 use Rattle.log_store.specs.Values.{LogStoreValue}
 use Rattle.law_commits.specs.Standing.{StandsInMemory}
@@ -22,10 +24,43 @@ HaveMark mark ws = AllByRecursion (λ (w : WaitingValue). w.reclaimed ≡ mark) 
 abbrev pub AreFresh : CommitsValue → Type 0
 AreFresh v = HaveMark v.reclaimed v.queue
 
--- Memory and disk stand for one state of the machine. How many commits the store's group has, the machine does not say: it allows fewer.
+-- the machine's gate, by how far the group's chain is
+abbrev pub gate_at : Stage → Gate
+gate_at (Writing done rest) = Shut
+gate_at Syncing = Shut
+gate_at Opening = Due OfGroup
+gate_at Settling = MayBeOpen OfGroup
+gate_at Done = MayBeOpen OfGroup
+
+-- where no chain is in the writing it is shut
+abbrev pub gate_of : Option WriterState → Gate
+gate_of None = Shut
+gate_of (Some w) = gate_at w.stage
+
+-- and of a store that has failed: a refused write of the gate may have opened it
+abbrev pub gate_behind : Stage → Gate
+gate_behind (Writing done rest) = Shut
+gate_behind Syncing = Shut
+gate_behind Opening = MayBeOpen OfGroup
+gate_behind Settling = MayBeOpen OfGroup
+gate_behind Done = MayBeOpen OfGroup
+
+abbrev pub gate_left : Option WriterState → Gate
+gate_left None = Shut
+gate_left (Some w) = gate_behind w.stage
+
+-- The machine's group is the store's, of at most 1,024 commits, and its gate is where the group's chain is. No floor is in the making.
+pub record IsWriting (v : LogStoreValue) (m : Machine Value) : Type 0 where
+  pub most : m.most ≡ 1024
+  pub group : m.group ≡ v.commits.group
+  pub raising : m.raising ≡ None
+  pub gate : m.failed ≡ false → m.gate ≡ gate_of v.turn
+  pub left : m.failed ≡ true → m.gate ≡ gate_left v.turn
+
+-- Memory and disk stand for one state of the machine.
 pub record IsStoreOf (v : LogStoreValue) (m : Machine Value) : Type 0 where
   pub memory : StandsInMemory v.commits m
   pub machine : IsMachine IsValue m
-  pub none : m.group ≡ 0
+  pub writing : IsWriting v m
   pub fresh : AreFresh v.commits
   pub disk : OnDisk v m.published m.queue m.floors

@@ -1,15 +1,30 @@
 //! Laws of the calls of a store whose log lies in the heap.
-ghost use Rattle.law_log_steps.specs.Laws.{AbortStands, BeginStands, OpenedStands, PumpStands, RedeemStands, RestsOnFront, SubmitStands};
+ghost use Rattle.law_log_steps.specs.Laws.{AbortStands, BeginStands, OpenedStands, OpenStands, PumpStands, RedeemStands};
+ghost use Rattle.law_log_steps.specs.Laws.{LeavesFronts, RestsOnFront, StopOpens, StopReopens, SubmitStands};
 
 /// A store that is opened on an image that stands for a history stands for a machine that is opened on it.
 pub fn opened_stands()
     ensures { OpenedStands }
 {}
 
+/// A store that was opened on an image which stands for a history, with its floors, stands for a machine that is
+/// opened on it.
+pub fn open_stands()
+    ensures { OpenStands }
+{}
+
 /// Whatever a crash leaves between two calls, also after a refused one, stands for what is published, or for that
 /// with the whole group that is being written.
 pub fn rests_on_front()
     ensures { RestsOnFront }
+{}
+
+/// What a crash leaves opens, unless the device refuses a call or memory is short, and the opened store stands for a
+/// machine that is opened on what is published, or, once the group's gate may be open, on that with the whole group.
+pub fn stops_reopen()
+    ensures fronts { LeavesFronts }
+    ensures again { StopReopens }
+    ensures opens { StopOpens }
 {}
 
 /// A begin takes the last published time as its snapshot.

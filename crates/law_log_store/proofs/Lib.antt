@@ -9,3 +9,4 @@ pub mod Submitting
 pub mod Calls
 pub mod Pumping
 pub mod Opened
+pub mod Opening

@@ -1,8 +1,9 @@
 -- A store as it is opened on what stands in its heap.
-use Rattle.std.specs.Prelude.{ℕ, ◌≡◌, Bool, true, false, List, [], replicate, flat_map, None}
+use Rattle.std.specs.Prelude.{ℕ, ◌≡◌, Bool, true, false, IsTrue, List, [], replicate, flat_map, None}
 use Rattle.history.specs.declared.key.Key.{Key}
 use Rattle.history.specs.Histories.{History}
-use Rattle.disk.specs.Areas.{Image, AreSound, settled_on}
+use Rattle.disk.specs.Areas.{Image, AreSound, image_of, settled_on}
+use Rattle.disk.specs.Calls.{DiskState}
 use Rattle.law_image.specs.Values.{Value}
 use Rattle.law_image.specs.Reading.{Reading}
 use Rattle.law_image.specs.Facts.{values_now}
@@ -10,13 +11,17 @@ use Rattle.law_image.specs.StandsFor.{StandsFor}
 use Rattle.chains.specs.KeyWrites.{IsOrdered}
 use Rattle.law_log_layout.specs.HeapLog.{PlacedChain, HeapLog, IsLogOf, HoldsLog}
 use Rattle.law_log_sizes.specs.Sizes.{size_now}
+use Rattle.recovery.specs.declared.fault.OpenFault.{OpenFault}
 use Rattle.log_recovery.specs.Opening.{ReadsRoots}
+use Rattle.law_log_opening.specs.Laws.{SaysNothing}
+use Rattle.log_roots.specs.declared.roots.Roots.{Roots}
 use Rattle.log_roots.specs.Roots.{root_of}
 use Rattle.log_sizes.specs.Counted.{values_in}
 use Rattle.log_space.specs.Uses.{with_use, all_used}
 use Rattle.log_room.specs.Rooms.{RoomValue, MayOpen}
 use Rattle.log_store.specs.Values.{LogStoreValue}
-use Rattle.law_log_store.specs.Standing.{StandsOnHeap, IsRoomOf, counted}
+use Rattle.log_store.specs.Opens.{Opens, OpenRefuses}
+use Rattle.law_log_store.specs.Standing.{StandsOnHeap, IsRoomOf, IsImageOf, counted}
 
 -- the flags of a heap of so many extents where those of the log's chains are in use, and then those of the anchors
 abbrev pub live_uses : ℕ → HeapLog → List Bool
@@ -53,3 +58,17 @@ OpenedStands =
     (v : LogStoreValue) (image : Image) (l : HeapLog) (reading : Reading) (h : History Value) (floors : ℕ → ℕ)
     → v.disk.areas ≡ settled_on image → AreSound v.disk.areas → ReadsRoots image.status v.roots → IsLogOf v.roots.extents (root_of v.roots) l reading
     → HoldsLog l image.heap image.archive → StandsFor reading h floors → IsOpenedOn v l reading → StandsOnHeap v h [] floors
+
+-- ---- the call
+
+-- A store that was opened on an image which stands for a history stands for it, with nothing behind it.
+abbrev pub OpenStands : Type 0
+OpenStands =
+    (tells : Bool) (old : DiskState) (mark : ℕ) (v : LogStoreValue) (roots : Roots) (h : History Value) (floors : ℕ → ℕ) → IsTrue tells → AreSound old.areas
+    → IsImageOf roots (image_of old.areas) h floors → Opens tells old mark v → (v.roots ≡ roots) × StandsOnHeap v h [] floors
+
+-- and no opening is refused for what such an image says
+abbrev pub OpensAny : Type 0
+OpensAny =
+    (tells : Bool) (old new : DiskState) (why : OpenFault) (roots : Roots) (h : History Value) (floors : ℕ → ℕ) → IsTrue tells
+    → IsImageOf roots (image_of old.areas) h floors → OpenRefuses tells old why new → SaysNothing why

@@ -1,6 +1,6 @@
 //! Laws of the disk of a store whose log lies in the heap.
 ghost use Rattle.law_log_store.specs.Calls.{AbortKeeps, BeginKeeps, FailedQueuesNone, FailedRests, PumpLeaves, PumpSteps, RedeemKeeps, SubmitSteps};
-ghost use Rattle.law_log_store.specs.Opened.{OpenedStands, RoomOpens};
+ghost use Rattle.law_log_store.specs.Opened.{OpenedStands, OpensAny, OpenStands, RoomOpens};
 ghost use Rattle.law_log_store.specs.Laws.{GroupBegins, GroupGoesOn, GroupJoins, StandingStops, SubmitKeeps};
 
 /// A store that is opened on a log that stands for a history stands for that history: the heap has the room that
@@ -8,6 +8,13 @@ ghost use Rattle.law_log_store.specs.Laws.{GroupBegins, GroupGoesOn, GroupJoins,
 pub fn opened_stands()
     ensures room { RoomOpens }
     ensures stands { OpenedStands }
+{}
+
+/// A store that was opened on an image which stands for a history stands for that history, and no opening is
+/// refused for what such an image says: only where the disk refuses a call, or memory is short.
+pub fn open_stands()
+    ensures stands { OpenStands }
+    ensures any { OpensAny }
 {}
 
 /// The next commits are a group of the log: their records over the versions in memory are those over what

@@ -212,6 +212,7 @@ module _ (old : DiskState) (mark : ℕ) (disk : DiskState) (r : Recovered) (arch
     queue = tt;
     fresh = λ turning. absurd cc;
     group = refl;
+    most = refl;
     staged = λ staged. absurd staged;
     snapshots = IsPermutation-refl [];
     floors = so.floors_are;

@@ -120,6 +120,7 @@ redeemed-stands v m time stands = record {
   queue = stands.queue;
   fresh = stands.fresh;
   group = stands.group;
+  most = stands.most;
   staged = stands.staged;
   snapshots = stands.snapshots;
   floors = stands.floors;

@@ -1246,6 +1246,7 @@ raises-memory v m scope floor floors stands is up = record {
   queue = stands.queue;
   fresh = stands.fresh;
   group = stands.group;
+  most = stands.most;
   staged = stands.staged;
   snapshots = stands.snapshots;
   floors = λ relation.

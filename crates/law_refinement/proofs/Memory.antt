@@ -94,6 +94,7 @@ opens-one v m number snapshot stands fresh newest = record {
   queue = stands.queue;
   fresh = stands.fresh;
   group = stands.group;
+  most = stands.most;
   staged = stands.staged;
   snapshots = subst (λ (s : ℕ). IsPermutation (s ∷ m.snapshots) (snapshots_of (with_opened v.opened number snapshot))) newest
       (IsPermutation-trans (snapshot ∷ m.snapshots) (snapshot ∷ snapshots_of v.opened) (snapshots_of (with_opened v.opened number snapshot))
@@ -132,6 +133,7 @@ closes-so v m number snapshot stands is =
         queue = stands.queue;
         fresh = stands.fresh;
         group = stands.group;
+        most = stands.most;
         staged = stands.staged;
         snapshots = IsPermutation-refl rest;
         floors = stands.floors;

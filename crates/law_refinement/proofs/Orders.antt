@@ -26,6 +26,7 @@ memory-beside v pending usages reserved slots used m raising gate stands = recor
   queue = stands.queue;
   fresh = stands.fresh;
   group = stands.group;
+  most = stands.most;
   staged = stands.staged;
   snapshots = stands.snapshots;
   floors = stands.floors;

@@ -46,6 +46,7 @@ reclaims v m mark stands made low reached recent still =
           (raised-waits v.reclaimed mark v.versions v.queue m.queue low later ordered rising stands.queue);
       fresh = λ turning. absurd (let no : true ≡ false = sym turning ∙ still in cc);
       group = stands.group;
+      most = stands.most;
       staged = stands.staged;
       snapshots = stands.snapshots;
       floors = stands.floors;

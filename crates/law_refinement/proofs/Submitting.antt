@@ -171,6 +171,7 @@ queues-one v m label time writes numbers stands few waits later range =
       queue = all_wait-push v.reclaimed v.versions v.queue m.queue q c stands.queue waits;
       fresh = λ turning. ap (mark_after v.reclaimed) front ∙ stands.fresh turning;
       group = stands.group;
+      most = stands.most;
       staged = stands.staged;
       snapshots = stands.snapshots;
       floors = stands.floors;

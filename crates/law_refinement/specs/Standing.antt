@@ -92,6 +92,8 @@ pub record StandsInMemory (v : TransactionsValue) (m : Machine Value) : Type 0 w
   pub queue : AllWait v.reclaimed v.versions v.queue m.queue
   pub fresh : IsFresh v
   pub group : v.group ≡ m.group
+  -- a slot has at most 16 commits
+  pub most : m.most ≡ 16
   -- where something is done of a group, one stands
   pub staged : IsStaged v.stage → 0 < v.group
   pub snapshots : IsPermutation m.snapshots (snapshots_of v.opened)

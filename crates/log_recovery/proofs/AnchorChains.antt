@@ -74,7 +74,8 @@ pub none_as_long : (most mark : ℕ) (heap : List ℕ) (old new : List Bool) (na
     → IsTakenChain Anchors most name.first heap old new parts → (length parts.numbers.items ≡ name.extents → ⊥)
     → HasNoAnchors most mark heap old (name ∷ [])
 none_as_long most mark heap old new name parts few some taken other = λ a are free.
-    let same = one_held Anchors most name.first heap parts.numbers.items a.numbers parts.link 0 parts.content.items (flat_map old_bytes a.records) few taken.held
+    let same = one_held Anchors most name.first heap parts.numbers.items a.numbers parts.link 0 parts.content.items
+    (flat_map old_bytes a.records) few taken.held
     (held_of_anchors most mark heap name a some are) in
     other (ap length same.numbers_are ∙ are.named.1)
 
@@ -83,7 +84,8 @@ pub none_said : (most mark : ℕ) (heap : List ℕ) (old new : List Bool) (name 
     → IsTakenChain Anchors most name.first heap old new parts → HasNoAnchorsIn mark name.records parts.content.items
     → HasNoAnchors most mark heap old (name ∷ [])
 none_said most mark heap old new name parts few some taken none = λ a are free.
-    let same = one_held Anchors most name.first heap parts.numbers.items a.numbers parts.link 0 parts.content.items (flat_map old_bytes a.records) few taken.held
+    let same = one_held Anchors most name.first heap parts.numbers.items a.numbers parts.link 0 parts.content.items
+    (flat_map old_bytes a.records) few taken.held
     (held_of_anchors most mark heap name a some are) in
     none (map old_record_of a.records) (record {
       are = record {

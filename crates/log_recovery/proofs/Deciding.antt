@@ -65,7 +65,8 @@ free_is_new most next chains a number range =
 
 -- ---- the end
 
-pub end_decides : (most root : ℕ) (heap : List ℕ) (chains : List PlacedChain) (next : ℕ) (a : PlacedAnchors) (end : LogEnd) (flags : List Bool) (greatest_len : ℕ)
+pub end_decides : (most root : ℕ) (heap : List ℕ) (chains : List PlacedChain) (next : ℕ) (a : PlacedAnchors) (end : LogEnd) (flags : List Bool)
+    (greatest_len : ℕ)
     → HoldsAnchors most root heap chains next a → IsNumberOf most next → AllByRecursion (IsNumberOf most) (numbers_of chains ++ a.numbers)
     → IsEndOf (mark_of chains) chains end → flags ≡ all_used (uses_of most chains) a.numbers
     → greatest_len ≡ greatest (anchors_len a.records) (lens_behind (anchors_len a.records) (values_of a.records) (members_of_all (mark_of chains) chains))

@@ -58,7 +58,8 @@ pub values_more : (before : Key → Option Value) (xs ys : List Member) → valu
 values_more before [] ys = refl
 values_more before (m ∷ xs) ys = values_more (values_after before (commit_read before m)) xs ys
 
-pub stored_more : (before : Key → Option Value) (xs ys : List Member) → AreStored before xs → AreStored (values_behind before xs) ys → AreStored before (xs ++ ys)
+pub stored_more : (before : Key → Option Value) (xs ys : List Member) → AreStored before xs → AreStored (values_behind before xs) ys
+    → AreStored before (xs ++ ys)
 stored_more before [] ys front back = back
 stored_more before (m ∷ xs) ys front back = (front.0, stored_more (values_after before (commit_read before m)) xs ys front.1 back)
 
@@ -105,12 +106,15 @@ facts_more mark olds ms read next m has later small last_is names writes =
     let c : Commit Value = commit_read b (member_told m) in
     let commits : History Value = commits_from (values_of olds) ms in
     let same : before_of read.versions ≡ b = facts_before mark olds ms read has in
-    let heads : heads_told (ms ++ member_told m ∷ []) ≡ heads_told ms ++ (member_told m).head ∷ [] = map-append (λ (x : Member). x.head) ms (member_told m ∷ []) in
+    let heads : heads_told (ms ++ member_told m ∷ []) ≡ heads_told ms ++ (member_told m).head ∷ [] =
+    map-append (λ (x : Member). x.head) ms (member_told m ∷ []) in
     record {
       writes = λ key.
           writes key
-          ∙ ap (λ (ws : List (TimedWrite Value)). ws ++ written m.time (map (write_of (before_of read.versions)) (map heap_record m.records)) key) (has.writes key)
-          ∙ append_assoc (old_writes olds key) (writes_of commits key) (written m.time (map (write_of (before_of read.versions)) (map heap_record m.records)) key)
+          ∙ ap (λ (ws : List (TimedWrite Value)). ws ++ written m.time (map (write_of (before_of read.versions)) (map heap_record m.records)) key)
+          (has.writes key)
+          ∙ append_assoc (old_writes olds key) (writes_of commits key)
+          (written m.time (map (write_of (before_of read.versions)) (map heap_record m.records)) key)
           ∙ ap (λ (f : Key → Option Value). old_writes olds key
           ++ (writes_of commits key ++ written m.time (map (write_of f) (map heap_record m.records)) key)) same
           ∙ ap (λ (ws : List (TimedWrite Value)). old_writes olds key ++ (writes_of commits key ++ ws)) (sym (written-one c key))

@@ -1,6 +1,7 @@
 -- The heap is read, or its end is not right.
 use Rattle.std.proofs.Common.{◌≡◌, ℕ, ◌+◌, ◌*◌, ◌/◌, ◌<◌, ◌≤◌, ◌↔◌, max, Bool, List, [], ◌∷◌, ◌++◌, length, map, refl, sym, ◌∙◌, ap, subst, arith}
-use Rattle.std.specs.Prelude.{flat_map, IsTrue}
+use Rattle.std.specs.Prelude.{flat_map, IsTrue, Option, None, Some, is_some, MatchOption}
+use Rattle.std.proofs.lemmas.Bool.{false≢true}
 use Rattle.std.specs.List.{AllByRecursion}
 use Rattle.law_image.specs.Reading.{OldRecord}
 use Rattle.log_extents.specs.Chains.{count_of, IsNumberOf}
@@ -12,12 +13,31 @@ use Rattle.log_recovery.specs.Rules.{mark_of}
 use Rattle.log_recovery.specs.Following.{IsEndOf}
 use Rattle.log_recovery.specs.Anchored.{first_names, TakesAnchors}
 use Rattle.log_recovery.specs.Members.{values_of, members_of_all, AreAllStored}
-use Rattle.log_recovery.specs.Ends.{EndsRight, IsEnd, IsEndSeen, open_of, counted_in, AreBasesSmall}
+use Rattle.log_recovery.specs.Ends.{EndsRight, IsEnd, IsEndSeen, KeepsLogShare, counted_in}
 use Rattle.log_recovery.specs.Opening.{KeepsRules, HoldsAnchors, HoldsMembers, HoldsHeap, FailsHeap, AtEnd}
 use Rattle.log_recovery.specs.Read.{IsAnchoredLog}
 use Rattle.log_recovery.specs.declared.opening.AnchoredLog.{AnchoredLog}
+use Rattle.log_recovery.specs.declared.rules.LogEnd.{LogEnd}
 use Rattle.log_recovery.proofs.HeapRead.{anchors_right, all_in_range}
 use Rattle.log_recovery.proofs.Deciding.{end_decides}
+
+-- ---- the shares
+
+-- how many extents the log has, where the shares are kept
+abbrev pub IsKept : ℕ → List PlacedChain → LogEnd → Option ℕ → Type 0
+IsKept most chains end kept =
+    MatchOption kept (¬ KeepsLogShare most chains end) (λ count. KeepsLogShare most chains end × (count ≡ length (counted_in chains)))
+
+pub kept_decides : (most : ℕ) (chains : List PlacedChain) (end : LogEnd) (kept : Option ℕ) → IsKept most chains end kept
+    → IsTrue (is_some kept) ↔ KeepsLogShare most chains end
+kept_decides most chains end None is = (λ same. absurd (false≢true same), λ keeps. absurd (is keeps))
+kept_decides most chains end (Some count) is = (λ same. is.0, λ keeps. refl)
+
+pub kept_count : (most : ℕ) (chains : List PlacedChain) (end : LogEnd) (kept : Option ℕ) (count : ℕ) → IsKept most chains end kept → kept ≡ Some count
+    → count ≡ length (counted_in chains)
+kept_count most chains end kept count is same = (subst (IsKept most chains end) same is).1
+
+-- ---- the anchors
 
 -- the anchors that were read
 pub anchors_of : (most root : ℕ) (heap : List ℕ) (read : AnchoredLog) → IsAnchoredLog most root heap read → PlacedAnchors
@@ -35,8 +55,7 @@ greatest_of chains olds = greatest (anchors_len olds) (lens_behind (anchors_len 
 -- the three answers say whether the log ends right
 pub three_decide : (most root : ℕ) (heap : List ℕ) (read : AnchoredLog) (is : IsAnchoredLog most root heap read) → IsNumberOf most read.log.next
     → IsEndOf (mark_of read.log.chains.items) read.log.chains.items read.log.end → (shares ends fit : Bool)
-    → (IsTrue shares ↔ ((length (counted_in read.log.chains.items)
-    + (1 + open_of read.log.end.archived (max read.log.end.mark read.log.end.last)) ≤ most / 2) × AreBasesSmall most read.log.chains.items))
+    → (IsTrue shares ↔ KeepsLogShare most read.log.chains.items read.log.end)
     → (IsTrue ends ↔ IsEndSeen (length heap) read.log.next read.log.space read.log.end)
     → (IsTrue fit ↔ (count_of (greatest_of read.log.chains.items is.takes.records) ≤ (3 * most) / 16))
     → (IsTrue shares × IsTrue ends × IsTrue fit)

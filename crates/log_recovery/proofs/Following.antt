@@ -151,7 +151,10 @@ run_follows old new mark s a next new_is runs_are says =
     record {
       may = record { rule = (omega (arith, later, archived_is), told', omega (arith, few, marks)); runs = (omega (arith, behind, ends), tt); rolls = tt };
       says = record {
-        empty = (λ yes. let no : new.empty ≡ false = ap (λ (e : LogEnd). e.empty) new_is in absurd cc, λ both. absurd (some_behind less (Archived a.upto) [] both.0));
+        empty = (
+          λ yes. let no : new.empty ≡ false = ap (λ (e : LogEnd). e.empty) new_is in absurd cc,
+          λ both. absurd (some_behind less (Archived a.upto) [] both.0),
+        );
         mark_is = ap (λ (e : LogEnd). e.mark) new_is ∙ says.mark_is;
         last_is = ap (λ (e : LogEnd). e.last) new_is ∙ says.last_is;
         archived_is = ap (λ (e : LogEnd). e.archived) new_is ∙ sym (archive_mark-append 0 less (Archived a.upto ∷ []));
@@ -162,7 +165,8 @@ run_follows old new mark s a next new_is runs_are says =
         marks_are =
             ap uptos_of runs_are
             ∙ map-append (λ (run : Run). run.upto) (take (length old.runs.items - a.runs) old.runs.items) (run_of a ∷ [])
-            ∙ ap (λ l. l ++ a.upto ∷ []) (ap (λ (n : ℕ). uptos_of (take n old.runs.items)) same ∙ uptos_taken kept old.runs.items ∙ ap (take kept) says.marks_are
+            ∙ ap (λ l. l ++ a.upto ∷ [])
+            (ap (λ (n : ℕ). uptos_of (take n old.runs.items)) same ∙ uptos_taken kept old.runs.items ∙ ap (take kept) says.marks_are
             ∙ sym (first-marks kept s.told))
             ∙ sym (marks-append less (Archived a.upto ∷ []));
         runs_end_is = ap (λ (e : LogEnd). e.runs_end) new_is;
@@ -254,7 +258,8 @@ base-marks : (b : Base) → marks_of (base_slots (base_told [] b)) ≡ uptos_in 
 base-marks b =
     let marks = uptos_in b.archives in
     let floors = map floor_slot (map floor_told b.floors) in
-    marks-append (map Archived marks) floors ∙ ap (λ l. l ++ marks_of floors) (archived-marks marks) ∙ ap (λ l. marks ++ l) (floors-marks (map floor_told b.floors))
+    marks-append (map Archived marks) floors ∙ ap (λ l. l ++ marks_of floors) (archived-marks marks)
+    ∙ ap (λ l. marks ++ l) (floors-marks (map floor_told b.floors))
     ∙ append-nil marks
 
 base-floors : (f : ℕ → ℕ) (b : Base) → floors_after f (base_slots (base_told [] b)) ≡ floors_after f (map floor_slot (map floor_told b.floors))

@@ -14,7 +14,8 @@ use Rattle.log_extents.specs.Chains.{first_or}
 use Rattle.log_entries.specs.declared.entry.Member.{Member as MemberEntry}
 use Rattle.law_log_layout.specs.HeapLog.{PlacedChain, member_told}
 use Rattle.log_recovery.specs.declared.members_read.MembersRead.{MembersRead}
-use Rattle.log_recovery.specs.Members.{values_of, heads_told, values_behind, HasFacts, later_of, later_than, members_later, members_of_all, AreAllStored, FailsMembers, AreWritesOf}
+use Rattle.log_recovery.specs.Members.{values_of, heads_told, values_behind, HasFacts, later_of, later_than, members_later, members_of_all}
+use Rattle.log_recovery.specs.Members.{AreAllStored, FailsMembers, AreWritesOf}
 use Rattle.log_recovery.proofs.Facts.{values_more, stored_more, stored_front, stored_back, rising_front, rising_back}
 
 -- ---- a group

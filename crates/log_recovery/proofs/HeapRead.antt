@@ -19,7 +19,8 @@ use Rattle.log_space.specs.Uses.{all_used}
 use Rattle.log_recovery.specs.Taking.{AreClaimable}
 use Rattle.log_recovery.specs.Chains.{numbers_of, uses_of, HasEntry}
 use Rattle.log_recovery.specs.Rules.{no_log, mark_of, MayAllComeBehind}
-use Rattle.log_recovery.specs.Anchored.{AreRightAnchors, anchor_names, first_names, FailsAnchors, AreAnchorsAt, TakesAnchors, HasNoAnchors, IsFirstOf, IsAnchorsFault}
+use Rattle.log_recovery.specs.Anchored.{AreRightAnchors, anchor_names, first_names, FailsAnchors, AreAnchorsAt, TakesAnchors, HasNoAnchors, IsFirstOf}
+use Rattle.log_recovery.specs.Anchored.{IsAnchorsFault}
 use Rattle.log_recovery.specs.Members.{values_of, heads_told, members_of_all, FailsMembers, IsMembersFault}
 use Rattle.log_recovery.specs.Opening.{KeepsRules, HoldsAnchors, FailsHeap, AtAnchors, AtMembers, IsHeapFault}
 use Rattle.log_recovery.specs.declared.anchors.AnchorsRead.{AnchorsRead}
@@ -35,7 +36,8 @@ mark_is_time most [] each = omega arith
 mark_is_time most (c ∷ chains) each = of_entry c.entry each.0
   where
     of_entry : (e : Entry) → Rattle.log_entries.specs.Ranges.IsEntry most e
-        → Rattle.law_log.specs.Chains.reclaimed_by (Rattle.law_log_layout.specs.HeapLog.chain_told [] e ∷ Rattle.law_log_layout.specs.HeapLog.chains_told [] chains)
+        → Rattle.law_log.specs.Chains.reclaimed_by (Rattle.law_log_layout.specs.HeapLog.chain_told [] e
+        ∷ Rattle.law_log_layout.specs.HeapLog.chains_told [] chains)
         < 2 ^ 63
     of_entry (Group members) is = omega arith
     of_entry (Archived archive) is = omega arith

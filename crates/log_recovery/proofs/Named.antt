@@ -33,7 +33,8 @@ told_some mark s (Group members) may =
   where
     some_heads : 0 < length (map member_told members) → 0 < length (heads_in (map member_told members))
     some_heads some = omega (arith, Rattle.law_image.proofs.GroupStep.length-map (λ m. m.head) (map member_told members), some)
-told_some mark s (ArchivedEntry archive) may = some_behind (first_runs (length (marks_of s.told) - archive.runs) s.told) (Archived archive.upto ∷ []) (omega arith)
+told_some mark s (ArchivedEntry archive) may =
+    some_behind (first_runs (length (marks_of s.told) - archive.runs) s.told) (Archived archive.upto ∷ []) (omega arith)
 told_some mark s (Floor floor) may = some_behind s.told _ (omega arith)
 told_some mark s (entries.Base base) may = some_behind s.told (base_slots (base_told [] base)) (omega arith)
 

@@ -4,6 +4,7 @@ use Rattle.std.specs.Prelude.{flat_map, take}
 use Rattle.std.specs.List.{AllByRecursion}
 use Rattle.std.proofs.lemmas.List.{append-nil, map-append}
 use Rattle.wire.specs.declared.slot.Run.{Run}
+use Rattle.wire.specs.Spelling.{IsRun}
 use Rattle.log_entries.specs.declared.entry.Archive.{Archive}
 use Rattle.log_entries.specs.declared.entry.Roll.{Roll}
 use Rattle.log_entries.specs.declared.entry.Entry.{Entry}
@@ -116,7 +117,8 @@ pub record AreRollsInRow (rolls : List Roll) : Type 0 where
   pub early : AllByRecursion EndsEarly (map roll_part rolls)
 
 rolls_all : (mark most : ℕ) (s : LogState) (chains : List PlacedChain) → AllByRecursion (λ (c : PlacedChain). IsEntry most c.entry) chains
-    → MayAllComeBehind mark s chains → AreSpansInRow s.rolls_end (map roll_part (rolls_named chains)) × AllByRecursion EndsEarly (map roll_part (rolls_named chains))
+    → MayAllComeBehind mark s chains
+    → AreSpansInRow s.rolls_end (map roll_part (rolls_named chains)) × AllByRecursion EndsEarly (map roll_part (rolls_named chains))
 rolls_all mark most s [] each may = (tt, tt)
 rolls_all mark most s (c ∷ chains) each may =
     let rest = rolls_all mark most (state_behind mark s c.entry) chains each.1 may.1 in
@@ -136,3 +138,26 @@ pub rolls_in_row : (mark most : ℕ) (chains : List PlacedChain) → AllByRecurs
 rolls_in_row mark most chains each may =
     let all = rolls_all mark most no_log chains each may in
     record { row = all.0; early = all.1 }
+
+-- ---- the runs in their ranges
+
+front_in_range : (count : ℕ) (runs : List Run) → AllByRecursion IsRun runs → AllByRecursion IsRun (take count runs)
+front_in_range zero runs all = tt
+front_in_range (suc n) [] all = tt
+front_in_range (suc n) (run ∷ runs) all = (all.0, front_in_range n runs all.1)
+
+archives_in_range : (archives : List Archive) → AllByRecursion IsArchive archives → AllByRecursion IsRun (map run_of archives)
+archives_in_range [] each = tt
+archives_in_range (a ∷ archives) each = (each.0.run, archives_in_range archives each.1)
+
+in_range_behind : (most : ℕ) (runs : List Run) (e : Entry) → AllByRecursion IsRun runs → IsEntry most e → AllByRecursion IsRun (runs_behind runs e)
+in_range_behind most runs (Group members) all is = all
+in_range_behind most runs (Archived archive) all is =
+    all_joined IsRun (take (length runs - archive.runs) runs) (run_of archive ∷ []) (front_in_range (length runs - archive.runs) runs all) (is.run, tt)
+in_range_behind most runs (Floor floor) all is = all
+in_range_behind most runs (entries.Base base) all is = all_joined IsRun runs (map run_of base.archives) all (archives_in_range base.archives is.parts.archives)
+
+pub runs_in_range : (most : ℕ) (runs : List Run) (chains : List PlacedChain) → AllByRecursion IsRun runs
+    → AllByRecursion (λ (c : PlacedChain). IsEntry most c.entry) chains → AllByRecursion IsRun (runs_from runs chains)
+runs_in_range most runs [] all each = all
+runs_in_range most runs (c ∷ chains) all each = runs_in_range most (runs_behind runs c.entry) chains (in_range_behind most runs c.entry all each.0) each.1

@@ -1,5 +1,6 @@
 -- The chains of the log, one behind the other.
-use Rattle.std.proofs.Common.{◌≡◌, ◌≢◌, ℕ, ◌+◌, ◌*◌, ◌^◌, ◌<◌, ◌≤◌, ◌↔◌, ◌⊎◌, inl, inr, Bool, true, false, IsTrue, List, [], ◌∷◌, ◌++◌, length, map, refl, sym, ◌∙◌, ap, subst, arith}
+use Rattle.std.proofs.Common.{◌≡◌, ◌≢◌, ℕ, ◌+◌, ◌*◌, ◌^◌, ◌<◌, ◌≤◌, ◌↔◌, ◌⊎◌, inl, inr, Bool, true, false, IsTrue, List, [], ◌∷◌, ◌++◌, length, map}
+use Rattle.std.proofs.Common.{refl, sym, ◌∙◌, ap, subst, arith}
 use Rattle.std.specs.Prelude.{slice_range, slice_index, take, drop, flat_map, replicate}
 use Rattle.std.specs.List.{AllByRecursion}
 use Rattle.std.proofs.lemmas.List.{append_assoc, append-nil}
@@ -184,7 +185,8 @@ right_of : (most root : ℕ) (heap : List ℕ) (chains : List PlacedChain) (next
 right_of most root heap chains next flags c w is free =
     let apart : AreApart most (numbers_of chains) = walked_apart most heap [] root chains next (record { in_range = tt; distinct = tt }) w.walked in
     let more =
-    claimable_is_apart most (numbers_of chains) c.numbers apart.in_range apart.distinct (subst (λ (u : List Bool). AreClaimable u c.numbers) w.flags_are free) in
+    claimable_is_apart most (numbers_of chains) c.numbers apart.in_range apart.distinct
+    (subst (λ (u : List Bool). AreClaimable u c.numbers) w.flags_are free) in
     record { first = is.first; placed = is.placed; apart = more.1; held = is.held }
 
 pub walking_goes_on : (most root : ℕ) (heap : List ℕ) (chains : List PlacedChain) (next : ℕ) (old new : List Bool) (c : PlacedChain)

@@ -8,7 +8,8 @@ use Rattle.law_log.specs.Chains.{reading_of}
 use Rattle.deltas.specs.Extents.{extent_start}
 use Rattle.log_extents.specs.Chains.{count_of, IsNumberOf, IsNew}
 use Rattle.log_entries.specs.declared.entry.Roll.{Roll}
-use Rattle.law_log_layout.specs.HeapLog.{PlacedChain, PlacedAnchors, HeapLog, Span, run_span, chains_told, runs_from, rolls_in, AreSpansApart, KeepsShares, counted_of, IsBaseSmall}
+use Rattle.law_log_layout.specs.HeapLog.{PlacedChain, PlacedAnchors, HeapLog, Span, run_span, chains_told, runs_from, rolls_in, AreSpansApart}
+use Rattle.law_log_layout.specs.HeapLog.{KeepsShares, counted_of, IsBaseSmall}
 use Rattle.log_space.specs.Uses.{IsFree}
 use Rattle.log_recovery.specs.declared.rules.LogEnd.{LogEnd}
 use Rattle.log_recovery.specs.Chains.{numbers_of}
@@ -54,6 +55,11 @@ AreBasesSmall most chains = AllByRecursion (λ (c : PlacedChain). IsBaseSmall mo
 -- 1 where not all that is told is archived
 abbrev pub open_of : ℕ → ℕ → ℕ
 open_of archived told = if nat_lt archived told then 1 else 0
+
+-- log and base keep their shares of a heap of so many extents
+abbrev pub KeepsLogShare : ℕ → List PlacedChain → LogEnd → Type 0
+KeepsLogShare most chains end =
+    (length (counted_in chains) + (1 + open_of end.archived (max end.mark end.last)) ≤ most / 2) × AreBasesSmall most chains
 
 -- what is looked at of the end that was read, its shares aside: the flags of the extents, and the end of the log
 pub record IsEndSeen (heap_len next : ℕ) (flags : List Bool) (end : LogEnd) : Type 0 where

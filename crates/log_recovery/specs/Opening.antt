@@ -44,7 +44,8 @@ pub record HoldsHeap (most root : ℕ) (heap : List ℕ) (chains : List PlacedCh
 -- the first check of the heap that fails, and the extent that it is told with
 pub data FailsHeap (most root : ℕ) (heap : List ℕ) (place : ℕ) : Type 0 where
   AtChain : FailsChain most root heap place → FailsHeap most root heap place
-  AtRule : (chains : List PlacedChain) (next : ℕ) → HoldsChains most root heap chains next → FailsRule (mark_of chains) chains place → FailsHeap most root heap place
+  AtRule : (chains : List PlacedChain) (next : ℕ) → HoldsChains most root heap chains next → FailsRule (mark_of chains) chains place
+      → FailsHeap most root heap place
   AtAnchors : (chains : List PlacedChain) (next : ℕ) → KeepsRules most root heap chains next
       → FailsAnchors most (mark_of chains) heap (numbers_of chains) (anchor_names chains) place → FailsHeap most root heap place
   AtMembers : (chains : List PlacedChain) (next : ℕ) (a : PlacedAnchors) → HoldsAnchors most root heap chains next a

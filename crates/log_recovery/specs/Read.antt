@@ -1,7 +1,8 @@
 -- What opening has read of the heap, step by step.
-use Rattle.std.specs.Prelude.{ℕ, ◌≡◌, List, map}
+use Rattle.std.specs.Prelude.{ℕ, ◌≡◌, ◌+◌, List, length, map}
 use Rattle.law_log_layout.specs.HeapLog.{PlacedChain, PlacedAnchors}
 use Rattle.log_space.specs.Uses.{all_used}
+use Rattle.log_sizes.specs.Counted.{AreSizesBehind}
 use Rattle.log_recovery.specs.declared.opening.LogRead.{LogRead}
 use Rattle.log_recovery.specs.declared.opening.LogHeap.{LogHeap}
 use Rattle.log_recovery.specs.declared.opening.AnchoredLog.{AnchoredLog}
@@ -10,6 +11,7 @@ use Rattle.log_recovery.specs.Chains.{uses_of}
 use Rattle.log_recovery.specs.Rules.{mark_of}
 use Rattle.log_recovery.specs.Following.{IsEndOf}
 use Rattle.log_recovery.specs.Members.{live_told, lives_of, members_of_all, HasFacts}
+use Rattle.log_recovery.specs.Ends.{counted_in}
 use Rattle.log_recovery.specs.Opening.{KeepsRules, HoldsHeap}
 
 -- the chains, which keep the rules between them, and their end; just their extents are in use
@@ -32,5 +34,8 @@ pub record IsHeapRead (most root : ℕ) (heap : List ℕ) (read : LogHeap) : Typ
   pub end_is : IsEndOf (mark_of chains) chains read.end
   pub space_is : read.space ≡ all_used (uses_of most chains) anchors.numbers
   pub anchors_are : read.anchors.items ≡ anchors.numbers
+  -- the extents that count as the log's, with the one where it ends
+  pub log_is : read.log ≡ length (counted_in chains) + 1
   pub live_are : map live_told read.live.items ≡ lives_of chains
   pub facts : HasFacts (mark_of chains) anchors.records (members_of_all (mark_of chains) chains) read.members
+  pub sizes : AreSizesBehind anchors.records (members_of_all (mark_of chains) chains) read.members.sizes

@@ -98,7 +98,9 @@ fn read_named<D: Disk>(
     requires most { heap.most < 2 ^ 32 }
     requires mark { mark < 2 ^ 63 }
     requires some { AreSome heap.most name.now }
-    ensures found { IsTrue D.tells → IfOk result (λ o. MatchOption o (HasNoAnchors heap.most mark (D.state disk.old).areas.heap.bytes space.old (name.now ∷ [])) (TakesAnchors heap.most mark (D.state disk.old).areas.heap.bytes space.old space.new (name.now ∷ []))) }
+    ensures found { IsTrue D.tells
+        → IfOk result (λ o. MatchOption o (HasNoAnchors heap.most mark (D.state disk.old).areas.heap.bytes space.old (name.now ∷ []))
+        (TakesAnchors heap.most mark (D.state disk.old).areas.heap.bytes space.old space.new (name.now ∷ []))) }
     ensures latest { IfOk result (λ o. IfSome o (λ read. latest read.versions ≤ mark)) }
     ensures fault { IfErr result IsReadFault }
     ensures reads { D.state disk.new ≡ after_reads result (D.state disk.old) }
@@ -134,7 +136,9 @@ pub(crate) fn read_anchors<D: Disk>(
     requires most { heap.most < 2 ^ 32 }
     requires mark { mark < 2 ^ 63 }
     requires name { AreNone name.now ⊎ AreSome heap.most name.now }
-    ensures found { IsTrue D.tells → IfOk result (λ o. MatchOption o (HasNoAnchors heap.most mark (D.state disk.old).areas.heap.bytes space.old (name.now ∷ [])) (TakesAnchors heap.most mark (D.state disk.old).areas.heap.bytes space.old space.new (name.now ∷ []))) }
+    ensures found { IsTrue D.tells
+        → IfOk result (λ o. MatchOption o (HasNoAnchors heap.most mark (D.state disk.old).areas.heap.bytes space.old (name.now ∷ []))
+        (TakesAnchors heap.most mark (D.state disk.old).areas.heap.bytes space.old space.new (name.now ∷ []))) }
     ensures latest { IfOk result (λ o. IfSome o (λ read. latest read.versions ≤ mark)) }
     ensures fault { IfErr result IsReadFault }
     ensures reads { D.state disk.new ≡ after_reads result (D.state disk.old) }

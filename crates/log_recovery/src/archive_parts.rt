@@ -44,7 +44,8 @@ fn first_roll_past(archive_len: u64, rolls: &[Roll]) -> Option<u64>
 pub(crate) fn first_past(archive_len: u64, runs: &[Run], rolls: &[Roll]) -> Option<u64>
     requires runs { AllByRecursion EndsEarly (map run_span runs.now) }
     requires rolls { AllByRecursion EndsEarly (map roll_part rolls.now) }
-    ensures { MatchOption result (AllByRecursion (EndsWithin archive_len) (map run_span runs.now ++ map roll_part rolls.now)) (FailsSpans archive_len (map run_span runs.now ++ map roll_part rolls.now)) }
+    ensures { MatchOption result (AllByRecursion (EndsWithin archive_len) (map run_span runs.now ++ map roll_part rolls.now))
+        (FailsSpans archive_len (map run_span runs.now ++ map roll_part rolls.now)) }
 {
     match first_run_past(archive_len, runs) {
         Some(start) => Some(start),

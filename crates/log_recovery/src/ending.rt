@@ -1,16 +1,16 @@
 //! Whether the log ends right.
 
-ghost use Rattle.std.specs.Prelude.{◌≡◌, ◌↔◌, ◌≤◌, ◌<◌, ◌+◌, ◌/◌, max, IsTrue, length, map};
+ghost use Rattle.std.specs.Prelude.{◌≡◌, ◌↔◌, ◌≤◌, ◌<◌, ◌+◌, ◌/◌, max, IsTrue, IfSome, MatchOption, length, map};
 ghost use Rattle.std.specs.List.{AllByRecursion};
 ghost use Rattle.deltas.specs.Extents.{extent_start};
 ghost use Rattle.law_log_layout.specs.HeapLog.{AreSpansInRow, run_span};
 ghost use Rattle.log_recovery.specs.Rules.{roll_part};
-ghost use Rattle.log_recovery.specs.Ends.{EndsEarly, open_of, counted_in, AreBasesSmall, IsEndSeen};
+ghost use Rattle.log_recovery.specs.Ends.{EndsEarly, KeepsLogShare, open_of, counted_in, IsEndSeen};
 
 use crate::apart::are_apart;
 use crate::chain::LogChain;
 use crate::rules::LogEnd;
-use crate::shares::{are_bases_small, fits_half};
+use crate::shares::{are_bases_small, count_log};
 use crate::taking::EXTENT_BYTES;
 use log_space::Space;
 
@@ -31,11 +31,19 @@ fn extents_beside(end: &LogEnd) -> usize
     if end.archived < end.told_time() { 2 } else { 1 }
 }
 
-/// Whether the log and the base keep their shares of a heap of so many extents.
-pub(crate) fn are_shares_kept(most: u32, chains: &[LogChain], end: &LogEnd) -> bool
-    ensures { IsTrue result ↔ ((length (counted_in chains.now) + (1 + open_of end.now.archived (max end.now.mark end.now.last)) ≤ most / 2) × AreBasesSmall most chains.now) }
+/// How many extents the log has, those of the base aside. None where the log or the base does not keep its share of a
+/// heap of so many extents.
+pub(crate) fn kept_log(most: u32, chains: &[LogChain], end: &LogEnd) -> Option<usize>
+    ensures kept { MatchOption result (¬ KeepsLogShare most chains.now end.now)
+        (λ count. KeepsLogShare most chains.now end.now × (count ≡ length (counted_in chains.now))) }
+    ensures few { IfSome result (λ count. count ≤ most / 2) }
 {
-    fits_half(most, chains, extents_beside(end)) && are_bases_small(most, chains)
+    let half = most as usize / 2;
+    let count = count_log(chains, half)?;
+    if half - count < extents_beside(end) || !are_bases_small(most, chains) {
+        return None;
+    }
+    Some(count)
 }
 
 /// Whether the log ends within a heap of this length at an extent that is free, what is reclaimed is archived, and

@@ -1,6 +1,8 @@
 //! Reading the image of a store whose log lies in the heap.
 
-ghost use Rattle.std.specs.Prelude.{◌≡◌, IsTrue, IfOk, IfErr, OnOk, length};
+ghost use Rattle.std.specs.Prelude.{◌≡◌, ◌<◌, ◌^◌, IsTrue, IfOk, IfErr, OnOk, length};
+ghost use Rattle.std.specs.List.{AllByRecursion};
+ghost use Rattle.wire.specs.Spelling.{IsRun};
 ghost use Rattle.disk.specs.Areas.{image_of, settled_on, LeavesNoMore};
 ghost use Rattle.recovery.specs.Answers.{after_reads};
 ghost use Rattle.recovery.specs.Refusals.{refusals_at_opening};
@@ -27,6 +29,8 @@ pub struct LogRecovered {
 
 // The image of a settled disk.
 fn read_settled<D: Disk>(alloc: Global, disk: &mut D) -> Result<LogRecovered, OpenFault>
+    ensures mark { IfOk result (λ read. read.heap.end.mark < 2 ^ 63) }
+    ensures runs { IfOk result (λ read. AllByRecursion IsRun read.heap.end.runs.items) }
     ensures found { IsTrue D.tells → IfOk result (IsReadFrom (image_of (D.state disk.old).areas)) }
     ensures fault { IsTrue D.tells → IfErr result (IsImageFault (image_of (D.state disk.old).areas)) }
     ensures reads { D.state disk.new ≡ after_reads result (D.state disk.old) }
@@ -59,6 +63,8 @@ fn read_settled<D: Disk>(alloc: Global, disk: &mut D) -> Result<LogRecovered, Op
 /// of the heap, or with the byte of the archive at which the first run or roll starts that does not end
 /// within it. `Device` where the disk refused a call; `NoMemory`.
 pub fn read_log<D: Disk>(alloc: Global, disk: &mut D) -> Result<LogRecovered, OpenFault>
+    ensures mark { IfOk result (λ read. read.heap.end.mark < 2 ^ 63) }
+    ensures runs { IfOk result (λ read. AllByRecursion IsRun read.heap.end.runs.items) }
     ensures found { IsTrue D.tells → IfOk result (IsReadFrom (image_of (D.state disk.old).areas)) }
     ensures fault { IsTrue D.tells → IfErr result (IsImageFault (image_of (D.state disk.old).areas)) }
 

@@ -12,7 +12,8 @@ ghost use Rattle.log_extents.specs.Chains.{first_or};
 ghost use Rattle.law_log_sizes.specs.Sizes.{anchors_len};
 ghost use Rattle.log_sizes.specs.Counted.{AreSizes, AreSizesBehind};
 ghost use Rattle.log_recovery.specs.Chains.{HasEntry};
-ghost use Rattle.log_recovery.specs.Members.{later_of, later_in, heads_told, HasFacts, values_behind, values_of, members_of_all, AreAllStored, IsMembersFault, IsInMemoryFault, live_told, lives_of, last_in, AreWritesOf};
+ghost use Rattle.log_recovery.specs.Members.{later_of, later_in, heads_told, HasFacts, values_behind, values_of, members_of_all};
+ghost use Rattle.log_recovery.specs.Members.{AreAllStored, IsMembersFault, IsInMemoryFault, live_told, lives_of, last_in, AreWritesOf};
 
 use crate::chain::LogChain;
 use crate::members_read::{CommitName, MembersRead};
@@ -45,8 +46,11 @@ impl MembersRead {
         requires is { IsMember member }
         requires later { self.last < member.time }
         ensures last { IfOk result (λ o. IfSome o (λ next. next.last ≡ member.time)) }
-        ensures read { (mark : ℕ) (olds : List OldRecord) (before : List MemberTold) → HasFacts mark olds before self → IfOk result (λ o. MatchOption o (¬ AreStored (values_behind (values_of olds) before) (member_told member ∷ [])) (λ next. AreStored (values_behind (values_of olds) before) (member_told member ∷ []) × HasFacts mark olds (before ++ member_told member ∷ []) next)) }
-        ensures sizes { (mark : ℕ) (olds : List OldRecord) (before : List MemberTold) → HasFacts mark olds before self → AreSizesBehind olds before self.sizes → IfOk result (λ o. IfSome o (λ next. AreSizesBehind olds (before ++ member_told member ∷ []) next.sizes)) }
+        ensures read { (mark : ℕ) (olds : List OldRecord) (before : List MemberTold) → HasFacts mark olds before self → IfOk result (λ o. MatchOption o
+            (¬ AreStored (values_behind (values_of olds) before) (member_told member ∷ [])) (λ next. AreStored (values_behind (values_of olds) before)
+            (member_told member ∷ []) × HasFacts mark olds (before ++ member_told member ∷ []) next)) }
+        ensures sizes { (mark : ℕ) (olds : List OldRecord) (before : List MemberTold) → HasFacts mark olds before self
+            → AreSizesBehind olds before self.sizes → IfOk result (λ o. IfSome o (λ next. AreSizesBehind olds (before ++ member_told member ∷ []) next.sizes)) }
     {
         let MembersRead {
             versions,
@@ -83,8 +87,11 @@ impl MembersRead {
         requires each { AllByRecursion IsMember members.items }
         requires rising { AreRisingAfter self.last (heads_told (later_of mark members.items)) }
         ensures last { IfOk result (λ o. IfSome o (λ next. next.last ≡ last_time_after self.last (heads_told (later_of mark members.items)))) }
-        ensures read { (olds : List OldRecord) (before : List MemberTold) → HasFacts mark olds before self → IfOk result (λ o. MatchOption o (¬ AreStored (values_behind (values_of olds) before) (later_of mark members.items)) (λ next. AreStored (values_behind (values_of olds) before) (later_of mark members.items) × HasFacts mark olds (before ++ later_of mark members.items) next)) }
-        ensures sizes { (olds : List OldRecord) (before : List MemberTold) → HasFacts mark olds before self → AreSizesBehind olds before self.sizes → IfOk result (λ o. IfSome o (λ next. AreSizesBehind olds (before ++ later_of mark members.items) next.sizes)) }
+        ensures read { (olds : List OldRecord) (before : List MemberTold) → HasFacts mark olds before self → IfOk result (λ o. MatchOption o (¬ AreStored
+            (values_behind (values_of olds) before) (later_of mark members.items)) (λ next. AreStored (values_behind (values_of olds) before)
+            (later_of mark members.items) × HasFacts mark olds (before ++ later_of mark members.items) next)) }
+        ensures sizes { (olds : List OldRecord) (before : List MemberTold) → HasFacts mark olds before self → AreSizesBehind olds before self.sizes
+            → IfOk result (λ o. IfSome o (λ next. AreSizesBehind olds (before ++ later_of mark members.items) next.sizes)) }
     {
         let mut read = self;
         for member in members {
@@ -108,8 +115,11 @@ impl MembersRead {
         requires is { (most : ℕ) × IsEntry most entry }
         requires rising { AreRisingAfter self.last (heads_told (later_in mark entry)) }
         ensures last { IfOk result (λ o. IfSome o (λ next. next.last ≡ last_time_after self.last (heads_told (later_in mark entry)))) }
-        ensures read { (olds : List OldRecord) (before : List MemberTold) → HasFacts mark olds before self → IfOk result (λ o. MatchOption o (¬ AreStored (values_behind (values_of olds) before) (later_in mark entry)) (λ next. AreStored (values_behind (values_of olds) before) (later_in mark entry) × HasFacts mark olds (before ++ later_in mark entry) next)) }
-        ensures sizes { (olds : List OldRecord) (before : List MemberTold) → HasFacts mark olds before self → AreSizesBehind olds before self.sizes → IfOk result (λ o. IfSome o (λ next. AreSizesBehind olds (before ++ later_in mark entry) next.sizes)) }
+        ensures read { (olds : List OldRecord) (before : List MemberTold) → HasFacts mark olds before self → IfOk result (λ o. MatchOption o (¬ AreStored
+            (values_behind (values_of olds) before) (later_in mark entry)) (λ next. AreStored (values_behind (values_of olds) before)
+            (later_in mark entry) × HasFacts mark olds (before ++ later_in mark entry) next)) }
+        ensures sizes { (olds : List OldRecord) (before : List MemberTold) → HasFacts mark olds before self → AreSizesBehind olds before self.sizes
+            → IfOk result (λ o. IfSome o (λ next. AreSizesBehind olds (before ++ later_in mark entry) next.sizes)) }
     {
         match entry {
             Entry::Group(members) => self.with_group(alloc, mark, members.into_vec()),
@@ -179,8 +189,10 @@ pub(crate) fn read_members(
     requires entries { (most : ℕ) × AllByRecursion (HasEntry most) chains.items }
     requires rising { AreRisingAfter mark (heads_told (members_of_all mark chains.items)) }
     requires anchors { latest anchors ≤ mark }
-    ensures read { (olds : List OldRecord) → AreWritesOf olds anchors → IfOk result (λ log. AreAllStored mark (values_of olds) chains.items × HasFacts mark olds (members_of_all mark chains.items) log.read) }
-    ensures sizes { (olds : List OldRecord) → AreWritesOf olds anchors → anchors_len olds ≡ len → IfOk result (λ log. AreSizesBehind olds (members_of_all mark chains.items) log.read.sizes) }
+    ensures read { (olds : List OldRecord) → AreWritesOf olds anchors → IfOk result (λ log. AreAllStored mark (values_of olds) chains.items
+        × HasFacts mark olds (members_of_all mark chains.items) log.read) }
+    ensures sizes { (olds : List OldRecord) → AreWritesOf olds anchors → anchors_len olds ≡ len → IfOk result (λ log. AreSizesBehind olds
+        (members_of_all mark chains.items) log.read.sizes) }
     ensures live { IfOk result (λ log. map live_told log.live.items ≡ lives_of chains.items) }
     ensures in_memory { IfErr result IsInMemoryFault }
     ensures fault { (olds : List OldRecord) → AreWritesOf olds anchors → IfErr result (IsMembersFault mark (values_of olds) chains.items) }

@@ -1,7 +1,8 @@
 //! What the heap of an image says: the checks of opening, in their order.
 
-ghost use Rattle.std.specs.Prelude.{◌≡◌, ◌⊎◌, ◌↔◌, ℕ, List, ◌<◌, ◌≤◌, ◌^◌, IsTrue, IfOk, IfErr, IfSome, length, option_to_list};
+ghost use Rattle.std.specs.Prelude.{◌≡◌, ◌⊎◌, ◌↔◌, ℕ, List, ◌<◌, ◌≤◌, ◌^◌, IsTrue, IfOk, IfErr, IfSome, MatchOption, Some, is_some, length, option_to_list};
 ghost use Rattle.std.specs.List.{AllByRecursion};
+ghost use Rattle.wire.specs.Spelling.{IsRun};
 ghost use Rattle.chains.specs.KeyWrites.{latest};
 ghost use Rattle.log_entries.specs.Ranges.{AreNone, AreSome};
 ghost use Rattle.log_recovery.specs.Chains.{HasEntry};
@@ -17,7 +18,7 @@ ghost use Rattle.log_recovery.specs.Members.{IsInMemoryFault};
 
 use crate::anchors::{AnchorsRead, no_anchors, read_anchors};
 use crate::chain::LogChain;
-use crate::ending::{are_shares_kept, is_end_right};
+use crate::ending::{is_end_right, kept_log};
 use crate::members::read_members;
 use crate::members_read::MembersRead;
 use crate::rules::{LogEnd, RuleCheck, check_rules};
@@ -103,7 +104,8 @@ fn read_base<D: Disk>(
     requires most { heap.most < 2 ^ 32 }
     requires mark { mark < 2 ^ 63 }
     requires entries { AllByRecursion (HasEntry heap.most) chains.now }
-    ensures found { IsTrue D.tells → IfOk result (TakesAnchors heap.most mark (D.state disk.old).areas.heap.bytes space.old space.new (first_names chains.now)) }
+    ensures found { IsTrue D.tells → IfOk result (TakesAnchors heap.most mark (D.state disk.old).areas.heap.bytes space.old space.new
+        (first_names chains.now)) }
     ensures latest { IfOk result (λ read. latest read.versions ≤ mark) }
     ensures fault { IsTrue D.tells → IfErr result (IsAnchorsFault heap.most mark (D.state disk.old).areas.heap.bytes space.old (first_names chains.now)) }
     ensures reads { D.state disk.new ≡ after_reads result (D.state disk.old) }
@@ -160,6 +162,8 @@ pub struct LogHeap {
     pub next: u32,
     /// The extents of live chains are in use, and `next` is free.
     pub space: Space,
+    /// How many extents count as the log's: those of its chains, the base's aside, and the one where it goes on.
+    pub log: u32,
     /// The extents of the anchors.
     pub anchors: Vec<u32>,
     pub end: LogEnd,
@@ -168,11 +172,16 @@ pub struct LogHeap {
     pub members: MembersRead,
 }
 
-// Whether all three are so.
-fn are_all(first: bool, second: bool, third: bool) -> bool
-    ensures { IsTrue result ↔ (IsTrue first × IsTrue second × IsTrue third) }
+// How many extents the log has, where it ends right and the anchors keep their share.
+fn seen_log(kept: Option<usize>, ends_right: bool, anchors_fit: bool) -> Option<usize>
+    ensures { MatchOption result (¬ (IsTrue (is_some kept) × IsTrue ends_right × IsTrue anchors_fit)) (λ count. (kept ≡ Some count) × IsTrue ends_right
+        × IsTrue anchors_fit) }
 {
-    first && second && third
+    if ends_right && anchors_fit {
+        kept
+    } else {
+        None
+    }
 }
 
 // The members of a log, and where it ends.
@@ -188,12 +197,14 @@ fn finish_heap(
     requires next { IsNumberOf heap.most read.log.next }
     requires latest { latest read.anchors.versions ≤ read.log.end.mark }
     ensures ends_early { IfOk result (λ heap. AllByRecursion EndsEarly (end_parts heap.end)) }
+    ensures mark { IfOk result (λ heap. heap.end.mark < 2 ^ 63) }
+    ensures runs { IfOk result (λ heap. AllByRecursion IsRun heap.end.runs.items) }
     ensures found { (bytes : List ℕ) → heap.len ≡ length bytes → IsAnchoredLog heap.most root bytes read → IfOk result (IsHeapRead heap.most root bytes) }
     ensures fault { (bytes : List ℕ) → heap.len ≡ length bytes → IsAnchoredLog heap.most root bytes read → IfErr result (IsHeapFault heap.most root bytes) }
     ensures in_memory { IfErr result IsInMemoryFault }
 {
     let AnchoredLog { log, anchors } = read;
-    let keeps_shares = are_shares_kept(heap.most, &log.chains, &log.end);
+    let kept = kept_log(heap.most, &log.chains, &log.end);
     let ends_right = is_end_right(heap.len, log.next, &log.space, &log.end);
     let len = anchors.len as u64;
     let members = match read_members(alloc, log.end.mark, anchors.versions, len, log.chains) {
@@ -201,10 +212,11 @@ fn finish_heap(
         Err(fault) => return Err(fault),
     };
     let anchors_fit = are_anchors_small(heap.most, members.read.sizes);
-    if !are_all(keeps_shares, ends_right, anchors_fit) {
+    let Some(count) = seen_log(kept, ends_right, anchors_fit) else {
         return Err(OpenFault::Damaged(Area::Heap, u64::from(root)));
-    }
+    };
     Ok(LogHeap {
+        log: count as u32 + 1,
         next: log.next,
         space: log.space,
         anchors: anchors.numbers,
@@ -225,6 +237,8 @@ pub(crate) fn read_heap<D: Disk>(
     requires most { heap.most ≤ 1048576 }
     requires root { IsNumberOf heap.most root }
     ensures ends_early { IfOk result (λ read. AllByRecursion EndsEarly (end_parts read.end)) }
+    ensures mark { IfOk result (λ read. read.end.mark < 2 ^ 63) }
+    ensures runs { IfOk result (λ read. AllByRecursion IsRun read.end.runs.items) }
     ensures found { IsTrue D.tells → IfOk result (IsHeapRead heap.most root (D.state disk.old).areas.heap.bytes) }
     ensures fault { IsTrue D.tells → IfErr result (IsHeapFault heap.most root (D.state disk.old).areas.heap.bytes) }
     ensures reads { D.state disk.new ≡ after_reads result (D.state disk.old) }

@@ -10,7 +10,8 @@ ghost use Rattle.log_entries.specs.declared.entry.Entry.TheVariants as entries;
 ghost use Rattle.log_entries.specs.Ranges.{IsMember, AreMembers, IsArchive, IsFloor, IsRoll, IsBase, IsEntry, run_of};
 ghost use Rattle.law_log_layout.specs.HeapLog.{AreSpansInRow, floor_told};
 ghost use Rattle.log_recovery.specs.Rules.{LogState, roll_part, row_end, no_log, mark_of};
-ghost use Rattle.log_recovery.specs.Following.{Says, Answers, HasParts, group_heads, IsNextRun, IsNextFloor, uptos_in, spans_in, AreUpTo, IsNextBase, last_upto, AreEnds, AreEntries, IsCheckOf};
+ghost use Rattle.log_recovery.specs.Following.{Says, Answers, HasParts, group_heads, IsNextRun, IsNextFloor, uptos_in, spans_in, AreUpTo, IsNextBase};
+ghost use Rattle.log_recovery.specs.Following.{last_upto, AreEnds, AreEntries, IsCheckOf};
 
 use crate::chain::LogChain;
 use floors::Floors;
@@ -157,7 +158,8 @@ fn push_runs(runs: &mut Vec<Run>, archives: &[Archive]) -> Result<(), AllocError
 
 // The floors with these raised, one after the other.
 fn with_raised(alloc: Global, floors: &Floors, more: &[RelationFloor]) -> Result<Floors, AllocError>
-    ensures { IfOk result (λ raised. (relation : ℕ) → floor_at raised relation ≡ floors_after (floor_at floors.now) (map floor_slot (map floor_told more.now)) relation) }
+    ensures { IfOk result
+        (λ raised. (relation : ℕ) → floor_at raised relation ≡ floors_after (floor_at floors.now) (map floor_slot (map floor_told more.now)) relation) }
 {
     let mut raised = floors.share()?;
     for floor in more {

@@ -1,6 +1,6 @@
 //! The shares of the heap: half of it is the log's, a sixteenth the base's, and three sixteenths the anchors' of any state.
 
-ghost use Rattle.std.specs.Prelude.{◌≡◌, ◌↔◌, ◌+◌, ◌≤◌, ◌/◌, ◌^◌, ◌<◌, ◌*◌, IsTrue, List, length, flat_map};
+ghost use Rattle.std.specs.Prelude.{◌≡◌, ◌↔◌, ◌+◌, ◌≤◌, ◌/◌, ◌^◌, ◌<◌, ◌*◌, IsTrue, MatchOption, List, length, flat_map};
 ghost use Rattle.std.specs.List.{AllByRecursion};
 ghost use Rattle.log_entries.specs.Spelling.{entry_bytes};
 ghost use Rattle.law_log_layout.specs.HeapLog.{counted_of, IsBaseSmall};
@@ -57,31 +57,27 @@ fn counted(chain: &LogChain) -> usize
     }
 }
 
-/// Whether the extents of these chains, those of the base aside, and so many more are at most half of the heap.
-pub(crate) fn fits_half(most: u32, chains: &[LogChain], more: usize) -> bool
-    requires { more ≤ 2 }
-    ensures { IsTrue result ↔ (length (counted_in chains.now) + more ≤ most / 2) }
+/// How many extents these chains have, those of the base aside. None where these are over so many.
+pub(crate) fn count_log(chains: &[LogChain], most: usize) -> Option<usize>
+    ensures { MatchOption result (most < length (counted_in chains.now)) (λ count. (count ≡ length (counted_in chains.now)) × (count ≤ most)) }
 {
-    let half = most as usize / 2;
-    if half < more {
-        return false;
-    }
-    let mut left = half - more;
+    let mut left = most;
     let mut rest = chains;
     while let Some((chain, after)) = rest.split_first() {
         let counted = counted(chain);
         if left < counted {
-            return false;
+            return None;
         }
         left -= counted;
         rest = after;
     }
-    true
+    Some(most - left)
 }
 
 /// Whether the anchors of each state, of these sizes, keep their share of a heap of so many extents.
 pub(crate) fn are_anchors_small(most: u32, sizes: AnchorSizes) -> bool
-    ensures { (olds : List OldRecord) (members : List Member) → AreSizesBehind olds members sizes → (IsTrue result ↔ (count_of (greatest (anchors_len olds) (lens_behind (anchors_len olds) (values_of olds) members)) ≤ (3 * most) / 16)) }
+    ensures { (olds : List OldRecord) (members : List Member) → AreSizesBehind olds members sizes
+        → (IsTrue result ↔ (count_of (greatest (anchors_len olds) (lens_behind (anchors_len olds) (values_of olds) members)) ≤ (3 * most) / 16)) }
 {
     let share = 3 * u64::from(most) / 16;
     sizes.fit(share as u32)

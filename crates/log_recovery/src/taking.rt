@@ -1,6 +1,7 @@
 //! A chain of extents, read from the heap.
 
-ghost use Rattle.std.specs.Prelude.{◌≡◌, ◌↔◌, ◌≤◌, ◌<◌, ◌*◌, ◌+◌, ◌^◌, Bool, true, IsTrue, IfOk, IfErr, OnOk, IfSome, MatchOption, length, slice_range, if◌then◌else◌};
+ghost use Rattle.std.specs.Prelude.{◌≡◌, ◌↔◌, ◌≤◌, ◌<◌, ◌*◌, ◌+◌, ◌^◌, Bool, true, IsTrue, IfOk, IfErr, OnOk, IfSome, MatchOption, length};
+ghost use Rattle.std.specs.Prelude.{slice_range, if◌then◌else◌};
 ghost use Rattle.deltas.specs.Extents.{extent_start};
 ghost use Rattle.log_extents.specs.Taking.{IsLinkOf};
 ghost use Rattle.log_space.specs.Uses.{IsFree, with_use};
@@ -41,7 +42,8 @@ fn read_into<D: Disk>(
 ) -> Result<(), OpenFault>
     requires low { 0 < number }
     requires inside { IsTrue D.tells → number * 8192 ≤ length (D.state disk.old).areas.heap.bytes }
-    ensures bytes { IsTrue D.tells → OnOk result (image.new ≡ slice_range (D.state disk.old).areas.heap.bytes (extent_start number) (extent_start number + 8192)) }
+    ensures bytes { IsTrue D.tells
+        → OnOk result (image.new ≡ slice_range (D.state disk.old).areas.heap.bytes (extent_start number) (extent_start number + 8192)) }
     ensures fault { IfErr result IsReadFault }
     ensures reads { D.state disk.new ≡ after_reads result (D.state disk.old) }
 {
@@ -63,7 +65,9 @@ pub(crate) fn read_chain<D: Disk>(
 ) -> Result<Option<ChainParts>, OpenFault>
     requires len { IsTrue D.tells → heap.len ≡ length (D.state disk.old).areas.heap.bytes }
     requires most { heap.most < 2 ^ 32 }
-    ensures found { IsTrue D.tells → IfOk result (λ o. MatchOption o (HasNoChain kind heap.most number (D.state disk.old).areas.heap.bytes space.old) (IsTakenChain kind heap.most number (D.state disk.old).areas.heap.bytes space.old space.new)) }
+    ensures found { IsTrue D.tells
+        → IfOk result (λ o. MatchOption o (HasNoChain kind heap.most number (D.state disk.old).areas.heap.bytes space.old)
+        (IsTakenChain kind heap.most number (D.state disk.old).areas.heap.bytes space.old space.new)) }
     ensures fewer { IfOk result (λ o. IfSome o (λ parts. free_left space.new < free_left space.old)) }
     ensures link { IfOk result (λ o. IfSome o (λ parts. IsLinkOf kind heap.most parts.link)) }
     ensures fault { IfErr result IsReadFault }

@@ -58,7 +58,9 @@ fn read_log_chain<D: Disk>(
 ) -> Result<Option<LogChain>, OpenFault>
     requires len { IsTrue D.tells → heap.len ≡ length (D.state disk.old).areas.heap.bytes }
     requires most { heap.most < 2 ^ 32 }
-    ensures found { IsTrue D.tells → IfOk result (λ o. MatchOption o (HasNoLogChain heap.most (D.state disk.old).areas.heap.bytes number space.old) (TakesChain heap.most (D.state disk.old).areas.heap.bytes number space.old space.new)) }
+    ensures found { IsTrue D.tells
+        → IfOk result (λ o. MatchOption o (HasNoLogChain heap.most (D.state disk.old).areas.heap.bytes number space.old)
+        (TakesChain heap.most (D.state disk.old).areas.heap.bytes number space.old space.new)) }
     ensures fewer { IfOk result (λ o. IfSome o (λ chain. free_left space.new < free_left space.old)) }
     ensures link { IfOk result (λ o. IfSome o (λ chain. IsNumberOf heap.most chain.link)) }
     ensures entry { IfOk result (λ o. IfSome o (λ chain. IsEntry heap.most chain.entry)) }

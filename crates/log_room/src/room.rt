@@ -1,5 +1,5 @@
 //! The room in a heap: which extents the log has, and which it will take.
-ghost use Rattle.std.specs.Prelude.{◌≡◌, ◌≤◌, ◌<◌, ◌+◌, ◌*◌, ◌/◌, ◌^◌, ◌∷◌, true, IfOk, OnErr, length};
+ghost use Rattle.std.specs.Prelude.{◌≡◌, ◌≤◌, ◌<◌, ◌+◌, ◌*◌, ◌/◌, ◌^◌, ◌∷◌, ◌↔◌, true, IsTrue, IfOk, OnErr, MatchOption, length};
 ghost use Rattle.std.specs.List.{AllByRecursion};
 ghost use Rattle.log_extents.specs.Chains.{count_of, IsNumberOf};
 ghost use Rattle.log_space.specs.Uses.{with_use};
@@ -26,6 +26,25 @@ pub struct HeapRoom {
     log: u32,
     promised: u32,
     anchors: u64,
+}
+
+/// The fewest extents that a heap has, and the most.
+const LEAST_EXTENTS: u32 = 64;
+
+const MOST_EXTENTS: u32 = 1 << 20;
+
+// Whether a heap may be opened where these extents are in use, the log ends at `next` and has so many extents with that one, and the
+// anchors of its last state have so many bytes.
+fn may_open(space: &Space, next: u32, log: u32, anchors: u64) -> bool
+    ensures { IsTrue result ↔ MayOpen space.now next log anchors }
+{
+    let len = space.len();
+    LEAST_EXTENTS <= len
+        && len <= MOST_EXTENTS
+        && space.is_free(next)
+        && log <= len / 2
+        && space.used() + 1 <= log + len / 4
+        && AnchorSizes::of(anchors).fit(len * 3 / 16)
 }
 
 /// The extents of a chain, its head first, and the one where the log goes on behind it.
@@ -60,6 +79,18 @@ impl HeapRoom {
             promised: 0,
             anchors,
         }
+    }
+
+    /// As `of_opened`. None where such a heap may not be opened.
+    pub fn opened(space: Space, next: u32, log: u32, anchors: u64) -> Option<HeapRoom>
+        ensures { MatchOption result (¬ MayOpen space next log anchors)
+            (λ room. MayOpen space next log anchors × (room ≡ record
+            { used = with_use space next true; next = next; log = log; promised = 0; anchors = anchors })) }
+    {
+        if !may_open(&space, next, log, anchors) {
+            return None;
+        }
+        Some(HeapRoom::of_opened(space, next, log, anchors))
     }
 
     /// How many extents the heap has.

@@ -29,7 +29,8 @@ impl AnchorSizes {
         requires few { length writes.now ≤ 1024 }
         ensures len { self.most ≤ 2 ^ 62 → result.len ≡ len_behind self.len (values_in before.now) writes.now }
         ensures most { self.most ≤ 2 ^ 62 → result.most ≡ max self.most result.len }
-        ensures sizes { (len most : ℕ) → AreSizes len most self → AreSizes (len_behind len (values_in before.now) writes.now) (max most (len_behind len (values_in before.now) writes.now)) result }
+        ensures sizes { (len most : ℕ) → AreSizes len most self
+            → AreSizes (len_behind len (values_in before.now) writes.now) (max most (len_behind len (values_in before.now) writes.now)) result }
     {
         if self.most > MOST_COUNTED {
             return self;

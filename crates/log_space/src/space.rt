@@ -82,7 +82,8 @@ impl Space {
 
     /// Takes the free extent of the least number into use; none if no extent is free.
     pub fn take(&mut self) -> Option<u32>
-        ensures { MatchOption result (((number : ℕ) → ¬ IsFree self.old number) × (self.new ≡ self.old)) (λ number. IsLeastFree self.old number × (self.new ≡ with_use self.old number true)) }
+        ensures { MatchOption result (((number : ℕ) → ¬ IsFree self.old number) × (self.new ≡ self.old))
+            (λ number. IsLeastFree self.old number × (self.new ≡ with_use self.old number true)) }
     {
         match least_place(&self.used, self.passed) {
             None => {

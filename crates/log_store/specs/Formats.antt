@@ -48,7 +48,7 @@ FormatStops old new = (new ≡ record old { heap = new.heap }) ⊎ (new ≡ reco
 
 -- ---- a new store
 
--- nothing is committed, the log ends in the first extent, and all others are free
+-- nothing is committed or archived, the log ends in the first extent, and all others are free
 abbrev pub created_on : ℕ → ℕ → DiskState → LogStoreValue
 created_on mark extents disk = record {
   roots = new_roots extents;
@@ -67,6 +67,7 @@ created_on mark extents disk = record {
   contents = [];
   room = record { used = with_use (replicate extents false) 1 true; next = 1; log = 1; promised = 0; anchors = 0 };
   turn = None;
+  archive = record { runs = []; next = []; kept = [] };
   disk = disk;
 }
 

@@ -2,4 +2,6 @@ pub mod Values
 pub mod Submits
 pub mod Pumps
 pub mod Calls
+pub mod Queries
 pub mod Formats
+pub mod Opens

@@ -2,13 +2,14 @@
 use Rattle.std.specs.Prelude.{ℕ, ◌≡◌, ◌+◌, ◌^◌, ◌≤◌, ◌<◌, List, length, Option, None, Some}
 use Rattle.std.specs.List.{AllByRecursion}
 use Rattle.disk.specs.Calls.{DiskState}
+use Rattle.timequery.specs.Archives.{ArchiveValue}
 use Rattle.log_roots.specs.declared.roots.Roots.{Roots}
 use Rattle.log_writer.specs.Writer.{WriterState, IsOnItsWay}
 use Rattle.log_room.specs.Rooms.{RoomValue}
 use Rattle.log_room.specs.Contents.{extents_of}
 use Rattle.commits.specs.Values.{CommitsValue}
 
--- a store: its commits and transactions, the room in the heap, the chain in the writing, and its disk
+-- a store: its commits and transactions, the room in the heap, the chain in the writing, its archive, and its disk
 pub record LogStoreValue : Type 0 where
   pub roots : Roots
   pub commits : CommitsValue
@@ -17,6 +18,7 @@ pub record LogStoreValue : Type 0 where
   pub room : RoomValue
   -- the group's chain while it is in the writing
   pub turn : Option WriterState
+  pub archive : ArchiveValue
   pub disk : DiskState
 
 -- a commit has some bytes

@@ -14,6 +14,7 @@ use log_space::Space;
 use recovery::FormatFault;
 use std::alloc::Global;
 use std::collections::VecDeque;
+use timequery::StoreArchive;
 
 impl<D: Disk> LogStore<D> {
     /// Makes a new store whose heap has so many extents, as `format` does, and opens it. The mark is a number of the caller's, which the
@@ -37,6 +38,9 @@ impl<D: Disk> LogStore<D> {
         let Ok(space) = Space::new(alloc, extents) else {
             return Err((FormatFault::NoMemory, disk));
         };
+        let Ok(archive) = StoreArchive::new(alloc, Vec::new(alloc)) else {
+            return Err((FormatFault::NoMemory, disk));
+        };
         let mut disk = disk;
         match format(&mut disk, extents) {
             Err(fault) => Err((fault, disk)),
@@ -54,6 +58,7 @@ impl<D: Disk> LogStore<D> {
                 contents: VecDeque::new(alloc),
                 room: HeapRoom::of_opened(space, 1, 1, 0),
                 turn: None,
+                archive,
                 disk,
             }),
         }

@@ -4,7 +4,9 @@
 mod answers;
 mod creating;
 mod formatting;
+mod opening;
 mod pump;
+mod queries;
 mod store;
 mod submit;
 

@@ -15,6 +15,7 @@ use snapshot::Txn;
 use std::alloc::{AllocError, Global};
 use std::collections::VecDeque;
 use std::marker::Model;
+use timequery::StoreArchive;
 
 /// A store over a disk of three areas, whose log lies in the heap. Each call but opening makes at most one write or sync of the disk.
 /// After a refused one the store is failed: it writes nothing more, and reading goes on.
@@ -27,6 +28,7 @@ pub struct LogStore<D: Disk> {
     pub(crate) room: HeapRoom,
     // The group's chain while it is in the writing.
     pub(crate) turn: Option<ChainWriter>,
+    pub(crate) archive: StoreArchive,
     pub(crate) disk: D,
 }
 
@@ -41,6 +43,7 @@ impl<D: Disk> Model for LogStore<D> {
       contents = s.contents.items;
       room = s.room;
       turn = s.turn;
+      archive = s.archive;
       disk = D.state s.disk;
     } };
 
@@ -50,6 +53,7 @@ impl<D: Disk> Model for LogStore<D> {
       contents = s.contents.items;
       room = s.room;
       turn = s.turn;
+      archive = s.archive;
       disk = D.state s.disk;
     }) };
 }
@@ -66,6 +70,7 @@ impl<D: Disk> LogStore<D> {
             contents: _,
             room: _,
             turn: _,
+            archive: _,
             disk,
         } = self;
         disk

@@ -45,7 +45,8 @@ use Rattle.recovery.proofs.RightChains.{numbered_of, member_of, right_found, liv
 -- ---- values
 
 -- the last value after commits is what they make of the values before them
-pub value_applied : (s : ℕ) (before : Key → Option Value) (h : History Value) (key : Key) → HasRisingTimes s h → value_after (before key) (writes_of h key) (2 ^ 63)
+pub value_applied : (s : ℕ) (before : Key → Option Value) (h : History Value) (key : Key) → HasRisingTimes s h
+    → value_after (before key) (writes_of h key) (2 ^ 63)
     ≡ applied before h key
 value_applied s before [] key rising = refl
 value_applied s before (c ∷ cs) key rising =

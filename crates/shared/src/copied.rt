@@ -117,7 +117,8 @@ pub(crate) fn apply(
 
 // Makes one of them.
 fn make_change(alloc: Global, txn: &mut Txn, write: &KeyWrite<Value>) -> Result<(), TxnFault>
-    ensures ok { OnOk result (txn.new ≡ record txn.old { writes = wrote (at_snapshot txn.old.state txn.old.snapshot) txn.old.writes write.now.key write.now.write }) }
+    ensures ok { OnOk result
+        (txn.new ≡ record txn.old { writes = wrote (at_snapshot txn.old.state txn.old.snapshot) txn.old.writes write.now.key write.now.write }) }
     ensures err { IfErr result (IsBarred (at_snapshot txn.old.state txn.old.snapshot) txn.old.writes write.now) }
     ensures kept { OnErr result (txn.new ≡ txn.old) }
 {

@@ -21,7 +21,8 @@ ghost use Rattle.shared.specs.Counts.{told_count, unredeemed};
 ghost use Rattle.shared.specs.Moments.{OfSeen};
 ghost use Rattle.shared.specs.Reached.{Reached};
 ghost use Rattle.shared.specs.Seen.{IsLater, seen_of};
-ghost use Rattle.shared.specs.Shared.{BeginHappens, AbortHappens, SubmitHappens, SeenReached, PumpHappens, JobHappens, FloorHappens, ArchiveHappens, ReclaimHappens, GrowthHappens, RedeemSays, done_in};
+ghost use Rattle.shared.specs.Shared.{BeginHappens, AbortHappens, SubmitHappens, SeenReached, PumpHappens, JobHappens, FloorHappens, ArchiveHappens};
+ghost use Rattle.shared.specs.Shared.{ReclaimHappens, GrowthHappens, RedeemSays, done_in};
 
 use crate::cell::{PublishedCell, WriterPass};
 use crate::latest::KeptView;
@@ -33,7 +34,6 @@ use crate::noting::{
 use crate::observer::Observer;
 use crate::shared_view::{SharedView, taken_at};
 use crate::signals::Signals;
-use chains::SharedValue;
 use disk::Disk;
 use history::{Key, Version};
 use std::alloc::AllocError;
@@ -41,8 +41,8 @@ use std::marker::Model;
 use std::sync::Wait;
 use std::sync::ledger::{Book, Share};
 use store::{
-    BeginFault, Did, JobDid, PumpFault, QueryFault, Redeemed, StartFault, Store, SubmitFault,
-    Submitted, Ticket, Txn,
+    BeginFault, Did, JobDid, PumpFault, QueryFault, Redeemed, SharedValue, StartFault, Store,
+    SubmitFault, Submitted, Ticket, Txn,
 };
 
 /// A store that stands for a state that steps of the machine lead to from the opening one, the book
@@ -307,7 +307,8 @@ impl<D: Disk, L: Opening> Locked<D, L> {
         time: u64,
     ) -> Result<Option<SharedValue>, QueryFault>
         requires { cell.now.table.shared.table_id ≡ L.table }
-        ensures says { OfSeen L.start view.old.seen (λ m. SaysAt (IsSure D.tells view.old.shown.reclaimed time) (answers.at_answer m.published m.floors key time) result) }
+        ensures says { OfSeen L.start view.old.seen
+            (λ m. SaysAt (IsSure D.tells view.old.shown.reclaimed time) (answers.at_answer m.published m.floors key time) result) }
         ensures kept { view.new ≡ view.old }
     {
         view.compare(rt, cell, &mut self.writer);
@@ -357,7 +358,8 @@ impl<D: Disk, L: Opening> Locked<D, L> {
         b: u64,
     ) -> Result<Vec<(u64, Version<SharedValue>)>, QueryFault>
         requires { cell.now.table.shared.table_id ≡ L.table }
-        ensures says { OfSeen L.start view.old.seen (λ m. SaysScanBetween (IsSure D.tells view.old.shown.reclaimed a) m.published m.floors relation a b result) }
+        ensures says { OfSeen L.start view.old.seen
+            (λ m. SaysScanBetween (IsSure D.tells view.old.shown.reclaimed a) m.published m.floors relation a b result) }
         ensures kept { view.new ≡ view.old }
     {
         view.compare(rt, cell, &mut self.writer);
@@ -384,7 +386,8 @@ impl<D: Disk, L: Opening> Locked<D, L> {
     /// The store. With every part of the ledger in one share, all its commits since opening are
     /// counted.
     pub(crate) fn into_store(self, all: &mut Share<L>) -> Store<D>
-        ensures reached { (m : Machine Value) × Stands D.tells result m × Reached L.start m × (all.old.parts ≡ L.parts → length m.published ≡ length L.start.published + all.old.amount + unredeemed result) }
+        ensures reached { (m : Machine Value) × Stands D.tells result m × Reached L.start m
+            × (all.old.parts ≡ L.parts → length m.published ≡ length L.start.published + all.old.amount + unredeemed result) }
         ensures share { (all.new.parts ≡ all.old.parts) × (all.new.amount ≡ all.old.amount) }
     {
         let Locked {

@@ -11,12 +11,11 @@ use crate::naming::Opening;
 use crate::observer::Observer;
 use crate::shared::SharedStore;
 use crate::shared_view::SharedView;
-use chains::SharedValue;
 use disk::Disk;
 use history::{Key, Version};
 use std::alloc::AllocError;
 use std::sync::Wait;
-use store::QueryFault;
+use store::{QueryFault, SharedValue};
 
 impl<D: Disk, L: Opening> SharedStore<D, L> {
     /// The value of a key at a time, as the view's moment knows it: from memory, and below the reclaim
@@ -29,7 +28,8 @@ impl<D: Disk, L: Opening> SharedStore<D, L> {
         key: Key,
         time: u64,
     ) -> Result<Option<SharedValue>, QueryFault>
-        ensures says { OfSeen L.start view.old.seen (λ m. SaysAt (IsSure D.tells view.old.shown.reclaimed time) (answers.at_answer m.published m.floors key time) result) }
+        ensures says { OfSeen L.start view.old.seen
+            (λ m. SaysAt (IsSure D.tells view.old.shown.reclaimed time) (answers.at_answer m.published m.floors key time) result) }
         ensures kept { view.new ≡ view.old }
     {
         self.locked.lock(rt).at(rt, &self.cell, view, key, time)
@@ -80,7 +80,8 @@ impl<D: Disk, L: Opening> SharedStore<D, L> {
         a: u64,
         b: u64,
     ) -> Result<Vec<(u64, Version<SharedValue>)>, QueryFault>
-        ensures says { OfSeen L.start view.old.seen (λ m. SaysScanBetween (IsSure D.tells view.old.shown.reclaimed a) m.published m.floors relation a b result) }
+        ensures says { OfSeen L.start view.old.seen
+            (λ m. SaysScanBetween (IsSure D.tells view.old.shown.reclaimed a) m.published m.floors relation a b result) }
         ensures kept { view.new ≡ view.old }
     {
         self.locked

@@ -257,7 +257,8 @@ impl<D: Disk, L: Opening> SharedStore<D, L> {
     /// part, the commits published since opening are its amount and those for which Done was not
     /// answered.
     pub fn into_store(self, all: &mut Share<L>) -> Store<D>
-        ensures reached { (m : Machine Value) × Stands D.tells result m × Reached L.start m × (all.old.parts ≡ L.parts → length m.published ≡ length L.start.published + all.old.amount + unredeemed result) }
+        ensures reached { (m : Machine Value) × Stands D.tells result m × Reached L.start m
+            × (all.old.parts ≡ L.parts → length m.published ≡ length L.start.published + all.old.amount + unredeemed result) }
         ensures share { (all.new.parts ≡ all.old.parts) × (all.new.amount ≡ all.old.amount) }
     {
         let SharedStore {

@@ -12,11 +12,10 @@ ghost use Rattle.shared.specs.Shared.{SeenReached};
 
 use crate::naming::Opening;
 use crate::observer::Observer;
-use chains::SharedValue;
 use history::Key;
 use std::alloc::{AllocError, Global};
 use std::marker::Model;
-use store::{Txn, TxnFault};
+use store::{SharedValue, Txn, TxnFault};
 
 /// An open transaction: it reads what was published when it began, with its own writes over it, and
 /// takes no lock. It is submitted or aborted; it can't be dropped.
@@ -82,7 +81,8 @@ impl<L: Opening> SharedTxn<L> {
     /// `TooManyKeys`, `BadValue` or `NoMemory`.
     pub fn put(&mut self, alloc: Global, key: Key, fields: &[&[u8]]) -> Result<(), TxnFault>
         ensures ok { OnOk result (self.new ≡ record self.old { txn = with_put self.old.txn key (map (λ field. field.now) fields.now) }) }
-        ensures by_key { OnOk result ((q : Key) → value_for self.new q ≡ (if same_key key q then Some (map (λ field. field.now) fields.now) else value_for self.old q)) }
+        ensures by_key { OnOk result ((q : Key)
+            → value_for self.new q ≡ (if same_key key q then Some (map (λ field. field.now) fields.now) else value_for self.old q)) }
         ensures missing { result ≢ Err TxnFault.Missing }
         ensures too_many { (result ≡ Err TxnFault.TooManyKeys) ↔ IsFullFor self.old.txn.writes key }
         ensures bad { (result ≡ Err TxnFault.BadValue) ↔ ((¬ IsFullFor self.old.txn.writes key) × (¬ HasSizes (map (λ field. field.now) fields.now))) }

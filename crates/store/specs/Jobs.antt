@@ -27,7 +27,8 @@ use Rattle.group.specs.declared.answers.PumpFault.TheVariants as fault
 use Rattle.group.specs.Steps.{broken}
 use Rattle.group.specs.Reclaims.{prepared, reclaimed_to}
 use Rattle.group.specs.Values.{with_slot_used, with_more_slots, with_floors}
-use Rattle.store.specs.Values.{ArchiveValue, StoreValue}
+use Rattle.timequery.specs.Archives.{with_next_run}
+use Rattle.store.specs.Values.{StoreValue}
 use Rattle.store.specs.Pumps.{Calls}
 use Rattle.store.specs.declared.job.Job.{Job}
 use Rattle.store.specs.declared.job.JobWork.{JobWork}
@@ -159,10 +160,6 @@ TakesMemory (Archive run writer) = ⊥
 TakesMemory (Reclaim anchors source written) = Unit {0}
 TakesMemory (Floor scope floor floors) = ⊥
 TakesMemory (Grow growth) = ⊥
-
--- the run that was made is one of the log's
-abbrev pub with_next_run : ArchiveValue → ArchiveValue
-with_next_run archive = record archive { runs = archive.next; next = [] }
 
 -- what stands once the slot is open
 abbrev pub work_done : JobWork → StoreValue → StoreValue

@@ -17,6 +17,7 @@ use Rattle.recovery.specs.declared.recovered.Recovered.{Recovered}
 use Rattle.group.specs.declared.stage.GroupStage.TheVariants.{NoGroup}
 use Rattle.store.specs.Heads.{head_as}
 use Rattle.archive.specs.declared.run.RunEntry.{RunEntry}
+use Rattle.timequery.specs.Archives as archives
 use Rattle.store.specs.Values.{ArchiveValue, StoreValue}
 
 -- the extents of each chain of a commit are in the chain of its time
@@ -29,10 +30,8 @@ abbrev pub times_of : List LiveChain → List ℕ
 times_of live = with_live (replicate 65536 0) live
 
 -- these are the runs of the log, and nothing of the archive is read
-pub record IsUnread (runs : List RunEntry) (archive : ArchiveValue) : Type 0 where
-  pub runs_are : archive.runs ≡ runs
-  pub next : archive.next ≡ []
-  pub kept : archive.kept ≡ []
+abbrev pub IsUnread : List RunEntry → ArchiveValue → Type 0
+IsUnread runs archive = archives.IsUnread runs archive
 
 -- the store on what was read: all commits of the log are published, and nothing waits
 abbrev pub opened_on : ℕ → Recovered → ArchiveValue → DiskState → StoreValue

@@ -1,9 +1,9 @@
 -- What a clause sees of a store.
-use Rattle.std.specs.Prelude.{◌≡◌, ◌+◌, ◌||◌, ℕ, false, List, Option, None, Some, is_some, MatchOption}
-use Rattle.archive.specs.declared.run.RunEntry.{RunEntry}
+use Rattle.std.specs.Prelude.{◌≡◌, ◌+◌, ◌||◌, ℕ, false, Option, None, Some, is_some, MatchOption}
 use Rattle.disk.specs.Calls.{DiskState}
 use Rattle.status.specs.SlotCalls.{SlotStage, Begun, BodyWritten, BodySynced, GateWritten, Opened}
 use Rattle.status.specs.TurnState.{TurnState, LogState}
+use Rattle.timequery.specs.Archives as archives
 use Rattle.group.specs.Values.{TransactionsValue, is_turning}
 use Rattle.store.specs.declared.job.Job.{Job}
 use Rattle.store.specs.declared.job.JobWork.{JobWork}
@@ -11,14 +11,9 @@ use Rattle.store.specs.declared.job.JobWork.TheVariants.{Archive, Reclaim, Floor
 use Rattle.store.specs.declared.job.JobStage.{JobStage}
 use Rattle.store.specs.declared.job.JobStage.TheVariants.{Writing, Stored, Turning}
 
--- What a store has of its archive.
-pub record ArchiveValue : Type 0 where
-  -- the runs of the log, in order
-  pub runs : List RunEntry
-  -- while an archive is made, those and its run
-  pub next : List RunEntry
-  -- the parts of the archive that the reader keeps: where each begins, and its bytes
-  pub kept : List (ℕ × List ℕ)
+-- what it has of its archive
+abbrev pub ArchiveValue : Type 0
+ArchiveValue = archives.ArchiveValue
 
 -- a store: its transactions and log, the slot and the job in the making, its archive and its disk
 pub record StoreValue : Type 0 where

@@ -126,7 +126,7 @@ impl<D: Disk> Store<D> {
     pub fn view(&self) -> Result<View, AllocError>
         ensures { IfOk result (IsViewOf self.now) }
     {
-        let runs = self.archived.archive.runs.share()?;
+        let runs = self.archived.archive.share_runs()?;
         let view = self.transactions.view()?;
         Ok(view.with_archive(self.transactions.reclaimed(), runs))
     }

@@ -1,8 +1,7 @@
 //! What queries answer, as tables have it.
 use crate::published::is_text;
-use chains::{RowWalk, SharedValue};
 use history::Version;
-use store::QueryFault;
+use store::{QueryFault, RowWalk, SharedValue};
 
 /// The text of the one field of a value, or none where there is no value, or why that is not told.
 pub type Value = Result<Option<&'static str>, QueryFault>;

@@ -3,13 +3,11 @@ use crate::published::SEVEN;
 use clock::{LAST_TIME, read_instant, show_instant};
 use disk::{Area, DeviceFault, Disk, MemDisk};
 use history::Key;
-use recovery::format;
 use run::{Answer, Call};
 use std::alloc::Global;
 use std::process::Abort;
 use std::test::Fail;
-use store::{Did, Redeemed, Store, Submitted, Ticket};
-use timequery::QueryFault;
+use store::{Did, QueryFault, Redeemed, Store, Submitted, Ticket, format};
 
 // The example of store.
 #[test]

@@ -1,12 +1,8 @@
 //! Answers to the calls of a list, as tables have them.
 use crate::answers::are_records;
-use chains::SharedValue;
-use group::{Did, PumpFault};
 use history::Version;
 use run::{Answer, RedeemOutcome, SubmitOutcome};
-use snapshot::TxnFault;
-use store::{JobDid, StartFault};
-use timequery::QueryFault;
+use store::{Did, JobDid, PumpFault, QueryFault, SharedValue, StartFault, TxnFault};
 
 /// What a call must answer.
 #[derive(Clone, Copy)]

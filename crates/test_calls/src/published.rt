@@ -2,11 +2,12 @@
 ghost use Rattle.std.specs.Prelude.{◌≡◌, IfOk};
 ghost use Rattle.history.specs.Key.{key_of};
 
-use chains::{Frozen, SharedValue};
+use chains::Frozen;
 use clock::LAST_TIME;
 use history::{Key, KeyWrite};
 use std::alloc::Global;
 use std::test::Fail;
+use store::SharedValue;
 use wire::Value;
 
 /// The key of most examples.

@@ -2,12 +2,11 @@
 use crate::held::Held;
 use crate::store_steps::{Step, is_answered};
 use disk::{Area, Disk, MemDisk};
-use recovery::format;
 use status::encode_header;
 use std::alloc::Global;
 use std::process::Abort;
 use std::test::Fail;
-use store::{Did, JobDid, Profile, Store};
+use store::{Did, JobDid, Profile, Store, format};
 
 /// What the disk of a closed store must have, or what is put on it.
 #[derive(Clone, Copy)]

@@ -7,7 +7,7 @@ use floors::Floors;
 use history::Key;
 use std::alloc::{AllocError, Global};
 use std::test::Fail;
-use timequery::{QueryFault, View};
+use store::{QueryFault, View};
 
 /// What a view is asked.
 #[derive(Clone, Copy)]

@@ -1,18 +1,9 @@
 //! Groups of commits: the steps of their chains, and the bytes of their extents.
-use crate::on_disk::{has_bytes, has_run, new_store, pumps, queue};
+use crate::on_disk::{ONE_EXTENT, has_bytes, has_run, new_store, pumps, queue};
 use disk::{Area, Disk};
 use group::Redeemed;
 use log_store::Did;
 use std::test::Fail;
-
-/// The steps of a group in one extent.
-const ONE_EXTENT: &[Did] = &[
-    Did::WroteExtent,
-    Did::GateClosed,
-    Did::HeapSynced,
-    Did::GateWritten,
-    Did::Published(1),
-];
 
 #[test]
 fn a_commit_takes_five_calls(rt: HostRuntime) -> Result<(), Fail> {
@@ -154,7 +145,8 @@ fn a_record_runs_on_into_the_next_extent(rt: HostRuntime) -> Result<(), Fail> {
             &mut disk,
             Area::Heap,
             0,
-            b"\xc7\0\0\0\x01\0\0\0\x02\0\0\0\xe8\x1f\0\0\x03\0\0\0\0\0\0\0\x05\x01\0\0\0\0\0\0\0\x64\0\0\0\0\0\0\0\x02\0\x01\x01\0\x01\0\0\0\0\0\0\0\x10\xffxxxxxxxx",
+            b"\xc7\0\0\0\x01\0\0\0\x02\0\0\0\xe8\x1f\0\0\x03\0\0\0\0\0\0\0\x05\x01\0\0\0\0\0\0\0\x64\0\0\0\0\0\0\0\x02\0\
+              \x01\x01\0\x01\0\0\0\0\0\0\0\x10\xffxxxxxxxx",
         )
     );
     assert!(rt;

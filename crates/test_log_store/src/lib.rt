@@ -4,4 +4,16 @@
 #[cfg(test)]
 mod groups;
 #[cfg(test)]
+mod images;
+#[cfg(test)]
 mod on_disk;
+#[cfg(test)]
+mod queries;
+#[cfg(test)]
+mod refused;
+#[cfg(test)]
+mod reopened;
+#[cfg(test)]
+mod shares;
+#[cfg(test)]
+mod stops;

@@ -6,6 +6,15 @@ use log_store::{Did, LogStore};
 use std::alloc::Global;
 use std::process::Abort;
 
+/// The steps of a group of one commit in one extent.
+pub const ONE_EXTENT: &[Did] = &[
+    Did::WroteExtent,
+    Did::GateClosed,
+    Did::HeapSynced,
+    Did::GateWritten,
+    Did::Published(1),
+];
+
 /// A store in a heap of 64 extents.
 pub fn new_store(rt: &impl Abort, alloc: Global) -> LogStore<MemDisk> {
     match LogStore::create(alloc, MemDisk::new(alloc), 1, 64) {
@@ -15,10 +24,10 @@ pub fn new_store(rt: &impl Abort, alloc: Global) -> LogStore<MemDisk> {
 }
 
 /// A value of these fields is put to these records of relation 1, and the commit is queued with this label, at the time 100.
-pub fn queue(
+pub fn queue<D: Disk>(
     rt: &impl Abort,
     alloc: Global,
-    store: &mut LogStore<MemDisk>,
+    store: &mut LogStore<D>,
     records: &[u64],
     fields: &[&[u8]],
     label: u64,
@@ -42,7 +51,7 @@ pub fn queue(
 }
 
 /// The steps of a group, and that nothing is left to do behind them.
-pub fn pumps(rt: &impl Abort, store: &mut LogStore<MemDisk>, steps: &[Did]) {
+pub fn pumps<D: Disk>(rt: &impl Abort, store: &mut LogStore<D>, steps: &[Did]) {
     for did in steps {
         assert!(rt; store.pump() == Ok(*did));
     }

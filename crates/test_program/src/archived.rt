@@ -80,7 +80,8 @@ const CHANGED: &[Step] = &[
     At("100", "refused: damaged status 4"),
 ];
 
-/// All that the key had by 120 goes to the archive; the heap keeps its last value alone. A run that was cut, and one whose index has another place of the first record.
+/// All that the key had by 120 goes to the archive; the heap keeps its last value alone. A run that was
+/// cut, and one whose index has another place of the first record.
 const DAMAGED: &[Step] = &[
     New(16),
     Says(FOUR_COMMITS),

@@ -1,12 +1,11 @@
 //! What the examples write through a shared store, and what they find.
-use chains::SharedValue;
 use disk::Disk;
 use history::{Key, Version};
 use shared::{Observer, Opening, SharedStore, SharedTxn, SharedView};
 use std::alloc::Global;
 use std::process::Abort;
 use std::sync::Wait;
-use store::{Did, JobDid, PumpFault, QueryFault, Submitted, Ticket};
+use store::{Did, JobDid, PumpFault, QueryFault, SharedValue, Submitted, Ticket};
 
 /// A key of the examples' relation.
 pub fn key_of(record: u64) -> Key {

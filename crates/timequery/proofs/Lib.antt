@@ -6,3 +6,4 @@ pub mod ScanLists
 pub mod ScanValues
 pub mod Answering
 pub mod Both
+pub mod Carried

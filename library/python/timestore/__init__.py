@@ -19,9 +19,9 @@ after the last commit, it comes a microsecond after it.
 
 A `Store` stays on the thread that opened it, and so does all that it gave out: a call on another
 thread raises `RuntimeError`. What is let go there is given back with the owner's next call. A
-`SharedStore` is for any thread. In the child of a fork the store is closed. It needs Python 3.11 and `libtimestore.so`: of the path in the
-environment's `TIMESTORE_LIBRARY`, in this folder, where both were installed, or where the system
-looks for libraries.
+`SharedStore` is for any thread. In the child of a fork the store is closed. It needs Python 3.11
+and `libtimestore.so`: of the path in the environment's `TIMESTORE_LIBRARY`, in this folder, where
+both were installed, or where the system looks for libraries.
 """
 
 import ctypes
@@ -31,13 +31,15 @@ import weakref
 from collections import deque
 from collections.abc import Callable, Iterator
 from enum import IntEnum
-from types import TracebackType
-from typing import Any, Self, TypeVar, cast
+from typing import Any, Self, cast
 
+from ._common import CommonStore as _CommonStore
+from ._common import CommonTransaction as _CommonTransaction
+from ._common import CommonView as _CommonView
+from ._common import Given as _Given
 from ._native import NEEDS_ARCHIVE as _NEEDS_ARCHIVE
 from ._native import NONE as _NONE
 from ._native import READ_ONLY as _READ_ONLY
-from ._native import SMALL as _SMALL
 from ._native import Handle as _Handle
 from ._native import Info as _Info
 from ._native import ask as _answer
@@ -82,15 +84,12 @@ from ._refused import (
     WrongProfile,
 )
 from ._shared import SharedStore, SharedTicket, SharedTransaction, SharedView
-from ._values import ATTEMPTS as _ATTEMPTS
 from ._values import VALUE_MOST as _VALUE_MOST
 from ._values import Fields, Row, Time, make, micros, moment
 from ._values import Room as _Room
-from ._values import clock as _clock
 from ._values import fields_of as _fields
 from ._values import key_of as _key
 from ._values import number_of as _number
-from ._values import spelled as _spelled
 
 __version__ = "1.0.0"
 
@@ -148,14 +147,10 @@ __all__ = [
     "moment",
 ]
 
-_Result = TypeVar("_Result")
-
 # How many words of a call are the room for a value, or for rows, and what it tells.
 _VALUE_WORDS, _ROWS_WORDS = 3, 5
 # What is lent for an archive of no bytes.
 _NOTHING = ctypes.create_string_buffer(1)
-# How many pairs of buffers a store keeps for its next queries.
-_ROOMS_KEPT = 4
 
 
 class Step(IntEnum):
@@ -180,9 +175,10 @@ def library_version() -> str:
     return version.decode()
 
 
-class Store:
+class Store(_CommonStore["Transaction", "View"]):
     """An open store. As a context it is closed at its end."""
 
+    _rooms_kept = 4
     _has_files = False
     _file: ctypes.c_void_p | None
     _let_go: deque[tuple[Callable[..., int], int]]
@@ -243,12 +239,6 @@ class Store:
         self._file = None
         self._at = ctypes.pointer(_Handle())
 
-    def __enter__(self) -> Self:
-        return self
-
-    def __exit__(self, *_: object) -> None:
-        self.close()
-
     def __del__(self) -> None:
         # Nothing refers to the store any more, so no other thread is in a call of it.
         if getattr(self, "_file", None) is not None:
@@ -272,50 +262,17 @@ class Store:
         info = self._info if self._info in args else None
         return _answer(function(self._of_file(), *args), info, self._note_failure)
 
-    @property
-    def last(self) -> int:
-        """The time of the last commit, 0 for none."""
-        self._ask(_library.ts_last)
-        return self._info.a
+    def _info_of_call(self) -> _Info:
+        return self._info
 
-    @property
-    def floor(self) -> int:
-        """The time before which nothing is promised, 0 where each relation has one of its own."""
+    def _last(self) -> _Info:
         self._ask(_library.ts_last)
-        return self._info.b
+        return self._info
 
     def begin(self, label: int = 0, now: Time | None = None) -> "Transaction":
         """A transaction on what is published now. As a context it is committed at its end."""
         self._ask(_library.ts_begin)
         return Transaction(self, self._info.a, self._info.b, label, now)
-
-    def transact(
-        self,
-        work: Callable[["Transaction"], _Result],
-        *,
-        label: int = 0,
-        now: Time | None = None,
-        attempts: int = _ATTEMPTS,
-    ) -> _Result:
-        """What `work` gives for a transaction, which is committed then.
-
-        Where another transaction was ahead in a record, `work` is called again with a new one; after
-        so many attempts the `Conflict` is raised. What `work` raises gives the transaction up.
-        """
-        if attempts < 1:
-            raise ValueError("at least one attempt is made")
-        for _ in range(attempts - 1):
-            try:
-                return self._transact_once(work, label, now)
-            except Conflict:
-                continue
-        return self._transact_once(work, label, now)
-
-    def _transact_once(
-        self, work: Callable[["Transaction"], _Result], label: int, now: Time | None
-    ) -> _Result:
-        with self.begin(label, now) as txn:
-            return work(txn)
 
     def put(
         self, relation: int, record: int, *fields: bytes, label: int = 0, now: Time | None = None
@@ -334,12 +291,12 @@ class Store:
         return cast(int, txn.time)  # something was written
 
     def get(self, relation: int, record: int) -> Fields | None:
-        """The value that stands now, after the last commit; None where there is none."""
+        """The value after the last commit; None where there is none."""
         with self.view() as view:
             return view.get(relation, record)
 
     def scan(self, relation: int) -> Iterator[tuple[int, Fields]]:
-        """The records of a relation with the values that stand now, in rising order."""
+        """The records of a relation with their values after the last commit, in rising order."""
         with self.view() as view:
             return view.scan(relation)
 
@@ -358,36 +315,9 @@ class Store:
         self._ask(_library.ts_view)
         return View(self, self._info.a, last)
 
-    def at(self, relation: int, record: int, time: Time) -> Fields | None:
-        """`View.at` of a view that is taken for it, as those below are."""
-        with self.view() as view:
-            return view.at(relation, record, time)
-
-    def scan_at(self, relation: int, time: Time) -> Iterator[tuple[int, Fields]]:
-        """`View.scan_at`."""
-        with self.view() as view:
-            return view.scan_at(relation, time)
-
-    def between(self, relation: int, record: int, start: Time, end: Time) -> Iterator[Row]:
-        """`View.between`."""
-        with self.view() as view:
-            return view.between(relation, record, start, end)
-
-    def scan_between(self, relation: int, start: Time, end: Time) -> Iterator[Row]:
-        """`View.scan_between`."""
-        with self.view() as view:
-            return view.scan_between(relation, start, end)
-
     def times_of(self, label: int) -> list[int]:
         """The times of the commits with a label, rising."""
-        room = 16
-        while True:
-            times = (ctypes.c_uint64 * room)()
-            code = _library.ts_times_of(self._handle, _number(label), times, room, self._info)
-            if code != _SMALL:
-                _answer(code, self._info)
-                return list(times[: self._info.a])
-            room = self._info.a
+        return self._times(_library.ts_times_of, label)
 
     def archive(self, upto: Time) -> None:
         """Copies what ended by a time into the archive."""
@@ -472,27 +402,9 @@ class Store:
     def _rows(
         self, function: Callable[..., int], *args: int, lends: bool = False
     ) -> Iterator[Row]:
-        """What a call finds: it is asked at once, and each row made as it is taken.
-
-        The memory for it grows with the most that was found, and the next query has it again.
-        """
         if lends:
             function = self._lending(function, _ROWS_WORDS)
-        room = self._rooms.pop() if self._rooms else _Room(64, 4096)
-        code = function(self._handle, *args, *room.args, self._info)
-        while code == _SMALL:
-            count, size = max(self._info.a, len(room.rows)), max(self._info.b, len(room.out))
-            room = _Room(count, size)
-            code = function(self._handle, *args, *room.args, self._info)
-        _answer(code, self._info, self._note_failure)
-        return self._taken_rows(room, self._info.a)
-
-    def _taken_rows(self, room: _Room, count: int) -> Iterator[Row]:
-        try:
-            yield from map(room.row, range(count))
-        finally:
-            if len(self._rooms) < _ROOMS_KEPT:
-                self._rooms.append(room)
+        return super()._rows(function, *args)
 
 
 _opened: weakref.WeakSet[Store] = weakref.WeakSet()
@@ -507,19 +419,15 @@ def _forget_all() -> None:
 os.register_at_fork(after_in_child=_forget_all)
 
 
-class Ticket:
+class Ticket(_Given[Store]):
     """A commit that waits, or is published. One that is let go is given up."""
 
-    def __init__(self, store: Store, number: int) -> None:
-        self._store = store
-        self._number: int | None = number
+    _back = "ts_give_up"
 
     def redeem(self) -> int | None:
         """The time of the commit once it is published, else None. Then the ticket is spent."""
-        if self._number is None:
-            raise Unknown("unknown")
-        handle = self._store._handle
-        number, self._number = self._number, None
+        number, handle = self._open(), self._store._handle
+        self._number = None
         info = self._store._info
         code = _answer(_library.ts_redeem(handle, number, info), info, self._store._note_failure)
         if code == Waiting.code:
@@ -529,66 +437,25 @@ class Ticket:
 
     def give_up(self) -> None:
         """Spends the ticket; the commit goes its way."""
-        if self._number is not None:
-            _answer(_library.ts_give_up(self._store._handle, self._number))
-            self._number = None
-
-    def __del__(self) -> None:
-        if self._number is not None:
-            self._store._give_back(_library.ts_give_up, self._number)
+        self._end()
 
 
-class Transaction:
+class Transaction(_CommonTransaction[Store]):
     """An open transaction: what it reads is its snapshot with its own writes over it.
 
     As a context it is committed at its end, or given up where an exception ends it; so it is too
     where it is let go. `snapshot` is the time of its snapshot, `time` that of its commit.
     """
 
-    def __init__(
-        self, store: Store, number: int, snapshot: int, label: int, now: Time | None
-    ) -> None:
-        self._store = store
-        self._number: int | None = number
-        self._label = label
-        self._now = now
-        self.snapshot = snapshot
-        self.time: int | None = None
-
-    def _open(self) -> int:
-        if self._number is None:
-            raise Unknown("unknown")
-        return self._number
-
-    def put(self, relation: int, record: int, *fields: bytes) -> None:
-        """Writes a value of 1 to 16 fields."""
-        key, value = _key(relation, record), _spelled(fields)
-        handle, number = self._store._handle, self._open()
-        _answer(_library.ts_put(handle, number, *key, value, len(value)))
-
-    def delete(self, relation: int, record: int) -> None:
-        """Deletes a record that has a value."""
-        key = _key(relation, record)
-        _answer(_library.ts_delete(self._store._handle, self._open(), *key))
-
-    def get(self, relation: int, record: int) -> Fields | None:
-        """The value that the transaction sees."""
-        return self._store._read(_library.ts_get, self._open(), *_key(relation, record))
-
-    def scan(self, relation: int) -> Iterator[tuple[int, Fields]]:
-        """The records of a relation with their values, in rising order."""
-        rows = self._store._rows(_library.ts_scan, self._open(), _number(relation, 16))
-        return ((row.record, row.fields) for row in rows)
+    _back, _calls = "ts_abort", "ts_"
 
     def submit(self, label: int | None = None, now: Time | None = None) -> Ticket | None:
         """Queues the writes as a commit; None where there are none. The transaction is over."""
-        label = _number(self._label if label is None else label)
-        now = self._now if now is None else now
-        time = _clock() if now is None else micros(now)
+        words = self._label_and_time(label, now)
         handle = self._store._handle
         number, self._number = self._open(), None
         info = self._store._info
-        code = _library.ts_submit(handle, number, label, time, info)
+        code = _library.ts_submit(handle, number, *words, info)
         if _answer(code, info, self._store._note_failure) == _READ_ONLY:
             return None
         return Ticket(self._store, info.a)
@@ -614,114 +481,33 @@ class Transaction:
             raise waiting from refusal
         return self.time
 
-    def abort(self) -> None:
-        """Gives the transaction up."""
-        if self._number is not None:
-            _answer(_library.ts_abort(self._store._handle, self._number))
-            self._number = None
 
-    def _drop(self) -> None:
-        """Gives the transaction up, on any thread and whatever became of its store."""
-        number, self._number = self._number, None
-        if number is not None:
-            self._store._give_back(_library.ts_abort, number)
-
-    def __del__(self) -> None:
-        self._drop()
-
-    def __enter__(self) -> Self:
-        return self
-
-    def __exit__(
-        self,
-        kind: type[BaseException] | None,
-        why: BaseException | None,
-        trace: TracebackType | None,
-    ) -> None:
-        if kind is not None:
-            self._drop()
-        elif self._number is not None:
-            self.commit()
-
-
-class View:
+class View(_CommonView[Store]):
     """What was published at one moment. As a context, or let go, it is given back.
 
     `last` is the time of the last commit that it has, 0 for none.
     """
 
-    def __init__(self, store: Store, number: int, last: int) -> None:
-        self._store = store
-        self._number: int | None = number
-        self.last = last
+    _back, _calls = "ts_end", "ts_"
 
-    def _open(self) -> int:
-        if self._number is None:
-            raise Unknown("unknown")
-        return self._number
+    def _value_at(self, *key_and_time: int) -> Fields | None:
+        call = self._store._lending(_library.ts_at, _VALUE_WORDS)
+        return self._store._read(call, self._open(), *key_and_time)
+
+    def _rows(self, name: str, *args: int) -> Iterator[Row]:
+        return self._store._rows(self._call(name), self._open(), *args, lends=True)
 
     def get(self, relation: int, record: int) -> Fields | None:
         """The value of a record after the view's last commit, None where it had none."""
         return self.recent(relation, record, self.last)
 
-    def scan(self, relation: int) -> Iterator[tuple[int, Fields]]:
-        """The records of a relation with their values after the view's last commit."""
-        return self.scan_at(relation, self.last)
-
-    def at(self, relation: int, record: int, time: Time) -> Fields | None:
-        """The value of a record at a time, None where it had none."""
-        key, at = _key(relation, record), micros(time)
-        call = self._store._lending(_library.ts_at, _VALUE_WORDS)
-        return self._store._read(call, self._open(), *key, at)
-
     def recent(self, relation: int, record: int, time: Time) -> Fields | None:
-        """The same from memory alone: `NeedsArchive` at a time before the view's last reclaim."""
+        """`at` from memory alone: `NeedsArchive` at a time before the view's last reclaim."""
         key, at = _key(relation, record), micros(time)
         return self._store._read(_library.ts_recent, self._open(), *key, at)
 
-    def _rows(self, function: Callable[..., int], *args: int) -> Iterator[Row]:
-        return self._store._rows(function, self._open(), *args, lends=True)
-
-    def scan_at(self, relation: int, time: Time) -> Iterator[tuple[int, Fields]]:
-        """The records of a relation that have a value at a time, in rising order."""
-        rows = self._rows(_library.ts_scan_at, _number(relation, 16), micros(time))
-        return ((row.record, row.fields) for row in rows)
-
-    def between(self, relation: int, record: int, start: Time, end: Time) -> Iterator[Row]:
-        """What stood in a record from one time up to another, by rising time."""
-        args = (*_key(relation, record), micros(start), micros(end))
-        return self._rows(_library.ts_between, *args)
-
-    def scan_between(self, relation: int, start: Time, end: Time) -> Iterator[Row]:
-        """The same of a relation's records, by record and then by time."""
-        args = _number(relation, 16), micros(start), micros(end)
-        return self._rows(_library.ts_scan_between, *args)
-
     def end(self) -> None:
         """Gives the view back."""
-        if self._number is not None and self._store._file is not None:
-            _answer(_library.ts_end(self._store._handle, self._number))
+        if self._store._file is not None:
+            self._end()
         self._number = None
-
-    def _drop(self) -> None:
-        """Gives the view back, on any thread and whatever became of its store."""
-        number, self._number = self._number, None
-        if number is not None:
-            self._store._give_back(_library.ts_end, number)
-
-    def __del__(self) -> None:
-        self._drop()
-
-    def __enter__(self) -> Self:
-        return self
-
-    def __exit__(
-        self,
-        kind: type[BaseException] | None,
-        why: BaseException | None,
-        trace: TracebackType | None,
-    ) -> None:
-        if kind is not None:
-            self._drop()
-        else:
-            self.end()

@@ -20,7 +20,7 @@ ATTEMPTS = 10
 
 
 class Row(NamedTuple):
-    """What stood in a record from one time on, up to another."""
+    """What a record held from one time on, up to another."""
 
     record: int
     start: int
@@ -62,6 +62,11 @@ def moment(time: int) -> datetime:
 def clock() -> int:
     """Microseconds since 1970 by the system's clock."""
     return max(time.time_ns() // 1000, 0)
+
+
+def commit_time(now: Time | None) -> int:
+    """The time that a commit is to have: the one that is given, or else the clock's."""
+    return clock() if now is None else micros(now)
 
 
 def spelled(fields: tuple[bytes, ...]) -> bytes:

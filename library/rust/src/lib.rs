@@ -28,6 +28,7 @@
 //! sent::<timestore::Store>();
 //! ```
 
+mod calls;
 mod error;
 mod raw;
 mod rows;

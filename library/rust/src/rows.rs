@@ -16,9 +16,9 @@ pub struct Row {
 
 /// Memory for what a query finds.
 #[derive(Debug)]
-pub(crate) struct Room {
-    pub(crate) rows: Vec<raw::Row>,
-    pub(crate) out: Vec<u8>,
+pub struct Room {
+    rows: Vec<raw::Row>,
+    out: Vec<u8>,
 }
 
 impl Room {
@@ -29,6 +29,12 @@ impl Room {
         }
     }
 
+    // Where rows go and how many there is room for, and the same of the bytes of their values.
+    pub(crate) fn parts(&mut self) -> (*mut raw::Row, usize, *mut u8, usize) {
+        let Room { rows, out } = self;
+        (rows.as_mut_ptr(), rows.len(), out.as_mut_ptr(), out.len())
+    }
+
     // Room for so many rows and bytes of values, and for what it had room for.
     pub(crate) fn grow(&mut self, rows: usize, bytes: usize) {
         self.rows
@@ -36,7 +42,7 @@ impl Room {
         self.out.resize(bytes.max(self.out.len()), 0);
     }
 
-    pub(crate) fn row(&self, number: usize) -> Row {
+    fn row(&self, number: usize) -> Row {
         let raw = &self.rows[number];
         let value = &self.out[raw.at as usize..(raw.at + raw.len) as usize];
         Row {
@@ -48,19 +54,37 @@ impl Room {
     }
 }
 
+/// Who takes the memory of a query back; by itself nobody.
+pub trait Home {
+    /// Takes it.
+    fn keep(&self, _room: Room) {}
+}
+
+impl Home for () {}
+
+impl Home for &Store {
+    fn keep(&self, room: Room) {
+        Store::keep(self, room);
+    }
+}
+
 /// The rows that a query found, each made as it is taken.
 #[derive(Debug)]
-pub struct Rows<'a> {
-    store: &'a Store,
+pub struct RowsOf<H: Home> {
+    home: H,
     room: Option<Room>,
     next: usize,
     count: usize,
 }
 
-impl<'a> Rows<'a> {
-    pub(crate) fn new(store: &'a Store, room: Room, count: usize) -> Rows<'a> {
-        Rows {
-            store,
+/// The rows that a query found, each made as it is taken.
+pub type Rows<'a> = RowsOf<&'a Store>;
+
+impl<H: Home> RowsOf<H> {
+    // Its home has its memory again where it is dropped.
+    pub(crate) fn new(home: H, (room, count): (Room, usize)) -> RowsOf<H> {
+        RowsOf {
+            home,
             room: Some(room),
             next: 0,
             count,
@@ -68,7 +92,7 @@ impl<'a> Rows<'a> {
     }
 }
 
-impl Iterator for Rows<'_> {
+impl<H: Home> Iterator for RowsOf<H> {
     type Item = Row;
 
     fn next(&mut self) -> Option<Row> {
@@ -86,22 +110,24 @@ impl Iterator for Rows<'_> {
     }
 }
 
-impl ExactSizeIterator for Rows<'_> {}
+impl<H: Home> ExactSizeIterator for RowsOf<H> {}
 
-impl Drop for Rows<'_> {
-    // The store's next query has its memory again.
+impl<H: Home> Drop for RowsOf<H> {
     fn drop(&mut self) {
         if let Some(room) = self.room.take() {
-            self.store.keep(room);
+            self.home.keep(room);
         }
     }
 }
 
 /// The records that a scan found, with their values.
 #[derive(Debug)]
-pub struct Records<'a>(pub(crate) Rows<'a>);
+pub struct RecordsOf<H: Home>(pub(crate) RowsOf<H>);
 
-impl Iterator for Records<'_> {
+/// The records that a scan found, with their values.
+pub type Records<'a> = RecordsOf<&'a Store>;
+
+impl<H: Home> Iterator for RecordsOf<H> {
     type Item = (u64, Fields);
 
     fn next(&mut self) -> Option<(u64, Fields)> {
@@ -114,4 +140,4 @@ impl Iterator for Records<'_> {
     }
 }
 
-impl ExactSizeIterator for Records<'_> {}
+impl<H: Home> ExactSizeIterator for RecordsOf<H> {}

@@ -23,11 +23,11 @@
 //! # Ok(())
 //! # }
 //! ```
-use crate::error::IN_DOUBT;
+use crate::calls::{Calls, asked, attempted, path_of};
+use crate::error::WAITING;
 use crate::raw::{self, Info};
-use crate::rows::{Room, Row};
-use crate::store::path_of;
-use crate::{Cause, Error, Fields, Result, WaitingTicket, When, fields_of, spelled};
+use crate::rows::{RecordsOf, Room, RowsOf};
+use crate::{Cause, Error, Fields, Result, WaitingTicket, When, spelled};
 use std::path::Path;
 use std::sync::Arc;
 use std::time::Duration;
@@ -48,26 +48,24 @@ impl Drop for Open {
     }
 }
 
-impl Open {
-    fn asked(&self, code: i32, info: Info) -> Result<i32> {
-        if code >= 0 && code != IN_DOUBT {
-            return Ok(code);
-        }
+impl Calls for Open {
+    type Raw = raw::Shared;
+
+    fn raw(&self) -> *mut raw::Shared {
+        self.0
+    }
+
+    fn cause(&self) -> Option<Cause> {
         // SAFETY: the store is there, also where it is closed, here and in all calls below.
-        let cause = || Cause::told(|cause| unsafe { raw::ts_shared_error(self.0, cause) });
-        Err(Error::of(code, info, cause))
+        Cause::told(|cause| unsafe { raw::ts_shared_error(self.0, cause) })
     }
+}
 
-    fn ask(&self, call: impl FnOnce(*mut raw::Shared, &mut Info) -> i32) -> Result<(i32, Info)> {
-        let mut info = Info::default();
-        let code = call(self.0, &mut info);
-        Ok((self.asked(code, info)?, info))
-    }
-
+impl Open {
     // The time of a commit; none where nothing was written.
     fn commit(&self, call: impl FnOnce(*mut raw::Shared, &mut Info) -> i32) -> Result<Option<u64>> {
         match self.ask(call)? {
-            (crate::error::WAITING, info) => Err(Error::Waiting(WaitingTicket(info.a))),
+            (WAITING, info) => Err(Error::Waiting(WaitingTicket(info.a))),
             (raw::READ_ONLY, _) => Ok(None),
             (_, info) => Ok(Some(info.a)),
         }
@@ -78,50 +76,13 @@ impl Open {
         Ok(self.commit(call)?.expect("something was written"))
     }
 
-    // The value that a call copies out.
-    fn read(
-        &self,
-        call: impl FnOnce(*mut raw::Shared, *mut u8, usize, &mut Info) -> i32,
-    ) -> Result<Option<Fields>> {
-        let (mut value, mut info) = ([0; raw::VALUE_MOST], Info::default());
-        let code = call(self.0, value.as_mut_ptr(), value.len(), &mut info);
-        let code = self.asked(code, info)?;
-        Ok((code != raw::NONE).then(|| fields_of(&value[..info.a as usize])))
-    }
-
-    // What a query finds, which is called with room for it.
+    // What a query finds, which is called with room for it: no more rows and bytes are written than there is.
     fn rows(
         &self,
-        mut query: impl FnMut(*mut raw::Shared, &mut Room, &mut Info) -> i32,
+        query: impl FnMut(*mut raw::Shared, &mut Room, &mut Info) -> i32,
     ) -> Result<Rows> {
-        let mut room = Room::new();
-        loop {
-            let mut info = Info::default();
-            let code = query(self.0, &mut room, &mut info);
-            if code != raw::SMALL {
-                self.asked(code, info)?;
-                return Ok(Rows {
-                    room,
-                    next: 0,
-                    count: info.a as usize,
-                });
-            }
-            room.grow(info.a as usize, info.b as usize);
-        }
+        Ok(RowsOf::new((), self.find(Room::new(), query)?))
     }
-}
-
-/// The rows that a query finds, which is asked with these words and room for what it finds.
-macro_rules! rows_of {
-    ($open:expr, $call:ident($($word:expr),*)) => {
-        $open.rows(|s, room, info| {
-            let Room { rows, out } = room;
-            // SAFETY: no more rows and bytes are written than there is room for.
-            unsafe {
-                raw::$call(s, $($word,)* rows.as_mut_ptr(), rows.len(), out.as_mut_ptr(), out.len(), info)
-            }
-        })
-    };
 }
 
 /// An open store that any thread may call. A clone is the same store.
@@ -150,34 +111,30 @@ impl SharedStore {
         let (mut store, mut info) = (std::ptr::null_mut(), Info::default());
         // SAFETY: the path is a string that ends in zero; the store is written where the call is answered.
         let code = unsafe { raw::ts_shared_open(path.as_ptr(), &mut store, &mut info) };
-        if code < 0 {
-            return Err(Error::of(code, info, || None));
-        }
+        asked(code, info, || None)?;
         Ok(SharedStore(Arc::new(Open(store))))
     }
 
     /// Closes it, once the calls that are being made have returned. All others answer [`Error::Closed`].
     pub fn close(&self) -> Result<()> {
-        self.0.ask(|s, _| unsafe { raw::ts_shared_close(s) })?;
-        Ok(())
+        self.0.make(|s, _| unsafe { raw::ts_shared_close(s) })
     }
 
     /// The time of the last commit, 0 for none.
     pub fn last(&self) -> Result<u64> {
-        Ok(self
-            .0
-            .ask(|s, info| unsafe { raw::ts_shared_last(s, info) })?
-            .1
-            .a)
+        Ok(self.told()?.a)
     }
 
     /// The floor: history before this time may be gone; 0 for none, and where each relation has one of its own.
     pub fn floor(&self) -> Result<u64> {
-        Ok(self
+        Ok(self.told()?.b)
+    }
+
+    fn told(&self) -> Result<Info> {
+        let (_, info) = self
             .0
-            .ask(|s, info| unsafe { raw::ts_shared_last(s, info) })?
-            .1
-            .b)
+            .ask(|s, info| unsafe { raw::ts_shared_last(s, info) })?;
+        Ok(info)
     }
 
     /// Commits one value, at the time that it is; the commit's time, once it outlasts a stop.
@@ -206,7 +163,11 @@ impl SharedStore {
 
     /// The records of a relation with the values that stand now, in rising order.
     pub fn scan(&self, relation: u16) -> Result<Records> {
-        rows_of!(self.0, ts_shared_scan(relation)).map(Records)
+        let found = self.0.rows(|s, room, info| unsafe {
+            let (rows, count, out, len) = room.parts();
+            raw::ts_shared_scan(s, relation, rows, count, out, len, info)
+        });
+        found.map(RecordsOf)
     }
 
     /// A transaction on what is published now.
@@ -232,24 +193,11 @@ impl SharedStore {
         mut work: impl FnMut(&mut Txn) -> Result<T>,
     ) -> Result<(T, Option<u64>)> {
         let now = now.into();
-        for _ in 1..attempts {
-            match self.transact_once(label, now, &mut work) {
-                Err(Error::Conflict { .. }) => {}
-                answer => return answer,
-            }
-        }
-        self.transact_once(label, now, &mut work)
-    }
-
-    fn transact_once<T>(
-        &self,
-        label: u64,
-        now: When,
-        work: &mut impl FnMut(&mut Txn) -> Result<T>,
-    ) -> Result<(T, Option<u64>)> {
-        let mut txn = self.begin()?;
-        let answer = work(&mut txn)?;
-        Ok((answer, txn.commit(label, now)?))
+        attempted(attempts, || {
+            let mut txn = self.begin()?;
+            let answer = work(&mut txn)?;
+            Ok((answer, txn.commit(label, now)?))
+        })
     }
 
     /// Goes on with a commit that [`Error::Waiting`] gave back; its time.
@@ -261,8 +209,7 @@ impl SharedStore {
     /// Spends such a ticket; its commit goes its way.
     pub fn give_up(&self, waiting: WaitingTicket) -> Result<()> {
         self.0
-            .ask(|s, _| unsafe { raw::ts_shared_give_up(s, waiting.0) })?;
-        Ok(())
+            .make(|s, _| unsafe { raw::ts_shared_give_up(s, waiting.0) })
     }
 
     /// What is published now, which later commits do not change.
@@ -279,54 +226,45 @@ impl SharedStore {
 
     /// The times of the commits with a label, rising.
     pub fn times_of(&self, label: u64) -> Result<Vec<u64>> {
-        let mut times = vec![0; 16];
-        loop {
-            let (at, len, mut info) = (times.as_mut_ptr(), times.len(), Info::default());
-            // SAFETY: as many times as there is room for are written.
-            let code = unsafe { raw::ts_shared_times_of(self.0.0, label, at, len, &mut info) };
-            if code != raw::SMALL {
-                self.0.asked(code, info)?;
-                times.truncate(info.a as usize);
-                return Ok(times);
-            }
-            times.resize(info.a as usize, 0);
-        }
-    }
-
-    fn job_of(&self, call: impl FnOnce(*mut raw::Shared, &mut Info) -> i32) -> Result<()> {
-        self.0.ask(call)?;
-        Ok(())
+        // As many times as there is room for are written.
+        self.0
+            .times(|s, at, len, info| unsafe { raw::ts_shared_times_of(s, label, at, len, info) })
     }
 
     /// Copies what ended by a time into the archive, while commits go on. One job is made at a time.
     pub fn archive(&self, upto: u64) -> Result<()> {
-        self.job_of(|s, info| unsafe { raw::ts_shared_archive(s, upto, info) })
+        self.0
+            .make(|s, info| unsafe { raw::ts_shared_archive(s, upto, info) })
     }
 
     /// Gives up in the heap and in memory what is archived.
     pub fn reclaim(&self) -> Result<()> {
-        self.job_of(|s, info| unsafe { raw::ts_shared_reclaim(s, info) })
+        self.0
+            .make(|s, info| unsafe { raw::ts_shared_reclaim(s, info) })
     }
 
     /// Raises the floor of a relation to a time: of it views that are taken then answer `BeforeKept` at an
     /// earlier one.
     pub fn floor_of(&self, relation: u16, time: u64) -> Result<()> {
-        self.job_of(|s, info| unsafe { raw::ts_shared_floor_of(s, relation, time, info) })
+        self.0
+            .make(|s, info| unsafe { raw::ts_shared_floor_of(s, relation, time, info) })
     }
 
     /// The same of all relations, in a store that an earlier timestore made.
     pub fn raise_floor(&self, time: u64) -> Result<()> {
-        self.job_of(|s, info| unsafe { raw::ts_shared_floor(s, time, info) })
+        self.0
+            .make(|s, info| unsafe { raw::ts_shared_floor(s, time, info) })
     }
 
     /// Makes 256 slots more.
     pub fn grow(&self) -> Result<()> {
-        self.job_of(|s, info| unsafe { raw::ts_shared_grow(s, info) })
+        self.0
+            .make(|s, info| unsafe { raw::ts_shared_grow(s, info) })
     }
 
     /// Goes on with a job that ended in `NoMemory` on its way, if there is one.
     pub fn job(&self) -> Result<()> {
-        self.job_of(|s, _| unsafe { raw::ts_shared_job(s) })
+        self.0.make(|s, _| unsafe { raw::ts_shared_job(s) })
     }
 
     /// Starts a thread that archives and reclaims by a policy until the store is closed. `Busy` where one runs.
@@ -336,7 +274,8 @@ impl SharedStore {
             keep: micros_of(policy.keep),
             grows: policy.grows,
         };
-        self.job_of(|s, _| unsafe { raw::ts_shared_vacuum(s, &policy) })
+        self.0
+            .make(|s, _| unsafe { raw::ts_shared_vacuum(s, &policy) })
     }
 
     /// How many archives, reclaims and growths that thread has made; or what it was refused last. None where
@@ -368,16 +307,14 @@ impl Txn {
         let (value, number) = (spelled(fields)?, self.number);
         let (at, len) = (value.as_ptr(), value.len());
         self.store
-            .ask(|s, _| unsafe { raw::ts_shared_txn_put(s, number, relation, record, at, len) })?;
-        Ok(())
+            .make(|s, _| unsafe { raw::ts_shared_txn_put(s, number, relation, record, at, len) })
     }
 
     /// Deletes a record that has a value.
     pub fn delete(&mut self, relation: u16, record: u64) -> Result<()> {
         let number = self.number;
         self.store
-            .ask(|s, _| unsafe { raw::ts_shared_txn_delete(s, number, relation, record) })?;
-        Ok(())
+            .make(|s, _| unsafe { raw::ts_shared_txn_delete(s, number, relation, record) })
     }
 
     /// The value that it sees.
@@ -389,7 +326,11 @@ impl Txn {
 
     /// The records of a relation that it sees, in rising order.
     pub fn scan(&self, relation: u16) -> Result<Records> {
-        rows_of!(self.store, ts_shared_txn_scan(self.number, relation)).map(Records)
+        let found = self.store.rows(|s, room, info| unsafe {
+            let (rows, count, out, len) = room.parts();
+            raw::ts_shared_txn_scan(s, self.number, relation, rows, count, out, len, info)
+        });
+        found.map(RecordsOf)
     }
 
     /// Gives it up, as dropping it does.
@@ -446,23 +387,50 @@ impl View {
 
     /// The records of a relation that have a value at a time, in rising order.
     pub fn scan_at(&self, relation: u16, time: u64) -> Result<Records> {
-        rows_of!(self.store, ts_shared_scan_at(self.number, relation, time)).map(Records)
+        let found = self.store.rows(|s, room, info| unsafe {
+            let (rows, count, out, len) = room.parts();
+            raw::ts_shared_scan_at(s, self.number, relation, time, rows, count, out, len, info)
+        });
+        found.map(RecordsOf)
     }
 
     /// What stood in a record from one time up to another, by rising time.
     pub fn between(&self, relation: u16, record: u64, from: u64, upto: u64) -> Result<Rows> {
-        rows_of!(
-            self.store,
-            ts_shared_between(self.number, relation, record, from, upto)
-        )
+        self.store.rows(|s, room, info| unsafe {
+            let (rows, count, out, len) = room.parts();
+            raw::ts_shared_between(
+                s,
+                self.number,
+                relation,
+                record,
+                from,
+                upto,
+                rows,
+                count,
+                out,
+                len,
+                info,
+            )
+        })
     }
 
     /// The same of a relation's records, by record and then by time.
     pub fn scan_between(&self, relation: u16, from: u64, upto: u64) -> Result<Rows> {
-        rows_of!(
-            self.store,
-            ts_shared_scan_between(self.number, relation, from, upto)
-        )
+        self.store.rows(|s, room, info| unsafe {
+            let (rows, count, out, len) = room.parts();
+            raw::ts_shared_scan_between(
+                s,
+                self.number,
+                relation,
+                from,
+                upto,
+                rows,
+                count,
+                out,
+                len,
+                info,
+            )
+        })
     }
 }
 
@@ -474,48 +442,7 @@ impl Drop for View {
 }
 
 /// The rows that a query found, each made as it is taken.
-#[derive(Debug)]
-pub struct Rows {
-    room: Room,
-    next: usize,
-    count: usize,
-}
-
-impl Iterator for Rows {
-    type Item = Row;
-
-    fn next(&mut self) -> Option<Row> {
-        if self.next == self.count {
-            return None;
-        }
-        let row = self.room.row(self.next);
-        self.next += 1;
-        Some(row)
-    }
-
-    fn size_hint(&self) -> (usize, Option<usize>) {
-        let left = self.count - self.next;
-        (left, Some(left))
-    }
-}
-
-impl ExactSizeIterator for Rows {}
+pub type Rows = RowsOf<()>;
 
 /// The records that a scan found, with their values.
-#[derive(Debug)]
-pub struct Records(Rows);
-
-impl Iterator for Records {
-    type Item = (u64, Fields);
-
-    fn next(&mut self) -> Option<(u64, Fields)> {
-        let row = self.0.next()?;
-        Some((row.record, row.fields))
-    }
-
-    fn size_hint(&self) -> (usize, Option<usize>) {
-        self.0.size_hint()
-    }
-}
-
-impl ExactSizeIterator for Records {}
+pub type Records = RecordsOf<()>;

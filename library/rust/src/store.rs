@@ -1,12 +1,9 @@
 //! An open store.
-use crate::error::IN_DOUBT;
+use crate::calls::{Calls, asked, attempted, path_of};
 use crate::raw::{self, Info};
-use crate::rows::{Records, Room, Rows};
-use crate::{Cause, Error, Fields, Result, Ticket, Txn, View, WaitingTicket, When, fields_of};
+use crate::rows::{Records, RecordsOf, Room, Rows, RowsOf};
+use crate::{Cause, Error, Fields, Result, Ticket, Txn, View, WaitingTicket, When};
 use std::cell::RefCell;
-use std::ffi::CString;
-use std::io;
-use std::os::unix::ffi::OsStrExt;
 use std::path::Path;
 
 // How many pairs of buffers a store keeps for its next queries.
@@ -67,24 +64,17 @@ pub struct Store {
     rooms: RefCell<Vec<Room>>,
 }
 
-// The code of an answer, or what a refusal is; the file, if any, tells why its store failed.
-fn asked(code: i32, info: Info, file: *const raw::File) -> Result<i32> {
-    if code < 0 || code == IN_DOUBT {
-        Err(Error::of(code, info, || Cause::of(file)))
-    } else {
-        Ok(code)
-    }
-}
+// It is neither `Send` nor `Sync`, so no two calls are made at once.
+impl Calls for Store {
+    type Raw = raw::Handle;
 
-// A path has no byte that is zero.
-pub(crate) fn path_of(folder: &Path) -> Result<CString> {
-    CString::new(folder.as_os_str().as_bytes()).map_err(|why| {
-        Error::System(Cause {
-            call: "open",
-            area: None,
-            error: io::Error::new(io::ErrorKind::InvalidInput, why),
-        })
-    })
+    fn raw(&self) -> *mut raw::Handle {
+        self.handle
+    }
+
+    fn cause(&self) -> Option<Cause> {
+        Cause::of(self.file)
+    }
 }
 
 /// Makes a store with 16 to 65,536 slots in a folder that is there.
@@ -92,7 +82,7 @@ pub fn format(folder: impl AsRef<Path>, slots: u32) -> Result<()> {
     let path = path_of(folder.as_ref())?;
     // SAFETY: the path is a string that ends in zero.
     let code = unsafe { raw::ts_file_format(path.as_ptr(), slots) };
-    asked(code, Info::default(), std::ptr::null())?;
+    asked(code, Info::default(), || None)?;
     Ok(())
 }
 
@@ -103,7 +93,7 @@ impl Store {
         let (mut file, mut info) = (std::ptr::null_mut(), Info::default());
         // SAFETY: the path is a string that ends in zero; the file is written where the call is answered.
         let code = unsafe { raw::ts_file_open(path.as_ptr(), &mut file, &mut info) };
-        asked(code, info, std::ptr::null())?;
+        asked(code, info, || None)?;
         // SAFETY: the file is open until the store is dropped.
         let handle = unsafe { raw::ts_file_store(file) };
         Ok(Store {
@@ -111,16 +101,6 @@ impl Store {
             handle,
             rooms: RefCell::default(),
         })
-    }
-
-    // A call of the library. The store is neither `Send` nor `Sync`, so no two are made at once.
-    pub(crate) fn ask(
-        &self,
-        call: impl FnOnce(*mut raw::Handle, &mut Info) -> i32,
-    ) -> Result<(i32, Info)> {
-        let mut info = Info::default();
-        let code = asked(call(self.handle, &mut info), info, self.file)?;
-        Ok((code, info))
     }
 
     /// The time of the last commit, 0 for none.
@@ -151,24 +131,11 @@ impl Store {
         mut work: impl FnMut(&mut Txn<'_>) -> Result<T>,
     ) -> Result<(T, Option<u64>)> {
         let now = now.into();
-        for _ in 1..attempts {
-            match self.transact_once(label, now, &mut work) {
-                Err(Error::Conflict { .. }) => {}
-                answer => return answer,
-            }
-        }
-        self.transact_once(label, now, &mut work)
-    }
-
-    fn transact_once<T>(
-        &self,
-        label: u64,
-        now: When,
-        work: &mut impl FnMut(&mut Txn<'_>) -> Result<T>,
-    ) -> Result<(T, Option<u64>)> {
-        let mut txn = self.begin()?;
-        let answer = work(&mut txn)?;
-        Ok((answer, txn.commit(label, now)?))
+        attempted(attempts, || {
+            let mut txn = self.begin()?;
+            let answer = work(&mut txn)?;
+            Ok((answer, txn.commit(label, now)?))
+        })
     }
 
     // Commits what was written in a transaction; the commit's time.
@@ -203,22 +170,12 @@ impl Store {
     /// The records of a relation with the values that stand now, in rising order.
     pub fn scan(&self, relation: u16) -> Result<Records<'_>> {
         let file = self.file;
-        self.rows(|_, room, info| {
-            let Room { rows, out } = room;
-            // SAFETY: the file is open, and no more rows and bytes are written than there is room for.
-            unsafe {
-                raw::ts_file_scan(
-                    file,
-                    relation,
-                    rows.as_mut_ptr(),
-                    rows.len(),
-                    out.as_mut_ptr(),
-                    out.len(),
-                    info,
-                )
-            }
-        })
-        .map(Records)
+        // SAFETY: the file is open, and no more rows and bytes are written than there is room for.
+        let found = self.rows(|_, room, info| unsafe {
+            let (rows, count, out, len) = room.parts();
+            raw::ts_file_scan(file, relation, rows, count, out, len, info)
+        });
+        found.map(RecordsOf)
     }
 
     /// The ticket of a commit that waits, as a refused commit gave it back. That of another store is unknown.
@@ -235,10 +192,9 @@ impl Store {
 
     /// Publishes what waits.
     pub fn flush(&self) -> Result<()> {
+        let file = self.file;
         // SAFETY: the file is open.
-        let code = unsafe { raw::ts_file_flush(self.file) };
-        asked(code, Info::default(), self.file)?;
-        Ok(())
+        self.make(|_, _| unsafe { raw::ts_file_flush(file) })
     }
 
     /// One step of the group that is being written, with its device call.
@@ -257,8 +213,7 @@ impl Store {
 
     /// Begins that copy, of which [`Store::job_pump`] takes each step.
     pub fn archive_start(&self, upto: u64) -> Result<()> {
-        self.ask(|h, info| unsafe { raw::ts_archive(h, upto, info) })?;
-        Ok(())
+        self.make(|h, info| unsafe { raw::ts_archive(h, upto, info) })
     }
 
     /// Gives up in the heap and in memory what is archived.
@@ -269,8 +224,7 @@ impl Store {
 
     /// Begins that, of which [`Store::job_pump`] takes each step.
     pub fn reclaim_start(&self) -> Result<()> {
-        self.ask(|h, info| unsafe { raw::ts_reclaim(h, info) })?;
-        Ok(())
+        self.make(|h, info| unsafe { raw::ts_reclaim(h, info) })
     }
 
     /// Raises the floor of a relation to a time: of it views that are taken then answer `BeforeKept` at an
@@ -282,8 +236,7 @@ impl Store {
 
     /// Begins that, of which [`Store::job_pump`] takes each step.
     pub fn floor_of_start(&self, relation: u16, time: u64) -> Result<()> {
-        self.ask(|h, info| unsafe { raw::ts_floor_of(h, relation, time, info) })?;
-        Ok(())
+        self.make(|h, info| unsafe { raw::ts_floor_of(h, relation, time, info) })
     }
 
     /// The same of all relations, in a store that an earlier timestore made.
@@ -294,8 +247,7 @@ impl Store {
 
     /// Begins that, of which [`Store::job_pump`] takes each step.
     pub fn floor_start(&self, time: u64) -> Result<()> {
-        self.ask(|h, info| unsafe { raw::ts_floor(h, time, info) })?;
-        Ok(())
+        self.make(|h, info| unsafe { raw::ts_floor(h, time, info) })
     }
 
     /// Makes 256 slots more.
@@ -306,8 +258,7 @@ impl Store {
 
     /// Begins that, of which [`Store::job_pump`] takes each step.
     pub fn grow_start(&self) -> Result<()> {
-        self.ask(|h, info| unsafe { raw::ts_grow(h, info) })?;
-        Ok(())
+        self.make(|h, info| unsafe { raw::ts_grow(h, info) })
     }
 
     /// One step of the job that is being made, with its device call.
@@ -320,60 +271,44 @@ impl Store {
 
     /// All steps of the job that is being made.
     pub fn job(&self) -> Result<()> {
+        let file = self.file;
         // SAFETY: the file is open.
-        let code = unsafe { raw::ts_file_job(self.file) };
-        asked(code, Info::default(), self.file)?;
-        Ok(())
+        self.make(|_, _| unsafe { raw::ts_file_job(file) })
     }
 
     /// The times of the commits with a label, rising.
     pub fn times_of(&self, label: u64) -> Result<Vec<u64>> {
-        let mut times = vec![0; 16];
-        loop {
-            let (at, len, mut info) = (times.as_mut_ptr(), times.len(), Info::default());
-            // SAFETY: as many times as there is room for are written.
-            let code = unsafe { raw::ts_times_of(self.handle, label, at, len, &mut info) };
-            times.resize(info.a as usize, 0);
-            if code != raw::SMALL {
-                asked(code, info, self.file)?;
-                return Ok(times);
-            }
-        }
+        // SAFETY: as many times as there is room for are written.
+        self.times(|h, at, len, info| unsafe { raw::ts_times_of(h, label, at, len, info) })
     }
 
     // The archive, which stays in memory until the next such call.
     fn archive_area(&self) -> Result<(*const u8, usize)> {
         let (mut at, mut len) = (std::ptr::null(), 0);
+        let file = self.file;
         // SAFETY: the file is open.
-        let code = unsafe { raw::ts_file_archive(self.file, &mut at, &mut len) };
-        asked(code, Info::default(), self.file)?;
+        self.make(|_, _| unsafe { raw::ts_file_archive(file, &mut at, &mut len) })?;
         Ok((at, len))
     }
 
-    // The code of a query, which is lent the archive only where it needs it.
-    fn lent(&self, mut query: impl FnMut(*const u8, usize) -> i32) -> Result<i32> {
+    // The code of a query, which is lent the archive only where it needs it, and why that could not be read.
+    fn lent(
+        &self,
+        refusal: &mut Option<Error>,
+        mut query: impl FnMut(*const u8, usize) -> i32,
+    ) -> i32 {
         let code = query([0].as_ptr(), 0);
         if code != raw::NEEDS_ARCHIVE {
-            return Ok(code);
+            return code;
         }
-        let (at, len) = self.archive_area()?;
-        Ok(query(at, len))
-    }
-
-    // The value that was copied out, if that was the answer.
-    fn told(&self, code: i32, info: Info, value: &[u8]) -> Result<Option<Fields>> {
-        let code = asked(code, info, self.file)?;
-        Ok((code != raw::NONE).then(|| fields_of(&value[..info.a as usize])))
-    }
-
-    // The value that a call copies out.
-    pub(crate) fn read(
-        &self,
-        call: impl FnOnce(*mut raw::Handle, *mut u8, usize, &mut Info) -> i32,
-    ) -> Result<Option<Fields>> {
-        let (mut value, mut info) = ([0; raw::VALUE_MOST], Info::default());
-        let code = call(self.handle, value.as_mut_ptr(), value.len(), &mut info);
-        self.told(code, info, &value)
+        match self.archive_area() {
+            Ok((at, len)) => query(at, len),
+            Err(why) => {
+                let code = why.code();
+                *refusal = Some(why);
+                code
+            }
+        }
     }
 
     // The value that a query copies out, which may be lent the archive.
@@ -381,28 +316,21 @@ impl Store {
         &self,
         mut query: impl FnMut(*mut raw::Handle, *const u8, usize, *mut u8, usize, &mut Info) -> i32,
     ) -> Result<Option<Fields>> {
-        let (mut value, mut info) = ([0; raw::VALUE_MOST], Info::default());
-        let (out, len) = (value.as_mut_ptr(), value.len());
-        let code = self.lent(|at, size| query(self.handle, at, size, out, len, &mut info))?;
-        self.told(code, info, &value)
+        let mut refusal = None;
+        let value = self.read(|h, out, len, info| {
+            self.lent(&mut refusal, |at, size| query(h, at, size, out, len, info))
+        });
+        refusal.map_or(value, Err)
     }
 
     // What a query finds, which is called with room for it. The room grows with the most that was found, and the
     // next query has it again.
     pub(crate) fn rows(
         &self,
-        mut query: impl FnMut(*mut raw::Handle, &mut Room, &mut Info) -> i32,
+        query: impl FnMut(*mut raw::Handle, &mut Room, &mut Info) -> i32,
     ) -> Result<Rows<'_>> {
-        let mut room = self.rooms.borrow_mut().pop().unwrap_or_else(Room::new);
-        loop {
-            let mut info = Info::default();
-            let code = query(self.handle, &mut room, &mut info);
-            if code != raw::SMALL {
-                asked(code, info, self.file)?;
-                return Ok(Rows::new(self, room, info.a as usize));
-            }
-            room.grow(info.a as usize, info.b as usize);
-        }
+        let room = self.rooms.borrow_mut().pop().unwrap_or_else(Room::new);
+        Ok(RowsOf::new(self, self.find(room, query)?))
     }
 
     // The same of a query that may be lent the archive.
@@ -412,17 +340,9 @@ impl Store {
     ) -> Result<Rows<'_>> {
         let mut refusal = None;
         let rows = self.rows(|h, room, info| {
-            let code = self.lent(|at, size| query(h, at, size, room, info));
-            code.unwrap_or_else(|why| {
-                let code = why.code();
-                refusal = Some(why);
-                code
-            })
+            self.lent(&mut refusal, |at, size| query(h, at, size, room, info))
         });
-        match refusal {
-            Some(why) => Err(why),
-            None => rows,
-        }
+        refusal.map_or(rows, Err)
     }
 
     pub(crate) fn keep(&self, room: Room) {

@@ -1,6 +1,7 @@
 //! Transactions, and the tickets of their commits.
+use crate::calls::Calls;
 use crate::error::WAITING;
-use crate::rows::{Records, Room};
+use crate::rows::{Records, RecordsOf};
 use crate::{Error, Fields, Result, Store, WaitingTicket, When, raw, spelled};
 use std::cell::Cell;
 
@@ -31,10 +32,9 @@ impl<'a> Txn<'a> {
         let value = spelled(fields)?;
         let number = self.number;
         // SAFETY: the value's bytes are read, and no more.
-        self.store.ask(|h, _| unsafe {
+        self.store.make(|h, _| unsafe {
             raw::ts_put(h, number, relation, record, value.as_ptr(), value.len())
-        })?;
-        Ok(())
+        })
     }
 
     /// Deletes a record that has a value.
@@ -42,8 +42,7 @@ impl<'a> Txn<'a> {
         let number = self.number;
         // SAFETY: the store is open, here and below.
         self.store
-            .ask(|h, _| unsafe { raw::ts_delete(h, number, relation, record) })?;
-        Ok(())
+            .make(|h, _| unsafe { raw::ts_delete(h, number, relation, record) })
     }
 
     /// The value that it sees.
@@ -57,24 +56,12 @@ impl<'a> Txn<'a> {
     /// The records of a relation that it sees, in rising order.
     pub fn scan(&self, relation: u16) -> Result<Records<'a>> {
         let number = self.number;
-        self.store
-            .rows(|h, room, info| {
-                let Room { rows, out } = room;
-                // SAFETY: no more rows and bytes are written than there is room for.
-                unsafe {
-                    raw::ts_scan(
-                        h,
-                        number,
-                        relation,
-                        rows.as_mut_ptr(),
-                        rows.len(),
-                        out.as_mut_ptr(),
-                        out.len(),
-                        info,
-                    )
-                }
-            })
-            .map(Records)
+        // SAFETY: no more rows and bytes are written than there is room for.
+        let found = self.store.rows(|h, room, info| unsafe {
+            let (rows, count, out, len) = room.parts();
+            raw::ts_scan(h, number, relation, rows, count, out, len, info)
+        });
+        found.map(RecordsOf)
     }
 
     /// Queues the writes as a commit with a label; none where there are no writes.

@@ -1,5 +1,6 @@
 //! Views, and the questions about the past.
-use crate::rows::{Records, Room, Rows};
+use crate::calls::Calls;
+use crate::rows::{Records, RecordsOf, Rows};
 use crate::{Fields, Result, Store, raw};
 
 /// What was published at one moment. Dropped, it is given back.
@@ -8,23 +9,6 @@ pub struct View<'a> {
     store: &'a Store,
     number: u64,
     last: u64,
-}
-
-/// The rows that a query finds, which is asked with these words, the archive and room for what it finds.
-macro_rules! rows_of {
-    ($view:ident, $call:ident($($word:expr),*)) => {
-        $view.store.rows_lent(|h, at, size, room, info| {
-            let Room { rows, out } = room;
-            // SAFETY: no more rows and bytes are written than there is room for, and the archive that is lent
-            // stays where it is.
-            unsafe {
-                raw::$call(
-                    h, $view.number, $($word,)* at, size, rows.as_mut_ptr(), rows.len(), out.as_mut_ptr(), out.len(),
-                    info,
-                )
-            }
-        })
-    };
 }
 
 impl<'a> View<'a> {
@@ -69,17 +53,38 @@ impl<'a> View<'a> {
 
     /// The records of a relation that have a value at a time, in rising order.
     pub fn scan_at(&self, relation: u16, time: u64) -> Result<Records<'a>> {
-        rows_of!(self, ts_scan_at(relation, time)).map(Records)
+        let number = self.number;
+        // SAFETY: no more rows and bytes are written than there is room for, and the archive that is lent stays
+        // where it is, here and below.
+        let found = self.store.rows_lent(|h, at, size, room, info| unsafe {
+            let (rows, count, out, len) = room.parts();
+            raw::ts_scan_at(
+                h, number, relation, time, at, size, rows, count, out, len, info,
+            )
+        });
+        found.map(RecordsOf)
     }
 
     /// What stood in a record from one time up to another, by rising time.
     pub fn between(&self, relation: u16, record: u64, from: u64, upto: u64) -> Result<Rows<'a>> {
-        rows_of!(self, ts_between(relation, record, from, upto))
+        let number = self.number;
+        self.store.rows_lent(|h, at, size, room, info| unsafe {
+            let (rows, count, out, len) = room.parts();
+            raw::ts_between(
+                h, number, relation, record, from, upto, at, size, rows, count, out, len, info,
+            )
+        })
     }
 
     /// The same of a relation's records, by record and then by time.
     pub fn scan_between(&self, relation: u16, from: u64, upto: u64) -> Result<Rows<'a>> {
-        rows_of!(self, ts_scan_between(relation, from, upto))
+        let number = self.number;
+        self.store.rows_lent(|h, at, size, room, info| unsafe {
+            let (rows, count, out, len) = room.parts();
+            raw::ts_scan_between(
+                h, number, relation, from, upto, at, size, rows, count, out, len, info,
+            )
+        })
     }
 }
 

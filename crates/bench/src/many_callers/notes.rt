@@ -1,9 +1,8 @@
 //! What the threads of a soak were told, one line each, for a check by a program that was written apart.
 
 use crate::fault::Fault;
-use chains::SharedValue;
 use history::Version;
-use store::QueryFault;
+use store::{QueryFault, SharedValue};
 
 /// How a commit ended.
 #[derive(Clone, Copy)]

@@ -109,7 +109,8 @@ fn print<R: Print>(
     );
     let spent = work.spent;
     println!(rt;
-        "{{\"value\": {value}, \"commits_s\": {commits}, \"reads_s\": {reads}, \"commits\": {}, \"groups\": {}, \"members\": {}, \"raw\": {}, \"of_raw\": {of_raw}, \"raw_us\": {}, \"gathering_us\": {}, \"writing_us\": {}, \"syncing_us\": {}}}",
+        "{{\"value\": {value}, \"commits_s\": {commits}, \"reads_s\": {reads}, \"commits\": {}, \"groups\": {}, \"members\": {}, \
+         \"raw\": {}, \"of_raw\": {of_raw}, \"raw_us\": {}, \"gathering_us\": {}, \"writing_us\": {}, \"syncing_us\": {}}}",
         work.commits,
         spent.groups,
         quotient(work.commits, spent.groups),

@@ -7,7 +7,6 @@ use crate::one_caller::copying::time_copies;
 use crate::one_caller::verb::Question;
 use crate::records::{FIRST_TIME, KEYS, RELATION, STEP, is_version, key};
 use crate::stores;
-use chains::SharedValue;
 use disk::{Area, Disk};
 use disk_file::FileDisk;
 use history::Version;
@@ -17,7 +16,7 @@ use std::alloc::Global;
 use std::fs::File;
 use std::rt::Files;
 use std::time::{Clock, Instant};
-use store::{QueryFault, Store, View};
+use store::{QueryFault, SharedValue, Store, View};
 
 /// The slots of a store that `format` makes where it isn't told otherwise.
 const SLOTS: u32 = 1_024;

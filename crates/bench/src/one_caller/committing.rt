@@ -3,12 +3,11 @@
 use crate::fault::Fault;
 use crate::records;
 use disk::Disk;
-use snapshot::Txn;
 use std::alloc::Global;
-use store::{Did, Redeemed, Store, Submitted, Ticket};
+use store::{Did, Redeemed, Store, Submitted, Ticket, Txn};
 
 /// The label of each commit.
-const LABEL: u64 = 9;
+pub(crate) const LABEL: u64 = 9;
 
 /// What a transaction writes: a version of so many records, from the first on.
 #[derive(Clone, Copy)]
@@ -20,7 +19,7 @@ pub(crate) struct Batch {
     pub(crate) now: u64,
 }
 
-fn put_all(alloc: Global, txn: &mut Txn, batch: &Batch) -> Result<(), Fault> {
+pub(crate) fn put_all(alloc: Global, txn: &mut Txn, batch: &Batch) -> Result<(), Fault> {
     for number in 0..batch.count {
         let record = batch.first.wrapping_add(number);
         let [first, second, third, fourth] = records::fields(record, batch.version);

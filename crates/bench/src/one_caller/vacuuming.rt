@@ -199,7 +199,9 @@ fn print(
 ) -> Result<(), Fault> {
     let spent = &took.spent;
     println!(rt;
-        "{{\"value\": {}, \"runs\": {runs}, \"versions\": {versions}, \"starting_ms\": {}, \"writing_ms\": {}, \"syncing_ms\": {}, \"turning_ms\": {}, \"ending_ms\": {}, \"bytes\": {}, \"value_bytes\": {}, \"mb_s\": {}, \"copy_ms\": {}, \"copy_mb_s\": {}, \"held_before\": {}, \"most\": {}, \"held_after\": {}}}",
+        "{{\"value\": {}, \"runs\": {runs}, \"versions\": {versions}, \"starting_ms\": {}, \"writing_ms\": {}, \"syncing_ms\": {}, \"turning_ms\": {}, \
+         \"ending_ms\": {}, \"bytes\": {}, \"value_bytes\": {}, \"mb_s\": {}, \"copy_ms\": {}, \"copy_mb_s\": {}, \
+         \"held_before\": {}, \"most\": {}, \"held_after\": {}}}",
         milliseconds(spent.sum()),
         milliseconds(spent.starting),
         milliseconds(spent.writing),

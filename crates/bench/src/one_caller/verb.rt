@@ -62,6 +62,8 @@ pub(crate) enum Task {
 #[derive(Clone, Copy)]
 pub(crate) enum Verb {
     Commits(Shape),
+    /// Groups of so many commits in so many extents, of a store whose log lies in the heap.
+    LogCommits(u64, u64),
     Queries(Question),
     Opening,
     Size,
@@ -79,6 +81,10 @@ pub(crate) fn known(name: &str) -> Option<(Verb, u64)> {
         "w1" => Some((Verb::Commits(ALONE), 2_000)),
         "w2g" => Some((Verb::Commits(GATHERED), 500)),
         "w3" => Some((Verb::Commits(LARGE), 200)),
+        "e1" => Some((Verb::LogCommits(1, 1), 2_000)),
+        "e16" => Some((Verb::LogCommits(16, 1), 500)),
+        "e64" => Some((Verb::LogCommits(64, 1), 500)),
+        "e1024" => Some((Verb::LogCommits(1_024, 13), 100)),
         "w4" => Some((Verb::Queries(Question::Value), 1_000_000)),
         "w5" => Some((Verb::Queries(Question::Rows), 50_000)),
         "w5w" => Some((Verb::Queries(Question::Walk), 50_000)),

@@ -117,11 +117,10 @@ fn time_groups(
     Ok((groups, raws))
 }
 
-/// Prints how many records are committed in a second, the median of a group's microseconds, the same
+/// Of groups of so many records, prints how many are committed in a second, the median of a group's microseconds, the same
 /// of the raw writes and syncs, and how many times their median the group's is.
-fn print(rt: &HostRuntime, shape: Shape, times: (Times, Times)) -> Result<(), Fault> {
+pub(crate) fn print(rt: &HostRuntime, each: u64, times: (Times, Times)) -> Result<(), Fault> {
     let (mut groups, mut raws) = times;
-    let each = shape.transactions.saturating_mul(shape.records);
     let count = groups.count();
     let value = rate(count.saturating_mul(each), groups.sum());
     let raw = rate(count.saturating_mul(each), raws.sum());
@@ -161,5 +160,5 @@ pub(crate) fn measure(
     let mut store = open_store(rt, alloc, folder)?;
     let times = time_groups(rt, alloc, &mut store, &mut raw, shape, count);
     store.close();
-    print(rt, shape, times?)
+    print(rt, shape.transactions.saturating_mul(shape.records), times?)
 }

@@ -8,11 +8,10 @@ use Rattle.law_image.specs.StandsFor.{StandsFor}
 use Rattle.law_image.specs.Plans.{stored_members, with_group}
 use Rattle.law_image.proofs.GroupStep.{group-stands_for}
 use Rattle.law_image.proofs.Recent.{stored-is_group}
-use Rattle.law_image.proofs.Forms.{most-least}
 use Rattle.law_image.proofs.laws.group_publishes.Goals as goal
 
 pub returns : goal.returns
-returns c = λ reading old new size stands is step room.
+returns c = λ reading old new size stands is few step room.
     let group = take old.group old.queue in
     let behind : MayAllFollow IsValue old.published old.queue = may_follow-behind IsValue [] old.published old.queue is.history in
     let may : MayAllFollow IsValue old.published group =
@@ -25,6 +24,6 @@ returns c = λ reading old new size stands is step room.
       arith,
       count,
       is.group_few,
-      most-least reading.profile,
+      few,
     ))) room in
     subst (λ (m : Machine Value). StandsFor (with_group reading members) m.published m.floors) (sym step.4) left

@@ -31,4 +31,5 @@ returns-clause-found g c = λ told.
     anchors_read c.args.heap.most c.args.mark (g.D.Disk.state c.args.disk.now).areas.heap.bytes c.args.space.now c.read_chain.new.space c.args.name.now
     c.in-Some.parts c.in-Some-2.records.items _ c.requires.mark taken (let len = c.len.ensures in grind (arith, nat_tests))
     (subst (λ (l : List ℕ). AreAnchorsIn c.args.mark c.args.name.now.records l c.in-Some-2.records.items) c.deref.ensures.value are)
-    refl (c.len-2.ensures ∙ c.in-Some.parts.content.ok.0) (c.in_ok-versions.ensures.is ∙ ap (map anchor_writes) c.deref-2.ensures.value) c.in_ok-versions.ensures.latest
+    refl (c.len-2.ensures ∙ c.in-Some.parts.content.ok.0)
+    (c.in_ok-versions.ensures.is ∙ ap (map anchor_writes) c.deref-2.ensures.value) c.in_ok-versions.ensures.latest

@@ -9,7 +9,8 @@ use Rattle.log_entries.specs.declared.entry.Entry.{Entry}
 use Rattle.log_entries.specs.Ranges.{IsEntry}
 use Rattle.law_log_layout.specs.HeapLog.{PlacedChain}
 use Rattle.log_sizes.specs.Counted.{AreSizesBehind}
-use Rattle.log_recovery.specs.Members.{later_in, heads_told, members_of_all, values_behind, values_of, HasFacts, FailsMembers, live_told, lives_of, last_in, AreWritesOf}
+use Rattle.log_recovery.specs.Members.{later_in, heads_told, members_of_all, values_behind, values_of, HasFacts, FailsMembers}
+use Rattle.log_recovery.specs.Members.{live_told, lives_of, last_in, AreWritesOf}
 use Rattle.log_recovery.proofs.Groups.{AreUnderWay, chains_start, chain_more, chain_fails, chains_end, rise_in_turn}
 use Rattle.log_recovery.proofs.Counting.{IsCountedUpto, counts_start, count_goes_on, count_ends}
 use Rattle.log_recovery.proofs.members.read_members.Goals as goal
@@ -26,7 +27,8 @@ loop-chain-init c =
       λ olds writes. subst (λ (l : List PlacedChain). AreUnderWay mark olds all l c.behind-read.result) is
           (chains_start mark olds all c.behind-read.result (subst (AreWritesOf olds) (sym c.behind-read.ensures.versions) writes) c.behind-read.ensures.commits
           c.behind-read.ensures.last),
-      λ olds writes len_is. subst (λ (l : List PlacedChain). IsCountedUpto mark olds [] (members_of_all mark all) (members_of_all mark l) c.behind-read.result) is
+      λ olds writes len_is. subst (λ (l : List PlacedChain). IsCountedUpto mark olds [] (members_of_all mark all)
+          (members_of_all mark l) c.behind-read.result) is
           (counts_start mark c.args.len olds all c.behind-read.result (subst (AreWritesOf olds) (sym c.behind-read.ensures.versions) writes)
           c.behind-read.ensures.commits c.behind-read.ensures.last len_is c.behind-read.ensures.sizes),
     )
@@ -91,7 +93,8 @@ loop-chain-preserved c =
           (c.loop-chain.invariant.4 olds writes len_is) in
           let found = rw c.in-Some-2.is at c.in_ok-next.ensures.read olds w.done w.facts in
           let sizes = rw c.in-Some-2.is at c.in_ok-next.ensures.sizes olds w.done w.facts w.sizes in
-          count_goes_on mark olds [] (members_of_all mark all) (later_in mark c.in-Some.chain.entry) (members_of_all mark left) c.loop-chain.read c.in-Some-2.next w
+          count_goes_on mark olds [] (members_of_all mark all) (later_in mark c.in-Some.chain.entry)
+          (members_of_all mark left) c.loop-chain.read c.in-Some-2.next w
           (subst (λ (e : Entry). HasFacts mark olds (w.done ++ later_in mark e) c.in-Some-2.next) (sym entry_is) found.1)
           (subst (λ (e : Entry). AreSizesBehind olds (w.done ++ later_in mark e) c.in-Some-2.next.sizes) (sym entry_is) sizes),
     )

@@ -1,19 +1,20 @@
-use Rattle.std.proofs.Common.{◌≡◌, ℕ, ◌+◌, ◌/◌, ◌≤◌, max, List, length, map, refl, sym, ◌∙◌, ap, subst}
-use Rattle.std.specs.Prelude.{◌↔◌, IsTrue}
+use Rattle.std.proofs.Common.{◌≡◌, ℕ, ◌+◌, ◌^◌, ◌<◌, List, [], map, refl, sym, ap, subst}
+use Rattle.std.specs.Prelude.{◌↔◌, IsTrue, is_some}
 use Rattle.std.specs.List.{AllByRecursion}
-use Rattle.std.proofs.lemmas.Bool.{false≢true}
 use Rattle.wire.specs.declared.slot.Run.{Run}
+use Rattle.wire.specs.Spelling.{IsRun}
 use Rattle.law_image.specs.Log.{AreRisingAfter}
 use Rattle.log_entries.specs.declared.entry.Roll.{Roll}
 use Rattle.law_log_layout.specs.HeapLog.{PlacedChain, AreSpansInRow, run_span}
 use Rattle.log_recovery.specs.Rules.{mark_of, roll_part}
 use Rattle.log_recovery.specs.Members.{values_of, heads_told, members_of_all, AreAllStored, HasFacts, IsMembersFault}
-use Rattle.log_recovery.specs.Ends.{EndsEarly, IsEndSeen, open_of, counted_in, AreBasesSmall, end_parts}
+use Rattle.log_sizes.specs.Counted.{AreSizesBehind}
+use Rattle.log_recovery.specs.Ends.{EndsEarly, IsEndSeen}
 use Rattle.log_recovery.specs.Opening.{FailsHeap, AtEnd}
-use Rattle.log_recovery.proofs.HeapRead.{members_rise_behind, fault_of_members}
-use Rattle.log_recovery.proofs.Rows.{runs_in_row, rolls_in_row}
+use Rattle.log_recovery.proofs.HeapRead.{mark_is_time, members_rise_behind, fault_of_members}
+use Rattle.log_recovery.proofs.Rows.{runs_in_row, rolls_in_row, runs_in_range}
 use Rattle.log_recovery.proofs.Walking.{all_joined}
-use Rattle.log_recovery.proofs.Finishing.{holds_anchors, three_decide}
+use Rattle.log_recovery.proofs.Finishing.{holds_anchors, three_decide, IsKept, kept_decides, kept_count}
 use Rattle.log_recovery.proofs.opening.finish_heap.Goals as goal
 
 pub is_end_right-ends_right-requires-clause-runs : goal.is_end_right-ends_right-requires-clause-runs
@@ -55,8 +56,8 @@ returns-in-Err-clause-fault c = λ bytes len is.
     fault_of_members c.args.heap.most c.args.root bytes chains c.args.read.log.next _ (holds_anchors c.args.heap.most c.args.root bytes c.args.read is)
     c.in-Err.fault fault
 
-pub returns-then-not-are_all-clause-fault : goal.returns-then-not-are_all-clause-fault
-returns-then-not-are_all-clause-fault c = λ bytes len is.
+pub returns-in_default-clause-fault : goal.returns-in_default-clause-fault
+returns-in_default-clause-fault c = λ bytes len is.
     let chains = c.args.read.log.chains.items in
     let most = c.args.heap.most in
     let olds = is.takes.records in
@@ -64,18 +65,17 @@ returns-then-not-are_all-clause-fault c = λ bytes len is.
     let read = c.in-Ok.ensures.read olds is.takes.writes in
     let stored = subst (λ (m : ℕ). AreAllStored m (values_of olds) chains) mark_is read.0 in
     let sizes = c.in-Ok.ensures.sizes olds is.takes.writes (sym is.takes.len_is) in
-    let shares = subst (λ (l : List PlacedChain). IsTrue c.are_shares_kept-keeps_shares.result
-    ↔ ((length (counted_in l) + (1 + open_of c.args.read.log.end.archived (max c.args.read.log.end.mark c.args.read.log.end.last)) ≤ most / 2)
-    × AreBasesSmall most l)) c.deref.ensures.value c.are_shares_kept-keeps_shares.ensures in
+    let kept = kept_decides most chains c.args.read.log.end c.kept_log-kept.result
+    (subst (λ (l : List PlacedChain). IsKept most l c.args.read.log.end c.kept_log-kept.result) c.deref.ensures.value c.kept_log-kept.ensures.kept) in
     let ends = subst (λ (n : ℕ). IsTrue c.is_end_right-ends_right.result ↔ IsEndSeen n c.args.read.log.next c.args.read.log.space c.args.read.log.end) len
     c.is_end_right-ends_right.ensures in
     let fit = c.are_anchors_small-anchors_fit.ensures olds (members_of_all (mark_of chains) chains)
-    (subst (λ (m : ℕ). Rattle.log_sizes.specs.Counted.AreSizesBehind olds (members_of_all m chains) c.in-Ok.members.read.sizes) mark_is sizes) in
-    let decides = three_decide most c.args.root bytes c.args.read is c.requires.next c.requires.end c.are_shares_kept-keeps_shares.result
-    c.is_end_right-ends_right.result c.are_anchors_small-anchors_fit.result shares ends fit in
+    (subst (λ (m : ℕ). AreSizesBehind olds (members_of_all m chains) c.in-Ok.members.read.sizes) mark_is sizes) in
+    let decides = three_decide most c.args.root bytes c.args.read is c.requires.next c.requires.end (is_some c.kept_log-kept.result)
+    c.is_end_right-ends_right.result c.are_anchors_small-anchors_fit.result kept ends fit in
     subst (FailsHeap most c.args.root bytes) (sym c.from.ensures)
     (AtEnd chains c.args.read.log.next _ (record { before = holds_anchors most c.args.root bytes c.args.read is; stored = stored })
-    (λ right. false≢true (c.if-not-are_all.ensures.1 (decides.1 right))) refl)
+    (λ right. c.in_default.ensures (decides.1 right)) refl)
 
 pub returns-clause-found : goal.returns-clause-found
 returns-clause-found c = λ bytes len is.
@@ -86,29 +86,36 @@ returns-clause-found c = λ bytes len is.
     let read = c.in-Ok.ensures.read olds is.takes.writes in
     let stored = subst (λ (m : ℕ). AreAllStored m (values_of olds) chains) mark_is read.0 in
     let facts = subst (λ (m : ℕ). HasFacts m olds (members_of_all m chains) c.in-Ok.members.read) mark_is read.1 in
-    let sizes = c.in-Ok.ensures.sizes olds is.takes.writes (sym is.takes.len_is) in
-    let shares = subst (λ (l : List PlacedChain). IsTrue c.are_shares_kept-keeps_shares.result
-    ↔ ((length (counted_in l) + (1 + open_of c.args.read.log.end.archived (max c.args.read.log.end.mark c.args.read.log.end.last)) ≤ most / 2)
-    × AreBasesSmall most l)) c.deref.ensures.value c.are_shares_kept-keeps_shares.ensures in
+    let sizes = subst (λ (m : ℕ). AreSizesBehind olds (members_of_all m chains) c.in-Ok.members.read.sizes) mark_is
+    (c.in-Ok.ensures.sizes olds is.takes.writes (sym is.takes.len_is)) in
+    let kept_here = subst (λ (l : List PlacedChain). IsKept most l c.args.read.log.end c.kept_log-kept.result) c.deref.ensures.value
+    c.kept_log-kept.ensures.kept in
+    let kept = kept_decides most chains c.args.read.log.end c.kept_log-kept.result kept_here in
     let ends = subst (λ (n : ℕ). IsTrue c.is_end_right-ends_right.result ↔ IsEndSeen n c.args.read.log.next c.args.read.log.space c.args.read.log.end) len
     c.is_end_right-ends_right.ensures in
-    let fit = c.are_anchors_small-anchors_fit.ensures olds (members_of_all (mark_of chains) chains)
-    (subst (λ (m : ℕ). Rattle.log_sizes.specs.Counted.AreSizesBehind olds (members_of_all m chains) c.in-Ok.members.read.sizes) mark_is sizes) in
-    let decides = three_decide most c.args.root bytes c.args.read is c.requires.next c.requires.end c.are_shares_kept-keeps_shares.result
-    c.is_end_right-ends_right.result c.are_anchors_small-anchors_fit.result shares ends fit in
+    let fit = c.are_anchors_small-anchors_fit.ensures olds (members_of_all (mark_of chains) chains) sizes in
+    let decides = three_decide most c.args.root bytes c.args.read is c.requires.next c.requires.end (is_some c.kept_log-kept.result)
+    c.is_end_right-ends_right.result c.are_anchors_small-anchors_fit.result kept ends fit in
+    let seen = c.in-Some.ensures in
     record {
       chains = chains;
       anchors = record { numbers = c.args.read.anchors.numbers.items; records = olds };
       holds = record {
         before = record { before = holds_anchors most c.args.root bytes c.args.read is; stored = stored };
-        ends = decides.0 (c.if-not-are_all.ensures.0 refl);
+        ends = decides.0 (ap is_some seen.0, seen.1, seen.2);
       };
       end_is = c.requires.end;
       space_is = is.takes.taken;
       anchors_are = refl;
+      log_is = ap (λ (n : ℕ). n + 1) (kept_count most chains c.args.read.log.end c.kept_log-kept.result c.in-Some.count kept_here seen.0);
       live_are = c.in-Ok.ensures.live;
       facts = facts;
+      sizes = sizes;
     }
+
+pub returns-clause-mark : goal.returns-clause-mark
+returns-clause-mark c =
+    subst (λ (m : ℕ). m < 2 ^ 63) (sym c.requires.end.says.mark_is) (mark_is_time c.args.heap.most c.args.read.log.chains.items c.requires.entries)
 
 pub returns-clause-ends_early : goal.returns-clause-ends_early
 returns-clause-ends_early c =
@@ -118,3 +125,7 @@ returns-clause-ends_early c =
     let rolls = subst (λ (l : List Roll). AllByRecursion EndsEarly (map roll_part l)) (sym c.requires.end.rolls_are)
     (rolls_in_row (mark_of chains) c.args.heap.most chains c.requires.entries c.requires.end.keeps).early in
     all_joined EndsEarly (map run_span c.args.read.log.end.runs.items) (map roll_part c.args.read.log.end.rolls.items) runs rolls
+
+pub returns-clause-runs : goal.returns-clause-runs
+returns-clause-runs c =
+    subst (AllByRecursion IsRun) (sym c.requires.end.runs_are) (runs_in_range c.args.heap.most [] c.args.read.log.chains.items tt c.requires.entries)

@@ -19,7 +19,8 @@ returns-in-Err-read_base-clause-fault g c = λ told.
     let fault = c.in-Err-read_base.fault in
     let here = subst (λ (s : DiskState). IsAnchorsFault most c.in-Ok.log.end.mark s.areas.heap.bytes c.in-Ok.log.space (first_names c.deref.result.now) fault)
     c.in-Ok.ensures.reads (c.in-Err-read_base.ensures.fault told) in
-    let named = subst (λ (l : List PlacedChain). IsAnchorsFault most c.in-Ok.log.end.mark heap c.in-Ok.log.space (first_names l) fault) c.deref.ensures.value here in
+    let named = subst (λ (l : List PlacedChain). IsAnchorsFault most c.in-Ok.log.end.mark heap c.in-Ok.log.space
+    (first_names l) fault) c.deref.ensures.value here in
     let marked = subst (λ (m : ℕ). IsAnchorsFault most m heap c.in-Ok.log.space (first_names c.in-Ok.log.chains.items) fault)
     c.in-Ok.ensures.end.says.mark_is named in
     fault_of_base most c.args.root heap c.in-Ok.log.chains.items c.in-Ok.log.next read.keeps c.in-Ok.log.space read.space_is fault marked

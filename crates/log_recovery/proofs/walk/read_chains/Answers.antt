@@ -20,7 +20,8 @@ returns-in_default-clause-fault g c = λ told.
     subst (λ (s : DiskState). HasNoLogChain c.args.heap.most s.areas.heap.bytes c.loop-chains.next c.loop-chains.space) looked
     (rw c.in_default.is at c.in_ok-chain.ensures.found told) in
     subst (FailsChain c.args.heap.most c.args.root heap) (sym c.from.ensures)
-    (walking_fails c.args.heap.most c.args.root heap c.loop-chains.chains.items c.loop-chains.next c.loop-chains.space (c.loop-chains.invariant.3 told) opened none)
+    (walking_fails c.args.heap.most c.args.root heap c.loop-chains.chains.items c.loop-chains.next c.loop-chains.space
+    (c.loop-chains.invariant.3 told) opened none)
 
 pub loop-chains-smaller : goal.loop-chains-smaller
 loop-chains-smaller g c = rw c.in-Some.is at c.in_ok-chain.ensures.fewer
@@ -39,7 +40,8 @@ loop-chains-preserved g c =
       λ told.
           let heap = (g.D.Disk.state c.args.disk.now).areas.heap.bytes in
           let takes : TakesChain c.args.heap.most heap c.loop-chains.next c.loop-chains.space c.read_log_chain.new.space c.in-Some.chain =
-          subst (λ (s : DiskState). TakesChain c.args.heap.most s.areas.heap.bytes c.loop-chains.next c.loop-chains.space c.read_log_chain.new.space c.in-Some.chain)
+          subst
+          (λ (s : DiskState). TakesChain c.args.heap.most s.areas.heap.bytes c.loop-chains.next c.loop-chains.space c.read_log_chain.new.space c.in-Some.chain)
           looked (rw c.in-Some.is at c.in_ok-chain.ensures.found told) in
           subst (λ (n : ℕ). IsWalking c.args.heap.most c.args.root heap c.push.new.self.items n c.read_log_chain.new.space) link_is
           (subst (λ (l : List PlacedChain). IsWalking c.args.heap.most c.args.root heap l c.in-Some.chain.link c.read_log_chain.new.space)

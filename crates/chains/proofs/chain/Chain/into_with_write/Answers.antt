@@ -29,7 +29,7 @@ of-requires-2 c =
     let last = c.self.inside.last in
     let later : last_time (older ++ last) < c.args.write.time =
     subst (λ (k : KeyWrites). last_time k.writes < c.args.write.time) (sym c.self.view_is) c.requires.later in
-    rw (c.in_ok-older.ensures, c.in_ok-next.ensures) (rising-push 0 (older ++ last) (write_of_loan c.args.write) c.self.invariant later c.requires.in_range)
+    rw (c.in_ok-older.ensures.is, c.in_ok-next.ensures) (rising-push 0 (older ++ last) (write_of_loan c.args.write) c.self.invariant later c.requires.in_range)
 
 pub returns : goal.returns
 returns c = grind (arith, common_steps)

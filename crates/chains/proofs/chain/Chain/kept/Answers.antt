@@ -14,7 +14,7 @@ of-kept-requires c =
     let later =
     rising-later c.args.mark last c.first_time.ensures.some (rw c.first_time.ensures.is at c.if-mark-first_time.true)
     (rising-back 0 older last c.self.invariant) in
-    rw (c.in_ok-older.ensures, c.in_ok-share-2.ensures) (older-rising c.args.mark older last later c.self.invariant)
+    rw (c.in_ok-older.ensures.is, c.in_ok-share-2.ensures) (older-rising c.args.mark older last later c.self.invariant)
 
 pub returns-then-mark-first_time : goal.returns-then-mark-first_time
 returns-then-mark-first_time c =
@@ -24,7 +24,7 @@ returns-then-mark-first_time c =
     rising-later c.args.mark last c.first_time.ensures.some (rw c.first_time.ensures.is at c.if-mark-first_time.true)
     (rising-back 0 older last c.self.invariant) in
     let left : c.of-kept.result ≡ record { key = c.self.inside.key; writes = kept_after c.args.mark older ++ last } =
-    rw (c.of-kept.ensures, c.in_ok-older.ensures, c.in_ok-share-2.ensures) refl in
+    rw (c.of-kept.ensures, c.in_ok-older.ensures.is, c.in_ok-share-2.ensures) refl in
     subst (λ (k : KeyWrites). c.of-kept.result ∷ [] ≡ unless_empty k.key (kept_after c.args.mark k.writes)) c.self.view_is
     (ap (λ (k : KeyWrites). k ∷ []) left ∙ sym (kept_older c.args.mark c.self.inside.key older last c.first_time.ensures.some later))
 

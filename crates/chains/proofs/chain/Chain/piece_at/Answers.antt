@@ -1,7 +1,9 @@
-use Rattle.std.proofs.Common.{◌≡◌, ◌^◌, ◌++◌, ℕ, [], subst}
+use Rattle.std.proofs.Common.{◌≡◌, ◌^◌, ◌++◌, ℕ, [], ap, subst}
 use Rattle.history.specs.Versions.{first_time, versions, rows}
 use Rattle.chains.specs.KeyWrites.{KeyWrites}
 use Rattle.chains.specs.Rows.{versions_upto, IsFront}
+use Rattle.chains.specs.Shapes.{Shape}
+use Rattle.chains.specs.Writes.{Write}
 use Rattle.chains.proofs.RowWalks.{last_older, no_rows_endless, front_older, front_recent, front_only}
 use Rattle.chains.proofs.chain.Chain.piece_at.Goals as goal
 use Rattle.chains.proofs.chain.Chain.piece_at.Goals.{then-first-time-via-then-first-time, then-first-time-via-else-first-time+then-is_empty}
@@ -22,7 +24,7 @@ returns-then-first-time-clause-is c =
       | then-first-time-via-then-first-time w ↦ front_recent older last some c.self.invariant c.args.time c.if-time-ge-ENDLESS.false
           (rw c.first_time-first.ensures.is at w.if-first-time.true)
       | then-first-time-via-else-first-time+then-is_empty w ↦ front_only older last some c.self.invariant c.args.time c.if-time-ge-ENDLESS.false
-          (w.is_empty.ensures w.if-is_empty.true)
+          (ap (λ (o : Shape Write). o.pieces) (w.is_empty.ensures w.if-is_empty.true))
     ] in
     rw c.as_slice.ensures.is (subst (λ (k : KeyWrites). IsFront c.args.time (2 ^ 63) (versions k.writes) (versions_upto (2 ^ 63) last)) c.self.view_is front)
 

@@ -3,7 +3,7 @@ use Rattle.std.specs.Prelude.{option_to_list}
 use Rattle.std.proofs.lemmas.Bool.Decides.{nat_tests}
 use Rattle.chains.specs.KeyNodes.{IsKeyFork}
 use Rattle.chains.specs.KeyWrites.{KeyWrites, IsOrdered, latest, with_commit}
-use Rattle.chains.specs.Shapes.{Shape, all_of, highest}
+use Rattle.chains.specs.Shapes.{Shape, all_of, highest, leaf}
 use Rattle.chains.proofs.CommitParts.{commit-nothing, commit-two, latest-parts, ordered-with_commit, parted-first}
 use Rattle.chains.proofs.Order.{ordered-back}
 use Rattle.chains.proofs.Shapes.{all_of-append, highest-append, nothing, popped}
@@ -23,7 +23,7 @@ returns-then-is_empty t c =
 
 pub add_leaves-requires : goal.add_leaves-requires
 add_leaves-requires t c =
-    let own : (c.args.self ≡ record { pieces = c.in-Ok-Chains.chains.items; height = 0 }) × IsOrdered c.in-Ok-Chains.chains.items =
+    let own : (c.args.self ≡ leaf c.in-Ok-Chains.chains.items) × IsOrdered c.in-Ok-Chains.chains.items =
     rw c.in-Ok-Chains.field-0-is at c.in-Ok-Chains.ensures in
     rw c.in_ok-all-in-Ok-Chains.ensures (ordered-with_commit c.in-Ok-Chains.chains.items c.args.time c.args.writes.now own.1)
 
@@ -69,7 +69,9 @@ loop-node-preserved t c =
             let two = commit-two before.pieces (all_of (node ∷ rest)) c.args.time c.loop-node.left.now w.parted.result.0.now w.parted.result.1.now
             (parted-first node.pieces (all_of rest) w.first_key.result c.loop-node.left.now w.parted.result.0.now w.parted.result.1.now w.first_key.ensures
             w.parted.ensures) ordered in
-            let so_far : all_of c.loop-node.all.items ++ with_commit (before.pieces ++ all_of (node ∷ rest)) c.args.time c.loop-node.left.now ≡ with_commit c.args.self.pieces c.args.time c.args.writes.now = rw (w.in-Some-last.is, first) at c.loop-node.invariant.put in
+            let so_far : all_of c.loop-node.all.items ++ with_commit (before.pieces ++ all_of (node ∷ rest)) c.args.time c.loop-node.left.now
+            ≡ with_commit c.args.self.pieces c.args.time c.args.writes.now =
+            rw (w.in-Some-last.is, first) at c.loop-node.invariant.put in
             rw (w.left-is, w.all-is)
             (ap (λ (l : List KeyWrites). l ++ later) w.in_ok-into_written.ensures
             ∙ append_assoc (all_of c.loop-node.all.items) (with_commit before.pieces c.args.time w.parted.result.0.now) later
@@ -88,7 +90,9 @@ add_forks-requires t c =
     elim c.match-last-2.branch [
       | in-Some-last-2+in_ok-into_written-2 w ↦
           let node = w.in-Some-last-2.node in
-          let so_far : all_of c.loop-node.all.items ++ with_commit (node.pieces ++ []) c.args.time c.loop-node.left.now ≡ with_commit c.args.self.pieces c.args.time c.args.writes.now = rw (w.in-Some-last-2.is, empty) at c.loop-node.invariant.put in
+          let so_far : all_of c.loop-node.all.items ++ with_commit (node.pieces ++ []) c.args.time c.loop-node.left.now
+          ≡ with_commit c.args.self.pieces c.args.time c.args.writes.now =
+          rw (w.in-Some-last-2.is, empty) at c.loop-node.invariant.put in
           let is = w.in_ok-into_written-2.ensures
           ∙ ap (λ (m : List KeyWrites). all_of c.loop-node.all.items ++ with_commit m c.args.time c.loop-node.left.now) (sym (append-nil node.pieces))
           ∙ so_far in

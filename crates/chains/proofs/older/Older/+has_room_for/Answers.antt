@@ -1,4 +1,8 @@
-use Rattle.std.proofs.Common.{◌-◌, ◌<◌, length, arith, rules}
+use Rattle.std.proofs.Common.{◌-◌, ◌<◌, ◌⊎◌, inl, inr, ◌∙◌, IsTrue, length, sym, ap, arith, rules}
+use Rattle.chains.specs.Growth.{has_room}
+use Rattle.chains.specs.Shapes.{Shape}
+use Rattle.chains.specs.Writes.{Write}
+use Rattle.chains.proofs.Growth.{room-below, some-writes}
 use Rattle.chains.proofs.Shapes.{at_low}
 use Rattle.chains.proofs.older.Older.+has_room_for.Goals as goal
 
@@ -13,3 +17,17 @@ has_room_for-requires t c =
       c.writes.ensures.lower,
     ) in
     search rules
+
+pub returns-in-len1-up-clause-is : goal.returns-in-len1-up-clause-is
+returns-in-len1-up-clause-is t c =
+    let n = length c.args.piece.now in
+    c.has_room_for.ensures.is
+    ∙ sym (room-below c.in-Branches.ensures c.in-len1-up.len_at_least c.last-item.is n c.if-branches-ge-WIDTH.true
+    ∙ ap (λ (b : Shape Write). has_room n b.together b.forks) c.writes.ensures.branch)
+
+pub returns-in-len1-up-clause-some : goal.returns-in-len1-up-clause-some
+returns-in-len1-up-clause-some t c =
+    elim c.has_room_for.ensures.some as (λ _. IsTrue c.has_room_for.result ⊎ (0 < length c.args.self.now.pieces)) [
+      | inl room ↦ inl room
+      | inr some ↦ inr (some-writes c.in-Branches.ensures c.in-len1-up.len_at_least c.last-item.is (rw c.writes.ensures.is at some))
+    ]

@@ -14,4 +14,11 @@ returns-in-Wide c =
     let inside : IsOlder (Wide c.in-Wide.count c.in-Wide.shared) = rw c.in-Wide.is at c.self.invariant in
     let view : c.args.self.now ≡ older_in (Wide c.in-Wide.count c.in-Wide.shared) = sym (rw c.in-Wide.is at c.self.view_is) in
     let same : c.deref-in-Wide.result.now ≡ c.in-Wide.shared.value = c.deref-in-Wide.ensures in
-    rw (view, same) (record { writes = refl; height = omega (arith, highest-take c.in-Wide.count c.in-Wide.shared.value); rising = inside.0 })
+    rw (view, same) (record {
+      writes = refl;
+      height = omega (arith, highest-take c.in-Wide.count c.in-Wide.shared.value);
+      rising = inside.0;
+      some = inside.2;
+      forks = refl;
+      together = refl;
+    })

@@ -43,7 +43,8 @@ loop-member-preserved-then-mark-member c =
           let found = rw c.in-Some-2.is at c.in_ok-next.ensures.read mark olds (before ++ w.done) w.facts in
           way_goes_on mark olds before all (later_of mark rest) (member_told c.in-Some.member) c.loop-member.read c.in-Some-2.next w found.0 found.1,
       λ olds before has are.
-          let w = subst (λ (l : List MemberTold). IsCountedUpto mark olds before all l c.loop-member.read) same (c.loop-member.invariant.4 olds before has are) in
+          let w = subst (λ (l : List MemberTold). IsCountedUpto mark olds before all l c.loop-member.read) same
+          (c.loop-member.invariant.4 olds before has are) in
           let found = rw c.in-Some-2.is at c.in_ok-next.ensures.read mark olds (before ++ w.done) w.facts in
           let sizes = rw c.in-Some-2.is at c.in_ok-next.ensures.sizes mark olds (before ++ w.done) w.facts w.sizes in
           count_goes_on mark olds before all (member_told c.in-Some.member ∷ []) (later_of mark rest) c.loop-member.read c.in-Some-2.next w found.1 sizes,

@@ -18,6 +18,7 @@ take_chain-requires-clause-some g c =
       contents = c.self.inside.contents.items;
       room = c.self.inside.room;
       turn = c.self.inside.turn;
+      archive = c.self.inside.archive;
       disk = g.D.Disk.state c.self.inside.disk;
     } in
     let some : 0 < length old.commits.queue = subst (λ (v : LogStoreValue). 0 < length v.commits.queue) (sym c.self.view_is) c.requires.some in
@@ -53,6 +54,7 @@ invariant_of-self-2 g c =
       contents = c.self.inside.contents.items;
       room = c.self.inside.room;
       turn = c.self.inside.turn;
+      archive = c.self.inside.archive;
       disk = g.D.Disk.state c.self.inside.disk;
     } in
     let none : old.turn ≡ None = ap (λ (v : LogStoreValue). v.turn) c.self.view_is ∙ c.requires.none in
@@ -73,6 +75,7 @@ returns-clause-ok g c =
       contents = c.self.inside.contents.items;
       room = c.self.inside.room;
       turn = c.self.inside.turn;
+      archive = c.self.inside.archive;
       disk = g.D.Disk.state c.self.inside.disk;
     } in
     let size : c.min-size.result ≡ group_size old = c.min-size.ensures ∙ ap (λ (n : ℕ). min 1024 n) c.waiting.ensures in

@@ -14,6 +14,7 @@ invariant_of-self-2 g c =
       contents = c.self.inside.contents.items;
       room = c.self.inside.room;
       turn = c.self.inside.turn;
+      archive = c.self.inside.archive;
       disk = g.D.Disk.state c.self.inside.disk;
     } in
     queued_in_step old c.args.label c.args.accepted.time c.args.accepted.count c.args.accepted.anchors c.args.writes.now c.in_ok-content.content

@@ -1,7 +1,7 @@
 #!/usr/bin/env python3
 """Measures the program `timestore` on real files, beside what the files themselves cost.
 
-    bench/bench.py PROGRAM [FOLDER]
+    bench/program_bench.py PROGRAM [FOLDER]
 
 PROGRAM is the built program; FOLDER is where the stores are made (a temporary folder if left out:
 take one on the disk that you mean to measure, since /tmp may be memory). Prints a table.

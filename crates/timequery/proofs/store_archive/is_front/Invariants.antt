@@ -1,6 +1,6 @@
 use Rattle.std.proofs.Common.{◌≡◌, length}
-use Rattle.store.specs.Calls.{is_front}
-use Rattle.store.proofs.store_archive.is_front.Given as goal
+use Rattle.timequery.specs.Archives.{is_front}
+use Rattle.timequery.proofs.store_archive.is_front.Given as goal
 
 abbrev pub invariant-loop-rest : goal.invariant-loop-rest
 invariant-loop-rest l = is_front l.rest l.left ≡ is_front l.runs l.others

@@ -1,0 +1,151 @@
+-- A store that was opened on an image which stands for a history stands for it.
+use Rattle.std.proofs.Common.{◌≡◌, ℕ, ◌+◌, ◌^◌, ◌<◌, Bool, true, false, List, [], ◌++◌, length, take, refl, arith, ap, sym, subst, ◌∙◌, replicate}
+use Rattle.std.specs.Prelude.{IsTrue, flat_map}
+use Rattle.history.specs.declared.key.Key.{Key}
+use Rattle.history.specs.declared.time.TimedWrite.{TimedWrite}
+use Rattle.history.specs.Histories.{History, writes_of}
+use Rattle.disk.specs.Areas.{Areas, Image, AreSound, image_of, settled_on}
+use Rattle.disk.specs.Calls.{DiskState}
+use Rattle.disk.specs.declared.area.Area.TheVariants.{Status, Heap, Archive}
+use Rattle.law_image.specs.Values.{Value}
+use Rattle.law_image.specs.Reading.{Member, OldRecord, Reading}
+use Rattle.law_image.specs.Facts.{commits_from, heap_facts, latest, old_writes}
+use Rattle.chains.specs.KeyWrites as chains
+use Rattle.law_log_layout.specs.HeapLog.{PlacedChain, HeapLog}
+use Rattle.law_log_sizes.specs.Sizes.{anchors_len, len_from, size_now}
+use Rattle.recovery.specs.declared.fault.OpenFault.{OpenFault}
+use Rattle.log_roots.specs.declared.roots.Roots.{Roots}
+use Rattle.log_roots.specs.Roots.{root_of}
+use Rattle.log_roots.proofs.Headers.{one_reading}
+use Rattle.log_space.specs.Uses.{with_use, all_used}
+use Rattle.log_recovery.specs.declared.image.LogRecovered.{LogRecovered}
+use Rattle.log_recovery.specs.Chains.{uses_of}
+use Rattle.log_recovery.specs.Rules.{mark_of}
+use Rattle.log_recovery.specs.Ends.{counted_in}
+use Rattle.log_recovery.specs.Members.{values_of, members_of_all}
+use Rattle.log_recovery.specs.Opening as images
+use Rattle.log_recovery.specs.Image.{IsReadFrom}
+use Rattle.log_recovery.specs.Read.{IsHeapRead}
+use Rattle.law_log_opening.specs.Laws.{SaysNothing}
+use Rattle.law_log_opening.proofs.Members.{members-are}
+use Rattle.law_log_opening.proofs.Once.{anchors-once}
+use Rattle.law_log_opening.proofs.Opens.{stands-opens}
+use Rattle.law_log_opening.proofs.Sound.{sound}
+use Rattle.log_room.specs.Rooms.{RoomValue}
+use Rattle.log_store.specs.Values.{LogStoreValue}
+use Rattle.log_store.specs.Opens.{Opens, OpenRefuses, opened_on, room_on}
+use Rattle.log_store.proofs.Places.{len-is}
+use Rattle.log_sizes.specs.Counted.{values_in}
+use Rattle.law_log_store.specs.Standing.{StandsOnHeap, IsImageOf, counted}
+use Rattle.law_log_store.specs.Opened.{live_uses, opened_room, IsOpenedOn}
+use Rattle.law_log_store.proofs.Opened.{opened-stands}
+
+-- a disk that is synced is sound where it was before
+settled-sound : (areas : Areas) → AreSound areas → AreSound (settled_on (image_of areas))
+settled-sound areas sound Status = record { firm = omega arith; settled = λ none. refl; are_bytes = (sound Status).are_bytes }
+settled-sound areas sound Heap = record { firm = omega arith; settled = λ none. refl; are_bytes = (sound Heap).are_bytes }
+settled-sound areas sound Archive = record { firm = omega arith; settled = λ none. refl; are_bytes = (sound Archive).are_bytes }
+
+-- the facts of a key by anchors and members
+abbrev facts_of : List OldRecord → List Member → Key → List (TimedWrite Value)
+facts_of olds members key = old_writes olds key ++ writes_of (commits_from (values_of olds) members) key
+
+module _ (tells : Bool) (old : DiskState) (mark : ℕ) (v : LogStoreValue) (roots : Roots) (h : History Value) (floors : ℕ → ℕ) (told : IsTrue tells)
+    (are_sound : AreSound old.areas) (image : IsImageOf roots (image_of old.areas) h floors) (opens : Opens tells old mark v) where
+  abbrev heap : List ℕ
+  heap = (image_of old.areas).heap
+
+  abbrev r : LogRecovered
+  r = opens.recovered
+
+  abbrev l : HeapLog
+  l = image.heap.log
+
+  abbrev reading : Reading
+  reading = image.heap.reading
+
+  few : roots.extents < 2 ^ 32
+  few = (let size = image.status.has.in_range.size in omega (arith, size.most))
+
+  -- ---- what was read is the log by which the image stands
+
+  read-roots : r.roots ≡ roots
+  read-roots =
+      let read : IsReadFrom (image_of old.areas) r = opens.read told in
+      one_reading (take 512 (image_of old.areas).status) r.roots roots read.roots.has image.status.has
+
+  pub read : IsHeapRead roots.extents (root_of roots) heap r.heap
+  read =
+      let all : IsReadFrom (image_of old.areas) r = opens.read told in
+      subst (λ (x : Roots). IsHeapRead x.extents (root_of x) heap r.heap) read-roots all.heap
+
+  holds : images.Opens roots.extents (root_of roots) heap (length (image_of old.areas).archive) l.chains l.next l.anchors
+  holds =
+      stands-opens roots.extents (root_of roots) l reading heap (image_of old.areas).archive h floors image.heap.is_log image.heap.held image.heap.stands
+
+  pub same : ((read.chains ≡ l.chains) × (r.heap.next ≡ l.next)) × (read.anchors ≡ l.anchors)
+  same =
+      anchors-once roots.extents (root_of roots) heap few read.chains r.heap.next read.anchors l.chains l.next l.anchors read.holds.before.before
+      holds.heap_is.before.before
+
+  olds-same : read.anchors.records ≡ reading.anchors
+  olds-same = ap (λ (a : Rattle.law_log_layout.specs.HeapLog.PlacedAnchors). a.records) same.1
+      ∙ sym (ap (λ (x : Reading). x.anchors) image.heap.is_log.reading_is)
+
+  pub members-same : members_of_all (mark_of read.chains) read.chains ≡ reading.members
+  members-same =
+      ap (λ (cs : List PlacedChain). members_of_all (mark_of cs) cs) same.0.0
+      ∙ sym (ap (λ (x : Reading). x.members) image.heap.is_log.reading_is ∙ members-are image.heap.is_log.names l.chains)
+
+  -- the versions in memory are the facts of the heap
+  pub facts-are : (key : Key) → chains.writes_of r.heap.members.versions key ≡ heap_facts reading key
+  facts-are key = read.facts.writes key ∙ (λ i. facts_of (olds-same i) (members-same i) key)
+
+  -- ---- the room
+
+  roots-are : v.roots ≡ roots
+  roots-are = ap (λ (x : LogStoreValue). x.roots) opens.new_is ∙ read-roots
+
+  space-is : r.heap.space ≡ live_uses roots.extents l
+  space-is = read.space_is ∙ (λ i. all_used (uses_of roots.extents (same.0.0 i)) ((same.1 i).numbers))
+
+  log-is : r.heap.log ≡ counted l
+  log-is = read.log_is ∙ ap (λ (cs : List PlacedChain). length (counted_in cs) + 1) same.0.0
+
+  anchors-is : r.heap.members.sizes.len ≡ size_now reading
+  anchors-is =
+      len-is roots.extents (root_of roots) heap r.heap image.status.has.in_range.size read
+      ∙ (λ i. len_from (anchors_len (olds-same i)) (values_of (olds-same i)) (members-same i))
+
+  room-is : v.room ≡ opened_room v.roots.extents l reading
+  room-is =
+      ap (λ (x : LogStoreValue). x.room) opens.new_is
+      ∙ (λ i. record { used = with_use (space-is i) ((same.0).1 i) true; next = (same.0).1 i; log = log-is i; promised = 0; anchors = anchors-is i })
+      ∙ sym (ap (λ (x : Roots). opened_room x.extents l reading) roots-are)
+
+  -- ---- the store
+
+  opened : IsOpenedOn v l reading
+  opened = record {
+    ordered = opens.ordered;
+    values = λ key. ap (λ (x : LogStoreValue). values_in x.commits.versions key) opens.new_is ∙ ap latest (facts-are key);
+    queue = ap (λ (x : LogStoreValue). x.commits.queue) opens.new_is;
+    group = ap (λ (x : LogStoreValue). x.commits.group) opens.new_is;
+    contents = ap (λ (x : LogStoreValue). x.contents) opens.new_is;
+    room = room-is;
+    turn = ap (λ (x : LogStoreValue). x.turn) opens.new_is;
+  }
+
+  pub open-stands : (v.roots ≡ roots) × StandsOnHeap v h [] floors
+  open-stands = (
+    roots-are,
+    opened-stands v (image_of old.areas) l reading h floors (opens.settled told)
+        (subst (λ (areas : Areas). AreSound areas) (sym (opens.settled told)) (settled-sound old.areas are_sound))
+        (subst (images.ReadsRoots (image_of old.areas).status) (sym roots-are) image.status)
+        (subst (λ (x : Roots). Rattle.law_log_layout.specs.HeapLog.IsLogOf x.extents (root_of x) l reading) (sym roots-are) image.heap.is_log) image.heap.held
+        image.heap.stands opened,
+  )
+
+pub opens-any : (tells : Bool) (old new : DiskState) (why : OpenFault) (roots : Roots) (h : History Value) (floors : ℕ → ℕ) → IsTrue tells
+    → IsImageOf roots (image_of old.areas) h floors → OpenRefuses tells old why new → SaysNothing why
+opens-any tells old new why roots h floors told image refuses = sound (image_of old.areas) roots h floors image.status image.heap why (refuses.fault told)

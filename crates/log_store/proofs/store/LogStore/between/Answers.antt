@@ -1,0 +1,31 @@
+use Rattle.std.proofs.Common.{ℕ, refl, subst}
+use Rattle.timequery.specs.Asked.{alone}
+use Rattle.timequery.specs.Asked as asked
+use Rattle.timequery.proofs.Carried.{carried}
+use Rattle.log_store.specs.Queries.{in_log_store, AnswersRows}
+use Rattle.log_store.specs.Values.{LogStoreValue}
+use Rattle.log_store.proofs.store.LogStore.between.Goals as goal
+
+pub returns : goal.returns
+returns g c =
+    let s = c.self.inside in
+    let tells = g.D.Disk.tells in
+    let view = c.args.view.now in
+    let before = g.D.Disk.state s.disk in
+    let archive = c.between.new.self in
+    let after = g.D.Disk.state c.between.new.disk in
+    let v : LogStoreValue = record {
+      roots = s.roots;
+      commits = s.commits;
+      contents = s.contents.items;
+      room = s.room;
+      turn = s.turn;
+      archive = s.archive;
+      disk = before;
+    } in
+    let own = asked.is_own s.commits.mark s.archive view in
+    let says = subst (λ (mark : ℕ). asked.AnswersRows alone tells mark (s.archive, before) view c.args.key c.args.a c.args.b c.between.result (archive, after))
+    c.mark-mark.ensures c.between.ensures in
+    subst (λ (x : LogStoreValue). AnswersRows tells x view c.args.key c.args.a c.args.b c.between.result (record v
+    { archive = archive; disk = after })) c.self.view_is
+    (carried in_log_store tells v view archive after refl refl c.between.result own _ _ _ _ _ says)
