@@ -105,7 +105,8 @@ HasFields rows fields = all_of (codes "FIELD") rows ≡ Some (texts fields)
 -- `put` is asked for, of this key, with these fields and this label, at the clock's time
 abbrev pub AsksPut : ℕ → List Row → Action → Type 0
 AsksPut now rows (action.Write dir write) = (first_of (codes "DIR") rows ≡ Some dir.now) × HasKey rows write.key
-    × MatchOption write.fields ⊥ (λ fields. HasFields rows fields) × (write.is_text ≡ is_set (codes "text") rows) × HasNumber 64 (codes "label") rows write.label × (write.now ≡ now)
+    × MatchOption write.fields ⊥ (λ fields. HasFields rows fields) × (write.is_text ≡ is_set (codes "text") rows) × HasNumber 64
+    (codes "label") rows write.label × (write.now ≡ now)
 AsksPut now rows _ = ⊥
 
 -- `del` is asked for, of this key, with this label, at the clock's time

@@ -6,7 +6,8 @@ ghost use Rattle.history.specs.declared.key.Key.{Key as AnyKey};
 ghost use Rattle.script.specs.Lines.{time_in};
 ghost use Rattle.command_line.specs.declared.action.Action.{Action as Asked};
 ghost use Rattle.command_line.specs.Asked.{HasKey, HasNumber, Asks, AsksFormat, AsksNothing, AsksRun, AsksAt, AsksBetween, AsksVacuum, AsksGrow, AsksDump};
-ghost use Rattle.command_line.specs.Asked.{AsksCommand, AsksStress, AsksGet, AsksScan, AsksHistory, AsksTimes, AsksPut, AsksDelete, AsksFloor, AsksInfo, AsksOfRecord, AsksOfStore, HasFields};
+ghost use Rattle.command_line.specs.Asked.{AsksCommand, AsksStress, AsksGet, AsksScan, AsksHistory, AsksTimes};
+ghost use Rattle.command_line.specs.Asked.{AsksPut, AsksDelete, AsksFloor, AsksInfo, AsksOfRecord, AsksOfStore, HasFields};
 ghost use Rattle.command_line.specs.Questions.{form_by, is_set, records_of, rows_of_key, style_of, value_of, when_in, when_of};
 
 use crate::action::Action;

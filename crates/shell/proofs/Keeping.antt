@@ -1,5 +1,6 @@
 -- Each action keeps the promise.
-use Rattle.std.proofs.Common.{ℕ, ◌≡◌, ◌⊎◌, inl, inr, Bool, true, false, IsTrue, List, [], ◌∷◌, Option, Some, None, Result, Ok, Err, Vec, ap, refl, sym, subst, ◌∙◌}
+use Rattle.std.proofs.Common.{ℕ, ◌≡◌, ◌⊎◌, inl, inr, Bool, true, false, IsTrue, List, [], ◌∷◌}
+use Rattle.std.proofs.Common.{Option, Some, None, Result, Ok, Err, Vec, ap, refl, sym, subst, ◌∙◌}
 use Rattle.std.specs.declared.alloc.Global.{Global}
 use Rattle.std.specs.Prelude.{MatchBool, MatchOption}
 use Rattle.disk.specs.Areas.{AreSound, image_of}
@@ -163,22 +164,35 @@ led-by tells l m r new step by to = record {
 
 -- any line does, on a disk that tells its bytes
 line-led : (tells : Bool) → IsTrue tells → (l : Line) → Led tells l
-line-led tells told (line.Begin name) m is r new step = led-by tells (line.Begin name) m r new step (λ after keeps. keeps) (begin-line tells m is name r new step)
-line-led tells told (line.Put name key fields) m is r new step = led-by tells (line.Put name key fields) m r new step (λ after keeps. keeps) (put-line tells m is name key fields r new step)
-line-led tells told (line.Delete name key) m is r new step = led-by tells (line.Delete name key) m r new step (λ after keeps. keeps) (delete-line tells m is name key r new step)
-line-led tells told (line.Get name key) m is r new step = led-by tells (line.Get name key) m r new step (λ after keeps. keeps) (get-line tells m is name key r new step)
-line-led tells told (line.Submit name label now) m is r new step = led-by tells (line.Submit name label now) m r new step (λ after keeps. keeps) (submit-line tells m is name label now r new step)
-line-led tells told (line.Abort name) m is r new step = led-by tells (line.Abort name) m r new step (λ after keeps. keeps) (abort-line tells m is name r new step)
-line-led tells told (line.Redeem name) m is r new step = led-by tells (line.Redeem name) m r new step (λ after keeps. keeps) (redeem-line tells m is name r new step)
+line-led tells told (line.Begin name) m is r new step = led-by tells (line.Begin name) m r new step (λ after keeps. keeps)
+    (begin-line tells m is name r new step)
+line-led tells told (line.Put name key fields) m is r new step = led-by tells (line.Put name key fields) m r new step (λ after keeps. keeps)
+    (put-line tells m is name key fields r new step)
+line-led tells told (line.Delete name key) m is r new step = led-by tells (line.Delete name key) m r new step (λ after keeps. keeps)
+    (delete-line tells m is name key r new step)
+line-led tells told (line.Get name key) m is r new step = led-by tells (line.Get name key) m r new step (λ after keeps. keeps)
+    (get-line tells m is name key r new step)
+line-led tells told (line.Submit name label now) m is r new step = led-by tells (line.Submit name label now) m r new step (λ after keeps. keeps)
+    (submit-line tells m is name label now r new step)
+line-led tells told (line.Abort name) m is r new step = led-by tells (line.Abort name) m r new step (λ after keeps. keeps)
+    (abort-line tells m is name r new step)
+line-led tells told (line.Redeem name) m is r new step = led-by tells (line.Redeem name) m r new step (λ after keeps. keeps)
+    (redeem-line tells m is name r new step)
 line-led tells told line.Pump m is r new step = led-by tells line.Pump m r new step (λ after keeps. keeps) (pump-line tells m is r new step.0 step.1)
 line-led tells told line.Flush m is r new step = led-by tells line.Flush m r new step (λ after keeps. keeps) (flush-line tells m is r new step.0 step.1)
-line-led tells told (line.At key time) m is r new step = led-by tells (line.At key time) m r new step (λ after keeps. keeps) (at-line tells m is key time r new step.0 step.1)
-line-led tells told (line.Between key a b) m is r new step = led-by tells (line.Between key a b) m r new step (λ after keeps. keeps) (between-line tells m is key a b r new step.0 step.1)
-line-led tells told (line.Scan relation time) m is r new step = led-by tells (line.Scan relation time) m r new step (λ after keeps. keeps) (scan-line tells m is relation time r new step.0 step.1)
-line-led tells told (line.Times label) m is r new step = led-by tells (line.Times label) m r new step (λ after keeps. keeps) (times-line tells m is label r new step.0 step.1)
-line-led tells told (line.Archive upto) m is r new step = led-by tells (line.Archive upto) m r new step (λ after keeps. keeps) (archive-line tells m is upto r new step.0 step.1)
+line-led tells told (line.At key time) m is r new step = led-by tells (line.At key time) m r new step (λ after keeps. keeps)
+    (at-line tells m is key time r new step.0 step.1)
+line-led tells told (line.Between key a b) m is r new step = led-by tells (line.Between key a b) m r new step (λ after keeps. keeps)
+    (between-line tells m is key a b r new step.0 step.1)
+line-led tells told (line.Scan relation time) m is r new step = led-by tells (line.Scan relation time) m r new step (λ after keeps. keeps)
+    (scan-line tells m is relation time r new step.0 step.1)
+line-led tells told (line.Times label) m is r new step = led-by tells (line.Times label) m r new step (λ after keeps. keeps)
+    (times-line tells m is label r new step.0 step.1)
+line-led tells told (line.Archive upto) m is r new step = led-by tells (line.Archive upto) m r new step (λ after keeps. keeps)
+    (archive-line tells m is upto r new step.0 step.1)
 line-led tells told line.Reclaim m is r new step = led-by tells line.Reclaim m r new step (λ after keeps. keeps) (reclaim-line tells m is r new step.0 step.1)
-line-led tells told (line.Floor scope floor) m is r new step = led-by tells (line.Floor scope floor) m r new step (λ after keeps. keeps) (floor-line tells m is scope floor r new step.0 step.1)
+line-led tells told (line.Floor scope floor) m is r new step = led-by tells (line.Floor scope floor) m r new step (λ after keeps. keeps)
+    (floor-line tells m is scope floor r new step.0 step.1)
 line-led tells told line.Grow m is r new step = led-by tells line.Grow m r new step (λ after keeps. keeps) (grow-line tells m is r new step.0 step.1)
 line-led tells told line.Job m is r new step = led-by tells line.Job m r new step (λ after keeps. keeps) (job-line tells m is r new step.0 step.1)
 line-led tells told line.Finish m is r new step = led-by tells line.Finish m r new step (λ after keeps. keeps) (finish-line tells m is r new step.0 step.1)
@@ -431,7 +445,8 @@ between-says tells store new h floors key a b r told stands step =
         (between-answered tells store new (machine.opened h floors) view h floors key a b step.0 stands of.0 of.1 asks.1)
 
 -- a question is asked of a store that stands for the image's history
-asking-keeps : (tells : Bool) (style : Style) (old new : DiskState) (asks : StoreValue → Line) (Is : History Value → (ℕ → ℕ) → Reply → Type 0) (output : Output) → IsTrue tells
+asking-keeps : (tells : Bool) (style : Style) (old new : DiskState) (asks : StoreValue → Line) (Is : History Value → (ℕ → ℕ) → Reply → Type 0)
+    (output : Output) → IsTrue tells
     → AreSound old.areas → ((store : StoreValue) → Led tells (asks store))
     → ((store : StoreValue) (h : History Value) (floors : ℕ → ℕ) (r : Reply) (asked : State) → Stands tells store (machine.opened h floors)
     → Step tells (fresh store) (asks store) r asked → OrGaveOut (Is h floors) r)
@@ -441,7 +456,8 @@ asking-keeps tells style old new asks Is output told sound led says (inl refused
 asking-keeps tells style old new asks Is output told sound led says (inr (inl lacks)) = λ header h floors image. inr (lacks.0, lacks.1, inl (lacks.2, lacks.3))
 asking-keeps tells style old new asks Is output told sound led says (inr (inr did)) = λ header h floors image.
     let stands = open-stands tells old 1 did.opened header h floors did.opens told sound image in
-    let to = led did.opened (first_script_moment did.opened (machine.opened h floors)) (first-script tells did.opened h floors stands) did.answer did.asked did.step in
+    let to = led did.opened (first_script_moment did.opened (machine.opened h floors))
+    (first-script tells did.opened h floors stands) did.answer did.asked did.step in
     inr (
       did.opened,
       did.opens,
@@ -460,18 +476,21 @@ at-keeps : (tells : Bool) (old new : DiskState) (key : Key) (time : Option ℕ) 
     → MatchOption time (new ≡ old) (λ t. AskingKeeps tells plain old (λ store. line.At key t) (λ h floors. IsValueReply (at_answer h floors key t)) output new)
 at-keeps tells old new key None output told sound refused = refused.0
 at-keeps tells old new key (Some t) output told sound asks =
-    asking-keeps tells plain old new (λ store. line.At key t) (λ h floors. IsValueReply (at_answer h floors key t)) output told sound (λ store. at-led tells key t)
+    asking-keeps tells plain old new (λ store. line.At key t) (λ h floors. IsValueReply (at_answer h floors key t)) output told sound
+    (λ store. at-led tells key t)
     (λ store h floors r asked stands step. at-says tells store asked.store h floors key t r told stands step.0) asks
 
 between-keeps : (tells : Bool) (old new : DiskState) (key : Key) (from to : Option ℕ) (output : Output) → IsTrue tells → AreSound old.areas
-    → MatchOption from (RefusesTime old output new) (λ a. MatchOption to (RefusesTime old output new) (λ b. Asks tells plain old (λ store. line.Between key a b) output new))
+    → MatchOption from (RefusesTime old output new) (λ a. MatchOption to (RefusesTime old output new) (λ b. Asks tells plain old
+    (λ store. line.Between key a b) output new))
     → MatchOption from (new
     ≡ old) (λ a. MatchOption to (new
     ≡ old) (λ b. AskingKeeps tells plain old (λ store. line.Between key a b) (λ h floors. IsRowsReply (between_answer h floors key a b)) output new))
 between-keeps tells old new key None to output told sound refused = refused.0
 between-keeps tells old new key (Some a) None output told sound refused = refused.0
 between-keeps tells old new key (Some a) (Some b) output told sound asks =
-    asking-keeps tells plain old new (λ store. line.Between key a b) (λ h floors. IsRowsReply (between_answer h floors key a b)) output told sound (λ store. between-led tells key a b)
+    asking-keeps tells plain old new (λ store. line.Between key a b) (λ h floors. IsRowsReply (between_answer h floors key a b)) output told sound
+    (λ store. between-led tells key a b)
     (λ store h floors r asked stands step. between-says tells store asked.store h floors key a b r told stands step.0) asks
 
 -- ---- a question by the last commit and the floors

@@ -171,7 +171,8 @@ at-status tells old new None line o refused = time-status old new o refused
 at-status tells old new (Some t) line o asks = asks-status tells plain old new (λ store. line t) o asks
 
 between-status : (tells : Bool) (old new : DiskState) (from to : Option ℕ) (line : ℕ → ℕ → Line) (o : Output)
-    → MatchOption from (RefusesTime old o new) (λ s. MatchOption to (RefusesTime old o new) (λ t. Asks tells plain old (λ store. line s t) o new)) → o.status ≤ 1
+    → MatchOption from (RefusesTime old o new) (λ s. MatchOption to (RefusesTime old o new) (λ t. Asks tells plain old (λ store. line s t) o new))
+    → o.status ≤ 1
 between-status tells old new None to line o refused = time-status old new o refused
 between-status tells old new (Some s) to line o asks = at-status tells old new to (line s) o asks
 

@@ -382,9 +382,11 @@ abbrev pub Acts : Bool → Action → DiskState → Input → Output → DiskSta
 Acts tells action.Example old input output new = RunsNew tells old input output new
 Acts tells (action.Format dir slots) old input output new = Makes tells old slots output new
 Acts tells (action.Run dir) old input output new = RunsScript tells old input output new
-Acts tells (action.At dir key time) old input output new = MatchOption time (RefusesTime old output new) (λ t. Asks tells plain old (λ store. line.At key t) output new)
+Acts tells (action.At dir key time) old input output new = MatchOption time (RefusesTime old output new) (λ t. Asks tells plain old
+    (λ store. line.At key t) output new)
 Acts tells (action.Between dir key from to) old input output new =
-    MatchOption from (RefusesTime old output new) (λ a. MatchOption to (RefusesTime old output new) (λ b. Asks tells plain old (λ store. line.Between key a b) output new))
+    MatchOption from (RefusesTime old output new) (λ a. MatchOption to (RefusesTime old output new) (λ b. Asks tells plain old
+    (λ store. line.Between key a b) output new))
 Acts tells (action.Ask dir question style) old input output new =
     MatchOption question (RefusesTime old output new) (λ asked. Asks tells style old (line_asked asked) output new)
 Acts tells (action.Write dir write) old input output new = Writes tells old write output new

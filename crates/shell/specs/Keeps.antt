@@ -116,7 +116,8 @@ GrowingKeeps tells old output new = (header : Header) (h : History Value) (floor
     → ((f : OpenFault) × OpenRefuses tells old f new) ⊎ GrowthOpenedKeeps tells h floors old output new
 
 -- So are `floorof` and `finish`.
-pub record FloorKeeps (tells : Bool) (h : History Value) (floors : ℕ → ℕ) (store : StoreValue) (relation time : ℕ) (output : Output) (new : DiskState) : Type 0 where
+pub record FloorKeeps (tells : Bool) (h : History Value) (floors : ℕ → ℕ) (store : StoreValue) (relation time : ℕ) (output : Output)
+    (new : DiskState) : Type 0 where
   pub refused : Option Reply
   pub after : ScriptMoment
   pub does : DoesJob (LineLeads tells) (line.Floor (Some relation) time) (first_script_moment store (machine.opened h floors)) refused after
@@ -215,7 +216,8 @@ AskingKeeps tells style old asks Is output new = (header : Header) (h : History 
 
 -- The lines of a write are answered as those of a script, up to the first that is refused, and the store is closed: at every moment whatever a stop may leave
 -- survives, with the commit once `done` is its answer. The last answer is printed.
-pub record WriteKeeps (tells : Bool) (h : History Value) (floors : ℕ → ℕ) (store : StoreValue) (lines : List Text) (output : Output) (new : DiskState) : Type 0 where
+pub record WriteKeeps (tells : Bool) (h : History Value) (floors : ℕ → ℕ) (store : StoreValue) (lines : List Text) (output : Output)
+    (new : DiskState) : Type 0 where
   pub answer : Reply
   pub after : ScriptMoment
   pub does : AnswersInTurn (LineLeads tells) reply.Ok lines (first_script_moment store (machine.opened h floors)) answer after
@@ -230,12 +232,14 @@ WriteOpenedKeeps tells h floors old lines output new =
 -- the disk is as it was; or of whatever history the image stands for: the store does not open, or the write keeps the promise
 abbrev pub WritingKeeps : Bool → DiskState → List Text → Output → DiskState → Type 0
 WritingKeeps tells old lines output new = (new ≡ old) ⊎ ((header : Header) (h : History Value) (floors : ℕ
-    → ℕ) → IsImageOf header (image_of old.areas) h floors → ((f : OpenFault) × OpenRefuses tells old f new) ⊎ WriteOpenedKeeps tells h floors old lines output new)
+    → ℕ) → IsImageOf header (image_of old.areas) h floors → ((f : OpenFault) × OpenRefuses tells old f new)
+    ⊎ WriteOpenedKeeps tells h floors old lines output new)
 
 -- ---- actions
 
 -- What each action keeps. A script is run on an empty store, or on the one that a disk holds, of whatever history its image stands for, and so are the lines of
--- a vacuum, of a growth, of a floor, of a question and of a write: at every moment whatever a stop may leave survives. What is printed of a question is what the write sets of that
+-- a vacuum, of a growth, of a floor, of a question and of a write: at every moment whatever a stop may leave survives. What is printed of a question is
+-- what the write sets of that
 -- history say. A store that was made is kept as the empty history, and a dump and what is told of a store leave the areas as they were.
 abbrev pub KeepsPromise : Bool → Action → DiskState → Input → Output → DiskState → Type 0
 KeepsPromise tells action.Example old input output new = ((f : FormatFault) × FormatRefuses tells 16 old f new) ⊎ NewRunKeeps tells old input output new

@@ -4,4 +4,5 @@ use Rattle.command_line.proofs.command.telling.Goals as goal
 
 pub returns : goal.returns
 returns c =
-    c.with_command.ensures (with_subcommand writing floor.top) info (c.with_command-command.ensures writing floor c.writing.ensures c.floor.ensures) c.info.ensures
+    c.with_command.ensures (with_subcommand writing floor.top) info
+    (c.with_command-command.ensures writing floor c.writing.ensures c.floor.ensures) c.info.ensures

@@ -5,7 +5,9 @@ use Rattle.log_facts.proofs.facts.commits.Given as goal
 
 -- what is counted of all is what is counted of what is left, beginning with what was counted
 abbrev pub invariant-loop-rest : goal.invariant-loop-rest
-invariant-loop-rest l = fold (λ (n : ℕ) (slot : Slot). told.plus n (length (told.members_of slot))) 0 l.initial.rest ≡ fold (λ (n : ℕ) (slot : Slot). told.plus n (length (told.members_of slot))) l.count l.rest
+invariant-loop-rest l =
+    fold (λ (n : ℕ) (slot : Slot). told.plus n (length (told.members_of slot))) 0 l.initial.rest
+    ≡ fold (λ (n : ℕ) (slot : Slot). told.plus n (length (told.members_of slot))) l.count l.rest
 
 abbrev pub decreases-loop-rest : goal.decreases-loop-rest
 decreases-loop-rest l = length l.rest

@@ -41,7 +41,8 @@ returns-in-Ok-info_text g c =
       reads = c.in-Ok.ensures.found;
       log = λ tells. subst (λ (s : DiskState). HoldsLog c.in-Ok.header s.areas.status.bytes c.in-Ok-read_log.slots.items) kept
           (c.in-Ok-read_log.ensures.log tells);
-      said = subst (λ (t : Text). IsSaid (told g.W.Write.contents c.status_of.result c.args.output.now c.say.new.self) t) (subst (λ (slots : List Slot). c.in-Ok-info_text.text.items ≡ info_text c.args.json c.in-Ok.header slots) c.as_slice.ensures.value c.in-Ok-info_text.ensures)
+      said = subst (λ (t : Text). IsSaid (told g.W.Write.contents c.status_of.result c.args.output.now c.say.new.self) t) (subst (λ
+          (slots : List Slot). c.in-Ok-info_text.text.items ≡ info_text c.args.json c.in-Ok.header slots) c.as_slice.ensures.value c.in-Ok-info_text.ensures)
           (said-by (told g.W.Write.contents c.status_of.result c.args.output.now c.say.new.self) c.in-Ok-info_text.text.items c.say.result
           (subst (λ (t : Text). Says (g.W.Write.contents c.args.output.now.writer) t c.say.result (g.W.Write.contents c.say.new.self.writer)
           c.say.new.self.refused) c.as_slice-in-Ok-info_text.ensures.value c.say.ensures) c.status_of.ensures);

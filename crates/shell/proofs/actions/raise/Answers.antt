@@ -18,7 +18,8 @@ returns g c = inr (inr (record {
   opens = c.in-Ok.ensures.ok;
   refused = c.do_job-refused.result;
   asked = c.do_job-refused.new.session;
-  does = subst (λ (s : State). DoesJob (Step g.D.Disk.tells) (line.Floor (Some c.args.relation) c.args.time) s c.do_job-refused.result c.do_job-refused.new.session)
+  does = subst (λ (s : State). DoesJob (Step g.D.Disk.tells) (line.Floor
+      (Some c.args.relation) c.args.time) s c.do_job-refused.result c.do_job-refused.new.session)
       c.in-Ok-new.ensures.ok c.do_job-refused.ensures;
   closes = c.close-2.ensures;
   says = c.tell_raised.ensures;
