@@ -246,7 +246,7 @@ module _ (tells : Bool) (w : WriterState) (old new : LogStoreValue) (m : Machine
           here (Due OfGroup) due (record {
             group = m.group;
             gate = MayBeOpen OfGroup;
-            run = (gated m (MayBeOpen OfGroup), (works, due, refl), steps.broken (gated m (MayBeOpen OfGroup)), (works, refl), refl);
+            run = (gated m (MayBeOpen OfGroup), (works, due, refl), (steps.broken (gated m (MayBeOpen OfGroup)), (works, refl), refl));
             group_is = same-group;
             gate_is = left-behind Opening same;
           })
