@@ -9,8 +9,10 @@ use Rattle.log_store.proofs.store.LogStore.between.Goals as goal
 pub returns : goal.returns
 returns g c =
     let s = c.self.inside in
+    let args = c.args in
+    let answer = c.between.result in
     let tells = g.D.Disk.tells in
-    let view = c.args.view.now in
+    let view = args.view.now in
     let before = g.D.Disk.state s.disk in
     let archive = c.between.new.self in
     let after = g.D.Disk.state c.between.new.disk in
@@ -24,7 +26,7 @@ returns g c =
       disk = before;
     } in
     let own = asked.is_own s.commits.mark s.archive view in
-    let says = subst (λ (mark : ℕ). asked.AnswersRows alone tells mark (s.archive, before) view c.args.key c.args.a c.args.b c.between.result (archive, after))
+    let says = subst (λ (mark : ℕ). asked.AnswersRows alone tells mark (s.archive, before) view args.key args.a args.b answer (archive, after))
     c.mark-mark.ensures c.between.ensures in
-    subst (λ (x : LogStoreValue). AnswersRows tells x view c.args.key c.args.a c.args.b c.between.result (record v { archive = archive; disk = after })) c.self.view_is
-    (carried in_log_store tells v view archive after refl refl c.between.result own _ _ _ _ _ says)
+    subst (λ (x : LogStoreValue). AnswersRows tells x view args.key args.a args.b answer (record v { archive = archive; disk = after })) c.self.view_is
+    (carried in_log_store tells v view archive after refl refl answer own _ _ _ _ _ says)

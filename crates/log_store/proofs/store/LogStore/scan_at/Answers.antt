@@ -9,8 +9,10 @@ use Rattle.log_store.proofs.store.LogStore.scan_at.Goals as goal
 pub returns : goal.returns
 returns g c =
     let s = c.self.inside in
+    let args = c.args in
+    let answer = c.scan_at.result in
     let tells = g.D.Disk.tells in
-    let view = c.args.view.now in
+    let view = args.view.now in
     let before = g.D.Disk.state s.disk in
     let archive = c.scan_at.new.self in
     let after = g.D.Disk.state c.scan_at.new.disk in
@@ -24,7 +26,7 @@ returns g c =
       disk = before;
     } in
     let own = asked.is_own s.commits.mark s.archive view in
-    let says = subst (λ (mark : ℕ). asked.AnswersScanAt alone tells mark (s.archive, before) view c.args.relation c.args.time c.scan_at.result (archive, after))
+    let says = subst (λ (mark : ℕ). asked.AnswersScanAt alone tells mark (s.archive, before) view args.relation args.time answer (archive, after))
     c.mark-mark.ensures c.scan_at.ensures in
-    subst (λ (x : LogStoreValue). AnswersScanAt tells x view c.args.relation c.args.time c.scan_at.result (record v { archive = archive; disk = after })) c.self.view_is
-    (carried in_log_store tells v view archive after refl refl c.scan_at.result own _ _ _ _ _ says)
+    subst (λ (x : LogStoreValue). AnswersScanAt tells x view args.relation args.time answer (record v { archive = archive; disk = after })) c.self.view_is
+    (carried in_log_store tells v view archive after refl refl answer own _ _ _ _ _ says)
