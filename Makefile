@@ -1,23 +1,23 @@
-# `make try` shows the program before any proof, `make demo` builds it and shows it; `make test` is the gate.
-# TABLE=FILE keeps what it cost, PROOFS=FILE what each proof took. `make more-edits` tries the edits that the gate leaves out, all or
-# (`make more-edits CRATES="wire disk"`) those of some crates, over the libraries of the last gate or of rt lib, and writes bench/edits_tried.tsv.
+# `make try` shows the program before any proof, `make demo` builds it and shows it; `make test` is what CI does first.
+# TABLE=FILE keeps what it cost, PROOFS=FILE what each proof took. `make more-edits` tries the edits that `make test` leaves out, all or
+# (`make more-edits CRATES="wire disk"`) those of some crates, over the libraries of the last `make test` or of rt lib, and writes .ci/edits_tried.tsv.
 # MINUTES=30 begins none after half an hour.
 PROGRAM = crates/timestore/out/timestore
 BENCH = crates/bench/out/bench
-# The most processor minutes that the gate may take, on the reference machine of bench/gate_cost.py. A machine that takes longer for the crates that
-# tell its speed is given as much longer for the gate.
+# The most processor minutes that `make test` may take, on the reference machine of .ci/ci_cost.py. A machine that takes longer for the crates that
+# tell its speed is given as much longer.
 BUDGET = 200
 
 .PHONY: demo test more-edits build try examples pages bench trials torture torture-short soak hostile try-refused planted rates lib install library-test library-bench rados-test rados-bench
 
 test:
 	@command -v rt >/dev/null || { echo "the Rattle kit's command rt is not on PATH" >&2; exit 1; }
-	@for it in crates/*/out/rlib; do [ -e "$$it/stamp" ] || rm -rf "$$it"; done # rt ci would put back what an earlier gate left
-	bench/gate_cost.py --limit $(BUDGET) $(if $(TABLE),--table $(TABLE)) $(if $(PROOFS),--proofs $(PROOFS)) rt ci
+	@for it in crates/*/out/rlib; do [ -e "$$it/stamp" ] || rm -rf "$$it"; done # rt ci would put back what an earlier one left
+	.ci/ci_cost.py --limit $(BUDGET) $(if $(TABLE),--table $(TABLE)) $(if $(PROOFS),--proofs $(PROOFS)) rt ci
 	$(MAKE) torture-short
 
 more-edits:
-	bench/more_edits.py --write $(if $(MINUTES),--minutes $(MINUTES)) $(CRATES)
+	.ci/more_edits.py --write $(if $(MINUTES),--minutes $(MINUTES)) $(CRATES)
 
 build:
 	@command -v rt >/dev/null || { echo "the Rattle kit's command rt is not on PATH" >&2; exit 1; }
@@ -84,10 +84,12 @@ rates: build
 	bench/rates.py $(PROGRAM) $(if $(FOLDER),--folder $(FOLDER))
 	if command -v valgrind >/dev/null; then bench/rates.py $(PROGRAM) --instructions && tests/growths.py $(PROGRAM); fi
 
-# Every example of the documents, its answers compared; and the small store of docs/FORMAT.md byte by byte.
+# Every example of the documents, its answers compared; the small store of docs/FORMAT.md byte by byte; and that the man page and the completions
+# are what the program's help gives.
 examples: build pages
 	tests/using_test.py $(PROGRAM) README.md docs/USING.md
 	tests/format_test.py $(PROGRAM) docs/FORMAT.md
+	library/man/from_help.py $(PROGRAM)
 
 # What needs no program: that each example of a page crates/NAME/CALLING.md is a test; that pages, and lines of code and proofs, are no longer
 # than they may be; that the table of docs/WRONG_BODIES.md has the edits that there are, and each edit fits the code.

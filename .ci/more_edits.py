@@ -1,12 +1,12 @@
 #!/usr/bin/env python3
-"""Tries the edits that the gate leaves out, crates/NAME/more-edits/*.edit, over the libraries that `rt ci` or `rt lib` left in crates/*/out:
+"""Tries the edits that `rt ci` leaves out, crates/NAME/more-edits/*.edit, over the libraries that `rt ci` or `rt lib` left in crates/*/out:
 the prover must refuse each of them too. Where there are none, and no --began, rt lib builds them.
 
-usage: bench/more_edits.py [--minutes N [--began SECONDS] [--proofs FILE]] [--new] [--first-tells] [--write] [NAME ..]
+usage: .ci/more_edits.py [--minutes N [--began SECONDS] [--proofs FILE]] [--new] [--first-tells] [--write] [NAME ..]
 
 A NAME is a crate or CRATE/EDIT; with none all are meant. --new leaves out those that the table below tells to be refused as they are now.
 
-bench/edits_tried.tsv tells when each edit was last tried and refused, and by which text. First come the edits of which it tells nothing, or whose
+.ci/edits_tried.tsv tells when each edit was last tried and refused, and by which text. First come the edits of which it tells nothing, or whose
 crate or own text has changed since then; after them those that were tried the longest ago. --write puts what is refused into that table.
 
 First each edit is seen to apply: its texts stand once in the files that it names. Then each crate is proved once as it is (its seed), and its edits
@@ -14,8 +14,8 @@ are tried over what that proof left, as many at a time as RT_JOBS says. Over lib
 kept. Nothing in the repository is changed but that table.
 
 With no --minutes all edits are tried. With --minutes none is begun after so many minutes of the clock, and no seed that would leave no time for
-edits. --began is when the whole run with the gate began, in seconds since 1970: it is to end within 120 minutes of that, and within 165 where the
-machine is slow, with fewer edits or none. On a machine that is slower than the reference machine (bench/gate_cost.py) the minutes are then fewer:
+edits. --began is when the whole run began, in seconds since 1970: it is to end within 120 minutes of that, and within 165 where the
+machine is slow, with fewer edits or none. On a machine that is slower than the reference machine (.ci/ci_cost.py) the minutes are then fewer:
 --proofs is the file in which that program wrote what each proof took.
 
 The status is 1 where an edit is proved, does not apply or compile any more, or is refused only because a proof names what it takes away; and where
@@ -41,12 +41,12 @@ import tempfile
 import threading
 import time
 
-import gate_cost
+import ci_cost
 
 ROOT = pathlib.Path(os.path.realpath(__file__)).parents[1]
-TABLE = ROOT / "bench/edits_tried.tsv"
+TABLE = ROOT / ".ci/edits_tried.tsv"
 COLUMNS = ("crate", "edit", "tried", "sum", "refused by")
-# Minutes of the clock that a run with the gate may take, with some for what its neighbours do to a machine as fast as the reference machine; for
+# Minutes of the clock that a whole run may take, with some for what its neighbours do to a machine as fast as the reference machine; for
 # each time that a machine is slower than that; and on any machine.
 WHOLE_RUN, WHOLE_RUN_BY_SLOWNESS, WHOLE_RUN_AT_MOST = 120, 100, 165
 # Minutes before the end of that in which nothing new begins.
@@ -153,7 +153,7 @@ class Turn:
 
 
 class Clock:
-    """When the last edit may begin, and when what still runs is cut off, in seconds since 1970: never without minutes, and without a gate."""
+    """When the last edit may begin, and when what still runs is cut off, in seconds since 1970: never without minutes, and without one."""
 
     def __init__(self, minutes, began, slowness):
         now = time.time()
@@ -309,22 +309,22 @@ class Lanes:
 
 def end_checks():
     """Ends the checks that this process began."""
-    now = gate_cost.processes()
+    now = ci_cost.processes()
     for pid, process in now.items():
-        if process.is_check() and gate_cost.is_below(pid, os.getpid(), now):
+        if process.is_check() and ci_cost.is_below(pid, os.getpid(), now):
             with contextlib.suppress(OSError):
                 os.kill(pid, signal.SIGKILL)
 
 
 def built_of(crate):
-    """What stands in the crate's out/: no library, one that the gate made, one that rt lib made of these files, or an older one."""
+    """What stands in the crate's out/: no library, one that CI made, one that rt lib made of these files, or an older one."""
     if not os.path.isfile(f"{crate.rlib}/format"):
         return "none"
     if os.path.isfile(f"{crate.folder}/out/rlib/stamp"):
         return "own" if crate.is_built() else "old"
     texts = [it for part in ("src", "specs", "proofs") for it in pathlib.Path(crate.folder, part).rglob("*")]
     newest = max((it.stat().st_mtime for it in texts), default=0)
-    return "of the gate" if newest <= os.stat(crate.rlib).st_mtime else "old"
+    return "of CI" if newest <= os.stat(crate.rlib).st_mtime else "old"
 
 
 def libraries(crates, may_build):
@@ -334,10 +334,10 @@ def libraries(crates, may_build):
     kinds = {it.name: built_of(it) for it in below}
     found = set(kinds.values())
     if len(found) <= 1 and not found & {"none", "old"}:
-        return "of the gate" not in found, None
-    if not may_build or "of the gate" in found:
+        return "of CI" not in found, None
+    if not may_build or "of CI" in found:
         told = "; ".join(f"{kind}: {' '.join(it for it in kinds if kinds[it] == kind)}" for kind in sorted(found))
-        return False, f"the libraries in crates/*/out are not those of one run of the gate; run it in a fresh clone ({told})"
+        return False, f"the libraries in crates/*/out are not those of one run of CI; run it in a fresh clone ({told})"
     for it in below:
         if it.is_built():
             continue
@@ -350,20 +350,20 @@ def libraries(crates, may_build):
 
 def slowness_of(proofs, rt, crates):
     """How many times as long as on the reference machine a proof takes here: by the proofs of this run, or else by one of `history` now."""
-    unit = gate_cost.unit_of(proofs)
+    unit = ci_cost.unit_of(proofs)
     if unit is not None:
-        return unit / sum(gate_cost.UNIT.values())
-    first = next(iter(gate_cost.UNIT))
+        return unit / sum(ci_cost.UNIT.values())
+    first = next(iter(ci_cost.UNIT))
     crate = next((it for it in crates if it.name == first), None)
     before = resource.getrusage(resource.RUSAGE_CHILDREN)
     if crate is None or rt.checked(crate, {}, ["--jobs", "1"], None).returncode:
         return 1.0
     after = resource.getrusage(resource.RUSAGE_CHILDREN)
-    return (after.ru_utime + after.ru_stime - before.ru_utime - before.ru_stime) / gate_cost.UNIT[first]
+    return (after.ru_utime + after.ru_stime - before.ru_utime - before.ru_stime) / ci_cost.UNIT[first]
 
 
 def told_of(text):
-    """What rt says of an edit, which it takes for one of the gate."""
+    """What rt says of an edit, which it takes for one of must-fail."""
     return text.replace("must-fail", "more-edits", 1)
 
 

@@ -2,7 +2,7 @@
 """Runs a command and prints what processor time each crate took in it: its proof, its tests, the first of its must-fail edits and the others;
 the dearest edits; and the most memory that one check of the crate held. It only reads /proc, twice a second. Its exit status is the command's.
 
-usage: bench/gate_cost.py [--limit MINUTES] [--edits FILE] [--table FILE] [--proofs FILE] [COMMAND ..]
+usage: .ci/ci_cost.py [--limit MINUTES] [--edits FILE] [--table FILE] [--proofs FILE] [COMMAND ..]
 
 With no command it runs rt ci. What a machine makes of a number is told by the proofs of three crates, UNIT below: the column `units` is a time as a
 multiple of what these three took in the same run. With --limit the status is 1 too where the sum is above so many processor minutes of the
@@ -208,11 +208,11 @@ def table(checks, wall):
     sums = {it: sum(mine[it] for mine in seconds.values()) / 60 for it in PHASES}
     total, firsts = sum(sums.values()), sum(first.values()) / 60
     rest = sums["edits"] + sums["edit alone"] - firsts
-    print(f"gate cost: {total:.0f} processor minutes, {wall:.0f} seconds on {os.cpu_count()} cores; of it proofs {sums['proof']:.0f}, tests {sums['tests']:.0f}, code {sums['code']:.0f}, first edits {firsts:.0f}, other edits {rest:.0f}; most memory of one check {max(peaks.values(), default=0) / 1024:.0f} MB")
+    print(f"CI cost: {total:.0f} processor minutes, {wall:.0f} seconds on {os.cpu_count()} cores; of it proofs {sums['proof']:.0f}, tests {sums['tests']:.0f}, code {sums['code']:.0f}, first edits {firsts:.0f}, other edits {rest:.0f}; most memory of one check {max(peaks.values(), default=0) / 1024:.0f} MB")
     if unit is None:
-        print(f"gate cost: not told in units, since not all of {', '.join(UNIT)} were proved in this run")
+        print(f"CI cost: not told in units, since not all of {', '.join(UNIT)} were proved in this run")
     else:
-        print(f"gate cost: {in_units(total * 60, unit)} units; one unit, the proofs of {', '.join(UNIT)}, took {unit:.0f} seconds here, {unit / sum(UNIT.values()):.2f} of what it takes on the reference machine")
+        print(f"CI cost: {in_units(total * 60, unit)} units; one unit, the proofs of {', '.join(UNIT)}, took {unit:.0f} seconds here, {unit / sum(UNIT.values()):.2f} of what it takes on the reference machine")
     return total
 
 
@@ -223,11 +223,11 @@ def keep_table(file, text):
         pathlib.Path(file).parent.mkdir(parents=True, exist_ok=True)
         pathlib.Path(file).write_text(f"{time.strftime('%Y-%m-%d %H:%M')} {state}{text}", encoding="utf-8")
     except OSError as fault:
-        print(f"gate cost: the table is not kept: {fault}", file=sys.stderr)
+        print(f"CI cost: the table is not kept: {fault}", file=sys.stderr)
 
 
 def passed_on(stream, lines):
-    """Writes each line of a stream to standard output as it comes, and notes those that tell how much of a gate was done in this run."""
+    """Writes each line of a stream to standard output as it comes, and notes those that tell how much was done in this run."""
     for line in stream:
         sys.stdout.buffer.write(line)
         sys.stdout.buffer.flush()
@@ -247,10 +247,10 @@ def share_done(line):
 def is_above(limit, total, unit):
     """Says what became of the limit, in processor minutes of the reference machine, and returns whether the total is above it."""
     if unit is None:
-        print("gate cost: no limit is applied, since what tells the machine's speed was not proved in this run")
+        print("CI cost: no limit is applied, since what tells the machine's speed was not proved in this run")
         return False
     here = limit * unit / sum(UNIT.values())
-    print(f"gate cost: the limit is {limit:.0f} processor minutes of the reference machine, {here:.0f} of this one: {total:.0f} is {'above it' if total > here else 'within it'}")
+    print(f"CI cost: the limit is {limit:.0f} processor minutes of the reference machine, {here:.0f} of this one: {total:.0f} is {'above it' if total > here else 'within it'}")
     return total > here
 
 
