@@ -4,14 +4,16 @@ standard error with status 2, and a time that is none refused with status 1.
 
     tests/command_line.py PROGRAM
 """
+import json
 import os
 import sys
 import tempfile
+from datetime import datetime, timedelta, timezone
 from time import time_ns
 
 from trial import run
 
-COMMANDS = ("format", "run", "at", "between", "dump", "get", "scan", "history", "times", "put", "del")
+COMMANDS = ("format", "run", "at", "between", "dump", "get", "scan", "history", "times", "put", "del", "floor", "info")
 LIMITS = ("16 to 65536", "65536 extents of 8 KiB", "1 to 1024 keys", "1 to 16 fields of 0 to 255 bytes",
           "1 to 9223372036854775807", "status full", "heap full", "Exit status: 0 done, 1 refused, 2 words that are no command")
 LINES = ("begin NAME", "put NAME REL REC F..", "del NAME REL REC", "get NAME REL REC", "submit NAME LABEL TIME", "abort NAME",
@@ -40,7 +42,9 @@ def no_commands(program, folder):
                   ["at", folder, "1", "18446744073709551616", "1"], ["at", folder, "1", "-7", "1"],
                   ["between", folder, "1", "7", "0"], ["dump"], ["dump", folder, "more"], ["--slots", "16"], ["get", folder, "1"],
                   ["scan", folder, "1", "2", "3"], ["history", folder, "65536", "7"], ["times", folder], ["put", folder, "1", "7"],
-                  ["put", folder, "1", "7"] + ["-"] * 17, ["del", folder, "1", "7", "--label", "-1"]):
+                  ["put", folder, "1", "7"] + ["-"] * 17, ["del", folder, "1", "7", "--label", "-1"],
+                  ["at", folder, "1", "7", "1", "--json"], ["get", folder, "1", "7", "--instants"], ["get", folder, "1", "7", "--json", "--json"],
+                  ["floor", folder, "1"], ["floor", folder, "65536", "1"], ["info"], ["info", folder, "--text"]):
         status, said, told = run(program, words)
         assert (status, said) == (2, ""), (words, status, said)
         assert told.startswith("error: ") and told.endswith("\n"), (words, told)
@@ -51,8 +55,10 @@ def no_times(program, folder):
     for time in ("soon", "-1", "", "2001-02-29T00:00:00Z", "2001-09-09T01:46:60Z", "18446744073709551616", "000000000000000000007"):
         for words in (["at", folder, "1", "7", "--", time], ["between", folder, "1", "7", "--", time, "9"],
                       ["between", folder, "1", "7", "--", "0", time], ["get", folder, "1", "7", "--", time], ["scan", folder, "1", "--", time],
-                      ["history", folder, "1", "7", "--", time], ["history", folder, "1", "7", "--", "0", time]):
-            assert run(program, words)[:2] == (1, "refused: bad time\n"), words
+                      ["history", folder, "1", "7", "--", time], ["history", folder, "1", "7", "--", "0", time], ["floor", folder, "1", "--", time]):
+            # (what takes a time with an offset reads a leap second as the second before)
+            if words[0] in ("at", "between") or ":60" not in time:
+                assert run(program, words)[:2] == (1, "refused: bad time\n"), words
     assert os.listdir(folder) == []
 
 
@@ -80,6 +86,40 @@ def one_record(program, folder):
     assert run(program, ["del", folder, "1", "7"]) == (1, "refused: missing\n", "")
 
 
+def forms(program, folder):
+    """Fields as text and in JSON, those that are no text too; times as instants; what the log tells."""
+    store = os.path.join(folder, "forms")
+    os.mkdir(store)
+    assert run(program, ["format", store, "--slots", "16"])[0] == 0
+    fields = ["Ada", "\u00e9\\n\\\\", "", "\\x00ff", "-", "a b"]
+    assert run(program, ["put", store, "1", "7", "--text", "--", *fields])[0] == 0
+    value = "416461 c3a90a5c - 00ff 2d 612062"
+    assert run(program, ["get", store, "1", "7"]) == (0, f"value {value}\n", "")
+    assert run(program, ["get", store, "1", "7", "--text"]) == (0, "\t".join(["value", *fields]) + "\n", "")
+    assert run(program, ["scan", store, "1", "--text"]) == (0, "\t".join(["7", *fields]) + "\nrows\t1\n", "")
+    whole = ["Ada", "\u00e9\n\\", "", {"hex": "00ff"}, "-", "a b"]
+    for command, more, key in (("get", ["1", "7"], None), ("scan", ["1"], "record"), ("history", ["1", "7"], "from")):
+        status, said, told = run(program, [command, store, *more, "--json"])
+        assert (status, told, json.loads(said)["value"]) == (0, "", whole) and (key is None or key in json.loads(said)), said
+    status, said, told = run(program, ["times", store, "0", "--json", "--instants"])
+    time = datetime.fromisoformat(json.loads(said)["time"])
+    assert abs(datetime.now(timezone.utc) - time) < timedelta(minutes=5), said
+    for wrong in ("\\q", "\\", "\\x0", "\\xg0"):
+        assert run(program, ["put", store, "1", "7", "--text", wrong])[:2] == (1, "refused: bad value\n"), wrong
+    told = dict(line.split(" ", 1) for line in run(program, ["info", store])[1].splitlines())
+    assert (told["profile"], told["slots"], told["used"], told["commits"]) == ("3", "16", "1", "1"), told
+    last = int(told["last"])
+    for time in ("2000-01-01", "2000-01-01T00:00:00+01:00"):
+        assert run(program, ["get", store, "1", "7", time]) == (0, "none\n", ""), time
+    assert run(program, ["get", store, "1", "7", "2300-01-01"])[:2] == (1, f"refused: not yet {last}\n")
+    assert run(program, ["floor", store, "1", str(last)]) == (0, f"floor {last}\n", "")
+    assert json.loads(run(program, ["info", store, "--json"])[1])["floors"] == [{"relation": 1, "floor": last}]
+    empty = os.path.join(folder, "empty")
+    os.mkdir(empty)
+    assert run(program, ["info", empty])[:2] == (1, "refused: not a store\n")
+    assert run(program, ["info", os.path.join(folder, "none")])[:2] == (1, "refused: device\n")
+
+
 def main():
     program = os.path.abspath(sys.argv[1])
     with tempfile.TemporaryDirectory() as folder:
@@ -88,6 +128,7 @@ def main():
         no_times(program, folder)
         says_version(program)
         one_record(program, folder)
+        forms(program, folder)
     print("command line: ok")
 
 

@@ -191,8 +191,8 @@ completed() { # WORDS.., the last of which is completed
 mkdir -p "$work/words/reg"
 all_completed() { (cd "$work/words"; completed timestore g; completed timestore ""; completed timestore format --s; completed timestore at r; completed timestore stress ""); }
 compare all_completed <<'END'
-grow
-format run at between vacuum grow dump stress help --help
+grow get
+format run at between vacuum grow dump get scan history times put del floor info stress help --help --version
 --slots
 reg
 

@@ -6,138 +6,52 @@ use Rattle.history.specs.declared.key.Key.{Key}
 use Rattle.command_line.specs.declared.action.Action.{Action}
 use Rattle.command_line.specs.declared.action.Action.TheVariants as action
 use Rattle.command_line.specs.declared.question.RecordWrite.{RecordWrite}
-use Rattle.command_line.specs.Asked.{AsksAt, AsksBetween, AsksDelete, AsksFormat, AsksGet, AsksHistory}
-use Rattle.command_line.specs.Asked.{AsksPut, AsksScan, AsksStress, AsksTimes, HasKey, HasNumber}
+use Rattle.command_line.specs.Asked.{AsksAt, AsksBetween, AsksDelete, AsksFloor, AsksFormat, AsksGet, AsksHistory, AsksPut, AsksScan, AsksStress, AsksTimes}
+use Rattle.command_line.specs.Asked.{HasKey, HasNumber}
 
 pub no_slots : (rows : List Row) → ((n : ℕ) → HasNumber 32 (codes "slots") rows n → ⊥) → (a : Action) → AsksFormat rows a → ⊥
-no_slots rows none action.Example asked = asked
 no_slots rows none (action.Format dir slots) asked = none slots asked.1
-no_slots rows none (action.Run dir) asked = asked
-no_slots rows none (action.At dir key time) asked = asked
-no_slots rows none (action.Between dir key from to) asked = asked
-no_slots rows none (action.Ask dir question) asked = asked
-no_slots rows none (action.Write dir write) asked = asked
-no_slots rows none (action.Vacuum dir time) asked = asked
-no_slots rows none (action.Grow dir) asked = asked
-no_slots rows none (action.Dump dir) asked = asked
-no_slots rows none (action.Stress writers readers rounds) asked = asked
+no_slots rows none _ asked = asked
 
 pub no_key : (rows : List Row) → ((k : Key) → HasKey rows k → ⊥) → (a : Action) → AsksAt rows a → ⊥
-no_key rows none action.Example asked = asked
-no_key rows none (action.Format dir slots) asked = asked
-no_key rows none (action.Run dir) asked = asked
 no_key rows none (action.At dir key time) asked = none key asked.1
-no_key rows none (action.Between dir key from to) asked = asked
-no_key rows none (action.Ask dir question) asked = asked
-no_key rows none (action.Write dir write) asked = asked
-no_key rows none (action.Vacuum dir time) asked = asked
-no_key rows none (action.Grow dir) asked = asked
-no_key rows none (action.Dump dir) asked = asked
-no_key rows none (action.Stress writers readers rounds) asked = asked
+no_key rows none _ asked = asked
 
 pub no_key_between : (rows : List Row) → ((k : Key) → HasKey rows k → ⊥) → (a : Action) → AsksBetween rows a → ⊥
-no_key_between rows none action.Example asked = asked
-no_key_between rows none (action.Format dir slots) asked = asked
-no_key_between rows none (action.Run dir) asked = asked
-no_key_between rows none (action.At dir key time) asked = asked
 no_key_between rows none (action.Between dir key from to) asked = none key asked.1
-no_key_between rows none (action.Ask dir question) asked = asked
-no_key_between rows none (action.Write dir write) asked = asked
-no_key_between rows none (action.Vacuum dir time) asked = asked
-no_key_between rows none (action.Grow dir) asked = asked
-no_key_between rows none (action.Dump dir) asked = asked
-no_key_between rows none (action.Stress writers readers rounds) asked = asked
+no_key_between rows none _ asked = asked
 
 pub no_stress : (rows : List Row) → ((writers readers rounds : ℕ) → AsksStress rows (action.Stress writers readers rounds) → ⊥) → (a : Action)
     → AsksStress rows a → ⊥
-no_stress rows none action.Example asked = asked
-no_stress rows none (action.Format dir slots) asked = asked
-no_stress rows none (action.Run dir) asked = asked
-no_stress rows none (action.At dir key time) asked = asked
-no_stress rows none (action.Between dir key from to) asked = asked
-no_stress rows none (action.Ask dir question) asked = asked
-no_stress rows none (action.Write dir write) asked = asked
-no_stress rows none (action.Vacuum dir time) asked = asked
-no_stress rows none (action.Grow dir) asked = asked
-no_stress rows none (action.Dump dir) asked = asked
 no_stress rows none (action.Stress writers readers rounds) asked = none writers readers rounds asked
+no_stress rows none _ asked = asked
 
 pub no_key_get : (rows : List Row) → ((k : Key) → HasKey rows k → ⊥) → (a : Action) → AsksGet rows a → ⊥
-no_key_get rows none action.Example asked = asked
-no_key_get rows none (action.Format dir slots) asked = asked
-no_key_get rows none (action.Run dir) asked = asked
-no_key_get rows none (action.At dir key time) asked = asked
-no_key_get rows none (action.Between dir key from to) asked = asked
-no_key_get rows none (action.Ask dir question) asked = none asked.1 asked.2
-no_key_get rows none (action.Write dir write) asked = asked
-no_key_get rows none (action.Vacuum dir time) asked = asked
-no_key_get rows none (action.Grow dir) asked = asked
-no_key_get rows none (action.Dump dir) asked = asked
-no_key_get rows none (action.Stress writers readers rounds) asked = asked
+no_key_get rows none (action.Ask dir question style) asked = none asked.1 asked.2
+no_key_get rows none _ asked = asked
 
 pub no_key_history : (rows : List Row) → ((k : Key) → HasKey rows k → ⊥) → (a : Action) → AsksHistory rows a → ⊥
-no_key_history rows none action.Example asked = asked
-no_key_history rows none (action.Format dir slots) asked = asked
-no_key_history rows none (action.Run dir) asked = asked
-no_key_history rows none (action.At dir key time) asked = asked
-no_key_history rows none (action.Between dir key from to) asked = asked
-no_key_history rows none (action.Ask dir question) asked = none asked.1 asked.2
-no_key_history rows none (action.Write dir write) asked = asked
-no_key_history rows none (action.Vacuum dir time) asked = asked
-no_key_history rows none (action.Grow dir) asked = asked
-no_key_history rows none (action.Dump dir) asked = asked
-no_key_history rows none (action.Stress writers readers rounds) asked = asked
+no_key_history rows none (action.Ask dir question style) asked = none asked.1 asked.2
+no_key_history rows none _ asked = asked
 
 pub no_relation : (rows : List Row) → ((n : ℕ) → HasNumber 16 (codes "REL") rows n → ⊥) → (a : Action) → AsksScan rows a → ⊥
-no_relation rows none action.Example asked = asked
-no_relation rows none (action.Format dir slots) asked = asked
-no_relation rows none (action.Run dir) asked = asked
-no_relation rows none (action.At dir key time) asked = asked
-no_relation rows none (action.Between dir key from to) asked = asked
-no_relation rows none (action.Ask dir question) asked = none asked.1 asked.2
-no_relation rows none (action.Write dir write) asked = asked
-no_relation rows none (action.Vacuum dir time) asked = asked
-no_relation rows none (action.Grow dir) asked = asked
-no_relation rows none (action.Dump dir) asked = asked
-no_relation rows none (action.Stress writers readers rounds) asked = asked
+no_relation rows none (action.Ask dir question style) asked = none asked.1 asked.2
+no_relation rows none _ asked = asked
+
+pub no_floor : (rows : List Row) → ((n : ℕ) → HasNumber 16 (codes "REL") rows n → ⊥) → (a : Action) → AsksFloor rows a → ⊥
+no_floor rows none (action.Floor dir relation time) asked = none relation asked.1
+no_floor rows none _ asked = asked
 
 pub no_label : (rows : List Row) → ((n : ℕ) → HasNumber 64 (codes "LABEL") rows n → ⊥) → (a : Action) → AsksTimes rows a → ⊥
-no_label rows none action.Example asked = asked
-no_label rows none (action.Format dir slots) asked = asked
-no_label rows none (action.Run dir) asked = asked
-no_label rows none (action.At dir key time) asked = asked
-no_label rows none (action.Between dir key from to) asked = asked
-no_label rows none (action.Ask dir question) asked = none asked.1 asked.2
-no_label rows none (action.Write dir write) asked = asked
-no_label rows none (action.Vacuum dir time) asked = asked
-no_label rows none (action.Grow dir) asked = asked
-no_label rows none (action.Dump dir) asked = asked
-no_label rows none (action.Stress writers readers rounds) asked = asked
+no_label rows none (action.Ask dir question style) asked = none asked.1 asked.2
+no_label rows none _ asked = asked
 
 pub no_put : (now : ℕ) (rows : List Row) → ((dir : Bor Text) (write : RecordWrite) → AsksPut now rows (action.Write dir write) → ⊥) → (a : Action)
     → AsksPut now rows a → ⊥
-no_put now rows none action.Example asked = asked
-no_put now rows none (action.Format dir slots) asked = asked
-no_put now rows none (action.Run dir) asked = asked
-no_put now rows none (action.At dir key time) asked = asked
-no_put now rows none (action.Between dir key from to) asked = asked
-no_put now rows none (action.Ask dir question) asked = asked
 no_put now rows none (action.Write dir write) asked = none dir write asked
-no_put now rows none (action.Vacuum dir time) asked = asked
-no_put now rows none (action.Grow dir) asked = asked
-no_put now rows none (action.Dump dir) asked = asked
-no_put now rows none (action.Stress writers readers rounds) asked = asked
+no_put now rows none _ asked = asked
 
 pub no_delete : (now : ℕ) (rows : List Row) → ((dir : Bor Text) (write : RecordWrite) → AsksDelete now rows (action.Write dir write) → ⊥) → (a : Action)
     → AsksDelete now rows a → ⊥
-no_delete now rows none action.Example asked = asked
-no_delete now rows none (action.Format dir slots) asked = asked
-no_delete now rows none (action.Run dir) asked = asked
-no_delete now rows none (action.At dir key time) asked = asked
-no_delete now rows none (action.Between dir key from to) asked = asked
-no_delete now rows none (action.Ask dir question) asked = asked
 no_delete now rows none (action.Write dir write) asked = none dir write asked
-no_delete now rows none (action.Vacuum dir time) asked = asked
-no_delete now rows none (action.Grow dir) asked = asked
-no_delete now rows none (action.Dump dir) asked = asked
-no_delete now rows none (action.Stress writers readers rounds) asked = asked
+no_delete now rows none _ asked = asked

@@ -1,2 +1,3 @@
 mod AskLemmas
 mod Getters
+mod MomentLemmas

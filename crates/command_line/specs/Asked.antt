@@ -1,5 +1,5 @@
 -- What a parsed command line asks for.
-use Rattle.std.specs.Prelude.{◌≡◌, ℕ, List, Option, Some, None, Ok, codes, MatchBool, MatchOption}
+use Rattle.std.specs.Prelude.{◌≡◌, ℕ, false, List, Option, Some, None, Ok, codes, MatchBool, MatchOption}
 use Rattle.std.specs.Borrow.{Bor}
 use Rattle.std.specs.Str.{bytes_eq}
 use Rattle.std.specs.Str.Parse.{ParsesUnsigned}
@@ -10,7 +10,8 @@ use Rattle.command_line.specs.declared.action.Action.{Action}
 use Rattle.command_line.specs.declared.action.Action.TheVariants as action
 use Rattle.command_line.specs.declared.question.Question.TheVariants as question
 use Rattle.command_line.specs.declared.question.When.TheVariants as when
-use Rattle.command_line.specs.Questions.{records_of, rows_of_key, texts, value_of, when_of}
+use Rattle.command_line.specs.Moments.{moment}
+use Rattle.command_line.specs.Questions.{is_set, style_of, records_of, rows_of_key, texts, value_of, when_of}
 
 -- the argument has a text, which spells n in digits, n below 2 ^ bits
 abbrev pub HasNumber : ℕ → Text → List Row → ℕ → Type 0
@@ -19,6 +20,10 @@ HasNumber bits id rows n = (t : Text) × (one_of id rows ≡ Some t) × ParsesUn
 -- the argument has a text, and this is the time that it spells, or none where it spells none
 abbrev pub HasTime : Text → List Row → Option ℕ → Type 0
 HasTime id rows time = (t : Text) × (first_of id rows ≡ Some t) × (time ≡ time_in t)
+
+-- the argument has a text, and this is the moment that it spells, or none where it spells none
+abbrev pub HasMoment : Text → List Row → Option ℕ → Type 0
+HasMoment id rows time = (t : Text) × (first_of id rows ≡ Some t) × (time ≡ moment t)
 
 -- the arguments name this key, by relation and record
 abbrev pub HasKey : List Row → Key → Type 0
@@ -69,26 +74,28 @@ AsksStress rows _ = ⊥
 
 -- `get` is asked for: the value of this key at the time that the words spell, or at that of the last commit
 abbrev pub AsksGet : List Row → Action → Type 0
-AsksGet rows (action.Ask dir asked) = (first_of (codes "DIR") rows ≡ Some dir.now)
-    × (key : Key) × HasKey rows key × (asked ≡ value_of key (when_of when.Now (first_of (codes "TIME") rows)))
+AsksGet rows (action.Ask dir asked style) = (first_of (codes "DIR") rows ≡ Some dir.now)
+    × (key : Key) × HasKey rows key × (asked ≡ value_of key (when_of when.Now (first_of (codes "TIME") rows))) × (style ≡ style_of rows)
 AsksGet rows _ = ⊥
 
 -- `scan` is asked for: the records of this relation at the time that the words spell, or at that of the last commit
 abbrev pub AsksScan : List Row → Action → Type 0
-AsksScan rows (action.Ask dir asked) = (first_of (codes "DIR") rows ≡ Some dir.now)
+AsksScan rows (action.Ask dir asked style) = (first_of (codes "DIR") rows ≡ Some dir.now)
     × (relation : ℕ) × HasNumber 16 (codes "REL") rows relation × (asked ≡ records_of relation (when_of when.Now (first_of (codes "TIME") rows)))
+    × (style ≡ style_of rows)
 AsksScan rows _ = ⊥
 
 -- `history` is asked for: the rows of this key, from the first time that is kept where the words spell none, and up to now where they spell none
 abbrev pub AsksHistory : List Row → Action → Type 0
-AsksHistory rows (action.Ask dir asked) = (first_of (codes "DIR") rows ≡ Some dir.now) × (key : Key) × HasKey rows key
+AsksHistory rows (action.Ask dir asked style) = (first_of (codes "DIR") rows ≡ Some dir.now) × (key : Key) × HasKey rows key
     × (asked ≡ rows_of_key key (when_of when.First (first_of (codes "FROM") rows)) (when_of when.Now (first_of (codes "TO") rows)))
+    × (style ≡ style_of rows)
 AsksHistory rows _ = ⊥
 
 -- `times` is asked for, of this label
 abbrev pub AsksTimes : List Row → Action → Type 0
-AsksTimes rows (action.Ask dir asked) = (first_of (codes "DIR") rows ≡ Some dir.now)
-    × (label : ℕ) × HasNumber 64 (codes "LABEL") rows label × (asked ≡ Some (question.Times label))
+AsksTimes rows (action.Ask dir asked style) = (first_of (codes "DIR") rows ≡ Some dir.now)
+    × (label : ℕ) × HasNumber 64 (codes "LABEL") rows label × (asked ≡ Some (question.Times label)) × (style ≡ style_of rows)
 AsksTimes rows _ = ⊥
 
 -- the arguments have these words as fields
@@ -98,14 +105,31 @@ HasFields rows fields = all_of (codes "FIELD") rows ≡ Some (texts fields)
 -- `put` is asked for, of this key, with these fields and this label, at the clock's time
 abbrev pub AsksPut : ℕ → List Row → Action → Type 0
 AsksPut now rows (action.Write dir write) = (first_of (codes "DIR") rows ≡ Some dir.now) × HasKey rows write.key
-    × MatchOption write.fields ⊥ (λ fields. HasFields rows fields) × HasNumber 64 (codes "label") rows write.label × (write.now ≡ now)
+    × MatchOption write.fields ⊥ (λ fields. HasFields rows fields) × (write.is_text ≡ is_set (codes "text") rows) × HasNumber 64
+    (codes "label") rows write.label × (write.now ≡ now)
 AsksPut now rows _ = ⊥
 
 -- `del` is asked for, of this key, with this label, at the clock's time
 abbrev pub AsksDelete : ℕ → List Row → Action → Type 0
 AsksDelete now rows (action.Write dir write) = (first_of (codes "DIR") rows ≡ Some dir.now) × HasKey rows write.key
-    × (write.fields ≡ None) × HasNumber 64 (codes "label") rows write.label × (write.now ≡ now)
+    × (write.fields ≡ None) × (write.is_text ≡ false) × HasNumber 64 (codes "label") rows write.label × (write.now ≡ now)
 AsksDelete now rows _ = ⊥
+
+-- `floor` is asked for, of this relation and up to the time that the words spell
+abbrev pub AsksFloor : List Row → Action → Type 0
+AsksFloor rows (action.Floor dir relation time) = (first_of (codes "DIR") rows ≡ Some dir.now)
+    × HasNumber 16 (codes "REL") rows relation × HasMoment (codes "TIME") rows time
+AsksFloor rows _ = ⊥
+
+-- `info` is asked for, of the store in this directory, in JSON or not
+abbrev pub AsksInfo : List Row → Action → Type 0
+AsksInfo rows (action.Info dir json) = (first_of (codes "DIR") rows ≡ Some dir.now) × (json ≡ is_set (codes "json") rows)
+AsksInfo rows _ = ⊥
+
+-- a command that tells of a store or raises a floor, and the rows of its arguments
+abbrev pub AsksOfStore : Text → List Row → Action → Type 0
+AsksOfStore name rows a = MatchBool (bytes_eq name (codes "floor")) (AsksFloor rows a)
+    (MatchBool (bytes_eq name (codes "info")) (AsksInfo rows a) ⊥)
 
 -- a command on one record or relation, and the rows of its arguments; the clock says now
 abbrev pub AsksOfRecord : ℕ → Text → List Row → Action → Type 0
@@ -114,7 +138,7 @@ AsksOfRecord now name rows a = MatchBool (bytes_eq name (codes "get")) (AsksGet 
     (MatchBool (bytes_eq name (codes "history")) (AsksHistory rows a)
     (MatchBool (bytes_eq name (codes "times")) (AsksTimes rows a)
     (MatchBool (bytes_eq name (codes "put")) (AsksPut now rows a)
-    (MatchBool (bytes_eq name (codes "del")) (AsksDelete now rows a) ⊥)))))
+    (MatchBool (bytes_eq name (codes "del")) (AsksDelete now rows a) (AsksOfStore name rows a))))))
 
 -- a subcommand's name, and the rows of its arguments; the clock says now
 abbrev pub AsksCommand : ℕ → Text → List Row → Action → Type 0

@@ -3,6 +3,7 @@ use Rattle.std.specs.Prelude.{◌≡◌, ◌∷◌, [], Some, codes, true, false
 use Rattle.clap.specs.Simple.{on_top}
 use Rattle.clap.specs.Words.{App, Rule, Text, app_of, rule_of, new_app, new_rule, with_rule, with_subcommand}
 use Rattle.clap.specs.declared.builder.arg.Arg.{Arg}
+use Rattle.clap.specs.declared.builder.action.ArgAction.TheVariants.{SetTrue}
 use Rattle.clap.specs.declared.builder.command.Command.{Command}
 use Rattle.clap.specs.declared.builder.command.Command.TheViews.{out-Command as fields_of}
 use Rattle.clap.specs.declared.builder.value_parser.ValueParser.TheVariants as parser
@@ -72,6 +73,30 @@ label = record (new_rule (codes "label")) {
 abbrev pub fields : Rule
 fields = record (text (codes "FIELD")) { range = Some (record { start_inclusive = 1; end_inclusive = 16 }) }
 
+-- a flag: set where the words have it
+abbrev pub flag : Text → Rule
+flag name = record (new_rule name) { long = Some name; action = Some SetTrue }
+
+-- fields as text
+abbrev pub text_flag : Rule
+text_flag = flag (codes "text")
+
+-- the answer in JSON
+abbrev pub json_flag : Rule
+json_flag = flag (codes "json")
+
+-- times as instants
+abbrev pub instants_flag : Rule
+instants_flag = flag (codes "instants")
+
+-- a command whose answer may be text or JSON
+abbrev pub with_forms : App → App
+with_forms app = with_rule (with_rule app text_flag) json_flag
+
+-- and whose times may be instants
+abbrev pub with_styles : App → App
+with_styles app = with_rule (with_forms app) instants_flag
+
 -- how many slots a new store has: 1024 unless the option says another number
 abbrev pub slots : Rule
 slots = record (new_rule (codes "slots")) {
@@ -113,25 +138,25 @@ at = with_rule (of_record (codes "at")) time
 abbrev pub between : App
 between = with_rule (with_rule (of_record (codes "between")) from) to
 
--- `get DIR REL REC [TIME]`: asks for a record's value
+-- `get DIR REL REC [TIME] [--text] [--json]`: asks for a record's value
 abbrev pub get : App
-get = with_rule (of_record (codes "get")) time_or_now
+get = with_forms (with_rule (of_record (codes "get")) time_or_now)
 
--- `scan DIR REL [TIME]`: asks for the records of a relation
+-- `scan DIR REL [TIME] [--text] [--json]`: asks for the records of a relation
 abbrev pub scan : App
-scan = with_rule (with_rule (with_rule (new_app (codes "scan")) dir) relation) time_or_now
+scan = with_forms (with_rule (with_rule (with_rule (new_app (codes "scan")) dir) relation) time_or_now)
 
--- `history DIR REL REC [FROM [TO]]`: asks for a record's rows
+-- `history DIR REL REC [FROM [TO]] [--text] [--json] [--instants]`: asks for a record's rows
 abbrev pub history : App
-history = with_rule (with_rule (of_record (codes "history")) from_or_first) to_or_now
+history = with_styles (with_rule (with_rule (of_record (codes "history")) from_or_first) to_or_now)
 
--- `times DIR LABEL`: asks for the times of the commits with a label
+-- `times DIR LABEL [--text] [--json] [--instants]`: asks for the times of the commits with a label
 abbrev pub times : App
-times = with_rule (with_rule (new_app (codes "times")) dir) label_number
+times = with_styles (with_rule (with_rule (new_app (codes "times")) dir) label_number)
 
--- `put DIR REL REC FIELD.. [--label N]`: writes a record's value
+-- `put DIR REL REC FIELD.. [--label N] [--text]`: writes a record's value
 abbrev pub put : App
-put = with_rule (with_rule (of_record (codes "put")) fields) label
+put = with_rule (with_rule (with_rule (of_record (codes "put")) fields) label) text_flag
 
 -- `del DIR REL REC [--label N]`: deletes a record's value
 abbrev pub del : App
@@ -144,6 +169,14 @@ vacuum = with_rule (with_rule (new_app (codes "vacuum")) dir) time
 -- `grow DIR`: adds a piece of slots to a store
 abbrev pub grow : App
 grow = with_rule (new_app (codes "grow")) dir
+
+-- `floor DIR REL TIME`: lets a relation's history before a time go
+abbrev pub floor : App
+floor = with_rule (with_rule (with_rule (new_app (codes "floor")) dir) relation) time
+
+-- `info DIR [--json]`: shows what a store has
+abbrev pub info : App
+info = with_rule (with_rule (new_app (codes "info")) dir) json_flag
 
 -- `dump DIR`: shows the log of a store
 abbrev pub dump : App
@@ -181,6 +214,10 @@ reading = with_subcommand (with_subcommand (with_subcommand (with_subcommand kee
 abbrev pub writing : App
 writing = with_subcommand (with_subcommand reading put.top) del.top
 
+-- these, and the commands that raise a floor and show what a store has
+abbrev pub telling : App
+telling = with_subcommand (with_subcommand writing floor.top) info.top
+
 -- the whole command line: these, and the command that tries a store with threads
 abbrev pub timestore : App
-timestore = with_subcommand writing stress.top
+timestore = with_subcommand telling stress.top

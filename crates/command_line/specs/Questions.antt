@@ -1,10 +1,14 @@
 -- The questions and writes of the command line.
-use Rattle.std.specs.Prelude.{ℕ, List, Option, Some, None, codes, map, if◌then◌else◌, option_map}
+use Rattle.std.specs.Prelude.{ℕ, Bool, false, List, Option, Some, None, codes, map, if◌then◌else◌, option_map}
 use Rattle.std.specs.Borrow.{Bor}
+use Rattle.std.specs.Option.{option_map_or}
 use Rattle.std.specs.Str.{bytes_eq}
-use Rattle.clap.specs.Words.{Text}
+use Rattle.clap.specs.Words.{Row, Text, first_of}
+use Rattle.forms.specs.declared.style.Form.{Form}
+use Rattle.forms.specs.declared.style.Form.TheVariants as form
+use Rattle.forms.specs.declared.style.Style.{Style}
 use Rattle.history.specs.declared.key.Key.{Key}
-use Rattle.script.specs.Lines.{time_in}
+use Rattle.command_line.specs.Moments.{moment}
 use Rattle.command_line.specs.declared.question.Question.{Question}
 use Rattle.command_line.specs.declared.question.Question.TheVariants as question
 use Rattle.command_line.specs.declared.question.When.{When}
@@ -16,7 +20,7 @@ texts words = map (λ (w : Bor Text). w.now) words.now
 
 -- `now`, or the time that a word spells
 abbrev pub when_in : Text → Option When
-when_in word = if bytes_eq word (codes "now") then Some when.Now else option_map (λ t. when.At t) (time_in word)
+when_in word = if bytes_eq word (codes "now") then Some when.Now else option_map (λ t. when.At t) (moment word)
 
 -- the time of a word that may be left out
 abbrev pub when_of : When → Option Text → Option When
@@ -35,3 +39,15 @@ records_of relation time = option_map (λ t. question.Records relation t) time
 abbrev pub rows_of_key : Key → Option When → Option When → Option Question
 rows_of_key key (Some from) (Some to) = Some (question.Rows key from to)
 rows_of_key key _ _ = None
+
+-- a flag is set
+abbrev pub is_set : Text → List Row → Bool
+is_set name rows = option_map_or (λ (t : Text). bytes_eq t (codes "true")) (first_of name rows) false
+
+-- the form of an answer: in JSON or as text where these flags are set, else in hexadecimal
+abbrev pub form_by : (is_text is_json : Bool) → Form
+form_by is_text is_json = if is_json then form.Json else if is_text then form.Text else form.Hex
+
+-- how an answer is to be spelled
+abbrev pub style_of : List Row → Style
+style_of rows = record { form = form_by (is_set (codes "text") rows) (is_set (codes "json") rows); instants = is_set (codes "instants") rows }

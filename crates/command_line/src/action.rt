@@ -1,5 +1,6 @@
 //! What the words of a command line ask for.
 use crate::question::{Question, RecordWrite};
+use forms::Style;
 use history::Key;
 
 /// What to do. A time is in microseconds since 1970, and `None` where its word spells none.
@@ -29,10 +30,12 @@ pub enum Action<'a> {
         from: Option<u64>,
         to: Option<u64>,
     },
-    /// Asks the store in a folder a question, or `None` where a word that is to be a time is none.
+    /// Asks the store in a folder a question, or `None` where a word that is to be a time is none. The
+    /// answer is spelled so.
     Ask {
         dir: &'a str,
         question: Option<Question>,
+        style: Style,
     },
     /// Writes a record of the store in a folder, in a commit of its own.
     Write {
@@ -47,6 +50,17 @@ pub enum Action<'a> {
     /// Makes 256 slots more in the store in a folder.
     Grow {
         dir: &'a str,
+    },
+    /// Lets the history of a relation before a time go, in the store in a folder.
+    Floor {
+        dir: &'a str,
+        relation: u16,
+        time: Option<u64>,
+    },
+    /// Shows what the store in a folder has and has room for, in lines or in JSON.
+    Info {
+        dir: &'a str,
+        json: bool,
     },
     /// Shows what the log of the store in a folder says.
     Dump {

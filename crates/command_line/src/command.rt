@@ -6,7 +6,7 @@ ghost use Rattle.command_line.specs.Commands as told;
 
 use crate::help;
 use clap::builder::ValueParser;
-use clap::{Arg, ArgMatches, Command, Error, value_parser};
+use clap::{Arg, ArgAction, ArgMatches, Command, Error, value_parser};
 use std::alloc::{AllocError, Global};
 
 /// The profile of the files that `format` makes, by which a version is named.
@@ -48,11 +48,20 @@ fn to<'a>(alloc: Global) -> Arg<'a>
         .help("Where it ends: this time is no longer in it")
 }
 
+/// A time, in more forms than that of scripts.
+fn moment<'a>(alloc: Global) -> Arg<'a>
+    ensures { told.IsArg result told.time }
+{
+    Arg::new(alloc, "TIME")
+        .required(true)
+        .help("A time, as in `get --help`")
+}
+
 /// A time that may be left out.
 fn time_or_now<'a>(alloc: Global) -> Arg<'a>
     ensures { told.IsArg result told.time_or_now }
 {
-    Arg::new(alloc, "TIME").help("A time as of `at`, or `now`, which it is unless it is said")
+    Arg::new(alloc, "TIME").help("A time, or `now`, which it is unless it is said")
 }
 
 /// Where an interval begins, if not at the first time that is kept.
@@ -121,6 +130,41 @@ fn fields<'a>(alloc: Global) -> Arg<'a>
         .help("A field in lower-case hexadecimal, `-` if empty")
 }
 
+/// A flag, which is set where the words have it.
+fn flag<'a>(alloc: Global, name: &'a str, help: &'a str) -> Arg<'a>
+    ensures { told.IsArg result (told.flag name.entry.now) }
+{
+    Arg::new(alloc, name)
+        .long(name)
+        .action(ArgAction::SetTrue)
+        .help(help)
+}
+
+/// Whether fields are text.
+fn text_flag<'a>(alloc: Global) -> Arg<'a>
+    ensures { told.IsArg result told.text_flag }
+{
+    flag(alloc, "text", "Fields as text, not in hexadecimal")
+}
+
+/// Whether the answer is in JSON.
+fn json_flag<'a>(alloc: Global) -> Arg<'a>
+    ensures { told.IsArg result told.json_flag }
+{
+    flag(alloc, "json", "The answer in JSON, an object a line")
+}
+
+/// Whether times are instants.
+fn instants_flag<'a>(alloc: Global) -> Arg<'a>
+    ensures { told.IsArg result told.instants_flag }
+{
+    flag(
+        alloc,
+        "instants",
+        "Times as YYYY-MM-DDTHH:MM:SSZ, with microseconds after SS if there are some",
+    )
+}
+
 /// How many slots a store is made with.
 fn slots<'a>(alloc: Global) -> Arg<'a>
     ensures { told.IsArg result told.slots }
@@ -182,6 +226,28 @@ fn with_arg<'a>(
     command?.arg(arg)
 }
 
+/// The command, whose answer may be text or JSON.
+fn with_forms<'a>(
+    alloc: Global,
+    command: Result<Command<'a>, AllocError>,
+) -> Result<Command<'a>, AllocError>
+    ensures { (app : App) → IfOk command.entry (λ c. told.IsCommand c app) → IfOk result (λ c. told.IsCommand c (told.with_forms app)) }
+{
+    let command = with_arg(command, text_flag(alloc));
+    with_arg(command, json_flag(alloc))
+}
+
+/// The command, whose times may be instants too.
+fn with_styles<'a>(
+    alloc: Global,
+    command: Result<Command<'a>, AllocError>,
+) -> Result<Command<'a>, AllocError>
+    ensures { (app : App) → IfOk command.entry (λ c. told.IsCommand c app) → IfOk result (λ c. told.IsCommand c (told.with_styles app)) }
+{
+    let command = with_forms(alloc, command);
+    with_arg(command, instants_flag(alloc))
+}
+
 fn format<'a>(alloc: Global) -> Result<Command<'a>, AllocError>
     ensures { IfOk result (λ c. told.IsCommand c told.format) }
 {
@@ -237,27 +303,27 @@ fn between<'a>(alloc: Global) -> Result<Command<'a>, AllocError>
 fn get<'a>(alloc: Global) -> Result<Command<'a>, AllocError>
     ensures { IfOk result (λ c. told.IsCommand c told.get) }
 {
-    let command = of_record(alloc, "get", "Show the value of a record", help::TIMES);
-    with_arg(command, time_or_now(alloc))
+    let command = of_record(alloc, "get", "Show the value of a record", help::ANSWERS);
+    with_forms(alloc, with_arg(command, time_or_now(alloc)))
 }
 
 fn scan<'a>(alloc: Global) -> Result<Command<'a>, AllocError>
     ensures { IfOk result (λ c. told.IsCommand c told.scan) }
 {
     let about = "Show the records of a relation";
-    let command = command(alloc, "scan", about, help::TIMES);
+    let command = command(alloc, "scan", about, help::ANSWERS);
     let command = with_arg(Ok(command), dir(alloc));
     let command = with_arg(command, relation(alloc));
-    with_arg(command, time_or_now(alloc))
+    with_forms(alloc, with_arg(command, time_or_now(alloc)))
 }
 
 fn history<'a>(alloc: Global) -> Result<Command<'a>, AllocError>
     ensures { IfOk result (λ c. told.IsCommand c told.history) }
 {
     let about = "Show what stood in a record, all that is kept of it or an interval";
-    let command = of_record(alloc, "history", about, help::TIMES);
+    let command = of_record(alloc, "history", about, help::ANSWERS);
     let command = with_arg(command, from_or_first(alloc));
-    with_arg(command, to_or_now(alloc))
+    with_styles(alloc, with_arg(command, to_or_now(alloc)))
 }
 
 fn times<'a>(alloc: Global) -> Result<Command<'a>, AllocError>
@@ -266,7 +332,7 @@ fn times<'a>(alloc: Global) -> Result<Command<'a>, AllocError>
     let about = "Show the times of the commits with a label";
     let command = command(alloc, "times", about, help::LABELS);
     let command = with_arg(Ok(command), dir(alloc));
-    with_arg(command, label_number(alloc))
+    with_styles(alloc, with_arg(command, label_number(alloc)))
 }
 
 fn put<'a>(alloc: Global) -> Result<Command<'a>, AllocError>
@@ -275,7 +341,8 @@ fn put<'a>(alloc: Global) -> Result<Command<'a>, AllocError>
     let about = "Write the value of a record in a commit of its own";
     let command = of_record(alloc, "put", about, help::WRITES);
     let command = with_arg(command, fields(alloc));
-    with_arg(command, label(alloc))
+    let command = with_arg(command, label(alloc));
+    with_arg(command, text_flag(alloc))
 }
 
 fn del<'a>(alloc: Global) -> Result<Command<'a>, AllocError>
@@ -301,6 +368,25 @@ fn grow<'a>(alloc: Global) -> Result<Command<'a>, AllocError>
     let about = "Make 256 slots more in a store";
     let command = command(alloc, "grow", about, help::GROW);
     with_arg(Ok(command), dir(alloc))
+}
+
+fn floor<'a>(alloc: Global) -> Result<Command<'a>, AllocError>
+    ensures { IfOk result (λ c. told.IsCommand c told.floor) }
+{
+    let about = "Let the history of a relation before a time go";
+    let command = command(alloc, "floor", about, help::FLOOR);
+    let command = with_arg(Ok(command), dir(alloc));
+    let command = with_arg(command, relation(alloc));
+    with_arg(command, moment(alloc))
+}
+
+fn info<'a>(alloc: Global) -> Result<Command<'a>, AllocError>
+    ensures { IfOk result (λ c. told.IsCommand c told.info) }
+{
+    let about = "Show what a store has and what it has room for";
+    let command = command(alloc, "info", about, help::INFO);
+    let command = with_arg(Ok(command), dir(alloc));
+    with_arg(command, json_flag(alloc))
 }
 
 fn dump<'a>(alloc: Global) -> Result<Command<'a>, AllocError>
@@ -397,11 +483,19 @@ fn writing<'a>(alloc: Global) -> Result<Command<'a>, AllocError>
     with_command(command, del(alloc))
 }
 
+/// These, and the commands that raise a floor and show what a store has.
+fn telling<'a>(alloc: Global) -> Result<Command<'a>, AllocError>
+    ensures { IfOk result (λ c. told.IsCommand c told.telling) }
+{
+    let command = with_command(writing(alloc), floor(alloc));
+    with_command(command, info(alloc))
+}
+
 /// The whole command line.
 fn timestore<'a>(alloc: Global) -> Result<Command<'a>, AllocError>
     ensures { IfOk result (λ c. told.IsCommand c told.timestore) }
 {
-    with_command(writing(alloc), stress(alloc))
+    with_command(telling(alloc), stress(alloc))
 }
 
 /// What the words say, as `clap` reads them; the first word is the program's.

@@ -52,6 +52,24 @@ of the input. A line of no such form ends it with status 1.
   not growable  the store may not have 256 slots more
 The store is this process's alone until it ends.";
 
+/// Of `get`, `scan` and `history`, which have forms.
+pub const ANSWERS: &str = "A time is one of these, to the microsecond:
+  now                        that of the last commit
+  1795424400000000           microseconds since 1970
+  2026-11-23T09:00:00Z       with an offset, as +01:00, or Z for UTC
+  2026-11-23                 midnight, by UTC
+One after the last commit is refused: `not yet` and the time of that commit; so is
+one before the floor: `before kept` and the floor. A value is 1 to 16 fields in
+hexadecimal, `-` for an empty one. The store is opened for this alone: where another
+process has it open, the answer is `refused: device`.
+
+With --text the words of a line are parted by tabs, and a field is its text, with
+\\\\ for a backslash and \\t, \\n, \\r for a tab and the ends of lines. A field that
+is no UTF-8, or has another control character, is \\x and its bytes in hexadecimal.
+With --json each value, record or row is an object on a line of its own, and no line
+says how many there are. A field is a string, or {\"hex\":\"ff00\"} if it is no UTF-8.
+A refusal is the same line in each form.";
+
 /// Of `put` and `del`.
 pub const WRITES: &str =
     "A value is 1 to 16 fields of 0 to 255 bytes. The commit is durable once it is
@@ -60,7 +78,8 @@ this script does, where NOW is the clock's time:
   begin t, put t REL REC F.. or del t REL REC, submit t LABEL NOW, flush, redeem t
 The last answer is said, `done T` with the commit's time, or the first refusal:
   missing       there is no value to delete
-  bad value     a field of more than 255 bytes, or not in hexadecimal
+  bad value     a field of more than 255 bytes, or not in hexadecimal; with --text,
+                a backslash that is none of the escapes of `get --text`
   status full   no slot is left for the commit
   heap full     no extents are left for it
 After `failed`, `times LABEL` tells whether the store has the commit.";
@@ -68,9 +87,10 @@ After `failed`, `times LABEL` tells whether the store has the commit.";
 /// Of `times`.
 pub const LABELS: &str =
     "The line is `times`, and the times of the commits with this label, rising, in
-microseconds since 1970.";
+microseconds since 1970. With --text they are parted by tabs; with --json each time is
+an object on a line of its own.";
 
-/// Of `at`, `between`, `get`, `scan` and `history`.
+/// Of `at` and `between`.
 pub const TIMES: &str =
     "A time is microseconds since 1970, or the text YYYY-MM-DDTHH:MM:SSZ. One after
 the last commit is refused: `not yet` and the time of that commit; so is one before
@@ -98,6 +118,36 @@ stays as it was. The line is:
   slots N   the store has N slots now
 A store of more than 65280 slots is refused by `not growable`, and so is one that a
 timestore before this one made.";
+
+/// Of `floor`.
+pub const FLOOR: &str =
+    "From then on each question about the relation and a time before TIME is refused. This
+can't be undone. It takes a slot, and frees no space by itself: what ended by the time
+is left out of the next archive. It is what `floorof REL TIME` and `finish` do in a
+script. The line is:
+  floor T   with the time, in microseconds since 1970
+A refusal is one of:
+  nothing to do   the relation's floor is the time already, or later
+  not yet T       the time is after the last commit, that of T
+  wrong profile   the store has one floor for all relations
+  status full     no slot is left";
+
+/// Of `info`.
+pub const INFO: &str =
+    "The store is not opened, and nothing is written. A line has a name and a number, 0
+where there is nothing of it:
+  profile       that of the store's files
+  slots, used   how many slots there are, and how many are used
+  extents       how many of 65536 the heap has to keep
+  commits       how many the log names
+  first, last   the times of the first and of the last
+  archived      up to this time
+  archive       the bytes of its runs
+  reclaimed     up to this time
+  days          the slots that are left last so long if they are used as in the
+                30 days before the last commit; no line where there is no commit
+  floor REL T   a line for each relation that has a floor, or `floor T` of all
+With --json it is one object. Its member `floors` is an array, an object for each.";
 
 /// Of `dump`.
 pub const DUMP: &str = "The store is not opened, and nothing is written. The lines are:

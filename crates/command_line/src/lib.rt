@@ -4,10 +4,12 @@
 mod action;
 mod command;
 mod help;
+mod moment;
 mod question;
 mod read;
 
 pub use action::Action;
 pub use command::read_words;
+pub use forms::{Form, Style};
 pub use question::{Question, RecordWrite, When};
 pub use read::action_of;

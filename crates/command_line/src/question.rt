@@ -31,6 +31,8 @@ pub struct RecordWrite<'a> {
     pub key: Key,
     /// The words of its fields, or `None` where the record is deleted.
     pub fields: Option<&'a [&'a str]>,
+    /// Whether these words are text, and not hexadecimal.
+    pub is_text: bool,
     pub label: u64,
     /// What the clock says, in microseconds since 1970.
     pub now: u64,

@@ -6,12 +6,15 @@ ghost use Rattle.history.specs.declared.key.Key.{Key as AnyKey};
 ghost use Rattle.script.specs.Lines.{time_in};
 ghost use Rattle.command_line.specs.declared.action.Action.{Action as Asked};
 ghost use Rattle.command_line.specs.Asked.{HasKey, HasNumber, Asks, AsksFormat, AsksNothing, AsksRun, AsksAt, AsksBetween, AsksVacuum, AsksGrow, AsksDump};
-ghost use Rattle.command_line.specs.Asked.{AsksCommand, AsksStress, AsksGet, AsksScan, AsksHistory, AsksTimes, AsksPut, AsksDelete, AsksOfRecord, HasFields};
-ghost use Rattle.command_line.specs.Questions.{records_of, rows_of_key, value_of, when_in, when_of};
+ghost use Rattle.command_line.specs.Asked.{AsksCommand, AsksStress, AsksGet, AsksScan, AsksHistory, AsksTimes};
+ghost use Rattle.command_line.specs.Asked.{AsksPut, AsksDelete, AsksFloor, AsksInfo, AsksOfRecord, AsksOfStore, HasFields};
+ghost use Rattle.command_line.specs.Questions.{form_by, is_set, records_of, rows_of_key, style_of, value_of, when_in, when_of};
 
 use crate::action::Action;
+use crate::moment::moment;
 use crate::question::{Question, RecordWrite, When};
 use clap::ArgMatches;
+use forms::{Form, Style};
 use history::Key;
 use script::read_time;
 
@@ -37,7 +40,7 @@ fn when_in(word: &str) -> Option<When>
     if word == "now" {
         return Some(When::Now);
     }
-    match time_of(word) {
+    match moment(word) {
         Some(time) => Some(When::At(time)),
         None => None,
     }
@@ -50,6 +53,36 @@ fn when_of(matches: &ArgMatches<'_>, name: &str, absent: When) -> Option<When>
     match text(matches, name) {
         Some(word) => when_in(word),
         None => Some(absent),
+    }
+}
+
+/// Whether a flag is set.
+fn is_set(matches: &ArgMatches<'_>, name: &str) -> bool
+    ensures { result ≡ is_set name.now (rows_of (found_of matches.now)) }
+{
+    match text(matches, name) {
+        Some(word) => word == "true",
+        None => false,
+    }
+}
+
+/// The form of an answer. Of two flags that of JSON counts.
+fn form_by(is_text: bool, is_json: bool) -> Form
+    ensures { result ≡ form_by is_text is_json }
+{
+    if is_json {
+        return Form::Json;
+    }
+    if is_text { Form::Text } else { Form::Hex }
+}
+
+/// How an answer is to be spelled.
+fn style(matches: &ArgMatches<'_>) -> Style
+    ensures { result ≡ style_of (rows_of (found_of matches.now)) }
+{
+    Style {
+        form: form_by(is_set(matches, "text"), is_set(matches, "json")),
+        instants: is_set(matches, "instants"),
     }
 }
 
@@ -163,6 +196,7 @@ fn get<'m>(matches: &'m ArgMatches<'_>) -> Option<Action<'m>>
     Some(Action::Ask {
         dir: text(matches, "DIR")?,
         question: value_of(key, when_of(matches, "TIME", When::Now)),
+        style: style(matches),
     })
 }
 
@@ -174,6 +208,7 @@ fn scan<'m>(matches: &'m ArgMatches<'_>) -> Option<Action<'m>>
     Some(Action::Ask {
         dir: text(matches, "DIR")?,
         question: records_of(relation, when_of(matches, "TIME", When::Now)),
+        style: style(matches),
     })
 }
 
@@ -187,6 +222,7 @@ fn history<'m>(matches: &'m ArgMatches<'_>) -> Option<Action<'m>>
     Some(Action::Ask {
         dir: text(matches, "DIR")?,
         question: rows_asked(key, from, to),
+        style: style(matches),
     })
 }
 
@@ -198,6 +234,7 @@ fn times<'m>(matches: &'m ArgMatches<'_>) -> Option<Action<'m>>
     Some(Action::Ask {
         dir: text(matches, "DIR")?,
         question: Some(Question::Times(label)),
+        style: style(matches),
     })
 }
 
@@ -216,6 +253,7 @@ fn put<'m>(matches: &'m ArgMatches<'_>, now: u64) -> Option<Action<'m>>
     let write = RecordWrite {
         key: key(matches)?,
         fields: Some(fields(matches)?),
+        is_text: is_set(matches, "text"),
         label: u64_of(matches, "label")?,
         now,
     };
@@ -232,6 +270,7 @@ fn del<'m>(matches: &'m ArgMatches<'_>, now: u64) -> Option<Action<'m>>
     let write = RecordWrite {
         key: key(matches)?,
         fields: None,
+        is_text: false,
         label: u64_of(matches, "label")?,
         now,
     };
@@ -261,6 +300,29 @@ fn grow<'m>(matches: &'m ArgMatches<'_>) -> Option<Action<'m>>
     })
 }
 
+fn floor<'m>(matches: &'m ArgMatches<'_>) -> Option<Action<'m>>
+    ensures some { IfSome result (AsksFloor (rows_of (found_of matches.now))) }
+    ensures none { IfNone result ((a : Asked) → AsksFloor (rows_of (found_of matches.now)) a → ⊥) }
+{
+    let relation = u16_of(matches, "REL")?;
+    let time = moment(text(matches, "TIME")?);
+    Some(Action::Floor {
+        dir: text(matches, "DIR")?,
+        relation,
+        time,
+    })
+}
+
+fn info<'m>(matches: &'m ArgMatches<'_>) -> Option<Action<'m>>
+    ensures some { IfSome result (AsksInfo (rows_of (found_of matches.now))) }
+    ensures none { IfNone result ((a : Asked) → AsksInfo (rows_of (found_of matches.now)) a → ⊥) }
+{
+    Some(Action::Info {
+        dir: text(matches, "DIR")?,
+        json: is_set(matches, "json"),
+    })
+}
+
 fn dump<'m>(matches: &'m ArgMatches<'_>) -> Option<Action<'m>>
     ensures some { IfSome result (AsksDump (rows_of (found_of matches.now))) }
     ensures none { IfNone result ((a : Asked) → AsksDump (rows_of (found_of matches.now)) a → ⊥) }
@@ -281,6 +343,20 @@ fn stress<'m>(matches: &'m ArgMatches<'_>) -> Option<Action<'m>>
     })
 }
 
+/// What the matches of a command that tells of a store or raises a floor ask for.
+fn of_store<'m>(name: &str, matches: &'m ArgMatches<'_>) -> Option<Action<'m>>
+    ensures some { IfSome result (AsksOfStore name.now (rows_of (found_of matches.now))) }
+    ensures none { IfNone result ((a : Asked) → AsksOfStore name.now (rows_of (found_of matches.now)) a → ⊥) }
+{
+    if name == "floor" {
+        floor(matches)
+    } else if name == "info" {
+        info(matches)
+    } else {
+        None
+    }
+}
+
 /// What the matches of a command on one record or relation ask for.
 fn of_record<'m>(name: &str, matches: &'m ArgMatches<'_>, now: u64) -> Option<Action<'m>>
     ensures some { IfSome result (AsksOfRecord now name.now (rows_of (found_of matches.now))) }
@@ -299,7 +375,7 @@ fn of_record<'m>(name: &str, matches: &'m ArgMatches<'_>, now: u64) -> Option<Ac
     } else if name == "del" {
         del(matches, now)
     } else {
-        None
+        of_store(name, matches)
     }
 }
 

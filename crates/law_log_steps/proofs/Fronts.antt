@@ -23,7 +23,8 @@ use Rattle.law_log_store.proofs.Opening.{opens-any}
 use Rattle.law_log_steps.specs.Store.{gate_at, gate_of, gate_behind, gate_left, IsStoreOf}
 use Rattle.law_log_steps.proofs.Opening.{is-opened}
 
-module _ (v : LogStoreValue) (m : Machine Value) (image : Image) (step : IsInStep v) (is : IsStoreOf v m) (left : LeavesImage v.disk.areas image) where
+module _ (tells : Bool) (v : LogStoreValue) (m : Machine Value) (image : Image) (told : IsTrue tells) (step : IsInStep v) (is : IsStoreOf tells v m)
+    (left : LeavesImage v.disk.areas image) where
   abbrev Old : Type 0
   Old = IsImageOf v.roots image m.published m.floors
 
@@ -34,7 +35,7 @@ module _ (v : LogStoreValue) (m : Machine Value) (image : Image) (step : IsInSte
   OnIt = OnFront (IsImageOf v.roots image) m
 
   stops : StopsOnHeap v m.published m.queue m.floors
-  stops = by-failed v.commits.failed refl is.disk
+  stops = by-failed v.commits.failed refl (is.disk told)
     where
       by-failed : (b : Bool) → v.commits.failed ≡ b → MatchBool b (StopsOnHeap v m.published m.queue m.floors) (StandsOnHeap v m.published m.queue m.floors)
           → StopsOnHeap v m.published m.queue m.floors
@@ -83,11 +84,11 @@ module _ (v : LogStoreValue) (m : Machine Value) (image : Image) (step : IsInSte
 -- ---- openings
 
 pub stop-reopens : (tells : Bool) (v : LogStoreValue) (m : Machine Value) (old : DiskState) (mark : ℕ) (again : LogStoreValue) → IsTrue tells → IsInStep v
-    → IsStoreOf v m → LeavesImage v.disk.areas (image_of old.areas) → AreSound old.areas → Opens tells old mark again
-    → OnFront (λ h floors. IsStoreOf again (opened_by 1024 h floors)) m
+    → IsStoreOf tells v m → LeavesImage v.disk.areas (image_of old.areas) → AreSound old.areas → Opens tells old mark again
+    → OnFront (λ h floors. IsStoreOf tells again (opened_by 1024 h floors)) m
 stop-reopens tells v m old mark again told step is left sound opens =
-    front-map (IsImageOf v.roots (image_of old.areas)) (λ h floors. IsStoreOf again (opened_by 1024 h floors)) m
-    (λ h floors image. is-opened tells old mark again v.roots h floors told sound image opens) (leaves-fronts v m (image_of old.areas) step is left)
+    front-map (IsImageOf v.roots (image_of old.areas)) (λ h floors. IsStoreOf tells again (opened_by 1024 h floors)) m
+    (λ h floors image. is-opened tells old mark again v.roots h floors told sound image opens) (leaves-fronts tells v m (image_of old.areas) told step is left)
 
 -- what is so of every front
 whatever : (R : Type 0) (m : Machine Value) → OnFront (λ h floors. R) m → R
@@ -104,9 +105,10 @@ whatever R m (inr o) = by-gate m.gate o
     by-gate (MayBeOpen OfGroup) so = so
     by-gate (MayBeOpen OfFloor) so = by-raised m.raising so
 
-pub stop-opens : (tells : Bool) (v : LogStoreValue) (m : Machine Value) (old new : DiskState) (why : OpenFault) → IsTrue tells → IsInStep v → IsStoreOf v m
+pub stop-opens : (tells : Bool) (v : LogStoreValue) (m : Machine Value) (old new : DiskState) (why : OpenFault) → IsTrue tells → IsInStep v
+    → IsStoreOf tells v m
     → LeavesImage v.disk.areas (image_of old.areas) → OpenRefuses tells old why new → SaysNothing why
 stop-opens tells v m old new why told step is left refuses =
     whatever (SaysNothing why) m
     (front-map (IsImageOf v.roots (image_of old.areas)) (λ h floors. SaysNothing why) m
-    (λ h floors image. opens-any tells old new why v.roots h floors told image refuses) (leaves-fronts v m (image_of old.areas) step is left))
+    (λ h floors image. opens-any tells old new why v.roots h floors told image refuses) (leaves-fronts tells v m (image_of old.areas) told step is left))

@@ -82,30 +82,31 @@ other-snapshots m n snapshots is = record {
   group = subst (HasSameGroup m) (sym is) (record { most = refl; group = refl; raising = refl; gate = refl; failed = refl });
 }
 
-pub store-keeps : (old new : LogStoreValue) (m n : Machine Value) → IsStoreOf old m → KeepsDisk old new → AreNamesAlone old.commits new.commits
-    → new.turn ≡ old.turn → StandsInMemory new.commits n → IsMachine IsValue n → IsAlike m n → IsStoreOf new n
-store-keeps old new m n is keeps alone turn stands machine alike = record {
+pub store-keeps : (tells : Bool) (old new : LogStoreValue) (m n : Machine Value) → IsStoreOf tells old m → KeepsDisk old new
+    → AreNamesAlone old.commits new.commits
+    → new.turn ≡ old.turn → StandsInMemory new.commits n → IsMachine IsValue n → IsAlike m n → IsStoreOf tells new n
+store-keeps tells old new m n is keeps alone turn stands machine alike = record {
   memory = stands;
   machine = machine;
   writing = writes-on old new m n is.writing (ap (λ (c : CommitsValue). c.group) alone.new_is) turn alike.group;
   fresh = subst AreFresh (sym alone.new_is) is.fresh;
-  disk =
+  disk = λ told.
       disk-alike new m n alike
-      (on-disk old new m.published m.queue m.floors keeps (ap (λ (c : CommitsValue). c.failed) alone.new_is) is.disk);
+      (on-disk old new m.published m.queue m.floors keeps (ap (λ (c : CommitsValue). c.failed) alone.new_is) (is.disk told));
 }
 
 -- ---- transactions
 
-pub begin-stands : (old new : LogStoreValue) (answer : Result TxnValue BeginFault) (m : Machine Value) → IsStoreOf old m → calls.Begins old answer new
-    → BeginsTo m answer new
-begin-stands old new answer m is begins = by-answer answer (begin-step old.commits new.commits answer m is.memory begins.is)
+pub begin-stands : (tells : Bool) (old new : LogStoreValue) (answer : Result TxnValue BeginFault) (m : Machine Value) → IsStoreOf tells old m
+    → calls.Begins old answer new → BeginsTo tells m answer new
+begin-stands tells old new answer m is begins = by-answer answer (begin-step old.commits new.commits answer m is.memory begins.is)
   where
-    keeps : (n : Machine Value) → StandsInMemory new.commits n → IsMachine IsValue n → IsAlike m n → IsStoreOf new n
+    keeps : (n : Machine Value) → StandsInMemory new.commits n → IsMachine IsValue n → IsAlike m n → IsStoreOf tells new n
     keeps n stands machine alike =
-        store-keeps old new m n is (begin-keeps old new answer begins) (begin-alone old.commits new.commits answer begins.is) (ap (λ
+        store-keeps tells old new m n is (begin-keeps old new answer begins) (begin-alone old.commits new.commits answer begins.is) (ap (λ
         (v : LogStoreValue). v.turn) begins.new_is) stands machine alike
 
-    by-answer : (a : Result TxnValue BeginFault) → memory.BeginsTo m a new.commits → BeginsTo m a new
+    by-answer : (a : Result TxnValue BeginFault) → memory.BeginsTo m a new.commits → BeginsTo tells m a new
     by-answer (Ok txn) to = (
       to.0,
       keeps (begun m) to.1 (step-machine IsValue m (begun m) (Began txn.snapshot) is.machine to.0) (record {
@@ -118,17 +119,17 @@ begin-stands old new answer m is begins = by-answer answer (begin-step old.commi
     by-answer (Err fault.NoMemory) to = (to.0, keeps m to.1 is.machine (itself m))
     by-answer (Err fault.Failed) to = (to.0, keeps m to.1 is.machine (itself m))
 
-pub abort-stands : (old new : LogStoreValue) (txn : TxnValue) (m : Machine Value) → IsStoreOf old m → calls.Aborts old txn new
-    → MatchBool (is_own old.commits txn) (Goes new m (Aborted txn.snapshot)) (IsStoreOf new m)
-abort-stands old new txn m is aborts = by-own (is_own old.commits txn) (abort-step old.commits new.commits txn m is.memory aborts.is)
+pub abort-stands : (tells : Bool) (old new : LogStoreValue) (txn : TxnValue) (m : Machine Value) → IsStoreOf tells old m → calls.Aborts old txn new
+    → MatchBool (is_own old.commits txn) (Goes tells new m (Aborted txn.snapshot)) (IsStoreOf tells new m)
+abort-stands tells old new txn m is aborts = by-own (is_own old.commits txn) (abort-step old.commits new.commits txn m is.memory aborts.is)
   where
-    keeps : (n : Machine Value) → StandsInMemory new.commits n → IsMachine IsValue n → IsAlike m n → IsStoreOf new n
+    keeps : (n : Machine Value) → StandsInMemory new.commits n → IsMachine IsValue n → IsAlike m n → IsStoreOf tells new n
     keeps n stands machine alike =
-        store-keeps old new m n is (abort-keeps old new txn aborts) (abort-alone old.commits new.commits txn aborts.is) (ap (λ
+        store-keeps tells old new m n is (abort-keeps old new txn aborts) (abort-alone old.commits new.commits txn aborts.is) (ap (λ
         (v : LogStoreValue). v.turn) aborts.new_is) stands machine alike
 
     by-own : (b : Bool) → MatchBool b (memory.Goes new.commits m (Aborted txn.snapshot)) (StandsInMemory new.commits m)
-        → MatchBool b (Goes new m (Aborted txn.snapshot)) (IsStoreOf new m)
+        → MatchBool b (Goes tells new m (Aborted txn.snapshot)) (IsStoreOf tells new m)
     by-own true to = (
       to.0,
       to.1,
@@ -136,12 +137,12 @@ abort-stands old new txn m is aborts = by-own (is_own old.commits txn) (abort-st
     )
     by-own false to = keeps m to is.machine (itself m)
 
-pub redeem-stands : (old new : LogStoreValue) (ticket : TicketValue) (answer : Redeemed) (m : Machine Value) → IsStoreOf old m
-    → calls.Redeems old ticket answer new → RedeemsAs (answers.redeemed_by m ticket.time) answer × IsStoreOf new m
-redeem-stands old new ticket answer m is redeems =
+pub redeem-stands : (tells : Bool) (old new : LogStoreValue) (ticket : TicketValue) (answer : Redeemed) (m : Machine Value) → IsStoreOf tells old m
+    → calls.Redeems old ticket answer new → RedeemsAs (answers.redeemed_by m ticket.time) answer × IsStoreOf tells new m
+redeem-stands tells old new ticket answer m is redeems =
     let to = redeem-step old.commits new.commits ticket answer m is.memory is.machine redeems.is in (
       to.0,
-      store-keeps old new m m is (redeem-keeps old new ticket answer redeems) (redeem-alone old.commits new.commits ticket answer redeems.is) (ap (λ
+      store-keeps tells old new m m is (redeem-keeps old new ticket answer redeems) (redeem-alone old.commits new.commits ticket answer redeems.is) (ap (λ
           (v : LogStoreValue). v.turn) redeems.new_is) to.1 is.machine
           (itself m),
     )

@@ -4,3 +4,4 @@ pub mod Pumping
 pub mod Resting
 pub mod Opening
 pub mod Fronts
+pub mod InStep

@@ -270,11 +270,11 @@ module _ (tells : Bool) (old : DiskState) (mark : ℕ) (v : LogStoreValue) (root
     failed = refl;
   }
 
-  pub is-opened : IsStoreOf v (opened_by 1024 h floors)
+  pub is-opened : IsStoreOf tells v (opened_by 1024 h floors)
   is-opened =
       let on = open-stands tells old mark v roots h floors tells_so are_sound image opens in
       let same : v.commits ≡ commits = ap (λ (x : LogStoreValue). x.commits) opens.new_is in
-      stands-opened v h floors reading stands on.1 (ap (λ (c : CommitsValue). c.failed) same) (ap (λ (c : CommitsValue). c.queue) same)
+      stands-opened tells v h floors reading stands on.1 (ap (λ (c : CommitsValue). c.failed) same) (ap (λ (c : CommitsValue). c.queue) same)
       (record {
         most = refl;
         group = sym (ap (λ (c : CommitsValue). c.group) same);

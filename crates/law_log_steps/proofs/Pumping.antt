@@ -14,16 +14,17 @@ use Rattle.disk.specs.Areas.{AreSound}
 use Rattle.law_image.specs.Values.{Value, IsValue}
 use Rattle.group.specs.declared.answers.PumpFault.{PumpFault}
 use Rattle.group.specs.declared.answers.PumpFault.TheVariants as pump
-use Rattle.log_writer.specs.Turns.{Stage, Writing, Syncing, Opening, Settling, Done, IsCallOf, stage_after}
-use Rattle.log_writer.specs.Writer.{WriterState, turn}
+use Rattle.log_writer.specs.Turns.{Stage, Writing, Syncing, Opening, Settling, Done, stage_after, chain_turn}
+use Rattle.log_writer.specs.Writer.{WriterState, IsOnItsWay}
 use Rattle.log_writer.specs.Writer as writers
 use Rattle.commits.specs.Values.{CommitsValue, WaitingValue, mark_after}
 use Rattle.commits.specs.Steps.{members, published}
 use Rattle.log_store.specs.Values.{LogStoreValue, IsInStep}
 use Rattle.log_store.specs.Values as stores
-use Rattle.log_store.specs.Pumps.{Pumps, TakesStep, BeginsGroup, AdvancesGroup, Advances, after_call, at_next, with_failure, did_of, disk_answer}
-use Rattle.log_store.specs.declared.answers.Did.{Did}
-use Rattle.log_store.specs.declared.answers.Did.TheVariants as did
+use Rattle.log_store.specs.Pumps.{Pumps, TakesStep, Begins, BeginsGroup, AdvancesGroup, Advances, after_call, at_next, with_failure, did_of, group_size}
+use Rattle.log_store.specs.Pumps.{group_content}
+use Rattle.group.specs.declared.answers.Did.{Did}
+use Rattle.group.specs.declared.answers.Did.TheVariants as did
 use Rattle.law_commits.specs.Standing.{StandsInMemory}
 use Rattle.law_commits.specs.Laws.{with_published}
 use Rattle.law_commits.proofs.Publishing.{publishes, breaks}
@@ -31,11 +32,12 @@ use Rattle.law_commits.proofs.Beside.{begins}
 use Rattle.law_commits.proofs.Waiting.{as-many}
 use Rattle.law_log_store.specs.Standing.{StandsOnHeap, StopsOnHeap}
 use Rattle.law_log_store.specs.Calls.{count_in, StepsTo}
-use Rattle.law_log_store.proofs.Beginning.{has-begun}
+use Rattle.law_log_store.proofs.Beginning.{grouped-is}
 use Rattle.law_log_store.proofs.Pumping.{pump-steps, failed-rests}
 use Rattle.law_log_store.proofs.Submitting.{group-within}
 use Rattle.law_log_steps.specs.Store.{HaveMark, AreFresh, gate_at, gate_of, gate_behind, gate_left, IsStoreOf}
-use Rattle.law_log_steps.specs.Laws.{begins_in, ends_in, breaks_in, events_in, Runs}
+use Rattle.law_refinement.specs.Laws.{begins_in, ends_in, breaks_in}
+use Rattle.law_log_steps.specs.Laws.{events_in, Runs}
 
 -- ---- marks
 
@@ -69,10 +71,10 @@ MemoryBy (Ok what) v m = IsMemoryOf v (with_published (count_in what) m)
 MemoryBy (Err why) v m = (why ≡ pump.Failed) × IsMemoryOf v (steps.broken m)
 
 -- a call of the group's chain
-call-memory : (tells : Bool) (w : WriterState) (old new : LogStoreValue) (answer : Result Did PumpFault) (m : Machine Value) → IsTrue tells
+call-memory : (tells : Bool) (w : WriterState) (old new : LogStoreValue) (answer : Result Did PumpFault) (m : Machine Value) → IsOnItsWay w.stage
     → IsMemoryOf old.commits m → IsMachine IsValue m → old.commits.group ≤ length old.commits.queue → Advances tells w old answer new
     → MemoryBy answer new.commits m
-call-memory tells w old new answer m tell is machine within advances = by-answer answer (advances.call tell) advances.answer
+call-memory tells w old new answer m on is machine within advances = by-answer answer advances.answer
   where
     kept : new.commits ≡ old.commits → IsMemoryOf new.commits (with_published 0 m)
     kept unchanged =
@@ -87,7 +89,7 @@ call-memory tells w old new answer m tell is machine within advances = by-answer
       fresh = marks-rest old.commits.reclaimed old.commits.group old.commits.queue is.fresh;
     }
 
-    by-stage : (k : Stage) → IsCallOf (turn w) k (Ok tt) old.disk.areas new.disk.areas → new ≡ record (after_call old w k) { disk = new.disk }
+    by-stage : (k : Stage) → IsOnItsWay k → new ≡ record (after_call old w k) { disk = new.disk }
         → IsMemoryOf new.commits (with_published (count_in (did_of (writers.did k) old.commits.group)) m)
     by-stage (Writing d []) call next = kept (ap (λ (v : LogStoreValue). v.commits) next)
     by-stage (Writing d (p ∷ rest)) call next = kept (ap (λ (v : LogStoreValue). v.commits) next)
@@ -97,13 +99,13 @@ call-memory tells w old new answer m tell is machine within advances = by-answer
         subst (λ (v : CommitsValue). IsMemoryOf v (with_published old.commits.group m)) (sym (ap (λ (v : LogStoreValue). v.commits) next)) done
     by-stage Done call next = absurd call
 
-    by-answer : (a : Result Did PumpFault) → IsCallOf (turn w) w.stage (disk_answer a) old.disk.areas new.disk.areas
+    by-answer : (a : Result Did PumpFault)
         → MatchResult a (λ what. (what ≡ did_of (writers.did w.stage) old.commits.group) × (new ≡ record (after_call old w w.stage) { disk = new.disk }))
         (λ why. (why ≡ pump.Failed) × (new ≡ record (with_failure old) { disk = new.disk }))
         → MemoryBy a new.commits m
-    by-answer (Ok what) call next =
-        subst (λ (d : Did). IsMemoryOf new.commits (with_published (count_in d) m)) (sym next.0) (by-stage w.stage call next.1)
-    by-answer (Err why) call next = (
+    by-answer (Ok what) next =
+        subst (λ (d : Did). IsMemoryOf new.commits (with_published (count_in d) m)) (sym next.0) (by-stage w.stage on next.1)
+    by-answer (Err why) next = (
       next.0,
       subst (λ (v : CommitsValue). IsMemoryOf v (steps.broken m)) (sym (ap (λ (v : LogStoreValue). v.commits) next.1))
           (record { stands = breaks old.commits m is.stands; fresh = is.fresh }),
@@ -160,11 +162,11 @@ record Failing (m : Machine Value) (events : List (Event Value)) (new : LogStore
   gate_is : gate ≡ gate_left new.turn
 
 abbrev GoesBy : Result Did PumpFault → Machine Value → LogStoreValue → Type 0
-GoesBy (Ok what) m new = Gone m (ends_in what) (count_in what) new
+GoesBy (Ok what) m new = Gone m (ends_in m.gate (Ok what)) (count_in what) new
 GoesBy (Err why) m new = Failing m (breaks_in m.gate) new
 
 -- a call of the group's chain
-module _ (tells : Bool) (w : WriterState) (old new : LogStoreValue) (m : Machine Value) (tell : IsTrue tells) (works : m.failed ≡ false)
+module _ (tells : Bool) (w : WriterState) (old new : LogStoreValue) (m : Machine Value) (on : IsOnItsWay w.stage) (works : m.failed ≡ false)
     (group_is : m.group ≡ old.commits.group) (some : 0 < old.commits.group) (gate_is : m.gate ≡ gate_at w.stage) where
   some-here : 0 < m.group
   some-here = omega (arith, some, group_is)
@@ -172,15 +174,15 @@ module _ (tells : Bool) (w : WriterState) (old new : LogStoreValue) (m : Machine
   stays : (next : Gate) → (mid : Machine Value) → mid ≡ gated m next → record (with_published 0 m) { gate = next } ≡ mid
   stays next mid is = ap (λ (h : History Value). record m { published = h; gate = next }) (append-nil m.published) ∙ sym is
 
-  call-goes : (what : Did) → Advances tells w old (Ok what) new → Gone m (ends_in what) (count_in what) new
+  call-goes : (what : Did) → Advances tells w old (Ok what) new → Gone m (ends_in m.gate (Ok what)) (count_in what) new
   call-goes what advances =
-      subst (λ (d : Did). Gone m (ends_in d) (count_in d) new) (sym advances.answer.0) (by-stage w.stage refl (advances.call tell) advances.answer.1)
+      subst (λ (d : Did). Gone m (ends_in m.gate (Ok d)) (count_in d) new) (sym advances.answer.0) (by-stage w.stage refl on advances.answer.1)
     where
       next-turn : (k : Stage) → w.stage ≡ k → new ≡ record (at_next old w) { disk = new.disk } → gate_at (stage_after k) ≡ gate_of new.turn
       next-turn k same next = ap (λ (j : Stage). gate_at (stage_after j)) (sym same) ∙ ap (λ (v : LogStoreValue). gate_of v.turn) (sym next)
 
-      by-stage : (k : Stage) → w.stage ≡ k → IsCallOf (turn w) k (Ok tt) old.disk.areas new.disk.areas → new ≡ record (after_call old w k) { disk = new.disk }
-          → Gone m (ends_in (did_of (writers.did k) old.commits.group)) (count_in (did_of (writers.did k) old.commits.group)) new
+      by-stage : (k : Stage) → w.stage ≡ k → IsOnItsWay k → new ≡ record (after_call old w k) { disk = new.disk }
+          → Gone m (ends_in m.gate (Ok (did_of (writers.did k) old.commits.group))) (count_in (did_of (writers.did k) old.commits.group)) new
       by-stage (Writing d []) same call next = record {
         group = m.group;
         gate = m.gate;
@@ -264,28 +266,28 @@ module _ (tells : Bool) (w : WriterState) (old new : LogStoreValue) (m : Machine
 -- ---- memory, disk and events
 
 -- what memory has after a step, and how the machine went, by the answer
-abbrev StepBy : Result Did PumpFault → LogStoreValue → Machine Value → Type 0
-StepBy (Ok what) new m = IsMemoryOf new.commits (with_published (count_in what) m) × Gone m (begins_in m ++ ends_in what) (count_in what) new
-StepBy (Err pump.Busy) new m = Unit {0}
-StepBy (Err pump.NoMemory) new m = Unit {0}
-StepBy (Err pump.Failed) new m = IsMemoryOf new.commits (steps.broken m) × Failing m (begins_in m ++ breaks_in m.gate) new
+abbrev StepBy : Result Did PumpFault → LogStoreValue → LogStoreValue → Machine Value → Type 0
+StepBy (Ok what) old new m = IsMemoryOf new.commits (with_published (count_in what) m) × Gone m (begins_in m ++ ends_in m.gate (Ok what)) (count_in what) new
+StepBy (Err pump.Busy) old new m = ⊥
+StepBy (Err pump.NoMemory) old new m = new ≡ old
+StepBy (Err pump.Failed) old new m = IsMemoryOf new.commits (steps.broken m) × Failing m (begins_in m ++ breaks_in m.gate) new
 
 -- of a group that stands
-as-standing : (answer : Result Did PumpFault) (new : LogStoreValue) (m : Machine Value) → begins_in m ≡ [] → MemoryBy answer new.commits m
-    → GoesBy answer m new → StepBy answer new m
-as-standing (Ok what) new m none memory goes =
-    (memory, subst (λ (es : List (Event Value)). Gone m (es ++ ends_in what) (count_in what) new) (sym none) goes)
-as-standing (Err pump.Busy) new m none memory goes = tt
-as-standing (Err pump.NoMemory) new m none memory goes = tt
-as-standing (Err pump.Failed) new m none memory goes =
+as-standing : (answer : Result Did PumpFault) (old new : LogStoreValue) (m : Machine Value) → begins_in m ≡ [] → MemoryBy answer new.commits m
+    → GoesBy answer m new → StepBy answer old new m
+as-standing (Ok what) old new m none memory goes =
+    (memory, subst (λ (es : List (Event Value)). Gone m (es ++ ends_in m.gate (Ok what)) (count_in what) new) (sym none) goes)
+as-standing (Err pump.Busy) old new m none memory goes = absurd (let no : pump.Busy ≡ pump.Failed = memory.0 in cc)
+as-standing (Err pump.NoMemory) old new m none memory goes = absurd (let no : pump.NoMemory ≡ pump.Failed = memory.0 in cc)
+as-standing (Err pump.Failed) old new m none memory goes =
     (memory.1, subst (λ (es : List (Event Value)). Failing m (es ++ breaks_in m.gate) new) (sym none) goes)
 
 -- of one that begins
-as-begun : (answer : Result Did PumpFault) (new : LogStoreValue) (m : Machine Value) → begins_in m ≡ GroupBegan ∷ [] → Step IsValue m GroupBegan (grouped m)
-    → MemoryBy answer new.commits m → GoesBy answer (grouped m) new → StepBy answer new m
-as-begun (Ok what) new m began step memory goes = (
+as-begun : (answer : Result Did PumpFault) (old new : LogStoreValue) (m : Machine Value) → begins_in m ≡ GroupBegan ∷ [] → Step IsValue m GroupBegan (grouped m)
+    → MemoryBy answer new.commits m → GoesBy answer (grouped m) new → StepBy answer old new m
+as-begun (Ok what) old new m began step memory goes = (
   memory,
-  subst (λ (es : List (Event Value)). Gone m (es ++ ends_in what) (count_in what) new) (sym began) (record {
+  subst (λ (es : List (Event Value)). Gone m (es ++ ends_in m.gate (Ok what)) (count_in what) new) (sym began) (record {
     group = goes.group;
     gate = goes.gate;
     run = (grouped m, step, goes.run);
@@ -293,9 +295,9 @@ as-begun (Ok what) new m began step memory goes = (
     gate_is = goes.gate_is;
   }),
 )
-as-begun (Err pump.Busy) new m began step memory goes = tt
-as-begun (Err pump.NoMemory) new m began step memory goes = tt
-as-begun (Err pump.Failed) new m began step memory goes = (
+as-begun (Err pump.Busy) old new m began step memory goes = absurd (let no : pump.Busy ≡ pump.Failed = memory.0 in cc)
+as-begun (Err pump.NoMemory) old new m began step memory goes = absurd (let no : pump.NoMemory ≡ pump.Failed = memory.0 in cc)
+as-begun (Err pump.Failed) old new m began step memory goes = (
   memory.1,
   subst (λ (es : List (Event Value)). Failing m (es ++ breaks_in m.gate) new) (sym began) (record {
     group = goes.group;
@@ -306,8 +308,28 @@ as-begun (Err pump.Failed) new m began step memory goes = (
   }),
 )
 
-module _ (tells : Bool) (old new : LogStoreValue) (answer : Result Did PumpFault) (m : Machine Value) (tell : IsTrue tells) (step : IsInStep old)
-    (sound : AreSound new.disk.areas) (is : IsStoreOf old m) where
+-- A group has begun: its chain is on its way.
+record HasWriter (old begun : LogStoreValue) : Type 0 where
+  writer : WriterState
+  turn : begun.turn ≡ Some writer
+  on : IsOnItsWay writer.stage
+  commits : begun.commits ≡ record old.commits { group = group_size old }
+
+has-writer : (old begun : LogStoreValue) → old.commits.group ≡ 0 → 0 < length old.commits.queue → Begins old begun → HasWriter old begun
+has-writer old begun none some b = record {
+  writer = record {
+    numbers = b.numbers;
+    link = b.link;
+    content = group_content old;
+    stage = Writing [] (chain_turn b.numbers b.link (group_content old)).parts;
+  };
+  turn = ap (λ (v : LogStoreValue). v.turn) b.new_is;
+  on = tt;
+  commits = ap (λ (v : LogStoreValue). v.commits) b.new_is ∙ grouped-is old.commits none some;
+}
+
+module _ (tells : Bool) (old new : LogStoreValue) (answer : Result Did PumpFault) (m : Machine Value) (step : IsInStep old)
+    (sound : IsTrue tells → AreSound new.disk.areas) (is : IsStoreOf tells old m) where
   many : length old.commits.queue ≡ length m.queue
   many = as-many old.commits.reclaimed old.commits.versions old.commits.queue m.queue is.memory.queue
 
@@ -316,17 +338,17 @@ module _ (tells : Bool) (old new : LogStoreValue) (answer : Result Did PumpFault
     works-here : m.failed ≡ false
     works-here = sym is.memory.failed ∙ works
 
-    stands : StandsOnHeap old m.published m.queue m.floors
-    stands =
-        subst (λ (b : Bool). MatchBool b (StopsOnHeap old m.published m.queue m.floors) (StandsOnHeap old m.published m.queue m.floors)) works is.disk
+    stands : IsTrue tells → StandsOnHeap old m.published m.queue m.floors
+    stands told =
+        subst (λ (b : Bool). MatchBool b (StopsOnHeap old m.published m.queue m.floors) (StandsOnHeap old m.published m.queue m.floors)) works (is.disk told)
 
     none-at-rest : old.turn ≡ None → m.group ≡ 0
     none-at-rest at_rest = is.writing.group ∙ subst (stores.HasTurn old.commits.group) at_rest step.turn
 
-    begins-so : old.turn ≡ None → 0 < length old.commits.queue → BeginsGroup tells old answer new → StepBy answer new m
-    begins-so at_rest some (inl none) = subst (λ (a : Result Did PumpFault). StepBy a new m) (sym none.0) tt
+    begins-so : old.turn ≡ None → 0 < length old.commits.queue → BeginsGroup tells old answer new → StepBy answer old new m
+    begins-so at_rest some (inl none) = subst (λ (a : Result Did PumpFault). StepBy a old new m) (sym none.0) none.1
     begins-so at_rest some (inr begun) =
-        let has = has-begun old begun.0 m.published m.queue m.floors step at_rest some stands begun.1 in
+        let has = has-writer old begun.0 (subst (stores.HasTurn old.commits.group) at_rest step.turn) some begun.1 in
         let advances : Advances tells has.writer begun.0 answer new =
         subst (λ (t : Option WriterState). AdvancesGroup tells begun.0 t answer new) has.turn begun.2 in
         let memory : IsMemoryOf begun.0.commits m = record {
@@ -343,16 +365,16 @@ module _ (tells : Bool) (old new : LogStoreValue) (answer : Result Did PumpFault
         let more : 0 < begun.0.commits.group = subst (λ (v : CommitsValue). 0 < v.group) (sym has.commits) (omega (arith, some)) in
         let gate : (grouped m).gate ≡ gate_at has.writer.stage =
         is.writing.gate works-here ∙ ap gate_of at_rest ∙ ap (λ (v : LogStoreValue). gate_of v.turn) (sym (begun.1).new_is) ∙ ap gate_of has.turn in
-        as-begun answer new m (begins-some m none waiting)
+        as-begun answer old new m (begins-some m none waiting)
         (works-here, none, (λ empty. let zero-long = ap (λ (h : History Value). length h) empty in absurd (omega (arith, waiting, zero-long))), refl)
-        (call-memory tells has.writer begun.0 new answer m tell memory is.machine within advances)
-        (call-runs tells has.writer begun.0 new (grouped m) tell works-here group more gate answer has.turn advances)
+        (call-memory tells has.writer begun.0 new answer m has.on memory is.machine within advances)
+        (call-runs tells has.writer begun.0 new (grouped m) has.on works-here group more gate answer has.turn advances)
 
     by-queue : (b : Bool) → (length old.commits.queue == 0) ≡ b → old.turn ≡ None
-        → MatchBool b ((answer ≡ Ok did.Idle) × (new ≡ old)) (BeginsGroup tells old answer new) → StepBy answer new m
+        → MatchBool b ((answer ≡ Ok did.Idle) × (new ≡ old)) (BeginsGroup tells old answer new) → StepBy answer old new m
     by-queue true none at_rest idle =
         let empty : length m.queue ≡ 0 = sym many ∙ grind (arith, nat_tests) in
-        subst (λ (a : Result Did PumpFault). StepBy a new m) (sym idle.0) (
+        subst (λ (a : Result Did PumpFault). StepBy a old new m) (sym idle.0) (
           subst (λ (v : LogStoreValue). IsMemoryOf v.commits (with_published 0 m)) (sym idle.1)
               (subst (λ (n : Machine Value). IsMemoryOf old.commits n) (none-published m) (record { stands = is.memory; fresh = is.fresh })),
           subst (λ (es : List (Event Value)). Gone m (es ++ []) 0 new) (sym (begins-idle m (none-at-rest at_rest) empty)) (record {
@@ -365,16 +387,17 @@ module _ (tells : Bool) (old new : LogStoreValue) (answer : Result Did PumpFault
         )
     by-queue false some at_rest begun = begins-so at_rest (grind (arith, nat_tests)) begun
 
-    by-turn : (t : Option WriterState) → old.turn ≡ t → TakesStep tells old t answer new → StepBy answer new m
+    by-turn : (t : Option WriterState) → old.turn ≡ t → TakesStep tells old t answer new → StepBy answer old new m
     by-turn None at_rest next = by-queue (length old.commits.queue == 0) refl at_rest next
     by-turn (Some w) standing next =
         let has : stores.HasTurn old.commits.group (Some w) = subst (stores.HasTurn old.commits.group) standing step.turn in
-        as-standing answer new m (begins-none m (omega (arith, has.0, is.writing.group)))
-        (call-memory tells w old new answer m tell (record { stands = is.memory; fresh = is.fresh }) is.machine (group-within old step) next)
-        (call-runs tells w old new m tell works-here is.writing.group has.0 (is.writing.gate works-here ∙ ap gate_of standing) answer
+        as-standing answer old new m (begins-none m (omega (arith, has.0, is.writing.group)))
+        (call-memory tells w old new answer m has.1 (record { stands = is.memory; fresh = is.fresh }) is.machine (group-within old step) next)
+        (call-runs tells w old new m has.1 works-here is.writing.group has.0 (is.writing.gate works-here ∙ ap gate_of standing) answer
         standing next)
 
-    by-answer : (a : Result Did PumpFault) → StepBy a new m → StepsTo a old new m.published m.queue m.floors → Runs m (events_in m a) new
+    by-answer : (a : Result Did PumpFault) → StepBy a old new m → (IsTrue tells → StepsTo a old new m.published m.queue m.floors)
+        → Runs tells m (events_in m a) new
     by-answer (Ok what) by steps-to =
         let memory = by.0 in
         let gone = by.1 in
@@ -385,7 +408,7 @@ module _ (tells : Bool) (old new : LogStoreValue) (answer : Result Did PumpFault
           run = gone.run;
           stands = record {
             memory = gated-memory new.commits (with_published (count_in what) m) gone.group gone.gate memory.stands;
-            machine = run-machine IsValue m after (begins_in m ++ ends_in what) is.machine gone.run;
+            machine = run-machine IsValue m after (begins_in m ++ ends_in m.gate (Ok what)) is.machine gone.run;
             writing = record {
               most = is.writing.most;
               group = gone.group_is;
@@ -394,18 +417,19 @@ module _ (tells : Bool) (old new : LogStoreValue) (answer : Result Did PumpFault
               left = λ fails. absurd (let no : false ≡ true = sym works-here ∙ fails in cc);
             };
             fresh = memory.fresh;
-            disk = subst (λ (b : Bool). MatchBool b (StopsOnHeap new (m.published ++ take (count_in what) m.queue) (drop (count_in what) m.queue) m.floors)
-                (StandsOnHeap new (m.published ++ take (count_in what) m.queue) (drop (count_in what) m.queue) m.floors)) (sym works-on) steps-to;
+            disk = λ told. subst (λ (b : Bool). MatchBool b (StopsOnHeap new (m.published ++ take (count_in what) m.queue) (drop
+                (count_in what) m.queue) m.floors)
+                (StandsOnHeap new (m.published ++ take (count_in what) m.queue) (drop (count_in what) m.queue) m.floors)) (sym works-on) (steps-to told);
           };
         }
-    by-answer (Err pump.Busy) by steps-to = absurd steps-to
+    by-answer (Err pump.Busy) by steps-to = absurd by
     by-answer (Err pump.NoMemory) by steps-to =
-        record { after = m; run = refl; stands = subst (λ (v : LogStoreValue). IsStoreOf v m) (sym steps-to) is }
+        record { after = m; run = refl; stands = subst (λ (v : LogStoreValue). IsStoreOf tells v m) (sym by) is }
     by-answer (Err pump.Failed) by steps-to =
         let memory = by.0 in
         let fails = by.1 in
         let after : Machine Value = record (steps.broken m) { group = fails.group; gate = fails.gate } in
-        subst (λ (es : List (Event Value)). Runs m es new)
+        subst (λ (es : List (Event Value)). Runs tells m es new)
         (ap (λ (b : Bool). cond b [] (begins_in m ++ breaks_in m.gate)) (sym works-here)) (record {
           after = after;
           run = fails.run;
@@ -420,29 +444,29 @@ module _ (tells : Bool) (old new : LogStoreValue) (answer : Result Did PumpFault
               left = λ on. fails.gate_is;
             };
             fresh = memory.fresh;
-            disk = subst (λ (b : Bool). MatchBool b (StopsOnHeap new m.published m.queue m.floors) (StandsOnHeap new m.published m.queue m.floors))
-                (sym steps-to.failed) steps-to.stops;
+            disk = λ told. subst (λ (b : Bool). MatchBool b (StopsOnHeap new m.published m.queue m.floors) (StandsOnHeap new m.published m.queue m.floors))
+                (sym (steps-to told).failed) (steps-to told).stops;
           };
         })
 
-    working : Runs m (events_in m answer) new
+    working : Runs tells m (events_in m answer) new
     working =
         by-answer answer (by-turn old.turn refl takes)
-        (pump-steps tells old new answer m.published m.queue m.floors tell works step sound stands pumps)
+        (λ told. pump-steps tells old new answer m.published m.queue m.floors told works step (sound told) (stands told) pumps)
 
   -- one that has failed
-  resting : old.commits.failed ≡ true → Pumps tells old answer new → Runs m (events_in m answer) new
+  resting : old.commits.failed ≡ true → Pumps tells old answer new → Runs tells m (events_in m answer) new
   resting failed pumps =
       let rests = failed-rests tells old new answer failed pumps in
       let fails : m.failed ≡ true = sym is.memory.failed ∙ failed in
-      subst (λ (a : Result Did PumpFault). Runs m (events_in m a) new) (sym rests.0)
-      (subst (λ (es : List (Event Value)). Runs m es new) (ap (λ (b : Bool). cond b [] (begins_in m ++ breaks_in m.gate)) (sym fails))
-      (record { after = m; run = refl; stands = subst (λ (v : LogStoreValue). IsStoreOf v m) (sym rests.1) is }))
+      subst (λ (a : Result Did PumpFault). Runs tells m (events_in m a) new) (sym rests.0)
+      (subst (λ (es : List (Event Value)). Runs tells m es new) (ap (λ (b : Bool). cond b [] (begins_in m ++ breaks_in m.gate)) (sym fails))
+      (record { after = m; run = refl; stands = subst (λ (v : LogStoreValue). IsStoreOf tells v m) (sym rests.1) is }))
 
-  pub pump-stands : Pumps tells old answer new → Runs m (events_in m answer) new
+  pub pump-stands : Pumps tells old answer new → Runs tells m (events_in m answer) new
   pump-stands pumps = by-failed old.commits.failed refl pumps
     where
-      by-failed : (b : Bool) → old.commits.failed ≡ b → Pumps tells old answer new → Runs m (events_in m answer) new
+      by-failed : (b : Bool) → old.commits.failed ≡ b → Pumps tells old answer new → Runs tells m (events_in m answer) new
       by-failed true failed is-so = resting failed is-so
       by-failed false works is-so =
           working works

@@ -1,6 +1,6 @@
 -- What a stop may leave between two calls, and what an opened store stands for.
 use Rattle.std.proofs.Common.{◌≡◌, ◌⊎◌, ℕ, Bool, true, false, List, [], ◌++◌, take, Option, None, Some, refl, ap, sym, subst, inl}
-use Rattle.std.specs.Prelude.{MatchBool}
+use Rattle.std.specs.Prelude.{IsTrue, MatchBool}
 use Rattle.history.specs.Histories.{History}
 use Rattle.history.specs.Machine.{Machine, opened_by}
 use Rattle.history.proofs.Machines.{opened_by-machine}
@@ -27,7 +27,7 @@ use Rattle.law_log_store.proofs.Pumping.{either-old, either-new, grouped-stays}
 use Rattle.law_log_store.proofs.Opened as rooms
 use Rattle.law_log_steps.specs.Store.{HaveMark, gate_of, IsWriting, IsStoreOf}
 
-module _ (v : LogStoreValue) (m : Machine Value) (image : Image) (step : IsInStep v) (is : IsStoreOf v m) where
+module _ (tells : Bool) (v : LogStoreValue) (m : Machine Value) (image : Image) (told : IsTrue tells) (step : IsInStep v) (is : IsStoreOf tells v m) where
   abbrev Old : Type 0
   Old = IsImageOf v.roots image m.published m.floors
 
@@ -35,7 +35,7 @@ module _ (v : LogStoreValue) (m : Machine Value) (image : Image) (step : IsInSte
   New group = IsImageOf v.roots image (m.published ++ take group m.queue) m.floors
 
   stops : StopsOnHeap v m.published m.queue m.floors
-  stops = by-failed v.commits.failed refl is.disk
+  stops = by-failed v.commits.failed refl (is.disk told)
     where
       by-failed : (b : Bool) → v.commits.failed ≡ b → MatchBool b (StopsOnHeap v m.published m.queue m.floors) (StandsOnHeap v m.published m.queue m.floors)
           → StopsOnHeap v m.published m.queue m.floors
@@ -57,23 +57,24 @@ module _ (v : LogStoreValue) (m : Machine Value) (image : Image) (step : IsInSte
           subst (λ (n : ℕ). Old ⊎ New n) (ap (λ (c : CommitsValue). c.group) (sym (grouped-stays v.commits some.0))) (by-failed w v.commits.failed may)
 
 -- a store that stands for a history, with nothing behind it, stands for a machine that is opened on it
-pub stands-opened : (v : LogStoreValue) (h : History Value) (floors : ℕ → ℕ) (reading : Reading) → StandsFor reading h floors → StandsOnHeap v h [] floors
+pub stands-opened : (tells : Bool) (v : LogStoreValue) (h : History Value) (floors : ℕ → ℕ) (reading : Reading) → StandsFor reading h floors
+    → StandsOnHeap v h [] floors
     → v.commits.failed ≡ false → v.commits.queue ≡ [] → IsWriting v (opened_by 1024 h floors) → StandsInMemory v.commits (opened_by 1024 h floors)
-    → IsStoreOf v (opened_by 1024 h floors)
-stands-opened v h floors reading stands on works none writing memory = record {
+    → IsStoreOf tells v (opened_by 1024 h floors)
+stands-opened tells v h floors reading stands on works none writing memory = record {
   memory = memory;
   machine = opened_by-machine IsValue 1024 h floors stands.opens.history (floor-range reading h floors stands);
   writing = writing;
   fresh = subst (λ (ws : List WaitingValue). HaveMark v.commits.reclaimed ws) (sym none) tt;
-  disk = subst (λ (b : Bool). MatchBool b (StopsOnHeap v h [] floors) (StandsOnHeap v h [] floors)) (sym works) on;
+  disk = λ told. subst (λ (b : Bool). MatchBool b (StopsOnHeap v h [] floors) (StandsOnHeap v h [] floors)) (sym works) on;
 }
 
-pub opened-stands : (v : LogStoreValue) (image : Image) (l : HeapLog) (reading : Reading) (h : History Value) (floors : ℕ → ℕ)
+pub opened-stands : (tells : Bool) (v : LogStoreValue) (image : Image) (l : HeapLog) (reading : Reading) (h : History Value) (floors : ℕ → ℕ)
     → v.disk.areas ≡ settled_on image → AreSound v.disk.areas → ReadsRoots image.status v.roots → IsLogOf v.roots.extents (root_of v.roots) l reading
     → HoldsLog l image.heap image.archive → StandsFor reading h floors → IsOpenedOn v l reading → v.commits.failed ≡ false
-    → StandsInMemory v.commits (opened_by 1024 h floors) → IsStoreOf v (opened_by 1024 h floors)
-opened-stands v image l reading h floors same sound reads is held stands on works memory =
-    stands-opened v h floors reading stands (rooms.opened-stands v image l reading h floors same sound reads is held stands on) works on.queue
+    → StandsInMemory v.commits (opened_by 1024 h floors) → IsStoreOf tells v (opened_by 1024 h floors)
+opened-stands tells v image l reading h floors same sound reads is held stands on works memory =
+    stands-opened tells v h floors reading stands (rooms.opened-stands v image l reading h floors same sound reads is held stands on) works on.queue
     (record {
       most = refl;
       group = sym on.group;

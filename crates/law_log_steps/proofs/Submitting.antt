@@ -1,7 +1,7 @@
 -- A submit is a step of the machine.
 use Rattle.std.proofs.Common.{◌≡◌, ◌≢◌, ℕ, ◌<◌, ◌≤◌, ◌^◌, ◌≡◌, nat_lt, Bool, true, false, cond, List, [], ◌∷◌, ◌++◌, length, Option, None, Some}
 use Rattle.std.proofs.Common.{Result, Ok, Err, refl, arith, ap, sym, subst, ◌∙◌, append-nil, append_assoc}
-use Rattle.std.specs.Prelude.{MatchBool}
+use Rattle.std.specs.Prelude.{IsTrue, MatchBool}
 use Rattle.std.proofs.lemmas.Bool.Decides.{nat_tests}
 use Rattle.history.specs.declared.key.Key.{Key}
 use Rattle.history.specs.declared.key.KeyWrite.{KeyWrite}
@@ -208,17 +208,17 @@ same-turn v new txn label now (Ok (submitted.ReadOnly snapshot)) is = ap (λ (x 
 same-turn v new txn label now (Ok (submitted.Queued ticket)) is = ap (λ (x : LogStoreValue). x.turn) is.2
 same-turn v new txn label now (Err why) is = ap (λ (x : LogStoreValue). x.turn) is.1
 
-module _ (old new : LogStoreValue) (txn : TxnValue) (label now : ℕ) (answer : Result Submitted SubmitFault) (m : Machine Value) (step : IsInStep old)
-    (is : IsStoreOf old m) (submits : Submits old txn label now answer new) where
+module _ (tells : Bool) (old new : LogStoreValue) (txn : TxnValue) (label now : ℕ) (answer : Result Submitted SubmitFault) (m : Machine Value)
+    (step : IsInStep old) (is : IsStoreOf tells old m) (submits : Submits old txn label now answer new) where
   abbrev queued : History Value
   queued = queued_by txn label answer
 
   -- the disk with what is queued
-  disk-then : MayAllFollow IsValue (m.published ++ m.queue) queued → new.commits.failed ≡ old.commits.failed
+  disk-then : IsTrue tells → MayAllFollow IsValue (m.published ++ m.queue) queued → new.commits.failed ≡ old.commits.failed
       → OnDisk new m.published (m.queue ++ queued) m.floors
-  disk-then may same =
+  disk-then told may same =
       subst (λ (b : Bool). MatchBool b (StopsOnHeap new m.published (m.queue ++ queued) m.floors) (StandsOnHeap new m.published (m.queue ++ queued) m.floors))
-      (sym same) (by-failed old.commits.failed refl is.disk)
+      (sym same) (by-failed old.commits.failed refl (is.disk told))
     where
       by-failed : (b : Bool) → old.commits.failed ≡ b
           → MatchBool b (StopsOnHeap old m.published m.queue m.floors) (StandsOnHeap old m.published m.queue m.floors)
@@ -232,7 +232,7 @@ module _ (old new : LogStoreValue) (txn : TxnValue) (label now : ℕ) (answer : 
   -- an own transaction
   own-stands : AreTxnWrites txn.state txn.snapshot txn.writes → label < 2 ^ 64 → is_own old.commits txn ≡ true → new.turn ≡ old.turn
       → memory.AnswersSubmit (over old.commits txn.number) txn label now answer new.commits
-      → Goes new m (event_of m (submission_of txn label now) answer)
+      → Goes tells new m (event_of m (submission_of txn label now) answer)
   own-stands are range own turn answers =
       let to = submit-step old.commits new.commits txn label now answer m is.memory is.machine are range own answers in
       let n : Machine Value = to.0 in
@@ -253,19 +253,19 @@ module _ (old new : LogStoreValue) (txn : TxnValue) (label now : ℕ) (answer : 
           machine = machine;
           writing = writes-on old new m n is.writing works.group turn left.group;
           fresh = works.fresh is.fresh;
-          disk = subst (λ (h : History Value). OnDisk new h n.queue n.floors) (sym left.published)
+          disk = λ told. subst (λ (h : History Value). OnDisk new h n.queue n.floors) (sym left.published)
               (subst (λ (q : History Value). OnDisk new m.published q n.floors) (sym queue)
-              (subst (λ (floors : ℕ → ℕ). OnDisk new m.published (m.queue ++ queued) floors) (sym left.floors) (disk-then may works.failed)));
+              (subst (λ (floors : ℕ → ℕ). OnDisk new m.published (m.queue ++ queued) floors) (sym left.floors) (disk-then told may works.failed)));
         },
       )
 
   pub submit-stands : AreTxnWrites txn.state txn.snapshot txn.writes → label < 2 ^ 64
-      → MatchBool (is_own old.commits txn) (Goes new m (event_of m (submission_of txn label now) answer)) (IsStoreOf new m)
+      → MatchBool (is_own old.commits txn) (Goes tells new m (event_of m (submission_of txn label now) answer)) (IsStoreOf tells new m)
   submit-stands are range = by-own (is_own old.commits txn) refl submits
     where
       by-failed : is_own old.commits txn ≡ true → (b : Bool) → old.commits.failed ≡ b
           → MatchBool b ((answer ≡ Err refused.Failed) × (new ≡ spent old txn.number)) (AnswersSubmit (spent old txn.number) txn label now answer new)
-          → Goes new m (event_of m (submission_of txn label now) answer)
+          → Goes tells new m (event_of m (submission_of txn label now) answer)
       by-failed own true failed so =
           own-stands are range own (ap (λ (x : LogStoreValue). x.turn) so.1)
           (subst (λ (a : Result Submitted SubmitFault). memory.AnswersSubmit (over old.commits txn.number) txn label now a new.commits) (sym so.0)
@@ -276,6 +276,6 @@ module _ (old new : LogStoreValue) (txn : TxnValue) (label now : ℕ) (answer : 
 
       by-own : (b : Bool) → is_own old.commits txn ≡ b
           → MatchBool b (SubmitsOwn (spent old txn.number) txn label now answer new) ((answer ≡ Err refused.Stranger) × (new ≡ old))
-          → MatchBool b (Goes new m (event_of m (submission_of txn label now) answer)) (IsStoreOf new m)
+          → MatchBool b (Goes tells new m (event_of m (submission_of txn label now) answer)) (IsStoreOf tells new m)
       by-own true own so = by-failed own old.commits.failed refl so
-      by-own false stranger so = subst (λ (v : LogStoreValue). IsStoreOf v m) (sym so.1) is
+      by-own false stranger so = subst (λ (v : LogStoreValue). IsStoreOf tells v m) (sym so.1) is

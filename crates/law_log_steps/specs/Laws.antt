@@ -29,13 +29,12 @@ use Rattle.log_store.specs.Pumps.{Pumps}
 use Rattle.log_store.specs.Opens.{Opens, OpenRefuses}
 use Rattle.recovery.specs.declared.fault.OpenFault.{OpenFault}
 use Rattle.law_log_opening.specs.Laws.{SaysNothing}
-use Rattle.log_store.specs.declared.answers.Did.{Did}
-use Rattle.log_store.specs.declared.answers.Did.TheVariants as did
+use Rattle.group.specs.declared.answers.Did.{Did}
 use Rattle.log_recovery.specs.Opening.{ReadsRoots}
 use Rattle.log_roots.specs.declared.roots.Roots.{Roots}
 use Rattle.log_roots.specs.Roots.{root_of}
 use Rattle.law_log_layout.specs.HeapLog.{HeapLog, IsLogOf, HoldsLog}
-use Rattle.law_refinement.specs.Laws.{submission_of, event_of, RedeemsAs}
+use Rattle.law_refinement.specs.Laws.{submission_of, event_of, RedeemsAs, begins_in, ends_in, breaks_in}
 use Rattle.law_commits.specs.Standing.{StandsInMemory}
 use Rattle.law_log_store.specs.Calls.{IsFront}
 use Rattle.law_log_store.specs.Opened.{IsOpenedOn}
@@ -47,110 +46,96 @@ use Rattle.law_log_steps.specs.Store.{IsStoreOf}
 -- A store that is opened on an image all of which is synced, and whose memory stands for a machine opened on its history, stands for that.
 abbrev pub OpenedStands : Type 0
 OpenedStands =
-    (v : LogStoreValue) (image : Image) (l : HeapLog) (reading : Reading) (h : History Value) (floors : ℕ → ℕ)
+    (tells : Bool) (v : LogStoreValue) (image : Image) (l : HeapLog) (reading : Reading) (h : History Value) (floors : ℕ → ℕ)
     → v.disk.areas ≡ settled_on image → AreSound v.disk.areas → ReadsRoots image.status v.roots → IsLogOf v.roots.extents (root_of v.roots) l reading
     → HoldsLog l image.heap image.archive → StandsFor reading h floors → IsOpenedOn v l reading → v.commits.failed ≡ false
-    → StandsInMemory v.commits (opened_by 1024 h floors) → IsStoreOf v (opened_by 1024 h floors)
+    → StandsInMemory v.commits (opened_by 1024 h floors) → IsStoreOf tells v (opened_by 1024 h floors)
 
 -- so a store that was opened on an image which stands for a history
 abbrev pub OpenStands : Type 0
 OpenStands =
     (tells : Bool) (old : DiskState) (mark : ℕ) (v : LogStoreValue) (roots : Roots) (h : History Value) (floors : ℕ → ℕ) → IsTrue tells → AreSound old.areas
-    → IsImageOf roots (image_of old.areas) h floors → Opens tells old mark v → IsStoreOf v (opened_by 1024 h floors)
+    → IsImageOf roots (image_of old.areas) h floors → Opens tells old mark v → IsStoreOf tells v (opened_by 1024 h floors)
 
 -- at every moment, of a store that works or has failed, whatever a stop may leave is a front
 abbrev pub RestsOnFront : Type 0
-RestsOnFront = (v : LogStoreValue) (m : Machine Value) (image : Image) → IsInStep v → IsStoreOf v m → LeavesImage v.disk.areas image
+RestsOnFront = (tells : Bool) (v : LogStoreValue) (m : Machine Value) (image : Image) → IsTrue tells → IsInStep v → IsStoreOf tells v m
+    → LeavesImage v.disk.areas image
     → IsFront v image m.published m.queue m.floors
 
 -- it is one of the machine: what is published, or, once the group's gate may be open, that with the whole group
 abbrev pub LeavesFronts : Type 0
-LeavesFronts = (v : LogStoreValue) (m : Machine Value) (image : Image) → IsInStep v → IsStoreOf v m → LeavesImage v.disk.areas image
+LeavesFronts = (tells : Bool) (v : LogStoreValue) (m : Machine Value) (image : Image) → IsTrue tells → IsInStep v → IsStoreOf tells v m
+    → LeavesImage v.disk.areas image
     → OnFront (IsImageOf v.roots image) m
 
 -- So a store that is opened on what a stop left stands for a machine that is opened on a front. A front has all that is published.
 abbrev pub StopReopens : Type 0
 StopReopens =
-    (tells : Bool) (v : LogStoreValue) (m : Machine Value) (old : DiskState) (mark : ℕ) (again : LogStoreValue) → IsTrue tells → IsInStep v → IsStoreOf v m
+    (tells : Bool) (v : LogStoreValue) (m : Machine Value) (old : DiskState) (mark : ℕ) (again : LogStoreValue) → IsTrue tells → IsInStep v
+    → IsStoreOf tells v m
     → LeavesImage v.disk.areas (image_of old.areas) → AreSound old.areas → Opens tells old mark again
-    → OnFront (λ h floors. IsStoreOf again (opened_by 1024 h floors)) m
+    → OnFront (λ h floors. IsStoreOf tells again (opened_by 1024 h floors)) m
 
 -- and no opening is refused for what is left
 abbrev pub StopOpens : Type 0
 StopOpens =
-    (tells : Bool) (v : LogStoreValue) (m : Machine Value) (old new : DiskState) (why : OpenFault) → IsTrue tells → IsInStep v → IsStoreOf v m
+    (tells : Bool) (v : LogStoreValue) (m : Machine Value) (old new : DiskState) (why : OpenFault) → IsTrue tells → IsInStep v → IsStoreOf tells v m
     → LeavesImage v.disk.areas (image_of old.areas) → OpenRefuses tells old why new → SaysNothing why
 
 -- ---- transactions and tickets
 
 -- what a begin leads to, by its answer
-abbrev pub BeginsTo : Machine Value → Result TxnValue BeginFault → LogStoreValue → Type 0
-BeginsTo m (Ok txn) new = Step IsValue m (Began txn.snapshot) (begun m) × IsStoreOf new (begun m)
-BeginsTo m (Err fault.NoMemory) new = Step IsValue m (BeginRefused steps.NoMemory) m × IsStoreOf new m
-BeginsTo m (Err fault.Failed) new = Step IsValue m (BeginRefused steps.Failed) m × IsStoreOf new m
+abbrev pub BeginsTo : Bool → Machine Value → Result TxnValue BeginFault → LogStoreValue → Type 0
+BeginsTo tells m (Ok txn) new = Step IsValue m (Began txn.snapshot) (begun m) × IsStoreOf tells new (begun m)
+BeginsTo tells m (Err fault.NoMemory) new = Step IsValue m (BeginRefused steps.NoMemory) m × IsStoreOf tells new m
+BeginsTo tells m (Err fault.Failed) new = Step IsValue m (BeginRefused steps.Failed) m × IsStoreOf tells new m
 
 abbrev pub BeginStands : Type 0
-BeginStands = (old new : LogStoreValue) (answer : Result TxnValue BeginFault) (m : Machine Value) → IsStoreOf old m → calls.Begins old answer new
-    → BeginsTo m answer new
+BeginStands = (tells : Bool) (old new : LogStoreValue) (answer : Result TxnValue BeginFault) (m : Machine Value) → IsStoreOf tells old m
+    → calls.Begins old answer new
+    → BeginsTo tells m answer new
 
 -- the machine goes by this event to one that the store stands for
-abbrev pub Goes : LogStoreValue → Machine Value → Event Value → Type 0
-Goes new m event = (after : Machine Value) × Step IsValue m event after × IsStoreOf new after
+abbrev pub Goes : Bool → LogStoreValue → Machine Value → Event Value → Type 0
+Goes tells new m event = (after : Machine Value) × Step IsValue m event after × IsStoreOf tells new after
 
 -- an own transaction is given up, and a stranger changes nothing
 abbrev pub AbortStands : Type 0
-AbortStands = (old new : LogStoreValue) (txn : TxnValue) (m : Machine Value) → IsStoreOf old m → calls.Aborts old txn new
-    → MatchBool (is_own old.commits txn) (Goes new m (Aborted txn.snapshot)) (IsStoreOf new m)
+AbortStands = (tells : Bool) (old new : LogStoreValue) (txn : TxnValue) (m : Machine Value) → IsStoreOf tells old m → calls.Aborts old txn new
+    → MatchBool (is_own old.commits txn) (Goes tells new m (Aborted txn.snapshot)) (IsStoreOf tells new m)
 
 -- a ticket is answered as the machine does, or it is a stranger's
 abbrev pub RedeemStands : Type 0
-RedeemStands = (old new : LogStoreValue) (ticket : TicketValue) (answer : Redeemed) (m : Machine Value) → IsStoreOf old m → calls.Redeems old ticket answer new
-    → RedeemsAs (answers.redeemed_by m ticket.time) answer × IsStoreOf new m
+RedeemStands = (tells : Bool) (old new : LogStoreValue) (ticket : TicketValue) (answer : Redeemed) (m : Machine Value) → IsStoreOf tells old m
+    → calls.Redeems old ticket answer new
+    → RedeemsAs (answers.redeemed_by m ticket.time) answer × IsStoreOf tells new m
 
 -- a submit of an own transaction is a step of the machine, and a stranger changes nothing
 abbrev pub SubmitStands : Type 0
 SubmitStands =
-    (old new : LogStoreValue) (txn : TxnValue) (label now : ℕ) (answer : Result Submitted SubmitFault) (m : Machine Value) → IsInStep old → IsStoreOf old m
+    (tells : Bool) (old new : LogStoreValue) (txn : TxnValue) (label now : ℕ) (answer : Result Submitted SubmitFault) (m : Machine Value) → IsInStep old
+    → IsStoreOf tells old m
     → AreTxnWrites txn.state txn.snapshot txn.writes → label < 2 ^ 64 → Submits old txn label now answer new
-    → MatchBool (is_own old.commits txn) (Goes new m (event_of m (submission_of txn label now) answer)) (IsStoreOf new m)
+    → MatchBool (is_own old.commits txn) (Goes tells new m (event_of m (submission_of txn label now) answer)) (IsStoreOf tells new m)
 
 -- ---- steps of a group
 
--- a group begins in a step, where none stands and commits wait
-abbrev pub begins_in : Machine Value → List (Event Value)
-begins_in m = if (m.group == 0) && nat_lt 0 (length m.queue) then GroupBegan ∷ [] else []
-
--- and what else a step is, by its answer: once the heap is synced the gate is due
-abbrev pub ends_in : Did → List (Event Value)
-ends_in did.Idle = []
-ends_in did.WroteExtent = []
-ends_in did.GateClosed = []
-ends_in did.HeapSynced = GateDue OfGroup ∷ []
-ends_in did.GateWritten = GateWritten OfGroup ∷ []
-ends_in (did.Published count) = Published count ∷ []
-
--- a refused write of the gate may have opened it
-abbrev pub breaks_in : Gate → List (Event Value)
-breaks_in Shut = Broke ∷ []
-breaks_in (Due OfGroup) = GateWritten OfGroup ∷ Broke ∷ []
-breaks_in (Due OfFloor) = Broke ∷ []
-breaks_in (MayBeOpen change) = Broke ∷ []
-
--- the machine's events in a step, by its answer: without memory, and of a machine that has failed, there are none
+-- The machine's events in a step, by its answer: those of the other profiles. Without memory, and of a machine that has failed, there are none.
 abbrev pub events_in : Machine Value → Result Did PumpFault → List (Event Value)
-events_in m (Ok what) = begins_in m ++ ends_in what
+events_in m (Ok what) = begins_in m ++ ends_in m.gate (Ok what)
 events_in m (Err pump.Busy) = []
 events_in m (Err pump.NoMemory) = []
 events_in m (Err pump.Failed) = if m.failed then [] else begins_in m ++ breaks_in m.gate
 
 -- the machine runs through these events to one that the store stands for
-pub record Runs (m : Machine Value) (events : List (Event Value)) (new : LogStoreValue) : Type 0 where
+pub record Runs (tells : Bool) (m : Machine Value) (events : List (Event Value)) (new : LogStoreValue) : Type 0 where
   pub after : Machine Value
   pub run : Run IsValue m events after
-  pub stands : IsStoreOf new after
+  pub stands : IsStoreOf tells new after
 
--- so it is on a device that tells of its calls
+-- so it is of every step
 abbrev pub PumpStands : Type 0
 PumpStands =
-    (tells : Bool) (old new : LogStoreValue) (answer : Result Did PumpFault) (m : Machine Value) → IsTrue tells → IsInStep old → AreSound new.disk.areas
-    → IsStoreOf old m → Pumps tells old answer new → Runs m (events_in m answer) new
+    (tells : Bool) (old new : LogStoreValue) (answer : Result Did PumpFault) (m : Machine Value) → IsInStep old
+    → (IsTrue tells → AreSound new.disk.areas) → IsStoreOf tells old m → Pumps tells old answer new → Runs tells m (events_in m answer) new

@@ -1,5 +1,5 @@
 -- The state of the machine that a store whose log lies in the heap stands for.
-use Rattle.std.specs.Prelude.{ℕ, ◌≡◌, true, false, MatchBool, List, Option, None, Some}
+use Rattle.std.specs.Prelude.{ℕ, ◌≡◌, Bool, true, false, IsTrue, MatchBool, List, Option, None, Some}
 use Rattle.std.specs.List.{AllByRecursion}
 use Rattle.history.specs.Histories.{History}
 use Rattle.history.specs.Machine.{Machine, Gate, Shut, Due, MayBeOpen, OfGroup, IsMachine}
@@ -57,10 +57,10 @@ pub record IsWriting (v : LogStoreValue) (m : Machine Value) : Type 0 where
   pub gate : m.failed ≡ false → m.gate ≡ gate_of v.turn
   pub left : m.failed ≡ true → m.gate ≡ gate_left v.turn
 
--- Memory and disk stand for one state of the machine.
-pub record IsStoreOf (v : LogStoreValue) (m : Machine Value) : Type 0 where
+-- Memory and disk stand for one state of the machine. What is said of the disk is said where it tells its bytes.
+pub record IsStoreOf (tells : Bool) (v : LogStoreValue) (m : Machine Value) : Type 0 where
   pub memory : StandsInMemory v.commits m
   pub machine : IsMachine IsValue m
   pub writing : IsWriting v m
   pub fresh : AreFresh v.commits
-  pub disk : OnDisk v m.published m.queue m.floors
+  pub disk : IsTrue tells → OnDisk v m.published m.queue m.floors

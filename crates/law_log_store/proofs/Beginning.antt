@@ -85,7 +85,7 @@ one-or-none false = omega arith
 
 -- ---- the group that begins
 
-grouped-is : (v : CommitsValue) → v.group ≡ 0 → 0 < length v.queue → grouped 1024 v ≡ record v { group = min 1024 (length v.queue) }
+pub grouped-is : (v : CommitsValue) → v.group ≡ 0 → 0 < length v.queue → grouped 1024 v ≡ record v { group = min 1024 (length v.queue) }
 grouped-is v none some =
     let it : CommitsValue = record v { group = min 1024 (length v.queue) } in
     ap (λ (n : ℕ). cond ((n == 0) && nat_lt 0 (length v.queue)) it v) none ∙ ap (λ (b : Bool). cond b it v) (is_lt some)

@@ -136,7 +136,7 @@ redeem-keeps old new ticket answer is =
 -- ---- submits
 
 -- what is queued has room
-has-room : (v : LogStoreValue) (snapshot : ℕ) (writes : List (KeyWrite Value)) (now time : ℕ) → verdict v snapshot writes now ≡ Queues time
+pub has-room : (v : LogStoreValue) (snapshot : ℕ) (writes : List (KeyWrite Value)) (now time : ℕ) → verdict v snapshot writes now ≡ Queues time
     → IsTrue (has_room v writes)
 has-room v snapshot [] now time is = absurd (let no : Reads ≡ Queues time = is in cc)
 has-room v snapshot (w ∷ ws) now time is = by-conflict (first_conflict (ordered v.commits) snapshot (w ∷ ws)) is

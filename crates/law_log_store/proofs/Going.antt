@@ -33,7 +33,7 @@ use Rattle.log_roots.specs.Roots.{root_of}
 use Rattle.commits.specs.Steps.{members}
 use Rattle.log_store.specs.Values.{LogStoreValue}
 use Rattle.log_store.specs.Pumps.{Advances, at_next, after_call, with_published, with_failure, did_of, disk_answer}
-use Rattle.log_store.specs.declared.answers.Did.{Did}
+use Rattle.group.specs.declared.answers.Did.{Did}
 use Rattle.law_log_store.specs.Standing.{StandsOnHeap, HasTurn, IsOnWay, HasAnchors, MayStand, KeepsRoots, IsImageOf, StopsOnHeap}
 use Rattle.law_log_store.specs.Laws.{LeadsTo, GoesOn}
 use Rattle.law_log_store.proofs.Joining.{in-heap}

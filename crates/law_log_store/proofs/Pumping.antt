@@ -17,8 +17,8 @@ use Rattle.commits.specs.Steps.{grouped}
 use Rattle.log_store.specs.Values.{LogStoreValue, IsInStep}
 use Rattle.log_store.specs.Values as stores
 use Rattle.log_store.specs.Pumps.{Pumps, TakesStep, BeginsGroup, AdvancesGroup, Advances, after_call, with_failure, did_of, disk_answer}
-use Rattle.log_store.specs.declared.answers.Did.{Did}
-use Rattle.log_store.specs.declared.answers.Did.TheVariants as did
+use Rattle.group.specs.declared.answers.Did.{Did}
+use Rattle.group.specs.declared.answers.Did.TheVariants as did
 use Rattle.law_log_store.specs.Standing.{StandsOnHeap, IsImageOf, MayStand, StopsOnHeap}
 use Rattle.law_log_store.specs.Laws.{LeadsTo, GoesOn}
 use Rattle.law_log_store.specs.Calls.{count_in, StepsTo, IsFront}

@@ -17,20 +17,15 @@ use Rattle.log_store.specs.Values.{LogStoreValue, IsInStep}
 use Rattle.log_store.specs.Calls as calls
 use Rattle.log_store.specs.Submits.{Submits}
 use Rattle.log_store.specs.Pumps.{Pumps}
-use Rattle.log_store.specs.declared.answers.Did.{Did}
-use Rattle.log_store.specs.declared.answers.Did.TheVariants as did
+use Rattle.group.specs.declared.answers.Did.{Did}
+use Rattle.law_refinement.specs.Leaving as leaving
 use Rattle.law_log_store.specs.Standing.{StandsOnHeap, IsImageOf, StopsOnHeap}
 
 -- ---- steps of a group
 
 -- how many commits a step published
 abbrev pub count_in : Did → ℕ
-count_in did.Idle = 0
-count_in did.WroteExtent = 0
-count_in did.GateClosed = 0
-count_in did.HeapSynced = 0
-count_in did.GateWritten = 0
-count_in (did.Published count) = count
+count_in what = leaving.count_in (Ok what)
 
 -- A store whose call was refused has failed, and what a stop may leave stands for what is published, or for that with the group.
 pub record HasFailed (v : LogStoreValue) (h queue : History Value) (floors : ℕ → ℕ) : Type 0 where

@@ -15,6 +15,7 @@ pub mod Publishing
 pub mod Reclaimed
 pub mod Answering
 pub mod Queries
+pub mod Asked
 pub mod Contents
 pub mod Packed
 pub mod Naming

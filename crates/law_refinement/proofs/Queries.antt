@@ -20,14 +20,12 @@ use Rattle.chains.proofs.Shown.{scan_is}
 use Rattle.chains.proofs.ShownRows.{scan_of_rows}
 use Rattle.history.proofs.ScanNumbers.{numbers_of, state-written, between-written}
 use Rattle.history.proofs.ScansMade.{scan-made, scan_of_rows-made}
+use Rattle.timequery.specs.Asked.{Holding, FindsAt, FindsScanAt, FindsRows, FindsScanRows}
 use Rattle.timequery.specs.View.{ViewValue, RefusesRecent, AnswersAt}
 use Rattle.timequery.specs.Homes.{ReadsHistory, IsUndamaged, RefusesAt, RefusesRows}
 use Rattle.timequery.specs.declared.fault.QueryFault.{QueryFault}
 use Rattle.timequery.specs.declared.fault.QueryFault.TheVariants as query
 use Rattle.floors.specs.Floors.{floor_at}
-use Rattle.store.specs.Values.{StoreValue}
-use Rattle.store.specs.Calls as stores
-use Rattle.store.specs.Calls.{Finds, is_own}
 use Rattle.law_refinement.specs.Homes.{ViewStands}
 use Rattle.law_refinement.specs.Laws.{SaysAt, Says, SaysScanAt, SaysBetween, SaysScanBetween}
 use Rattle.law_refinement.specs.Views.{SaysRecent}
@@ -233,8 +231,8 @@ rows-undamaged view relation a b query.Stranger recent says = tt
 -- ---- the queries
 
 -- where it is sure, the disk tells its bytes and the view stands for the history, or memory has all from that time on
-abbrev pub Knows : Bool → StoreValue → ViewValue → History Value → ℕ → Type 0 → Type 0
-Knows tells v view h from Sure = Sure → ReadsHistory tells v.archive.kept v.disk view h ⊎ (view.reclaimed ≤ from)
+abbrev pub Knows : {W : Type 0} → Holding W → Bool → W → ViewValue → History Value → ℕ → Type 0 → Type 0
+Knows held tells v view h from Sure = Sure → ReadsHistory tells (held.archive v).kept (held.disk v) view h ⊎ (view.reclaimed ≤ from)
 
 at-refused : (Sure : Type 0) (view : ViewValue) (h : History Value) (floors : ℕ → ℕ) (key : Key) (time : ℕ) (fault : QueryFault) → ViewStands view h floors
     → RefusesAt view key.relation time fault → (Sure → IsUndamaged fault) → SaysAt Sure (answers.at_answer h floors key time) (Err fault)
@@ -269,26 +267,26 @@ at-recent view h floors key time o stands recent says =
     (time-kept view h floors key.relation time stands says.from_floor says.upto_last)
     ∙ ap (λ (x : Option Value). Ok x) (sym (says.is ∙ value-same view h floors key time stands says.from_floor says.upto_last recent))
 
-pub at-found : (Sure : Type 0) (tells : Bool) (v new : StoreValue) (view : ViewValue) (h : History Value) (floors : ℕ
-    → ℕ) (key : Key) (time : ℕ) (answer : Result (Option Value) QueryFault) → ViewStands view h floors → Knows tells v view h time Sure
-    → stores.FindsAt tells v view key time answer new → SaysAt Sure (answers.at_answer h floors key time) answer
-at-found Sure tells v new view h floors key time (Ok o) stands know finds = λ sure.
+pub at-found : {W : Type 0} (held : Holding W) (Sure : Type 0) (tells : Bool) (v new : W) (view : ViewValue) (h : History Value) (floors : ℕ
+    → ℕ) (key : Key) (time : ℕ) (answer : Result (Option Value) QueryFault) → ViewStands view h floors → Knows held tells v view h time Sure
+    → FindsAt held tells v view key time answer new → SaysAt Sure (answers.at_answer h floors key time) answer
+at-found held Sure tells v new view h floors key time (Ok o) stands know finds = λ sure.
     ⊎_elim
-    (λ (told : ReadsHistory tells v.archive.kept v.disk view h). subst
+    (λ (told : ReadsHistory tells (held.archive v).kept (held.disk v) view h). subst
     (λ (n : ℕ). answers.unless_refused (answers.time_refusal (last h) n time) (state h time key) ≡ Ok o) (stands.floor_is key.relation) (finds.only h told))
     (λ (recent : view.reclaimed ≤ time). at-recent view h floors key time o stands recent (finds.recent recent).1)
     (know sure)
-at-found Sure tells v new view h floors key time (Err fault) stands know finds =
+at-found held Sure tells v new view h floors key time (Err fault) stands know finds =
     at-refused Sure view h floors key time fault stands finds.refused
-    (λ sure. ⊎_elim (λ (told : ReadsHistory tells v.archive.kept v.disk view h). finds.only h told)
+    (λ sure. ⊎_elim (λ (told : ReadsHistory tells (held.archive v).kept (held.disk v) view h). finds.only h told)
     (λ (recent : view.reclaimed ≤ time). recent-undamaged view key.relation time fault recent finds.refused) (know sure))
 
-pub scan_at-found : (Sure : Type 0) (tells : Bool) (v new : StoreValue) (view : ViewValue) (h : History Value) (floors : ℕ
-    → ℕ) (relation time : ℕ) (answer : Result (Vec (ℕ × Value) Global) QueryFault) → ViewStands view h floors → Knows tells v view h time Sure
-    → stores.FindsScanAt tells v view relation time answer new → SaysScanAt Sure h floors relation time answer
-scan_at-found Sure tells v new view h floors relation time (Ok found) stands know finds = λ sure.
+pub scan_at-found : {W : Type 0} (held : Holding W) (Sure : Type 0) (tells : Bool) (v new : W) (view : ViewValue) (h : History Value) (floors : ℕ
+    → ℕ) (relation time : ℕ) (answer : Result (Vec (ℕ × Value) Global) QueryFault) → ViewStands view h floors → Knows held tells v view h time Sure
+    → FindsScanAt held tells v view relation time answer new → SaysScanAt Sure h floors relation time answer
+scan_at-found held Sure tells v new view h floors relation time (Ok found) stands know finds = λ sure.
     ⊎_elim
-    (λ (told : ReadsHistory tells v.archive.kept v.disk view h). subst
+    (λ (told : ReadsHistory tells (held.archive v).kept (held.disk v) view h). subst
     (λ (n : ℕ). answers.IsScanAnswer (answers.time_refusal (last h) n time) (IsScanAt h relation time) (Ok found.items)) (stands.floor_is relation)
     (finds.only h told))
     (λ (recent : view.reclaimed ≤ time).
@@ -297,18 +295,18 @@ scan_at-found Sure tells v new view h floors relation time (Ok found) stands kno
       subst (IsScanAt h relation time) (sym says.is) (scan-same view h floors relation time stands says.from_floor says.upto_last recent),
     ))
     (know sure)
-scan_at-found Sure tells v new view h floors relation time (Err fault) stands know finds =
+scan_at-found held Sure tells v new view h floors relation time (Err fault) stands know finds =
     time-refused Sure (λ (found : Vec (ℕ × Value) Global). found.items) (IsScanAt h relation time) view h floors relation time fault stands
     (scan-there h relation time) finds.refused
-    (λ sure. ⊎_elim (λ (told : ReadsHistory tells v.archive.kept v.disk view h). finds.only h told)
+    (λ sure. ⊎_elim (λ (told : ReadsHistory tells (held.archive v).kept (held.disk v) view h). finds.only h told)
     (λ (recent : view.reclaimed ≤ time). recent-undamaged view relation time fault recent finds.refused) (know sure))
 
-pub between-found : (Sure : Type 0) (tells : Bool) (v new : StoreValue) (view : ViewValue) (h : History Value) (floors : ℕ
-    → ℕ) (key : Key) (a b : ℕ) (answer : Result (Vec (Version Value) Global) QueryFault) → ViewStands view h floors → Knows tells v view h a Sure
-    → stores.FindsRows tells v view key a b answer new → SaysBetween Sure h floors key a b answer
-between-found Sure tells v new view h floors key a b (Ok found) stands know finds = λ sure.
+pub between-found : {W : Type 0} (held : Holding W) (Sure : Type 0) (tells : Bool) (v new : W) (view : ViewValue) (h : History Value) (floors : ℕ
+    → ℕ) (key : Key) (a b : ℕ) (answer : Result (Vec (Version Value) Global) QueryFault) → ViewStands view h floors → Knows held tells v view h a Sure
+    → FindsRows held tells v view key a b answer new → SaysBetween Sure h floors key a b answer
+between-found held Sure tells v new view h floors key a b (Ok found) stands know finds = λ sure.
     ⊎_elim
-    (λ (told : ReadsHistory tells v.archive.kept v.disk view h). subst
+    (λ (told : ReadsHistory tells (held.archive v).kept (held.disk v) view h). subst
     (λ (n : ℕ). answers.unless_refused (answers.interval_refusal (last h) n a b) (between h key a b)
     ≡ Ok found.items) (stands.floor_is key.relation) (finds.only h told))
     (λ (recent : view.reclaimed ≤ a).
@@ -318,22 +316,22 @@ between-found Sure tells v new view h floors key a b (Ok found) stands know find
     (rows-kept view h floors key.relation a b stands says.kept.from_floor says.kept.upto_last says.kept.not_empty)
     ∙ ap (λ (x : List (Version Value)). Ok x) (sym (says.is ∙ rows-same view h floors key a b stands (omega arith) recent)))
     (know sure)
-between-found Sure tells v new view h floors key a b (Err fault) stands know finds =
+between-found held Sure tells v new view h floors key a b (Err fault) stands know finds =
     says-more Sure (λ (rows : Vec (Version Value) Global). rows.items)
     (answers.IsScanAnswer (answers.interval_refusal (last h) (floors key.relation) a b) (λ (vs : List (Version Value)). vs
     ≡ between h key a b)) (λ said. answers.between_answer h floors key a b ≡ said) (Err fault)
     (one-answer (answers.interval_refusal (last h) (floors key.relation) a b) (between h key a b))
     (rows-refused Sure (λ (rows : Vec (Version Value) Global). rows.items) (λ (vs : List (Version Value)). vs
     ≡ between h key a b) view h floors key.relation a b fault stands (between h key a b, refl) finds.refused
-    (λ sure. ⊎_elim (λ (told : ReadsHistory tells v.archive.kept v.disk view h). finds.only h told)
+    (λ sure. ⊎_elim (λ (told : ReadsHistory tells (held.archive v).kept (held.disk v) view h). finds.only h told)
     (λ (recent : view.reclaimed ≤ a). rows-undamaged view key.relation a b fault recent finds.refused) (know sure)))
 
-pub scan_between-found : (Sure : Type 0) (tells : Bool) (v new : StoreValue) (view : ViewValue) (h : History Value) (floors : ℕ
-    → ℕ) (relation a b : ℕ) (answer : Result (Vec (ℕ × Version Value) Global) QueryFault) → ViewStands view h floors → Knows tells v view h a Sure
-    → stores.FindsScanRows tells v view relation a b answer new → SaysScanBetween Sure h floors relation a b answer
-scan_between-found Sure tells v new view h floors relation a b (Ok found) stands know finds = λ sure.
+pub scan_between-found : {W : Type 0} (held : Holding W) (Sure : Type 0) (tells : Bool) (v new : W) (view : ViewValue) (h : History Value) (floors : ℕ
+    → ℕ) (relation a b : ℕ) (answer : Result (Vec (ℕ × Version Value) Global) QueryFault) → ViewStands view h floors → Knows held tells v view h a Sure
+    → FindsScanRows held tells v view relation a b answer new → SaysScanBetween Sure h floors relation a b answer
+scan_between-found held Sure tells v new view h floors relation a b (Ok found) stands know finds = λ sure.
     ⊎_elim
-    (λ (told : ReadsHistory tells v.archive.kept v.disk view h). subst
+    (λ (told : ReadsHistory tells (held.archive v).kept (held.disk v) view h). subst
     (λ (n : ℕ). answers.IsScanAnswer (answers.interval_refusal (last h) n a b) (IsScanBetween h relation a b) (Ok found.items)) (stands.floor_is relation)
     (finds.only h told))
     (λ (recent : view.reclaimed ≤ a).
@@ -343,10 +341,10 @@ scan_between-found Sure tells v new view h floors relation a b (Ok found) stands
       subst (IsScanBetween h relation a b) (sym says.is) (scan_rows-same view h floors relation a b stands (omega arith) recent),
     ))
     (know sure)
-scan_between-found Sure tells v new view h floors relation a b (Err fault) stands know finds =
+scan_between-found held Sure tells v new view h floors relation a b (Err fault) stands know finds =
     rows-refused Sure (λ (rows : Vec (ℕ × Version Value) Global). rows.items) (IsScanBetween h relation a b) view h floors relation a b fault stands
     (rows-there h relation a b) finds.refused
-    (λ sure. ⊎_elim (λ (told : ReadsHistory tells v.archive.kept v.disk view h). finds.only h told)
+    (λ sure. ⊎_elim (λ (told : ReadsHistory tells (held.archive v).kept (held.disk v) view h). finds.only h told)
     (λ (recent : view.reclaimed ≤ a). rows-undamaged view relation a b fault recent finds.refused) (know sure))
 
 -- ---- from memory alone

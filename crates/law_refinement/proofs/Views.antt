@@ -1,14 +1,11 @@
 -- A view of what is published, and what a query of it leaves.
-use Rattle.std.proofs.Common.{◌≡◌, ℕ, ◌≤◌, ◌==◌, ◌&&◌, Bool, true, false, IsTrue, List, [], filter, Option, Result, Err, Vec, MatchBool, refl, arith, ap, sym}
-use Rattle.std.proofs.Common.{subst, ◌∙◌, inl, inr, ⊎_elim}
+use Rattle.std.proofs.Common.{◌≡◌, ℕ, ◌≤◌, Bool, true, IsTrue, [], Option, Result, Err, Vec, MatchBool, refl, arith, ap, sym, subst, ◌∙◌}
 use Rattle.std.specs.declared.alloc.Global.{Global}
-use Rattle.std.proofs.lemmas.Bool.Decides.{nat_tests}
 use Rattle.history.specs.declared.key.Key.{Key}
 use Rattle.history.specs.declared.time.Version.{Version}
 use Rattle.history.specs.Histories.{History}
 use Rattle.history.specs.Machine.{Machine}
 use Rattle.history.specs.Answers as answers
-use Rattle.history.specs.Versions.{ends_after}
 use Rattle.history.proofs.Histories.{may_follow-front}
 use Rattle.law_image.specs.Values.{Value, IsValue}
 use Rattle.archive.specs.Searches.{archive_of}
@@ -16,15 +13,15 @@ use Rattle.timequery.specs.Homes.{ReadsHistory}
 use Rattle.timequery.specs.View.{ViewValue}
 use Rattle.timequery.specs.declared.fault.QueryFault.{QueryFault}
 use Rattle.timequery.specs.declared.fault.QueryFault.TheVariants as query
-use Rattle.floors.specs.Floors.{floor_at}
 use Rattle.store.specs.Calls as stores
-use Rattle.store.specs.Calls.{Asks, OrStranger, is_own, is_front, same_run}
+use Rattle.store.specs.Calls.{in_store, is_own, is_front}
 use Rattle.store.specs.Values.{StoreValue}
 use Rattle.law_refinement.specs.Homes.{AreArchived, ViewStands, ViewReads, GoesOn, IsSure}
 use Rattle.law_refinement.specs.Laws.{SaysAt, SaysScanAt, SaysBetween, SaysScanBetween}
 use Rattle.law_refinement.specs.Stands.{Stands}
 use Rattle.law_refinement.proofs.Memory.{last-is}
-use Rattle.law_refinement.proofs.Queries.{Knows, at-found, scan_at-found, between-found, scan_between-found}
+use Rattle.law_refinement.proofs.Asked.{own-view, view-reads, at-asked, scan_at-asked, between-asked, scan_between-asked}
+use Rattle.law_refinement.proofs.Asked.{at-asked_recently, scan_at-asked_recently, between-asked_recently, scan_between-asked_recently}
 use Rattle.law_refinement.proofs.RunsKept.{runs-held, ends-later}
 use Rattle.law_refinement.proofs.RunsStep.{front-self, front-more}
 
@@ -75,76 +72,46 @@ view-goes-on tells old new view h floors reads goes = record {
 
 -- ---- it is answered
 
-floor-moved : (a b : ℕ) (xs ys : List (Version Value)) → a ≡ b → filter (ends_after b) xs ≡ filter (ends_after b) ys → filter (ends_after a) xs
-    ≡ filter (ends_after a) ys
-floor-moved a b xs ys is same = subst (λ (f : ℕ). filter (ends_after f) xs ≡ filter (ends_after f) ys) (sym is) same
-
 reads-history : (tells : Bool) (v : StoreValue) (m : Machine Value) (view : ViewValue) (h : History Value) (floors : ℕ → ℕ) → Stands tells v m
-    → ViewStands view h floors → ViewReads tells v view h floors → (told : IsTrue tells) → ReadsHistory tells v.archive.kept v.disk view h
+    → ViewStands view h floors → ViewReads tells v view h floors → IsTrue tells → ReadsHistory tells v.archive.kept v.disk view h
 reads-history tells v m view h floors stands of reads told =
     let r = reads.runs told in
-    record {
-      told = told;
-      right = (stands.runs told).right;
-      lists = r.lists;
-      held = r.held;
-      history = of.history;
-      view = record {
-        newest_is = of.last_is;
-        homes = record {
-          marks = r.marks;
-          in_heap = λ key. floor-moved (floor_at view.floors key.relation) (floors key.relation) _ _ (of.floor_is key.relation) (of.memory.at_home key);
-          in_archive = λ key. floor-moved (floor_at view.floors key.relation) (floors key.relation) _ _ (of.floor_is key.relation) (r.archived key);
-        };
-      };
-    }
-
-knows-it : (tells : Bool) (v : StoreValue) (m : Machine Value) (view : ViewValue) (h : History Value) (floors : ℕ → ℕ) (from : ℕ) → Stands tells v m
-    → ViewStands view h floors → ViewReads tells v view h floors → Knows tells v view h from (IsSure tells view.reclaimed from)
-knows-it tells v m view h floors from stands of reads =
-    λ sure. ⊎_elim (λ (told : IsTrue tells). inl (reads-history tells v m view h floors stands of reads told)) (λ (recent : view.reclaimed ≤ from). inr recent)
-    sure
+    view-reads tells v.archive.kept v.disk view h floors r.lists of told (stands.runs told).right r.held r.marks r.archived
 
 own-is : (tells : Bool) (v : StoreValue) (view : ViewValue) (h : History Value) (floors : ℕ → ℕ) → ViewReads tells v view h floors → is_own v view ≡ true
-own-is tells v view h floors reads =
-    let same : (view.mark == v.transactions.mark) ≡ true = let is = reads.mark in grind (arith, nat_tests) in
-    ap (λ (b : Bool). b && is_front view.runs v.archive.runs) same ∙ reads.front
-
-own-found : (P R : Type 0) (b : Bool) → b ≡ true → MatchBool b P R → P
-own-found P R true mine says = says
-own-found P R false mine says = absurd cc
+own-is tells v view h floors reads = own-view v.transactions.mark v.archive view reads.mark reads.front
 
 pub at-answered : (tells : Bool) (v new : StoreValue) (m : Machine Value) (view : ViewValue) (h : History Value) (floors : ℕ
     → ℕ) (key : Key) (time : ℕ) (answer : Result (Option Value) QueryFault)
     → Stands tells v m → ViewStands view h floors → ViewReads tells v view h floors → stores.AnswersAtView tells v view key time answer new
     → SaysAt (IsSure tells view.reclaimed time) (answers.at_answer h floors key time) answer
 at-answered tells v new m view h floors key time answer stands of reads says =
-    at-found (IsSure tells view.reclaimed time) tells v new view h floors key time answer of (knows-it tells v m view h floors _ stands of reads)
-    (own-found _ _ (is_own v view) (own-is tells v view h floors reads) says)
+    at-asked in_store tells v.transactions.mark v new view h floors of (own-is tells v view h floors reads)
+    (reads-history tells v m view h floors stands of reads) key time answer says
 
 pub scan_at-answered : (tells : Bool) (v new : StoreValue) (m : Machine Value) (view : ViewValue) (h : History Value) (floors : ℕ
     → ℕ) (relation time : ℕ) (answer : Result (Vec (ℕ × Value) Global) QueryFault)
     → Stands tells v m → ViewStands view h floors → ViewReads tells v view h floors → stores.AnswersScanAt tells v view relation time answer new
     → SaysScanAt (IsSure tells view.reclaimed time) h floors relation time answer
 scan_at-answered tells v new m view h floors relation time answer stands of reads says =
-    scan_at-found (IsSure tells view.reclaimed time) tells v new view h floors relation time answer of (knows-it tells v m view h floors _ stands of reads)
-    (own-found _ _ (is_own v view) (own-is tells v view h floors reads) says)
+    scan_at-asked in_store tells v.transactions.mark v new view h floors of (own-is tells v view h floors reads)
+    (reads-history tells v m view h floors stands of reads) relation time answer says
 
 pub between-answered : (tells : Bool) (v new : StoreValue) (m : Machine Value) (view : ViewValue) (h : History Value) (floors : ℕ
     → ℕ) (key : Key) (a b : ℕ) (answer : Result (Vec (Version Value) Global) QueryFault)
     → Stands tells v m → ViewStands view h floors → ViewReads tells v view h floors → stores.AnswersRows tells v view key a b answer new
     → SaysBetween (IsSure tells view.reclaimed a) h floors key a b answer
 between-answered tells v new m view h floors key a b answer stands of reads says =
-    between-found (IsSure tells view.reclaimed a) tells v new view h floors key a b answer of (knows-it tells v m view h floors _ stands of reads)
-    (own-found _ _ (is_own v view) (own-is tells v view h floors reads) says)
+    between-asked in_store tells v.transactions.mark v new view h floors of (own-is tells v view h floors reads)
+    (reads-history tells v m view h floors stands of reads) key a b answer says
 
 pub scan_between-answered : (tells : Bool) (v new : StoreValue) (m : Machine Value) (view : ViewValue) (h : History Value) (floors : ℕ
     → ℕ) (relation a b : ℕ) (answer : Result (Vec (ℕ × Version Value) Global) QueryFault)
     → Stands tells v m → ViewStands view h floors → ViewReads tells v view h floors → stores.AnswersScanRows tells v view relation a b answer new
     → SaysScanBetween (IsSure tells view.reclaimed a) h floors relation a b answer
 scan_between-answered tells v new m view h floors relation a b answer stands of reads says =
-    scan_between-found (IsSure tells view.reclaimed a) tells v new view h floors relation a b answer of (knows-it tells v m view h floors _ stands of reads)
-    (own-found _ _ (is_own v view) (own-is tells v view h floors reads) says)
+    scan_between-asked in_store tells v.transactions.mark v new view h floors of (own-is tells v view h floors reads)
+    (reads-history tells v m view h floors stands of reads) relation a b answer says
 
 -- ---- by any store that takes it for its own, from its reclaim mark on
 
@@ -152,45 +119,25 @@ pub at-recently : (tells : Bool) (v new : StoreValue) (view : ViewValue) (h : Hi
     → ℕ) (key : Key) (time : ℕ) (answer : Result (Option Value) QueryFault) → ViewStands view h floors → stores.AnswersAtView tells v view key time answer new
     → MatchBool (is_own v view) (SaysAt (view.reclaimed ≤ time) (answers.at_answer h floors key time) answer) (answer ≡ Err query.Stranger)
 at-recently tells v new view h floors key time answer of says =
-    by-strange (is_own v view) says
-  where
-    by-strange : (b : Bool) → MatchBool b (stores.FindsAt tells v view key time answer new) ((answer ≡ Err query.Stranger) × (new ≡ v))
-        → MatchBool b (SaysAt (view.reclaimed ≤ time) (answers.at_answer h floors key time) answer) (answer ≡ Err query.Stranger)
-    by-strange true finds = at-found (view.reclaimed ≤ time) tells v new view h floors key time answer of (λ sure. inr sure) finds
-    by-strange false strange = strange.0
+    at-asked_recently in_store tells v.transactions.mark v new view h floors of key time answer says
 
 pub scan_at-recently : (tells : Bool) (v new : StoreValue) (view : ViewValue) (h : History Value) (floors : ℕ
     → ℕ) (relation time : ℕ) (answer : Result (Vec (ℕ × Value) Global) QueryFault) → ViewStands view h floors
     → stores.AnswersScanAt tells v view relation time answer new
     → MatchBool (is_own v view) (SaysScanAt (view.reclaimed ≤ time) h floors relation time answer) (answer ≡ Err query.Stranger)
 scan_at-recently tells v new view h floors relation time answer of says =
-    by-strange (is_own v view) says
-  where
-    by-strange : (b : Bool) → MatchBool b (stores.FindsScanAt tells v view relation time answer new) ((answer ≡ Err query.Stranger) × (new ≡ v))
-        → MatchBool b (SaysScanAt (view.reclaimed ≤ time) h floors relation time answer) (answer ≡ Err query.Stranger)
-    by-strange true finds = scan_at-found (view.reclaimed ≤ time) tells v new view h floors relation time answer of (λ sure. inr sure) finds
-    by-strange false strange = strange.0
+    scan_at-asked_recently in_store tells v.transactions.mark v new view h floors of relation time answer says
 
 pub between-recently : (tells : Bool) (v new : StoreValue) (view : ViewValue) (h : History Value) (floors : ℕ
     → ℕ) (key : Key) (a b : ℕ) (answer : Result (Vec (Version Value) Global) QueryFault) → ViewStands view h floors
     → stores.AnswersRows tells v view key a b answer new
     → MatchBool (is_own v view) (SaysBetween (view.reclaimed ≤ a) h floors key a b answer) (answer ≡ Err query.Stranger)
 between-recently tells v new view h floors key a b answer of says =
-    by-strange (is_own v view) says
-  where
-    by-strange : (own : Bool) → MatchBool own (stores.FindsRows tells v view key a b answer new) ((answer ≡ Err query.Stranger) × (new ≡ v))
-        → MatchBool own (SaysBetween (view.reclaimed ≤ a) h floors key a b answer) (answer ≡ Err query.Stranger)
-    by-strange true finds = between-found (view.reclaimed ≤ a) tells v new view h floors key a b answer of (λ sure. inr sure) finds
-    by-strange false strange = strange.0
+    between-asked_recently in_store tells v.transactions.mark v new view h floors of key a b answer says
 
 pub scan_between-recently : (tells : Bool) (v new : StoreValue) (view : ViewValue) (h : History Value) (floors : ℕ
     → ℕ) (relation a b : ℕ) (answer : Result (Vec (ℕ × Version Value) Global) QueryFault) → ViewStands view h floors
     → stores.AnswersScanRows tells v view relation a b answer new
     → MatchBool (is_own v view) (SaysScanBetween (view.reclaimed ≤ a) h floors relation a b answer) (answer ≡ Err query.Stranger)
 scan_between-recently tells v new view h floors relation a b answer of says =
-    by-strange (is_own v view) says
-  where
-    by-strange : (own : Bool) → MatchBool own (stores.FindsScanRows tells v view relation a b answer new) ((answer ≡ Err query.Stranger) × (new ≡ v))
-        → MatchBool own (SaysScanBetween (view.reclaimed ≤ a) h floors relation a b answer) (answer ≡ Err query.Stranger)
-    by-strange true finds = scan_between-found (view.reclaimed ≤ a) tells v new view h floors relation a b answer of (λ sure. inr sure) finds
-    by-strange false strange = strange.0
+    scan_between-asked_recently in_store tells v.transactions.mark v new view h floors of relation a b answer says

@@ -16,6 +16,7 @@ use Rattle.log_writer.specs.Turns.{Writing, chain_turn}
 use Rattle.log_room.specs.Rooms.{RoomValue, promised_to, TakesChain}
 use Rattle.log_room.specs.Contents.{joined, extents_of, content_over, member_over, records_over, extents_over}
 use Rattle.log_room.proofs.Joins.{extents_push, extents_split}
+use Rattle.log_room.proofs.Taken.{used_len}
 use Rattle.commits.specs.Values.{CommitsValue, ordered}
 use Rattle.commits.specs.Steps.{grouped, with_waiting, waiting_as}
 use Rattle.log_store.specs.Values.{LogStoreValue, HasBytes, HasTurn, IsInStep}
@@ -75,6 +76,7 @@ queued_in_step old label time count anchors writes content commits contents room
       let now = ap (λ (r : RoomValue). r.promised) room_is in
       omega (arith, was, more, all, same, now);
   few = few;
+  many = subst (λ (r : RoomValue). length r.used ≤ 2 ^ 20) (sym room_is) is.many;
   turn = subst (λ (n : ℕ). HasTurn n old.turn) (sym (ap (λ (c : CommitsValue). c.group) commits_are)) is.turn;
 }
   where
@@ -115,6 +117,8 @@ begun_in_step old new is none some begins =
       promised = ap (λ (r : _). r.promised) begins.takes.new_is
           ∙ (let was = is.promised in let both = extents_split old.contents (group_size old) in omega (arith, was, both));
       few = let was = is.few in let now = ap (λ (r : _). r.promised) begins.takes.new_is in omega (arith, was, now);
+      many = subst (λ (n : ℕ). n ≤ 2 ^ 20)
+          (sym (ap (λ (r : RoomValue). length r.used) begins.takes.new_is ∙ used_len old.room.used (begins.takes.others ++ begins.link ∷ []))) is.many;
       turn = (subst (λ (n : ℕ). 0 < n) (sym group) (size_some (length old.commits.queue) some), tt);
     })
   where

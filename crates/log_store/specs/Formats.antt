@@ -42,6 +42,11 @@ headed extents status = synced (written 0 (roots_bytes 0 (new_roots extents)) st
 abbrev pub formatted : ℕ → Areas → Areas
 formatted extents areas = record areas { heap = zeroed areas.heap; status = headed extents areas.status }
 
+-- the header of a store whose log lies in the heap stands in front of the status area
+pub record HasLogHeader (status : List ℕ) : Type 0 where
+  pub long : 512 ≤ length status
+  pub header : IsLogHeader (take 512 status)
+
 -- A format that the disk cut short: the status area is as it was, or the first extent is zeros already.
 abbrev pub FormatStops : Areas → Areas → Type 0
 FormatStops old new = (new ≡ record old { heap = new.heap }) ⊎ (new ≡ record old { heap = zeroed old.heap; status = new.status })

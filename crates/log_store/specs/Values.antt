@@ -38,4 +38,5 @@ pub record IsInStep (v : LogStoreValue) : Type 0 where
   -- they are promised just the extents that each takes alone
   pub promised : v.room.promised ≡ extents_of v.contents
   pub few : v.room.promised ≤ 2 ^ 20
+  pub many : length v.room.used ≤ 2 ^ 20
   pub turn : HasTurn v.commits.group v.turn

@@ -3,7 +3,7 @@ ghost use Rattle.std.specs.Prelude.{◌≡◌, ◌↔◌, IsTrue, IfOk, OnOk, On
 ghost use Rattle.disk.specs.Calls.{looked, refusals};
 ghost use Rattle.recovery.specs.Format.{IsTakenAnswer, refusals_after};
 ghost use Rattle.log_roots.specs.Roots.{IsHeapSize};
-ghost use Rattle.log_store.specs.Formats.{IsLogHeader, IsAnyHeader, IsOccupied, new_roots, zeroed, headed, formatted, FormatStops};
+ghost use Rattle.log_store.specs.Formats.{IsLogHeader, HasLogHeader, IsAnyHeader, IsOccupied, new_roots, zeroed, headed, formatted, FormatStops};
 
 use deltas::EXTENT_LEN;
 use disk::{Area, DeviceFault, Disk};
@@ -42,6 +42,23 @@ fn is_occupied<D: Disk>(disk: &mut D) -> Result<bool, DeviceFault>
     let mut front = [0; HEADER_LEN];
     disk.read(Area::Status, 0, &mut front)?;
     Ok(is_header(&front))
+}
+
+/// Whether the disk's header is that of a store whose log lies in the heap.
+///
+/// # Errors
+///
+/// Where the device refuses a read.
+pub fn has_log_header<D: Disk>(disk: &mut D) -> Result<bool, DeviceFault>
+    ensures has { IsTrue D.tells → IfOk result (λ found. IsTrue found ↔ HasLogHeader (D.state disk.old).areas.status.bytes) }
+    ensures same { D.state disk.new ≡ looked result (D.state disk.old) }
+{
+    if disk.len(Area::Status)? < HEADER_LEN as u64 {
+        return Ok(false);
+    }
+    let mut front = [0; HEADER_LEN];
+    disk.read(Area::Status, 0, &mut front)?;
+    Ok(is_log_header(&front))
 }
 
 // The first extent is zeros, on the disk: the log of a new store ends there, at a closed gate.

@@ -1,15 +1,17 @@
 //! A store whose log lies in the heap, as chains of extents of which each names the next one.
 #![tactic(auto)]
 
-mod answers;
 mod creating;
 mod formatting;
+mod jobs;
 mod opening;
+mod over;
 mod pump;
 mod queries;
 mod store;
 mod submit;
 
-pub use answers::Did;
-pub use formatting::format;
+pub use formatting::{format, has_log_header};
+pub use group::Did;
+pub use log_roots::PROFILE;
 pub use store::LogStore;

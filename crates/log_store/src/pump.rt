@@ -3,11 +3,10 @@ ghost use Rattle.std.specs.Prelude.{◌≡◌, ◌<◌, false, IsTrue, IsSome, O
 ghost use Rattle.disk.specs.Areas.{AreSound};
 ghost use Rattle.log_store.specs.Pumps.{Pumps, Begins, AdvancesGroup, did_of};
 
-use crate::answers::Did;
 use crate::store::LogStore;
 use commits::MOST_IN_GROUP;
 use disk::{DeviceFault, Disk};
-use group::PumpFault;
+use group::{Did, PumpFault};
 use log_extents::count_extents;
 use log_room::{drop_first, join};
 use log_writer::{ChainWriter, Wrote};
@@ -19,8 +18,8 @@ fn did_of(what: Wrote, group: u32) -> Did
 {
     match what {
         Wrote::Extent => Did::WroteExtent,
-        Wrote::ClosedGate => Did::GateClosed,
-        Wrote::Synced => Did::HeapSynced,
+        Wrote::ClosedGate => Did::BodyWritten,
+        Wrote::Synced => Did::BodySynced,
         Wrote::Gate => Did::GateWritten,
         Wrote::Settled => Did::Published(group),
     }

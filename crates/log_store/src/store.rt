@@ -90,6 +90,13 @@ impl<D: Disk> LogStore<D> {
         self.commits.floors()
     }
 
+    /// Whether a write or sync of the device was refused.
+    pub fn has_failed(&self) -> bool
+        ensures { result ≡ self.now.commits.failed }
+    {
+        self.commits.has_failed()
+    }
+
     /// A transaction on what is published now.
     pub fn begin(&mut self) -> Result<Txn, BeginFault>
         ensures { Begins self.old result self.new }

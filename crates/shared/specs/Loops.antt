@@ -35,6 +35,19 @@ EndsCommits (Err pump.Busy) = ⊥
 EndsCommits (Err pump.NoMemory) = ⊥
 EndsCommits (Err pump.Failed) = Unit {0}
 
+-- after this answer it sleeps until something else happens: there is nothing to do, or a job is before it
+abbrev pub waits_after : Result Did PumpFault → Bool
+waits_after (Ok did.Idle) = true
+waits_after (Ok did.WroteExtent) = false
+waits_after (Ok did.HeapSynced) = false
+waits_after (Ok did.BodyWritten) = false
+waits_after (Ok did.BodySynced) = false
+waits_after (Ok did.GateWritten) = false
+waits_after (Ok (did.Published count)) = false
+waits_after (Err pump.Busy) = true
+waits_after (Err pump.NoMemory) = false
+waits_after (Err pump.Failed) = false
+
 -- it ended after this answer, with this seen
 pub record CommitterEnds (start : Machine Value) (result : Result Did PumpFault) (seen : Seen) : Type 0 where
   pub ends : EndsCommits result
@@ -104,6 +117,12 @@ abbrev pub LeadsTo : Vacuumed → Vacuuming → Type 0
 LeadsTo answer vacuuming.Over = EndsVacuum answer
 LeadsTo answer (vacuuming.Goes next) = is_running next ≡ false → Rests answer
 LeadsTo answer (vacuuming.Waits moves next) = is_running next ≡ false → Rests answer
+
+-- after want of memory it does at once what it did
+abbrev pub TriesAgain : Doing → Vacuumed → Vacuuming → Type 0
+TriesAgain doing (vacuumed.Start (Err start_fault.NoMemory)) next = next ≡ vacuuming.Goes doing
+TriesAgain doing (vacuumed.Job (Err pump.NoMemory)) next = next ≡ vacuuming.Goes doing
+TriesAgain doing answer next = Unit {0}
 
 -- the last answer so far, if there is one, and what comes next
 abbrev pub IsSoFar : Machine Value → Doing → Option Vacuumed → Seen → Type 0

@@ -1,7 +1,7 @@
 //! Commits that callers post, and the committer that works for them.
 ghost use Rattle.std.specs.Prelude.{◌≡◌, ◌+◌, ◌<◌, IfOk, IsTrue};
 ghost use Rattle.shared.specs.Commits.{WaitSays, CommitHappens, commits_in};
-ghost use Rattle.shared.specs.Loops.{CommitterEnds, EndsCommits};
+ghost use Rattle.shared.specs.Loops.{CommitterEnds, EndsCommits, waits_after};
 ghost use Rattle.shared.specs.Posted.{ServedSays, IsAnswerTo};
 ghost use Rattle.shared.specs.Seen.{IsLater};
 ghost use Rattle.shared.specs.Shared.{SeenReached, RedeemSays, done_in};
@@ -352,6 +352,8 @@ fn is_over(ending: bool, did: &Result<Did, PumpFault>) -> bool
 }
 
 // Whether nothing can be done before something else happens.
-fn has_to_wait(did: &Result<Did, PumpFault>) -> bool {
+fn has_to_wait(did: &Result<Did, PumpFault>) -> bool
+    ensures { result ≡ waits_after did.now }
+{
     matches!(did, Ok(Did::Idle) | Err(PumpFault::Busy))
 }

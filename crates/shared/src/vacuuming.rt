@@ -1,6 +1,6 @@
 //! The loop of a vacuum.
 ghost use Rattle.std.specs.Prelude.{◌≡◌, true};
-ghost use Rattle.shared.specs.Loops.{is_running, VacuumHappens, IsAnswerFor, LeadsTo, VacuumEnds};
+ghost use Rattle.shared.specs.Loops.{is_running, VacuumHappens, IsAnswerFor, LeadsTo, TriesAgain, VacuumEnds};
 ghost use Rattle.shared.specs.Seen.{IsLater};
 
 use crate::naming::Opening;
@@ -114,7 +114,8 @@ fn is_running(doing: Doing) -> bool
 // How a vacuum goes on after this answer, before which there were so many moves.
 fn after_vacuum(doing: Doing, moves: u64, answer: Vacuumed) -> Vacuuming
     requires { IsAnswerFor doing answer }
-    ensures { LeadsTo answer result }
+    ensures leads { LeadsTo answer result }
+    ensures again { TriesAgain doing answer result }
 {
     match answer {
         Vacuumed::Start(started) => after_start(doing, moves, started),
@@ -124,7 +125,8 @@ fn after_vacuum(doing: Doing, moves: u64, answer: Vacuumed) -> Vacuuming
 
 // A start that is refused for now leads to the other job, and the second such to sleep.
 fn after_start(doing: Doing, moves: u64, started: Result<(), StartFault>) -> Vacuuming
-    ensures { LeadsTo (Vacuumed.Start started) result }
+    ensures leads { LeadsTo (Vacuumed.Start started) result }
+    ensures again { TriesAgain doing (Vacuumed.Start started) result }
 {
     match (started, doing) {
         (Ok(()), Doing::Archives) => Vacuuming::Goes(Doing::Archiving),
@@ -143,7 +145,8 @@ fn after_start(doing: Doing, moves: u64, started: Result<(), StartFault>) -> Vac
 
 fn after_job(doing: Doing, moves: u64, did: Result<JobDid, PumpFault>) -> Vacuuming
     requires { is_running doing ≡ true }
-    ensures { LeadsTo (Vacuumed.Job did) result }
+    ensures leads { LeadsTo (Vacuumed.Job did) result }
+    ensures again { TriesAgain doing (Vacuumed.Job did) result }
 {
     match (did, doing) {
         (Err(PumpFault::Failed), _) => Vacuuming::Over,

@@ -59,10 +59,13 @@ use Rattle.command_line.specs.declared.question.When.TheVariants as when
 use Rattle.command_line.specs.declared.action.Action.{Action}
 use Rattle.command_line.specs.declared.action.Action.TheVariants as action
 use Rattle.shell.specs.Acts.{Acts, Asks, Dumps, Makes, Grows, GrowsStore, Input, Output, RefusesTime, Runs, RunsNew, RunsOnNew, RunsScript, SaysGrown}
-use Rattle.shell.specs.Acts.{SaysSlots, SaysVacuum, Vacuums, VacuumsStore, Writes, WritesStore}
+use Rattle.forms.specs.Styles.{plain}
+use Rattle.forms.specs.declared.style.Style.{Style}
+use Rattle.shell.specs.Acts.{Raises, RaisesStore, SaysSlots, SaysVacuum, Tells, Vacuums, VacuumsStore, Writes, WritesStore}
 use Rattle.shell.specs.Asking.{end_asked, line_asked, time_asked}
 use Rattle.shell.specs.Keeps.{LineLeads, LinesKeep, RunKeeps, NewRunKeeps, KeepsPromise, VacuumKeeps, VacuumingKeeps, GrowthKeeps}
 use Rattle.shell.specs.Keeps.{GrowingKeeps, MakingKeeps, IsValueReply, IsRowsReply, OrGaveOut, AskingKeeps}
+use Rattle.shell.specs.Keeps.{FloorKeeps, RaisingKeeps}
 use Rattle.shell.specs.Keeps.{IsRecordsReply, IsReplyTo, IsTimesReply, WriteKeeps, WritingKeeps}
 use Rattle.shell.specs.Vacuums.{DoesAll, DoesJob, DoesPart, DoesVacuum, is_refusal}
 use Rattle.script.specs.Lines.{said}
@@ -442,15 +445,16 @@ between-says tells store new h floors key a b r told stands step =
         (between-answered tells store new (machine.opened h floors) view h floors key a b step.0 stands of.0 of.1 asks.1)
 
 -- a question is asked of a store that stands for the image's history
-asking-keeps : (tells : Bool) (old new : DiskState) (asks : StoreValue → Line) (Is : History Value → (ℕ → ℕ) → Reply → Type 0) (output : Output) → IsTrue tells
+asking-keeps : (tells : Bool) (style : Style) (old new : DiskState) (asks : StoreValue → Line) (Is : History Value → (ℕ → ℕ) → Reply → Type 0)
+    (output : Output) → IsTrue tells
     → AreSound old.areas → ((store : StoreValue) → Led tells (asks store))
     → ((store : StoreValue) (h : History Value) (floors : ℕ → ℕ) (r : Reply) (asked : State) → Stands tells store (machine.opened h floors)
     → Step tells (fresh store) (asks store) r asked → OrGaveOut (Is h floors) r)
-    → Asks tells old asks output new → AskingKeeps tells old asks Is output new
-asking-keeps tells old new asks Is output told sound led says (inl refused) =
+    → Asks tells style old asks output new → AskingKeeps tells style old asks Is output new
+asking-keeps tells style old new asks Is output told sound led says (inl refused) =
     λ header h floors image. inl (refused.0, refused.1, (open-refuses tells old new refused.0 header h floors refused.1 told image).0, refused.2)
-asking-keeps tells old new asks Is output told sound led says (inr (inl lacks)) = λ header h floors image. inr (lacks.0, lacks.1, inl (lacks.2, lacks.3))
-asking-keeps tells old new asks Is output told sound led says (inr (inr did)) = λ header h floors image.
+asking-keeps tells style old new asks Is output told sound led says (inr (inl lacks)) = λ header h floors image. inr (lacks.0, lacks.1, inl (lacks.2, lacks.3))
+asking-keeps tells style old new asks Is output told sound led says (inr (inr did)) = λ header h floors image.
     let stands = open-stands tells old 1 did.opened header h floors did.opens told sound image in
     let to = led did.opened (first_script_moment did.opened (machine.opened h floors))
     (first-script tells did.opened h floors stands) did.answer did.asked did.step in
@@ -468,23 +472,24 @@ asking-keeps tells old new asks Is output told sound led says (inr (inr did)) = 
     )
 
 at-keeps : (tells : Bool) (old new : DiskState) (key : Key) (time : Option ℕ) (output : Output) → IsTrue tells → AreSound old.areas
-    → MatchOption time (RefusesTime old output new) (λ t. Asks tells old (λ store. line.At key t) output new)
-    → MatchOption time (new ≡ old) (λ t. AskingKeeps tells old (λ store. line.At key t) (λ h floors. IsValueReply (at_answer h floors key t)) output new)
+    → MatchOption time (RefusesTime old output new) (λ t. Asks tells plain old (λ store. line.At key t) output new)
+    → MatchOption time (new ≡ old) (λ t. AskingKeeps tells plain old (λ store. line.At key t) (λ h floors. IsValueReply (at_answer h floors key t)) output new)
 at-keeps tells old new key None output told sound refused = refused.0
 at-keeps tells old new key (Some t) output told sound asks =
-    asking-keeps tells old new (λ store. line.At key t) (λ h floors. IsValueReply (at_answer h floors key t)) output told sound (λ store. at-led tells key t)
+    asking-keeps tells plain old new (λ store. line.At key t) (λ h floors. IsValueReply (at_answer h floors key t)) output told sound
+    (λ store. at-led tells key t)
     (λ store h floors r asked stands step. at-says tells store asked.store h floors key t r told stands step.0) asks
 
 between-keeps : (tells : Bool) (old new : DiskState) (key : Key) (from to : Option ℕ) (output : Output) → IsTrue tells → AreSound old.areas
-    → MatchOption from (RefusesTime old output new) (λ a. MatchOption to (RefusesTime old output new) (λ b. Asks tells old
+    → MatchOption from (RefusesTime old output new) (λ a. MatchOption to (RefusesTime old output new) (λ b. Asks tells plain old
     (λ store. line.Between key a b) output new))
     → MatchOption from (new
     ≡ old) (λ a. MatchOption to (new
-    ≡ old) (λ b. AskingKeeps tells old (λ store. line.Between key a b) (λ h floors. IsRowsReply (between_answer h floors key a b)) output new))
+    ≡ old) (λ b. AskingKeeps tells plain old (λ store. line.Between key a b) (λ h floors. IsRowsReply (between_answer h floors key a b)) output new))
 between-keeps tells old new key None to output told sound refused = refused.0
 between-keeps tells old new key (Some a) None output told sound refused = refused.0
 between-keeps tells old new key (Some a) (Some b) output told sound asks =
-    asking-keeps tells old new (λ store. line.Between key a b) (λ h floors. IsRowsReply (between_answer h floors key a b)) output told sound
+    asking-keeps tells plain old new (λ store. line.Between key a b) (λ h floors. IsRowsReply (between_answer h floors key a b)) output told sound
     (λ store. between-led tells key a b)
     (λ store h floors r asked stands step. between-says tells store asked.store h floors key a b r told stands step.0) asks
 
@@ -572,12 +577,12 @@ question-says tells store asked h floors (question.Rows key from to) r told stan
 question-says tells store asked h floors (question.Times label) r told stands step =
     times-says store (machine.opened h floors) label r stands.memory step.0
 
-ask-keeps : (tells : Bool) (old new : DiskState) (asked : Option Question) (output : Output) → IsTrue tells → AreSound old.areas
-    → MatchOption asked (RefusesTime old output new) (λ q. Asks tells old (line_asked q) output new)
-    → MatchOption asked (new ≡ old) (λ q. AskingKeeps tells old (line_asked q) (IsReplyTo q) output new)
-ask-keeps tells old new None output told sound refused = refused.0
-ask-keeps tells old new (Some q) output told sound asks =
-    asking-keeps tells old new (line_asked q) (IsReplyTo q) output told sound (λ store. line-led tells told (line_asked q store))
+ask-keeps : (tells : Bool) (style : Style) (old new : DiskState) (asked : Option Question) (output : Output) → IsTrue tells → AreSound old.areas
+    → MatchOption asked (RefusesTime old output new) (λ q. Asks tells style old (line_asked q) output new)
+    → MatchOption asked (new ≡ old) (λ q. AskingKeeps tells style old (line_asked q) (IsReplyTo q) output new)
+ask-keeps tells style old new None output told sound refused = refused.0
+ask-keeps tells style old new (Some q) output told sound asks =
+    asking-keeps tells style old new (line_asked q) (IsReplyTo q) output told sound (λ store. line-led tells told (line_asked q store))
     (λ store h floors r asked stands step. question-says tells store asked h floors q r told stands step) asks
 
 -- ---- one write
@@ -642,6 +647,53 @@ dump-holds tells old new output (inl (inr none)) = ap (λ (s : DiskState). s.are
 dump-holds tells old new output (inr (inl dumped)) = ap (λ (s : DiskState). s.areas) dumped.same
 dump-holds tells old new output (inr (inr lacks)) = ap (λ (s : DiskState). s.areas) lacks.0
 
+-- ---- floor
+
+raised-led : (tells : Bool) (relation time : ℕ) (m : ScriptMoment) → IsTrue tells → IsScriptMoment tells m → (refused : Option Reply) (new : State)
+    → DoesJob (Step tells) (line.Floor (Some relation) time) m.state refused new
+    → To tells new (λ after. DoesJob (LineLeads tells) (line.Floor (Some relation) time) m refused after)
+raised-led tells relation time m told is None new does =
+    all-led tells (line.Floor (Some relation) time) (line-led tells told (line.Floor (Some relation) time)) m is m.state new refl does
+raised-led tells relation time m told is (Some refusal) new does =
+    part-led tells (line.Floor (Some relation) time) (line-led tells told (line.Floor (Some relation) time)) m is m.state new refl refusal does
+
+store-floor-keeps : (tells : Bool) (old new : DiskState) (relation time : ℕ) (output : Output) (header : Header) (h : History Value) (floors : ℕ → ℕ)
+    → IsTrue tells → AreSound old.areas → IsImageOf header (image_of old.areas) h floors
+    → (did : RaisesStore tells old relation time output new) → FloorKeeps tells h floors did.opened relation time output new
+store-floor-keeps tells old new relation time output header h floors told sound image did =
+    let first = first-script tells did.opened h floors (open-stands tells old 1 did.opened header h floors did.opens told sound image) in
+    let to = raised-led tells relation time (first_script_moment did.opened (machine.opened h floors)) told first did.refused did.asked did.does in
+    record {
+      refused = did.refused;
+      after = to.after;
+      does = to.leads;
+      closed = (close-keeps tells to.after to.is new (subst (λ (s : State). Closes s new) (sym to.is_state) did.closes)).closed;
+      says = did.says;
+    }
+
+raising-keeps : (tells : Bool) (old new : DiskState) (relation time : ℕ) (output : Output) → IsTrue tells → AreSound old.areas
+    → Raises tells old relation time output new → RaisingKeeps tells old relation time output new
+raising-keeps tells old new relation time output told sound (inl refused) = λ header h floors image. inl (refused.0, refused.1)
+raising-keeps tells old new relation time output told sound (inr (inl lacks)) = λ header h floors image. inr (lacks.0, lacks.1, inl lacks.2)
+raising-keeps tells old new relation time output told sound (inr (inr did)) = λ header h floors image.
+    inr (did.opened, did.opens, inr (store-floor-keeps tells old new relation time output header h floors told sound image did))
+
+raise-keeps : (tells : Bool) (old new : DiskState) (relation : ℕ) (time : Option ℕ) (output : Output) → IsTrue tells → AreSound old.areas
+    → MatchOption time (RefusesTime old output new) (λ t. Raises tells old relation t output new)
+    → MatchOption time (new ≡ old) (λ t. RaisingKeeps tells old relation t output new)
+raise-keeps tells old new relation None output told sound refused = refused.0
+raise-keeps tells old new relation (Some t) output told sound did = raising-keeps tells old new relation t output told sound did
+
+-- ---- info
+
+info-holds : (tells : Bool) (old new : DiskState) (json : Bool) (output : Output) → Tells tells old json output new → new.areas ≡ old.areas
+info-holds tells old new json output (inl (inl none)) = ap (λ (s : DiskState). s.areas) none.same ∙ read-holds none.why old
+info-holds tells old new json output (inl (inr none)) = ap (λ (s : DiskState). s.areas) none.same ∙ read-holds none.why old
+info-holds tells old new json output (inr (inl done)) = ap (λ (s : DiskState). s.areas) done.same
+info-holds tells old new json output (inr (inr lacks)) = ap (λ (s : DiskState). s.areas) lacks.0
+
+-- ---- actions
+
 -- so does each action
 pub keeps-acts : (tells : Bool) (a : Action) (old new : DiskState) (input : Input) (output : Output) → IsTrue tells → AreSound old.areas
     → Acts tells a old input output new → KeepsPromise tells a old input output new
@@ -651,9 +703,11 @@ keeps-acts tells (action.Run dir) old new input output told sound acts =
 keeps-acts tells (action.Format dir slots) old new input output told sound acts = making-keeps tells old new slots output told acts
 keeps-acts tells (action.At dir key time) old new input output told sound acts = at-keeps tells old new key time output told sound acts
 keeps-acts tells (action.Between dir key from to) old new input output told sound acts = between-keeps tells old new key from to output told sound acts
-keeps-acts tells (action.Ask dir asked) old new input output told sound acts = ask-keeps tells old new asked output told sound acts
+keeps-acts tells (action.Ask dir asked style) old new input output told sound acts = ask-keeps tells style old new asked output told sound acts
 keeps-acts tells (action.Write dir write) old new input output told sound acts = write-keeps tells old new write output told sound acts
 keeps-acts tells (action.Vacuum dir time) old new input output told sound acts = upto-keeps tells old new time output told sound acts
 keeps-acts tells (action.Grow dir) old new input output told sound acts = growth-keeps tells old new output told sound acts
+keeps-acts tells (action.Floor dir relation time) old new input output told sound acts = raise-keeps tells old new relation time output told sound acts
+keeps-acts tells (action.Info dir json) old new input output told sound acts = info-holds tells old new json output acts
 keeps-acts tells (action.Dump dir) old new input output told sound acts = dump-holds tells old new output acts
 keeps-acts tells (action.Stress writers readers rounds) old new input output told sound acts = acts.0

@@ -11,6 +11,10 @@ use Rattle.session.specs.Texts.{Text, text_of}
 use Rattle.session.specs.declared.ending.Ending.{Ending}
 use Rattle.session.specs.declared.ending.Ending.TheVariants.{OutputRefused, Whole}
 use Rattle.session.specs.declared.reply.Reply.{Reply}
+use Rattle.session.specs.declared.reply.Reply.TheVariants as reply
+use Rattle.forms.specs.Styles.{is_plain, plain}
+use Rattle.forms.specs.declared.style.Style.{Style}
+use Rattle.shell.specs.Styled.{IsTextOf}
 use Rattle.store.specs.Values.{StoreValue}
 use Rattle.command_line.specs.declared.question.Question.{Question}
 use Rattle.command_line.specs.declared.question.RecordWrite.{RecordWrite}
@@ -18,7 +22,7 @@ use Rattle.command_line.specs.declared.action.Action.{Action}
 use Rattle.command_line.specs.declared.action.Action.TheVariants as action
 use Rattle.shell.specs.Acts.{Acts, Asks, Dumps, DoesNotOpen, GivesOut, Grows, HasNoMemory, HasStatusOf, Input, IsRefused, IsSaid, IsTold, Makes, Output}
 use Rattle.shell.specs.Acts.{RefusesTime, RefusesToMake, RunsNew, RunsScript, SaysAll, SaysArchived, SaysBoth, SaysFront, SaysGrown, SaysSlots}
-use Rattle.shell.specs.Acts.{SaysVacuum, Vacuums, Writes}
+use Rattle.shell.specs.Acts.{IsToldAs, IsToldIn, Raises, SaysRaised, SaysSo, SaysVacuum, Tells, Vacuums, Writes}
 use Rattle.shell.specs.Asking.{line_asked}
 use Rattle.shell.specs.Vacuums.{is_refusal}
 use Rattle.shell.specs.declared.vacuuming.Vacuumed.{Vacuumed}
@@ -75,6 +79,36 @@ told-kept o v r gives told = by (is_refusal r) told
     by true refused = refused-kept o v (text_of r) gives refused
     by false said = said-kept o v (text_of r) gives said
 
+so-kept : (Is : Text → Type 0) (o v : Output) → GivesOut o v → SaysSo Is o → SaysSo Is v
+so-kept Is o v gives (inl said) = inl (said.0, said.1, said-kept o v said.0 gives said.2)
+so-kept Is o v gives (inr lacks) = inr (refused-kept o v _ gives lacks)
+
+told_as-kept : (style : Style) (o v : Output) (r : Reply) → GivesOut o v → IsToldAs style o r → IsToldAs style v r
+told_as-kept style o v (reply.Found value) gives told = so-kept (IsTextOf style (reply.Found value)) o v gives told
+told_as-kept style o v (reply.Rows rows) gives told = so-kept (IsTextOf style (reply.Rows rows)) o v gives told
+told_as-kept style o v (reply.Records found) gives told = so-kept (IsTextOf style (reply.Records found)) o v gives told
+told_as-kept style o v (reply.Times times) gives told = so-kept (IsTextOf style (reply.Times times)) o v gives told
+told_as-kept style o v (reply.Snapshot t) gives told = told-kept o v (reply.Snapshot t) gives told
+told_as-kept style o v reply.Ok gives told = told-kept o v reply.Ok gives told
+told_as-kept style o v reply.Queued gives told = told-kept o v reply.Queued gives told
+told_as-kept style o v (reply.ReadOnly t) gives told = told-kept o v (reply.ReadOnly t) gives told
+told_as-kept style o v (reply.Done t) gives told = told-kept o v (reply.Done t) gives told
+told_as-kept style o v reply.Waiting gives told = told-kept o v reply.Waiting gives told
+told_as-kept style o v reply.InDoubt gives told = told-kept o v reply.InDoubt gives told
+told_as-kept style o v (reply.Did step) gives told = told-kept o v (reply.Did step) gives told
+told_as-kept style o v reply.Started gives told = told-kept o v reply.Started gives told
+told_as-kept style o v (reply.JobDid step) gives told = told-kept o v (reply.JobDid step) gives told
+told_as-kept style o v (reply.Opened last floor) gives told = told-kept o v (reply.Opened last floor) gives told
+told_as-kept style o v (reply.OpenedByRelation last many) gives told = told-kept o v (reply.OpenedByRelation last many) gives told
+told_as-kept style o v (reply.Refused f) gives told = told-kept o v (reply.Refused f) gives told
+
+told_in-kept : (style : Style) (o v : Output) (r : Reply) → GivesOut o v → IsToldIn style o r → IsToldIn style v r
+told_in-kept style o v r gives told = by (is_plain style) told
+  where
+    by : (b : Bool) → MatchBool b (IsTold o r) (IsToldAs style o r) → MatchBool b (IsTold v r) (IsToldAs style v r)
+    by true plainly = told-kept o v r gives plainly
+    by false styled = told_as-kept style o v r gives styled
+
 status-kept : (end : Ending) (o v : Output) → GivesOut o v → HasStatusOf end o → HasStatusOf end v
 status-kept end o v gives (inl done) = by (gives.2)
   where
@@ -124,17 +158,17 @@ runs_new-kept tells old new input o v gives (inl refused) = inl (unmade-kept tel
 runs_new-kept tells old new input o v gives (inr runs) =
     inr (record { made = runs.made; formatted = runs.formatted; sound = runs.sound; runs = runs-kept tells runs.made new input o v gives runs.runs })
 
-asks-kept : (tells : Bool) (old new : DiskState) (asks : StoreValue → Line) (o v : Output) → GivesOut o v → Asks tells old asks o new
-    → Asks tells old asks v new
-asks-kept tells old new asks o v gives (inl refused) = inl (not_opened-kept tells old new o v gives refused)
-asks-kept tells old new asks o v gives (inr (inl lacks)) = inr (inl (no_memory-kept tells old new o v gives lacks))
-asks-kept tells old new asks o v gives (inr (inr asked)) = inr (inr (record {
+asks-kept : (tells : Bool) (style : Style) (old new : DiskState) (asks : StoreValue → Line) (o v : Output) → GivesOut o v → Asks tells style old asks o new
+    → Asks tells style old asks v new
+asks-kept tells style old new asks o v gives (inl refused) = inl (not_opened-kept tells old new o v gives refused)
+asks-kept tells style old new asks o v gives (inr (inl lacks)) = inr (inl (no_memory-kept tells old new o v gives lacks))
+asks-kept tells style old new asks o v gives (inr (inr asked)) = inr (inr (record {
   opened = asked.opened;
   opens = asked.opens;
   answer = asked.answer;
   asked = asked.asked;
   step = asked.step;
-  told = told-kept o v asked.answer gives asked.told;
+  told = told_in-kept style o v asked.answer gives asked.told;
   closes = asked.closes;
 }))
 
@@ -142,22 +176,22 @@ time-kept : (old new : DiskState) (o v : Output) → GivesOut o v → RefusesTim
 time-kept old new o v gives refused = (refused.0, refused-kept o v _ gives refused.1)
 
 at-kept : (tells : Bool) (old new : DiskState) (time : Option ℕ) (line : ℕ → Line) (o v : Output) → GivesOut o v
-    → MatchOption time (RefusesTime old o new) (λ t. Asks tells old (λ store. line t) o new)
-    → MatchOption time (RefusesTime old v new) (λ t. Asks tells old (λ store. line t) v new)
+    → MatchOption time (RefusesTime old o new) (λ t. Asks tells plain old (λ store. line t) o new)
+    → MatchOption time (RefusesTime old v new) (λ t. Asks tells plain old (λ store. line t) v new)
 at-kept tells old new None line o v gives refused = time-kept old new o v gives refused
-at-kept tells old new (Some t) line o v gives asks = asks-kept tells old new (λ store. line t) o v gives asks
+at-kept tells old new (Some t) line o v gives asks = asks-kept tells plain old new (λ store. line t) o v gives asks
 
 between-kept : (tells : Bool) (old new : DiskState) (from to : Option ℕ) (line : ℕ → ℕ → Line) (o v : Output) → GivesOut o v
-    → MatchOption from (RefusesTime old o new) (λ s. MatchOption to (RefusesTime old o new) (λ t. Asks tells old (λ store. line s t) o new))
-    → MatchOption from (RefusesTime old v new) (λ s. MatchOption to (RefusesTime old v new) (λ t. Asks tells old (λ store. line s t) v new))
+    → MatchOption from (RefusesTime old o new) (λ s. MatchOption to (RefusesTime old o new) (λ t. Asks tells plain old (λ store. line s t) o new))
+    → MatchOption from (RefusesTime old v new) (λ s. MatchOption to (RefusesTime old v new) (λ t. Asks tells plain old (λ store. line s t) v new))
 between-kept tells old new None to line o v gives refused = time-kept old new o v gives refused
 between-kept tells old new (Some s) to line o v gives asks = at-kept tells old new to (line s) o v gives asks
 
-ask-kept : (tells : Bool) (old new : DiskState) (asked : Option Question) (o v : Output) → GivesOut o v
-    → MatchOption asked (RefusesTime old o new) (λ q. Asks tells old (line_asked q) o new)
-    → MatchOption asked (RefusesTime old v new) (λ q. Asks tells old (line_asked q) v new)
-ask-kept tells old new None o v gives refused = time-kept old new o v gives refused
-ask-kept tells old new (Some q) o v gives asks = asks-kept tells old new (line_asked q) o v gives asks
+ask-kept : (tells : Bool) (style : Style) (old new : DiskState) (asked : Option Question) (o v : Output) → GivesOut o v
+    → MatchOption asked (RefusesTime old o new) (λ q. Asks tells style old (line_asked q) o new)
+    → MatchOption asked (RefusesTime old v new) (λ q. Asks tells style old (line_asked q) v new)
+ask-kept tells style old new None o v gives refused = time-kept old new o v gives refused
+ask-kept tells style old new (Some q) o v gives asks = asks-kept tells style old new (line_asked q) o v gives asks
 
 writes-kept : (tells : Bool) (old new : DiskState) (write : RecordWrite) (o v : Output) → GivesOut o v → Writes tells old write o new
     → Writes tells old write v new
@@ -256,6 +290,53 @@ dumps-kept tells old new o v gives (inr (inl done)) =
     }))
 dumps-kept tells old new o v gives (inr (inr lacks)) = inr (inr (lacks.0, refused-kept o v _ gives lacks.1))
 
+raised-kept : (time : ℕ) (refused : Option Reply) (o v : Output) → GivesOut o v → SaysRaised time refused o → SaysRaised time refused v
+raised-kept time None o v gives said = said-kept o v _ gives said
+raised-kept time (Some refusal) o v gives said = refused-kept o v _ gives said
+
+raises-kept : (tells : Bool) (old new : DiskState) (relation time : ℕ) (o v : Output) → GivesOut o v → Raises tells old relation time o new
+    → Raises tells old relation time v new
+raises-kept tells old new relation time o v gives (inl refused) = inl (not_opened-kept tells old new o v gives refused)
+raises-kept tells old new relation time o v gives (inr (inl lacks)) = inr (inl (no_memory-kept tells old new o v gives lacks))
+raises-kept tells old new relation time o v gives (inr (inr did)) = inr (inr (record {
+  opened = did.opened;
+  opens = did.opens;
+  refused = did.refused;
+  asked = did.asked;
+  does = did.does;
+  closes = did.closes;
+  says = raised-kept time did.refused o v gives did.says;
+}))
+
+raise-kept : (tells : Bool) (old new : DiskState) (relation : ℕ) (time : Option ℕ) (o v : Output) → GivesOut o v
+    → MatchOption time (RefusesTime old o new) (λ t. Raises tells old relation t o new)
+    → MatchOption time (RefusesTime old v new) (λ t. Raises tells old relation t v new)
+raise-kept tells old new relation None o v gives refused = time-kept old new o v gives refused
+raise-kept tells old new relation (Some t) o v gives did = raises-kept tells old new relation t o v gives did
+
+tells-kept : (tells : Bool) (old new : DiskState) (json : Bool) (o v : Output) → GivesOut o v → Tells tells old json o new → Tells tells old json v new
+tells-kept tells old new json o v gives (inl (inl lacks)) =
+    inl (inl (record { why = lacks.why; fault = lacks.fault; only = lacks.only; same = lacks.same; said = refused-kept o v _ gives lacks.said }))
+tells-kept tells old new json o v gives (inl (inr lacks)) =
+    inl (inr (record {
+      header = lacks.header;
+      reads = lacks.reads;
+      why = lacks.why;
+      fault = lacks.fault;
+      same = lacks.same;
+      said = refused-kept o v _ gives lacks.said;
+    }))
+tells-kept tells old new json o v gives (inr (inl done)) =
+    inr (inl (record {
+      header = done.header;
+      slots = done.slots;
+      reads = done.reads;
+      log = done.log;
+      said = said-kept o v _ gives done.said;
+      same = done.same;
+    }))
+tells-kept tells old new json o v gives (inr (inr lacks)) = inr (inr (lacks.0, refused-kept o v _ gives lacks.1))
+
 pub acts-kept : (tells : Bool) (a : Action) (old new : DiskState) (input : Input) (o v : Output) → GivesOut o v → Acts tells a old input o new
     → Acts tells a old input v new
 acts-kept tells action.Example old new input o v gives acts = runs_new-kept tells old new input o v gives acts
@@ -263,9 +344,11 @@ acts-kept tells (action.Format dir slots) old new input o v gives acts = makes-k
 acts-kept tells (action.Run dir) old new input o v gives acts = runs-kept tells old new input o v gives acts
 acts-kept tells (action.At dir key time) old new input o v gives acts = at-kept tells old new time (λ t. line.At key t) o v gives acts
 acts-kept tells (action.Between dir key from to) old new input o v gives acts = between-kept tells old new from to (λ s t. line.Between key s t) o v gives acts
-acts-kept tells (action.Ask dir asked) old new input o v gives acts = ask-kept tells old new asked o v gives acts
+acts-kept tells (action.Ask dir asked style) old new input o v gives acts = ask-kept tells style old new asked o v gives acts
 acts-kept tells (action.Write dir write) old new input o v gives acts = writes-kept tells old new write o v gives acts
 acts-kept tells (action.Vacuum dir time) old new input o v gives acts = upto-kept tells old new time o v gives acts
 acts-kept tells (action.Grow dir) old new input o v gives acts = grows-kept tells old new o v gives acts
+acts-kept tells (action.Floor dir relation time) old new input o v gives acts = raise-kept tells old new relation time o v gives acts
+acts-kept tells (action.Info dir json) old new input o v gives acts = tells-kept tells old new json o v gives acts
 acts-kept tells (action.Dump dir) old new input o v gives acts = dumps-kept tells old new o v gives acts
 acts-kept tells (action.Stress writers readers rounds) old new input o v gives acts = (acts.0, refused-kept o v [] gives acts.1)

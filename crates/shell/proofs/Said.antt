@@ -1,23 +1,31 @@
 -- What was said, and the status.
-use Rattle.std.proofs.Common.{◌≡◌, ◌≢◌, ◌≤◌, ◌⊎◌, ◌∙◌, inl, inr, ℕ, ◌++◌, [], ap, Bool, true, false, Option, Some, None, Result, Ok, Err, sym, subst}
+use Rattle.std.proofs.Common.{◌≡◌, ◌≢◌, ◌≤◌, ◌⊎◌, ◌∙◌, inl, inr, ℕ, ◌++◌, List, [], ap, Bool, true, false, Option, Some, None, Result, Ok, Err, sym, subst}
 use Rattle.std.proofs.Common.{arith, append_assoc}
-use Rattle.std.specs.Prelude.{MatchBool, MatchOption, MatchResult}
+use Rattle.std.specs.Prelude.{IfOk, MatchBool, MatchOption, MatchResult}
+use Rattle.std.specs.declared.alloc.Global.{Global}
+use Rattle.std.specs.declared.vec.Vec.{Vec}
 use Rattle.disk.specs.Calls.{DiskState}
 use Rattle.script.specs.declared.line.Line.{Line}
 use Rattle.script.specs.declared.line.Line.TheVariants as line
 use Rattle.std.specs.Io.KnownBytes.{Appends}
 use Rattle.std.proofs.KnownBytes.{Appends-trans}
 use Rattle.session.specs.Streams.{AppendsFront, Says}
-use Rattle.session.specs.Texts.{Text, text_of}
+use Rattle.session.specs.Texts.{Text, refusal_line, text_of}
+use Rattle.session.specs.declared.fault.Fault.TheVariants as fault
 use Rattle.session.specs.declared.ending.Ending.{Ending}
 use Rattle.session.specs.declared.ending.Ending.TheVariants.{Whole}
 use Rattle.session.specs.declared.reply.Reply.{Reply}
+use Rattle.session.specs.declared.reply.Reply.TheVariants as reply
+use Rattle.forms.specs.Styles.{is_plain, plain}
+use Rattle.forms.specs.declared.style.Style.{Style}
+use Rattle.shell.specs.Styled.{IsTextOf}
 use Rattle.store.specs.Values.{StoreValue}
 use Rattle.command_line.specs.declared.question.Question.{Question}
 use Rattle.command_line.specs.declared.question.RecordWrite.{RecordWrite}
 use Rattle.command_line.specs.declared.action.Action.{Action}
 use Rattle.command_line.specs.declared.action.Action.TheVariants as action
 use Rattle.shell.specs.Acts.{Acts, Asks, Grows, HasStatusOf, Input, IsRefused, IsSaid, IsTold, Makes, Output, RefusesTime, RunsNew, RunsScript, SaysAll}
+use Rattle.shell.specs.Acts.{IsToldAs, IsToldIn, Raises, SaysRaised, SaysSo, Tells}
 use Rattle.shell.specs.Acts.{SaysFront, SaysGrown, SaysSlots, SaysVacuum, Vacuums, Writes}
 use Rattle.shell.specs.Asking.{line_asked}
 use Rattle.shell.specs.Vacuums.{is_refusal}
@@ -63,6 +71,23 @@ told-refused b o r is yes' refused = told-as b o r is (subst (λ (x : Bool). Mat
 pub told-said : (b : Bool) (o : Output) (r : Reply) → b ≡ is_refusal r → b ≡ false → IsSaid o (text_of r) → IsTold o r
 told-said b o r is no' said = told-as b o r is (subst (λ (x : Bool). MatchBool x (IsRefused o (text_of r)) (IsSaid o (text_of r))) (sym no') said)
 
+-- a text was spelled, and it is said, or that there is no memory for it
+pub so-said : {E : Type 0} (Is : Text → Type 0) (o : Output) (r : Result (Vec ℕ Global) E) → IfOk r (λ text. Is text.items)
+    → MatchResult r (λ text. IsSaid o text.items) (λ _. IsRefused o (refusal_line fault.NoMemory)) → SaysSo Is o
+so-said Is o (Ok text) is said = inl (text.items, is, said)
+so-said Is o (Err e) is refused = inr refused
+
+-- the same of a text that tells a list
+pub listed-said : {X E : Type 0} (Is : List X → Text → Type 0) (xs ys : List X) (o : Output) (r : Result (Vec ℕ Global) E) → xs ≡ ys
+    → IfOk r (λ text. Is xs text.items) → MatchResult r (λ text. IsSaid o text.items) (λ _. IsRefused o (refusal_line fault.NoMemory)) → SaysSo (Is ys) o
+listed-said Is xs ys o r same is said = so-said (Is ys) o r (subst (λ (l : List _). IfOk r (λ text. Is l text.items)) same is) said
+
+pub told-plainly : (style : Style) (b : Bool) (o : Output) (r : Reply) → b ≡ is_plain style → b ≡ true → IsTold o r → IsToldIn style o r
+told-plainly style b o r is yes' told = subst (λ (x : Bool). MatchBool x (IsTold o r) (IsToldAs style o r)) (sym yes' ∙ is) told
+
+pub told-styled : (style : Style) (b : Bool) (o : Output) (r : Reply) → b ≡ is_plain style → b ≡ false → IsToldAs style o r → IsToldIn style o r
+told-styled style b o r is no' told = subst (λ (x : Bool). MatchBool x (IsTold o r) (IsToldAs style o r)) (sym no' ∙ is) told
+
 pub has-status : (end : Ending) (o : Output) → (((o.status ≡ 0) × (end ≡ Whole)) ⊎ ((o.status ≡ 1) × (end ≢ Whole))) → HasStatusOf end o
 has-status end o (inl done) = inl done
 has-status end o (inr failed) = inr (failed.0, inl failed.1)
@@ -89,6 +114,37 @@ told-status o r told = by (is_refusal r) told
     by true refused = refused-status o (text_of r) refused
     by false said = said-status o (text_of r) said
 
+-- a text that is so is said, or that there is no memory for it
+so-status : (Is : Text → Type 0) (o : Output) → SaysSo Is o → o.status ≤ 1
+so-status Is o (inl said) = said-status o said.0 said.2
+so-status Is o (inr lacks) = refused-status o _ lacks
+
+told_as-status : (style : Style) (o : Output) (r : Reply) → IsToldAs style o r → o.status ≤ 1
+told_as-status style o (reply.Found value) told = so-status (IsTextOf style (reply.Found value)) o told
+told_as-status style o (reply.Rows rows) told = so-status (IsTextOf style (reply.Rows rows)) o told
+told_as-status style o (reply.Records found) told = so-status (IsTextOf style (reply.Records found)) o told
+told_as-status style o (reply.Times times) told = so-status (IsTextOf style (reply.Times times)) o told
+told_as-status style o (reply.Snapshot t) told = told-status o (reply.Snapshot t) told
+told_as-status style o reply.Ok told = told-status o reply.Ok told
+told_as-status style o reply.Queued told = told-status o reply.Queued told
+told_as-status style o (reply.ReadOnly t) told = told-status o (reply.ReadOnly t) told
+told_as-status style o (reply.Done t) told = told-status o (reply.Done t) told
+told_as-status style o reply.Waiting told = told-status o reply.Waiting told
+told_as-status style o reply.InDoubt told = told-status o reply.InDoubt told
+told_as-status style o (reply.Did step) told = told-status o (reply.Did step) told
+told_as-status style o reply.Started told = told-status o reply.Started told
+told_as-status style o (reply.JobDid step) told = told-status o (reply.JobDid step) told
+told_as-status style o (reply.Opened last floor) told = told-status o (reply.Opened last floor) told
+told_as-status style o (reply.OpenedByRelation last many) told = told-status o (reply.OpenedByRelation last many) told
+told_as-status style o (reply.Refused f) told = told-status o (reply.Refused f) told
+
+told_in-status : (style : Style) (o : Output) (r : Reply) → IsToldIn style o r → o.status ≤ 1
+told_in-status style o r told = by (is_plain style) told
+  where
+    by : (b : Bool) → MatchBool b (IsTold o r) (IsToldAs style o r) → o.status ≤ 1
+    by true plainly = told-status o r plainly
+    by false styled = told_as-status style o r styled
+
 ended-status : (end : Ending) (o : Output) → HasStatusOf end o → o.status ≤ 1
 ended-status end o (inl done) = zero-least o.status done.0
 ended-status end o (inr failed) = one-least o.status failed.0
@@ -106,28 +162,29 @@ runs_new-status : (tells : Bool) (old new : DiskState) (input : Input) (o : Outp
 runs_new-status tells old new input o (inl refused) = refused-status o _ refused.2
 runs_new-status tells old new input o (inr runs) = runs-status tells runs.made new input o runs.runs
 
-asks-status : (tells : Bool) (old new : DiskState) (asks : StoreValue → Line) (o : Output) → Asks tells old asks o new → o.status ≤ 1
-asks-status tells old new asks o (inl refused) = refused-status o _ refused.2
-asks-status tells old new asks o (inr (inl lacks)) = refused-status o _ lacks.3
-asks-status tells old new asks o (inr (inr asked)) = told-status o asked.answer asked.told
+asks-status : (tells : Bool) (style : Style) (old new : DiskState) (asks : StoreValue → Line) (o : Output) → Asks tells style old asks o new → o.status ≤ 1
+asks-status tells style old new asks o (inl refused) = refused-status o _ refused.2
+asks-status tells style old new asks o (inr (inl lacks)) = refused-status o _ lacks.3
+asks-status tells style old new asks o (inr (inr asked)) = told_in-status style o asked.answer asked.told
 
 time-status : (old new : DiskState) (o : Output) → RefusesTime old o new → o.status ≤ 1
 time-status old new o refused = refused-status o _ refused.1
 
 at-status : (tells : Bool) (old new : DiskState) (time : Option ℕ) (line : ℕ → Line) (o : Output)
-    → MatchOption time (RefusesTime old o new) (λ t. Asks tells old (λ store. line t) o new) → o.status ≤ 1
+    → MatchOption time (RefusesTime old o new) (λ t. Asks tells plain old (λ store. line t) o new) → o.status ≤ 1
 at-status tells old new None line o refused = time-status old new o refused
-at-status tells old new (Some t) line o asks = asks-status tells old new (λ store. line t) o asks
+at-status tells old new (Some t) line o asks = asks-status tells plain old new (λ store. line t) o asks
 
 between-status : (tells : Bool) (old new : DiskState) (from to : Option ℕ) (line : ℕ → ℕ → Line) (o : Output)
-    → MatchOption from (RefusesTime old o new) (λ s. MatchOption to (RefusesTime old o new) (λ t. Asks tells old (λ store. line s t) o new)) → o.status ≤ 1
+    → MatchOption from (RefusesTime old o new) (λ s. MatchOption to (RefusesTime old o new) (λ t. Asks tells plain old (λ store. line s t) o new))
+    → o.status ≤ 1
 between-status tells old new None to line o refused = time-status old new o refused
 between-status tells old new (Some s) to line o asks = at-status tells old new to (line s) o asks
 
-ask-status : (tells : Bool) (old new : DiskState) (asked : Option Question) (o : Output)
-    → MatchOption asked (RefusesTime old o new) (λ q. Asks tells old (line_asked q) o new) → o.status ≤ 1
-ask-status tells old new None o refused = time-status old new o refused
-ask-status tells old new (Some q) o asks = asks-status tells old new (line_asked q) o asks
+ask-status : (tells : Bool) (style : Style) (old new : DiskState) (asked : Option Question) (o : Output)
+    → MatchOption asked (RefusesTime old o new) (λ q. Asks tells style old (line_asked q) o new) → o.status ≤ 1
+ask-status tells style old new None o refused = time-status old new o refused
+ask-status tells style old new (Some q) o asks = asks-status tells style old new (line_asked q) o asks
 
 writes-status : (tells : Bool) (old new : DiskState) (write : RecordWrite) (o : Output) → Writes tells old write o new → o.status ≤ 1
 writes-status tells old new write o (inl lacks) = refused-status o _ lacks.1
@@ -165,16 +222,38 @@ grows-status tells old new o (inl refused) = refused-status o _ refused.2
 grows-status tells old new o (inr (inl lacks)) = refused-status o _ lacks.3
 grows-status tells old new o (inr (inr did)) = grown-status tells did.given new did.refused o did.says
 
+raised-status : (time : ℕ) (refused : Option Reply) (o : Output) → SaysRaised time refused o → o.status ≤ 1
+raised-status time None o said = said-status o _ said
+raised-status time (Some refusal) o said = refused-status o _ said
+
+raises-status : (tells : Bool) (old new : DiskState) (relation time : ℕ) (o : Output) → Raises tells old relation time o new → o.status ≤ 1
+raises-status tells old new relation time o (inl refused) = refused-status o _ refused.2
+raises-status tells old new relation time o (inr (inl lacks)) = refused-status o _ lacks.3
+raises-status tells old new relation time o (inr (inr did)) = raised-status time did.refused o did.says
+
+raise-status : (tells : Bool) (old new : DiskState) (relation : ℕ) (time : Option ℕ) (o : Output)
+    → MatchOption time (RefusesTime old o new) (λ t. Raises tells old relation t o new) → o.status ≤ 1
+raise-status tells old new relation None o refused = time-status old new o refused
+raise-status tells old new relation (Some t) o did = raises-status tells old new relation t o did
+
+tells-status : (tells : Bool) (old new : DiskState) (json : Bool) (o : Output) → Tells tells old json o new → o.status ≤ 1
+tells-status tells old new json o (inl (inl lacks)) = refused-status o _ lacks.said
+tells-status tells old new json o (inl (inr lacks)) = refused-status o _ lacks.said
+tells-status tells old new json o (inr (inl done)) = said-status o _ done.said
+tells-status tells old new json o (inr (inr lacks)) = refused-status o _ lacks.1
+
 pub acts-status : (tells : Bool) (a : Action) (old new : DiskState) (input : Input) (o : Output) → Acts tells a old input o new → o.status ≤ 1
 acts-status tells action.Example old new input o acts = runs_new-status tells old new input o acts
 acts-status tells (action.Format dir slots) old new input o acts = makes-status tells old new slots o acts
 acts-status tells (action.Run dir) old new input o acts = runs-status tells old new input o acts
 acts-status tells (action.At dir key time) old new input o acts = at-status tells old new time (λ t. line.At key t) o acts
 acts-status tells (action.Between dir key from to) old new input o acts = between-status tells old new from to (λ s t. line.Between key s t) o acts
-acts-status tells (action.Ask dir asked) old new input o acts = ask-status tells old new asked o acts
+acts-status tells (action.Ask dir asked style) old new input o acts = ask-status tells style old new asked o acts
 acts-status tells (action.Write dir write) old new input o acts = writes-status tells old new write o acts
 acts-status tells (action.Vacuum dir time) old new input o acts = upto-status tells old new time o acts
 acts-status tells (action.Grow dir) old new input o acts = grows-status tells old new o acts
+acts-status tells (action.Floor dir relation time) old new input o acts = raise-status tells old new relation time o acts
+acts-status tells (action.Info dir json) old new input o acts = tells-status tells old new json o acts
 acts-status tells (action.Dump dir) old new input o (inl (inl lacks)) = refused-status o _ lacks.said
 acts-status tells (action.Dump dir) old new input o (inl (inr lacks)) = refused-status o _ lacks.said
 acts-status tells (action.Dump dir) old new input o (inr (inl done)) = said-status o done.text done.said

@@ -31,7 +31,11 @@ use Rattle.session.specs.declared.input.Lines.{Lines}
 use Rattle.session.specs.declared.output.Answers.{Answers}
 use Rattle.session.specs.declared.reply.Reply.{Reply}
 use Rattle.session.specs.declared.reply.Reply.TheVariants as reply
+use Rattle.forms.specs.Styles.{is_plain, plain}
+use Rattle.log_facts.specs.Texts.{info_text}
+use Rattle.forms.specs.declared.style.Style.{Style}
 use Rattle.shell.specs.Asking.{line_asked}
+use Rattle.shell.specs.Styled.{IsTextOf}
 use Rattle.shell.specs.Dump.{IsDump}
 use Rattle.shell.specs.Vacuums.{DoesJob, DoesVacuum, HasLog, HasNoHeaderFor, LacksLog, archived_line, is_refusal, reclaimed_line}
 use Rattle.shell.specs.Writing.{AnswersInTurn, write_lines}
@@ -153,19 +157,35 @@ RunsNew tells old input output new = RefusesToMake tells old 16 output new ⊎ R
 abbrev pub IsTold : Output → Reply → Type 0
 IsTold o r = MatchBool (is_refusal r) (IsRefused o (text_of r)) (IsSaid o (text_of r))
 
--- the store opens, and answers the one line of a script that asks this of it
-pub record AsksStore (tells : Bool) (old : DiskState) (asks : StoreValue → Line) (output : Output) (new : DiskState) : Type 0 where
+-- a text that is so is said, or there is no memory for it, which is said
+abbrev pub SaysSo : (Text → Type 0) → Output → Type 0
+SaysSo Is o = ((text : Text) × Is text × IsSaid o text) ⊎ IsRefused o (refusal_line fault.NoMemory)
+
+-- a reply is said in a style that is not that of scripts; a refusal is said as in scripts
+abbrev pub IsToldAs : Style → Output → Reply → Type 0
+IsToldAs style o (reply.Found value) = SaysSo (IsTextOf style (reply.Found value)) o
+IsToldAs style o (reply.Rows rows) = SaysSo (IsTextOf style (reply.Rows rows)) o
+IsToldAs style o (reply.Records found) = SaysSo (IsTextOf style (reply.Records found)) o
+IsToldAs style o (reply.Times times) = SaysSo (IsTextOf style (reply.Times times)) o
+IsToldAs style o r = IsTold o r
+
+-- a reply is said in a style
+abbrev pub IsToldIn : Style → Output → Reply → Type 0
+IsToldIn style o r = MatchBool (is_plain style) (IsTold o r) (IsToldAs style o r)
+
+-- the store opens, and answers the one line of a script that asks this of it; the answer is said in this style
+pub record AsksStore (tells : Bool) (style : Style) (old : DiskState) (asks : StoreValue → Line) (output : Output) (new : DiskState) : Type 0 where
   pub opened : StoreValue
   pub opens : Opens tells old 1 opened
   pub answer : Reply
   pub asked : State
   pub step : Step tells (fresh opened) (asks opened) answer asked
-  pub told : IsTold output answer
+  pub told : IsToldIn style output answer
   pub closes : Closes asked new
 
 -- a question, as one line: the store answers it, or is not asked, and why is said
-abbrev pub Asks : Bool → DiskState → (StoreValue → Line) → Output → DiskState → Type 0
-Asks tells old asks output new = DoesNotOpen tells old output new ⊎ (HasNoMemory tells old output new ⊎ AsksStore tells old asks output new)
+abbrev pub Asks : Bool → Style → DiskState → (StoreValue → Line) → Output → DiskState → Type 0
+Asks tells style old asks output new = DoesNotOpen tells old output new ⊎ (HasNoMemory tells old output new ⊎ AsksStore tells style old asks output new)
 
 -- what is of no disk is not done, and nothing is said
 abbrev pub DoesNothing : DiskState → Output → DiskState → Type 0
@@ -312,6 +332,48 @@ pub record GrowsStore (tells : Bool) (old : DiskState) (output : Output) (new : 
 abbrev pub Grows : Bool → DiskState → Output → DiskState → Type 0
 Grows tells old output new = DoesNotOpen tells old output new ⊎ (HasNoMemory tells old output new ⊎ GrowsStore tells old output new)
 
+-- ---- floor
+
+-- the line that says from when on a relation is kept
+abbrev pub floor_line : ℕ → Text
+floor_line time = codes "floor " ++ (decimal time ++ codes "\n")
+
+-- of a floor that was raised, or was refused so
+abbrev pub SaysRaised : ℕ → Option Reply → Output → Type 0
+SaysRaised time None output = IsSaid output (floor_line time)
+SaysRaised time (Some refusal) output = IsRefused output (text_of refusal)
+
+-- the store opens, a session answers `floorof` and `finish`, and it is closed
+pub record RaisesStore (tells : Bool) (old : DiskState) (relation time : ℕ) (output : Output) (new : DiskState) : Type 0 where
+  pub opened : StoreValue
+  pub opens : Opens tells old 1 opened
+  pub refused : Option Reply
+  pub asked : State
+  pub does : DoesJob (Step tells) (line.Floor (Some relation) time) (fresh opened) refused asked
+  pub closes : Closes asked new
+  pub says : SaysRaised time refused output
+
+-- `floor`: the store lets a relation's history before a time go, or is not asked, and why is said
+abbrev pub Raises : Bool → DiskState → ℕ → ℕ → Output → DiskState → Type 0
+Raises tells old relation time output new =
+    DoesNotOpen tells old output new ⊎ (HasNoMemory tells old output new ⊎ RaisesStore tells old relation time output new)
+
+-- ---- info
+
+-- what the log that stands on the disk tells is said, and the disk is as it was
+pub record TellsLog (tells : Bool) (old : DiskState) (json : Bool) (output : Output) (new : DiskState) : Type 0 where
+  pub header : Header
+  pub slots : List Slot
+  pub reads : IsTrue tells → ReadsHeader old.areas.status.bytes header
+  pub log : IsTrue tells → HoldsLog header old.areas.status.bytes slots
+  pub said : IsSaid output (info_text json header slots)
+  pub same : new ≡ old
+
+-- `info`: what the log tells is said, or why it is not
+abbrev pub Tells : Bool → DiskState → Bool → Output → DiskState → Type 0
+Tells tells old json output new =
+    (HasNoHeader tells old output new ⊎ HasNoLog tells old output new) ⊎ (TellsLog tells old json output new ⊎ LacksText old output new)
+
 -- ---- actions
 
 -- With status 0 it is done and said in full. With status 1 the store, the input or the output was refused, which is said as far as the output took it, and the
@@ -320,15 +382,17 @@ abbrev pub Acts : Bool → Action → DiskState → Input → Output → DiskSta
 Acts tells action.Example old input output new = RunsNew tells old input output new
 Acts tells (action.Format dir slots) old input output new = Makes tells old slots output new
 Acts tells (action.Run dir) old input output new = RunsScript tells old input output new
-Acts tells (action.At dir key time) old input output new = MatchOption time (RefusesTime old output new) (λ t. Asks tells old
+Acts tells (action.At dir key time) old input output new = MatchOption time (RefusesTime old output new) (λ t. Asks tells plain old
     (λ store. line.At key t) output new)
 Acts tells (action.Between dir key from to) old input output new =
-    MatchOption from (RefusesTime old output new) (λ a. MatchOption to (RefusesTime old output new) (λ b. Asks tells old
+    MatchOption from (RefusesTime old output new) (λ a. MatchOption to (RefusesTime old output new) (λ b. Asks tells plain old
     (λ store. line.Between key a b) output new))
-Acts tells (action.Ask dir question) old input output new =
-    MatchOption question (RefusesTime old output new) (λ asked. Asks tells old (line_asked asked) output new)
+Acts tells (action.Ask dir question style) old input output new =
+    MatchOption question (RefusesTime old output new) (λ asked. Asks tells style old (line_asked asked) output new)
 Acts tells (action.Write dir write) old input output new = Writes tells old write output new
 Acts tells (action.Vacuum dir time) old input output new = MatchOption time (RefusesTime old output new) (λ t. Vacuums tells old t output new)
 Acts tells (action.Grow dir) old input output new = Grows tells old output new
+Acts tells (action.Floor dir relation time) old input output new = MatchOption time (RefusesTime old output new) (λ t. Raises tells old relation t output new)
+Acts tells (action.Info dir json) old input output new = Tells tells old json output new
 Acts tells (action.Dump dir) old input output new = Dumps tells old output new
 Acts tells (action.Stress writers readers rounds) old input output new = DoesNothing old output new

@@ -1,5 +1,5 @@
 -- What the program promises of each action, however it ends.
-use Rattle.std.specs.Prelude.{ℕ, ◌≡◌, ◌⊎◌, ◌+◌, Bool, List, [], Option, Result, Ok, Err, MatchOption}
+use Rattle.std.specs.Prelude.{ℕ, ◌≡◌, ◌⊎◌, ◌+◌, Bool, List, [], Option, Result, Ok, Err, Some, MatchOption}
 use Rattle.std.specs.declared.alloc.Global.{Global}
 use Rattle.std.specs.declared.vec.Vec.{Vec}
 use Rattle.disk.specs.Areas.{Image, LeavesImage, image_of}
@@ -37,7 +37,9 @@ use Rattle.command_line.specs.declared.question.Question.{Question}
 use Rattle.command_line.specs.declared.question.Question.TheVariants as question
 use Rattle.command_line.specs.declared.action.Action.{Action}
 use Rattle.command_line.specs.declared.action.Action.TheVariants as action
-use Rattle.shell.specs.Acts.{Input, IsRefused, IsTold, Output, SaysAll, SaysGrown, SaysVacuum}
+use Rattle.forms.specs.Styles.{plain}
+use Rattle.forms.specs.declared.style.Style.{Style}
+use Rattle.shell.specs.Acts.{Input, IsRefused, IsTold, IsToldIn, Output, SaysAll, SaysGrown, SaysRaised, SaysVacuum}
 use Rattle.shell.specs.Asking.{end_asked, line_asked, time_asked}
 use Rattle.shell.specs.Vacuums.{DoesJob, DoesVacuum}
 use Rattle.shell.specs.Writing.{AnswersInTurn, write_lines}
@@ -113,6 +115,25 @@ abbrev pub GrowingKeeps : Bool → DiskState → Output → DiskState → Type 0
 GrowingKeeps tells old output new = (header : Header) (h : History Value) (floors : ℕ → ℕ) → IsImageOf header (image_of old.areas) h floors
     → ((f : OpenFault) × OpenRefuses tells old f new) ⊎ GrowthOpenedKeeps tells h floors old output new
 
+-- So are `floorof` and `finish`.
+pub record FloorKeeps (tells : Bool) (h : History Value) (floors : ℕ → ℕ) (store : StoreValue) (relation time : ℕ) (output : Output)
+    (new : DiskState) : Type 0 where
+  pub refused : Option Reply
+  pub after : ScriptMoment
+  pub does : DoesJob (LineLeads tells) (line.Floor (Some relation) time) (first_script_moment store (machine.opened h floors)) refused after
+  pub closed : Closed tells after new
+  pub says : SaysRaised time refused output
+
+-- the store opens as this history; no line is answered, or a floor keeps the promise
+abbrev pub FloorOpenedKeeps : Bool → History Value → (ℕ → ℕ) → DiskState → ℕ → ℕ → Output → DiskState → Type 0
+FloorOpenedKeeps tells h floors old relation time output new =
+    (store : StoreValue) × Opens tells old 1 store × ((new ≡ store.disk) ⊎ FloorKeeps tells h floors store relation time output new)
+
+-- of whatever history the image stands for: the store does not open, or a floor keeps the promise
+abbrev pub RaisingKeeps : Bool → DiskState → ℕ → ℕ → Output → DiskState → Type 0
+RaisingKeeps tells old relation time output new = (header : Header) (h : History Value) (floors : ℕ → ℕ) → IsImageOf header (image_of old.areas) h floors
+    → ((f : OpenFault) × OpenRefuses tells old f new) ⊎ FloorOpenedKeeps tells h floors old relation time output new
+
 -- ---- an empty store
 
 -- Whatever a stop may leave of what was made is kept as the empty history, with these slots.
@@ -168,28 +189,28 @@ IsReplyTo (question.Times label) h floors r = IsTimesReply (times_of h label) r
 abbrev pub OrGaveOut : (Reply → Type 0) → Reply → Type 0
 OrGaveOut Is r = Is r ⊎ ((r ≡ reply.Refused (fault.Query query.NoMemory)) ⊎ (r ≡ reply.Refused (fault.Query query.Device)))
 
--- The line of a question is answered as one of a script, and the store is closed: at every moment whatever a stop may leave survives. What is printed is what
--- the write sets of the history say.
-pub record QuestionKeeps (tells : Bool) (h : History Value) (floors : ℕ → ℕ) (store : StoreValue) (asks : Line) (Is : Reply
+-- The line of a question is answered as one of a script, and the store is closed: at every moment whatever a stop may leave survives. What is printed, in this
+-- style, is what the write sets of the history say.
+pub record QuestionKeeps (tells : Bool) (style : Style) (h : History Value) (floors : ℕ → ℕ) (store : StoreValue) (asks : Line) (Is : Reply
     → Type 0) (output : Output) (new : DiskState) : Type 0 where
   pub answer : Reply
   pub after : ScriptMoment
   pub line : LineKeeps tells asks answer (first_script_moment store (machine.opened h floors)) after
   pub closed : Closed tells after new
-  pub printed : IsTold output answer
+  pub printed : IsToldIn style output answer
   pub says : OrGaveOut Is answer
 
 -- the store opens as this history; there is no memory for a session, or the question is answered by the history
-abbrev pub QuestionOpenedKeeps : Bool → History Value → (ℕ → ℕ) → DiskState → (StoreValue → Line) → (Reply → Type 0) → Output → DiskState → Type 0
-QuestionOpenedKeeps tells h floors old asks Is output new =
+abbrev pub QuestionOpenedKeeps : Bool → Style → History Value → (ℕ → ℕ) → DiskState → (StoreValue → Line) → (Reply → Type 0) → Output → DiskState → Type 0
+QuestionOpenedKeeps tells style h floors old asks Is output new =
     (store : StoreValue) × Opens tells old 1 store
-    × (((new ≡ store.disk) × IsRefused output (refusal_line fault.NoMemory)) ⊎ QuestionKeeps tells h floors store (asks store) Is output new)
+    × (((new ≡ store.disk) × IsRefused output (refusal_line fault.NoMemory)) ⊎ QuestionKeeps tells style h floors store (asks store) Is output new)
 
 -- of whatever history the image stands for: the store does not open, since the device or memory gives out, or the question is answered by that history
-abbrev pub AskingKeeps : Bool → DiskState → (StoreValue → Line) → (History Value → (ℕ → ℕ) → Reply → Type 0) → Output → DiskState → Type 0
-AskingKeeps tells old asks Is output new = (header : Header) (h : History Value) (floors : ℕ → ℕ) → IsImageOf header (image_of old.areas) h floors
+abbrev pub AskingKeeps : Bool → Style → DiskState → (StoreValue → Line) → (History Value → (ℕ → ℕ) → Reply → Type 0) → Output → DiskState → Type 0
+AskingKeeps tells style old asks Is output new = (header : Header) (h : History Value) (floors : ℕ → ℕ) → IsImageOf header (image_of old.areas) h floors
     → ((f : OpenFault) × OpenRefuses tells old f new × IsReadFault f × IsRefused output (open_line f))
-    ⊎ QuestionOpenedKeeps tells h floors old asks (Is h floors) output new
+    ⊎ QuestionOpenedKeeps tells style h floors old asks (Is h floors) output new
 
 -- ---- one write
 
@@ -211,29 +232,32 @@ WriteOpenedKeeps tells h floors old lines output new =
 -- the disk is as it was; or of whatever history the image stands for: the store does not open, or the write keeps the promise
 abbrev pub WritingKeeps : Bool → DiskState → List Text → Output → DiskState → Type 0
 WritingKeeps tells old lines output new = (new ≡ old) ⊎ ((header : Header) (h : History Value) (floors : ℕ
-    → ℕ) → IsImageOf header (image_of old.areas) h floors → ((f : OpenFault)
-    × OpenRefuses tells old f new) ⊎ WriteOpenedKeeps tells h floors old lines output new)
+    → ℕ) → IsImageOf header (image_of old.areas) h floors → ((f : OpenFault) × OpenRefuses tells old f new)
+    ⊎ WriteOpenedKeeps tells h floors old lines output new)
 
 -- ---- actions
 
 -- What each action keeps. A script is run on an empty store, or on the one that a disk holds, of whatever history its image stands for, and so are the lines of
--- a vacuum, of a growth, of a question and of a write: at every moment whatever a stop may leave survives. What is printed of a question is what the write
--- sets of that history say. A store that was made is kept as the empty history, and a dump leaves the areas as they were.
+-- a vacuum, of a growth, of a floor, of a question and of a write: at every moment whatever a stop may leave survives. What is printed of a question is
+-- what the write sets of that
+-- history say. A store that was made is kept as the empty history, and a dump and what is told of a store leave the areas as they were.
 abbrev pub KeepsPromise : Bool → Action → DiskState → Input → Output → DiskState → Type 0
 KeepsPromise tells action.Example old input output new = ((f : FormatFault) × FormatRefuses tells 16 old f new) ⊎ NewRunKeeps tells old input output new
 KeepsPromise tells (action.Run dir) old input output new =
     (header : Header) (h : History Value) (floors : ℕ → ℕ) → IsImageOf header (image_of old.areas) h floors → RunKeeps tells h floors old input output new
 KeepsPromise tells (action.Format dir slots) old input output new = MakingKeeps tells old slots new
 KeepsPromise tells (action.At dir key time) old input output new =
-    MatchOption time (new ≡ old) (λ t. AskingKeeps tells old (λ store. line.At key t) (λ h floors. IsValueReply (at_answer h floors key t)) output new)
+    MatchOption time (new ≡ old) (λ t. AskingKeeps tells plain old (λ store. line.At key t) (λ h floors. IsValueReply (at_answer h floors key t)) output new)
 KeepsPromise tells (action.Between dir key from to) old input output new =
     MatchOption from (new
     ≡ old) (λ a. MatchOption to (new
-    ≡ old) (λ b. AskingKeeps tells old (λ store. line.Between key a b) (λ h floors. IsRowsReply (between_answer h floors key a b)) output new))
-KeepsPromise tells (action.Ask dir asked) old input output new =
-    MatchOption asked (new ≡ old) (λ q. AskingKeeps tells old (line_asked q) (IsReplyTo q) output new)
+    ≡ old) (λ b. AskingKeeps tells plain old (λ store. line.Between key a b) (λ h floors. IsRowsReply (between_answer h floors key a b)) output new))
+KeepsPromise tells (action.Ask dir asked style) old input output new =
+    MatchOption asked (new ≡ old) (λ q. AskingKeeps tells style old (line_asked q) (IsReplyTo q) output new)
 KeepsPromise tells (action.Write dir write) old input output new = WritingKeeps tells old (write_lines write) output new
 KeepsPromise tells (action.Vacuum dir time) old input output new = MatchOption time (new ≡ old) (λ t. VacuumingKeeps tells old t output new)
 KeepsPromise tells (action.Grow dir) old input output new = GrowingKeeps tells old output new
+KeepsPromise tells (action.Floor dir relation time) old input output new = MatchOption time (new ≡ old) (λ t. RaisingKeeps tells old relation t output new)
+KeepsPromise tells (action.Info dir json) old input output new = new.areas ≡ old.areas
 KeepsPromise tells (action.Dump dir) old input output new = new.areas ≡ old.areas
 KeepsPromise tells (action.Stress writers readers rounds) old input output new = new ≡ old

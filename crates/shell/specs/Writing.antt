@@ -1,6 +1,8 @@
 -- The lines of a script that write one record, and how they are answered.
-use Rattle.std.specs.Prelude.{◌≡◌, ◌⊎◌, ◌++◌, List, [], ◌∷◌, Option, Some, None, codes, MatchBool, MatchOption}
+use Rattle.std.specs.Prelude.{◌≡◌, ◌⊎◌, ◌++◌, Bool, true, false, List, [], ◌∷◌, Option, Some, None, codes, MatchBool, MatchOption}
 use Rattle.std.specs.List.{flat_map}
+use Rattle.std.specs.Option.{option_map_or}
+use Rattle.forms.specs.Fields.{field_of, hex_field}
 use Rattle.std.specs.Borrow.{Bor}
 use Rattle.std.specs.Fmt.{decimal}
 use Rattle.history.specs.declared.key.Key.{Key}
@@ -18,18 +20,24 @@ use Rattle.shell.specs.declared.writing.WriteLines.{WriteLines}
 
 -- ---- the lines
 
+-- a field as a line has it: a word that is in hexadecimal stands itself; of one that is text, the field that it means, and itself where it means none, which
+-- is then no field of a line
+abbrev pub field_word : Bool → Text → Text
+field_word false word = word
+field_word true word = option_map_or hex_field (field_of word) word
+
 -- each word after a space
-abbrev pub words_text : List (Bor Text) → Text
-words_text words = flat_map (λ (word : Bor Text). codes " " ++ word.now) words
+abbrev pub words_text : Bool → List (Bor Text) → Text
+words_text is_text words = flat_map (λ (word : Bor Text). codes " " ++ field_word is_text word.now) words
 
 -- a relation and a record, as a line names them
 abbrev pub key_text : Key → Text
 key_text key = decimal key.relation ++ (codes " " ++ decimal key.«record»)
 
 -- the line that puts the fields which words spell, or that deletes
-abbrev pub change_line : Key → Option (Bor (List (Bor Text))) → Text
-change_line key (Some words) = (codes "put t " ++ key_text key) ++ words_text words.now
-change_line key None = codes "del t " ++ key_text key
+abbrev pub change_line : Key → Bool → Option (Bor (List (Bor Text))) → Text
+change_line key is_text (Some words) = (codes "put t " ++ key_text key) ++ words_text is_text words.now
+change_line key is_text None = codes "del t " ++ key_text key
 
 -- the line that submits with the label, at the clock's time
 abbrev pub submit_line : RecordWrite → Text
@@ -37,7 +45,7 @@ submit_line write = codes "submit t " ++ (decimal write.label ++ (codes " " ++ d
 
 -- the lines of a write
 abbrev pub write_lines : RecordWrite → List Text
-write_lines write = codes "begin t" ∷ change_line write.key write.fields ∷ submit_line write ∷ codes "flush" ∷ codes "redeem t" ∷ []
+write_lines write = codes "begin t" ∷ change_line write.key write.is_text write.fields ∷ submit_line write ∷ codes "flush" ∷ codes "redeem t" ∷ []
 
 -- all lines of a write, of which two are kept
 abbrev pub all_lines : WriteLines → List Text

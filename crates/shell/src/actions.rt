@@ -7,7 +7,8 @@ ghost use Rattle.session.specs.Texts.{Text, open_line, refusal_line, text_of};
 ghost use Rattle.session.specs.declared.ending.Ending.TheVariants.{Whole};
 ghost use Rattle.shell.specs.Acts.{Acts, Asks, Dumps, GivesOut, Grows, IsRefused, IsTold, Makes, RefusesTime, RunsNew, RunsScript, SaysArchived, SaysBoth};
 ghost use Rattle.shell.specs.Acts.{SaysGrown, SaysSlots, SaysVacuum, Vacuums, given, open_fault_of, told};
-ghost use Rattle.shell.specs.Acts.{Writes};
+ghost use Rattle.forms.specs.Styles.{plain};
+ghost use Rattle.shell.specs.Acts.{IsSaid, IsToldAs, IsToldIn, Raises, SaysRaised, Tells, Writes};
 ghost use Rattle.shell.specs.Asking.{line_asked};
 ghost use Rattle.shell.specs.Dump.{IsDump};
 ghost use Rattle.shell.specs.Keeps.{KeepsPromise};
@@ -15,18 +16,20 @@ ghost use Rattle.shell.specs.Vacuums.{archived_line, reclaimed_line};
 
 use crate::asking::line_asked;
 use crate::dump::{DumpFault, write_dump};
+use crate::styled::{found_lines, record_lines, row_lines, time_lines};
 use crate::vacuuming::{Job, Vacuumed, answer, do_job, do_jobs, is_refusal, log_of, records_in};
 use crate::writing::{answer_write, lines_of};
-use command_line::{Action, Question, RecordWrite, When};
+use command_line::{Action, Question, RecordWrite, Style, When};
 use disk::{Area, Disk};
 use history::Key;
+use log_facts::info_text;
 use script::Line;
 use session::{
     Answers, Ending, Fault, LineInput, Lines, MARK, Refused, Reply, Session, answer_lines,
     write_numbered, write_reply,
 };
 use status::{Header, LogFault, read_header, read_log};
-use std::alloc::Global;
+use std::alloc::{AllocError, Global};
 use std::io::Write;
 use store::{OpenFault, Store, format};
 use wire::Slot;
@@ -138,14 +141,49 @@ fn tell<W: Write>(output: &mut Answers<W>, reply: &Reply) -> u8
     status_of(said)
 }
 
+/// Says a text, if there was memory for it.
+fn tell_text<W: Write>(output: &mut Answers<W>, spelled: Result<Vec<u8>, AllocError>) -> u8
+    ensures { MatchResult spelled (λ text. IsSaid (told W.contents result output.old output.new) text.items)
+        (λ _. IsRefused (told W.contents result output.old output.new) (refusal_line Fault.NoMemory)) }
+{
+    match spelled {
+        Ok(text) => status_of(output.say(text.as_slice())),
+        Err(_) => refuse(output, Fault::NoMemory),
+    }
+}
+
+/// Says a reply in a style that is not that of scripts.
+fn tell_as<W: Write>(alloc: Global, output: &mut Answers<W>, style: Style, reply: &Reply) -> u8
+    ensures { IsToldAs style (told W.contents result output.old output.new) reply.now }
+{
+    match reply {
+        Reply::Found(value) => tell_text(output, found_lines(alloc, style.form, value)),
+        Reply::Rows(rows) => tell_text(output, row_lines(alloc, style, rows)),
+        Reply::Records(found) => tell_text(output, record_lines(alloc, style.form, found)),
+        Reply::Times(times) => tell_text(output, time_lines(alloc, style, times)),
+        _ => tell(output, reply),
+    }
+}
+
+/// Says a reply in a style.
+fn tell_in<W: Write>(alloc: Global, output: &mut Answers<W>, style: Style, reply: &Reply) -> u8
+    ensures { IsToldIn style (told W.contents result output.old output.new) reply.now }
+{
+    if style.is_plain() {
+        return tell(output, reply);
+    }
+    tell_as(alloc, output, style, reply)
+}
+
 /// Asks a question of a store opened for it.
 fn ask<D: Disk, W: Write>(
     alloc: Global,
     disk: D,
     question: Question,
+    style: Style,
     output: &mut Answers<W>,
 ) -> (u8, D)
-    ensures { Asks D.tells (D.state disk) (line_asked question) (told W.contents result.0 output.old output.new) (D.state result.1) }
+    ensures { Asks D.tells style (D.state disk) (line_asked question) (told W.contents result.0 output.old output.new) (D.state result.1) }
 {
     let store = match Store::open(alloc, disk, MARK) {
         Ok(store) => store,
@@ -157,7 +195,7 @@ fn ask<D: Disk, W: Write>(
         Err(store) => return (refuse(output, Fault::NoMemory), store.close()),
     };
     let reply = answer(&mut session, alloc, line);
-    (tell(output, &reply), session.close())
+    (tell_in(alloc, output, style, &reply), session.close())
 }
 
 /// Asks a question, if the words spelled its times.
@@ -165,13 +203,14 @@ fn ask_if<D: Disk, W: Write>(
     alloc: Global,
     disk: D,
     question: Option<Question>,
+    style: Style,
     output: &mut Answers<W>,
 ) -> (u8, D)
     ensures { MatchOption question (RefusesTime (D.state disk) (told W.contents result.0 output.old output.new) (D.state result.1))
-        (λ q. Asks D.tells (D.state disk) (line_asked q) (told W.contents result.0 output.old output.new) (D.state result.1)) }
+        (λ q. Asks D.tells style (D.state disk) (line_asked q) (told W.contents result.0 output.old output.new) (D.state result.1)) }
 {
     match question {
-        Some(question) => ask(alloc, disk, question, output),
+        Some(question) => ask(alloc, disk, question, style, output),
         None => (refuse(output, Fault::Time), disk),
     }
 }
@@ -209,10 +248,13 @@ fn ask_at<D: Disk, W: Write>(
     output: &mut Answers<W>,
 ) -> (u8, D)
     ensures { MatchOption time (RefusesTime (D.state disk) (told W.contents result.0 output.old output.new) (D.state result.1))
-        (λ t. Asks D.tells (D.state disk) (λ _. At key t) (told W.contents result.0 output.old output.new) (D.state result.1)) }
+        (λ t. Asks D.tells plain (D.state disk) (λ _. At key t) (told W.contents result.0 output.old output.new) (D.state result.1)) }
 {
     match time {
-        Some(time) => ask(alloc, disk, Question::Value(key, When::At(time)), output),
+        Some(time) => {
+            let question = Question::Value(key, When::At(time));
+            ask(alloc, disk, question, Style::plain(), output)
+        }
         None => (refuse(output, Fault::Time), disk),
     }
 }
@@ -228,12 +270,12 @@ fn ask_between<D: Disk, W: Write>(
 ) -> (u8, D)
     ensures { MatchOption from (RefusesTime (D.state disk) (told W.contents result.0 output.old output.new) (D.state result.1))
         (λ a. MatchOption to (RefusesTime (D.state disk) (told W.contents result.0 output.old output.new) (D.state result.1))
-        (λ b. Asks D.tells (D.state disk) (λ _. Between key a b) (told W.contents result.0 output.old output.new) (D.state result.1))) }
+        (λ b. Asks D.tells plain (D.state disk) (λ _. Between key a b) (told W.contents result.0 output.old output.new) (D.state result.1))) }
 {
     match (from, to) {
         (Some(a), Some(b)) => {
             let question = Question::Rows(key, When::At(a), When::At(b));
-            ask(alloc, disk, question, output)
+            ask(alloc, disk, question, Style::plain(), output)
         }
         _ => (refuse(output, Fault::Time), disk),
     }
@@ -438,6 +480,74 @@ fn grow<D: Disk, W: Write>(alloc: Global, disk: D, output: &mut Answers<W>) -> (
     (status, disk)
 }
 
+/// Says that a floor was raised to a time, or what was refused.
+fn tell_raised<W: Write>(time: u64, refused: &Option<Reply>, output: &mut Answers<W>) -> u8
+    ensures { SaysRaised time refused.now (told W.contents result output.old output.new) }
+{
+    match refused {
+        Some(refusal) => refuse_reply(output, refusal),
+        None => status_of(write_numbered(output, "floor ", time)),
+    }
+}
+
+/// Lets the history of a relation before a time go, in a store opened for it.
+fn raise<D: Disk, W: Write>(
+    alloc: Global,
+    disk: D,
+    relation: u16,
+    time: u64,
+    output: &mut Answers<W>,
+) -> (u8, D)
+    ensures { Raises D.tells (D.state disk) relation time (told W.contents result.0 output.old output.new) (D.state result.1) }
+{
+    let store = match Store::open(alloc, disk, MARK) {
+        Ok(store) => store,
+        Err((fault, disk)) => return (refuse(output, Fault::Open(fault)), disk),
+    };
+    let mut session = match Session::new(alloc, store) {
+        Ok(session) => session,
+        Err(store) => return (refuse(output, Fault::NoMemory), store.close()),
+    };
+    let refused = do_job(&mut session, alloc, Line::Floor(Some(relation), time));
+    (tell_raised(time, &refused, output), session.close())
+}
+
+/// Lets the history of a relation before a time go, if the words spelled one.
+fn raise_upto<D: Disk, W: Write>(
+    alloc: Global,
+    disk: D,
+    relation: u16,
+    time: Option<u64>,
+    output: &mut Answers<W>,
+) -> (u8, D)
+    ensures { MatchOption time (RefusesTime (D.state disk) (told W.contents result.0 output.old output.new) (D.state result.1))
+        (λ t. Raises D.tells (D.state disk) relation t (told W.contents result.0 output.old output.new) (D.state result.1)) }
+{
+    match time {
+        Some(time) => raise(alloc, disk, relation, time, output),
+        None => (refuse(output, Fault::Time), disk),
+    }
+}
+
+/// Says what the log of a store tells, which is not opened for it.
+fn info<D: Disk, W: Write>(alloc: Global, disk: D, json: bool, output: &mut Answers<W>) -> (u8, D)
+    ensures { Tells D.tells (D.state disk) json (told W.contents result.0 output.old output.new) (D.state result.1) }
+{
+    let mut disk = disk;
+    let header = match read_header(&mut disk) {
+        Ok(header) => header,
+        Err(fault) => return (refuse_log(output, fault), disk),
+    };
+    let slots = match read_log(alloc, &mut disk, &header) {
+        Ok(slots) => slots,
+        Err(fault) => return (refuse_log(output, fault), disk),
+    };
+    match info_text(alloc, json, &header, slots.as_slice()) {
+        Ok(text) => (status_of(output.say(text.as_slice())), disk),
+        Err(_) => (refuse(output, Fault::NoMemory), disk),
+    }
+}
+
 /// The text of a log. It is made whole before any of it is said, so that no refusal follows a part of it.
 fn dump_text(alloc: Global, header: &Header, slots: &[Slot]) -> Result<Vec<u8>, DumpFault>
     ensures { IfOk result (λ text. IsDump header.now slots.now text.items) }
@@ -488,13 +598,23 @@ fn perform<D: Disk, R: LineInput, W: Write>(
             from,
             to,
         } => ask_between(alloc, disk, key, from, to, output),
-        Action::Ask { dir: _, question } => ask_if(alloc, disk, question, output),
+        Action::Ask {
+            dir: _,
+            question,
+            style,
+        } => ask_if(alloc, disk, question, style, output),
         Action::Write {
             dir: _,
             write: asked,
         } => write(alloc, disk, &asked, output),
         Action::Vacuum { dir: _, time } => vacuum_upto(alloc, disk, time, output),
         Action::Grow { dir: _ } => grow(alloc, disk, output),
+        Action::Floor {
+            dir: _,
+            relation,
+            time,
+        } => raise_upto(alloc, disk, relation, time, output),
+        Action::Info { dir: _, json } => info(alloc, disk, json, output),
         Action::Dump { dir: _ } => dump(alloc, disk, output),
         // It is of no disk: the program runs it in threads of its own.
         Action::Stress {
@@ -540,7 +660,7 @@ pub fn act<D: Disk, R: LineInput, W: Write>(
     ensures acts { Acts D.tells action.entry (D.state disk) (given R.remaining input.old input.new) (told W.contents result.0 output.old output.new)
         (D.state result.1) }
     // Of every action, on a disk that tells its bytes and whatever the status is. Of a script, and of the lines of a
-    // vacuum, of a growth and of a question: at every moment of its run whatever a stop may leave survives, with every
+    // vacuum, of a growth, of a floor, of a write and of a question: at every moment of its run whatever a stop may leave survives, with every
     // commit of which a line `done` was written, and what is written is what a run of the machine answers. What is
     // written of a question is what the write sets of the history say, or the refusal that they say, or that memory or
     // the device gave out. An empty store that was made is kept as the empty history, with the slots that were asked

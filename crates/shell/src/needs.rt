@@ -61,10 +61,20 @@ pub fn folder_need<'a>(action: &Action<'a>) -> Need<'a>
             from,
             to,
         } => change_if(from.is_some() && to.is_some(), dir),
-        Action::Ask { dir, question } => change_if(question.is_some(), dir),
+        Action::Ask {
+            dir,
+            question,
+            style: _,
+        } => change_if(question.is_some(), dir),
         Action::Write { dir, write: _ } => Need::Change(dir),
         Action::Vacuum { dir, time } => change_if(time.is_some(), dir),
         Action::Grow { dir } => Need::Change(dir),
+        Action::Floor {
+            dir,
+            relation: _,
+            time,
+        } => change_if(time.is_some(), dir),
+        Action::Info { dir, json: _ } => Need::Read(dir),
         Action::Dump { dir } => Need::Read(dir),
         Action::Stress {
             writers: _,

@@ -1,5 +1,5 @@
 //! The lines of a script that write one record.
-ghost use Rattle.std.specs.Prelude.{◌≡◌, IfOk, OnOk, Some, map};
+ghost use Rattle.std.specs.Prelude.{◌≡◌, IfOk, OnOk, Some, map, true};
 ghost use Rattle.std.specs.Io.KnownBytes.{Appends};
 ghost use Rattle.session.specs.Session.{Step};
 ghost use Rattle.session.specs.declared.reply.Reply.TheVariants as reply;
@@ -8,7 +8,7 @@ ghost use Rattle.shell.specs.Writing as told;
 use crate::vacuuming::is_refusal;
 use command_line::RecordWrite;
 use disk::Disk;
-use history::Key;
+use forms::{field_of, spell_hex_field};
 use session::{Fault, Reply, Session};
 use std::alloc::{AllocError, Global};
 use std::io;
@@ -22,25 +22,57 @@ pub struct WriteLines {
     submit: Vec<u8>,
 }
 
+/// Spells the field that a text means, or the text where it means none.
+fn spell_meant(alloc: Global, text: &mut Vec<u8>, word: &str) -> Result<(), AllocError>
+    ensures { OnOk result (Appends (Some text.old.items) (Some text.new.items) (told.field_word true word.now)) }
+{
+    match field_of(alloc, word)? {
+        Some(field) => spell_hex_field(alloc, text, field.as_slice()),
+        None => text.extend_from_slice(word.as_bytes()),
+    }
+}
+
+/// Spells a field as a line has it.
+fn spell_field(
+    alloc: Global,
+    text: &mut Vec<u8>,
+    is_text: bool,
+    word: &str,
+) -> Result<(), AllocError>
+    ensures { OnOk result (Appends (Some text.old.items) (Some text.new.items) (told.field_word is_text word.now)) }
+{
+    if is_text {
+        return spell_meant(alloc, text, word);
+    }
+    text.extend_from_slice(word.as_bytes())
+}
+
 /// Spells the words, each after a space.
-fn spell_words(text: &mut Vec<u8>, words: &[&str]) -> Result<(), AllocError>
-    ensures { OnOk result (Appends (Some text.old.items) (Some text.new.items) (told.words_text words.now)) }
+fn spell_words(
+    alloc: Global,
+    text: &mut Vec<u8>,
+    is_text: bool,
+    words: &[&str],
+) -> Result<(), AllocError>
+    ensures { OnOk result (Appends (Some text.old.items) (Some text.new.items) (told.words_text is_text words.now)) }
 {
     for word in words {
         text.push(b' ')?;
-        text.extend_from_slice(word.as_bytes())?;
+        spell_field(alloc, text, is_text, word)?;
     }
     Ok(())
 }
 
 /// Spells the line that writes.
-fn spell_change(text: &mut Vec<u8>, key: Key, fields: Option<&[&str]>) -> io::Result<()>
-    ensures { OnOk result (Appends (Some text.old.items) (Some text.new.items) (told.change_line key fields.entry)) }
+fn spell_change(alloc: Global, text: &mut Vec<u8>, write: &RecordWrite<'_>) -> io::Result<()>
+    ensures { OnOk result (Appends (Some text.old.items) (Some text.new.items)
+        (told.change_line write.entry.now.key write.entry.now.is_text write.entry.now.fields)) }
 {
-    match fields {
+    let key = write.key;
+    match write.fields {
         Some(words) => {
             write!(text, "put t {} {}", key.relation, key.record)?;
-            Ok(spell_words(text, words)?)
+            Ok(spell_words(alloc, text, write.is_text, words)?)
         }
         None => write!(text, "del t {} {}", key.relation, key.record),
     }
@@ -51,7 +83,7 @@ pub fn lines_of(alloc: Global, write: &RecordWrite<'_>) -> io::Result<WriteLines
     ensures { IfOk result (told.AreLinesOf write.entry.now) }
 {
     let mut change = Vec::new(alloc);
-    spell_change(&mut change, write.key, write.fields)?;
+    spell_change(alloc, &mut change, write)?;
     let mut submit = Vec::new(alloc);
     write!(&mut submit, "submit t {} {}", write.label, write.now)?;
     Ok(WriteLines { change, submit })

@@ -1,6 +1,6 @@
 //! Words of the command line: what they ask for, and the texts of help and usage faults.
 use clap::{ArgMatches, Error};
-use command_line::{Action, Question, RecordWrite, When, action_of, read_words};
+use command_line::{Action, Form, Question, RecordWrite, Style, When, action_of, read_words};
 use history::Key;
 use std::alloc::Global;
 use std::test::Fail;
@@ -17,6 +17,22 @@ const SEVEN: Key = Key {
 
 /// What the clock says.
 const NOW: u64 = 1_795_424_400_000_000;
+
+/// Styles of answers: that of scripts, and others.
+const PLAIN: Style = Style {
+    form: Form::Hex,
+    instants: false,
+};
+
+const JSON: Style = Style {
+    form: Form::Json,
+    instants: false,
+};
+
+const TEXT_MOMENTS: Style = Style {
+    form: Form::Text,
+    instants: true,
+};
 
 /// Words, and what they ask for.
 const ASKED: &[(&[&str], Action<'static>)] = &[
@@ -75,6 +91,7 @@ const ASKED: &[(&[&str], Action<'static>)] = &[
         Action::Ask {
             dir: "d",
             question: Some(Question::Value(SEVEN, When::Now)),
+            style: PLAIN,
         },
     ),
     (
@@ -82,6 +99,45 @@ const ASKED: &[(&[&str], Action<'static>)] = &[
         Action::Ask {
             dir: "d",
             question: Some(Question::Value(SEVEN, When::At(120))),
+            style: PLAIN,
+        },
+    ),
+    (
+        &["timestore", "get", "d", "1", "7", "2001-09-09"],
+        Action::Ask {
+            dir: "d",
+            question: Some(Question::Value(SEVEN, When::At(999_993_600_000_000))),
+            style: PLAIN,
+        },
+    ),
+    (
+        &[
+            "timestore",
+            "get",
+            "d",
+            "1",
+            "7",
+            "2001-09-09T03:46:40.000001+02:00",
+        ],
+        Action::Ask {
+            dir: "d",
+            question: Some(Question::Value(SEVEN, When::At(1_000_000_000_000_001))),
+            style: PLAIN,
+        },
+    ),
+    (
+        &[
+            "timestore",
+            "get",
+            "d",
+            "1",
+            "7",
+            "1969-12-31T23:59:59+00:00",
+        ],
+        Action::Ask {
+            dir: "d",
+            question: None,
+            style: PLAIN,
         },
     ),
     (
@@ -89,6 +145,7 @@ const ASKED: &[(&[&str], Action<'static>)] = &[
         Action::Ask {
             dir: "d",
             question: None,
+            style: PLAIN,
         },
     ),
     (
@@ -96,6 +153,7 @@ const ASKED: &[(&[&str], Action<'static>)] = &[
         Action::Ask {
             dir: "d",
             question: Some(Question::Records(1, When::Now)),
+            style: PLAIN,
         },
     ),
     (
@@ -103,6 +161,7 @@ const ASKED: &[(&[&str], Action<'static>)] = &[
         Action::Ask {
             dir: "d",
             question: Some(Question::Rows(SEVEN, When::First, When::Now)),
+            style: PLAIN,
         },
     ),
     (
@@ -110,6 +169,7 @@ const ASKED: &[(&[&str], Action<'static>)] = &[
         Action::Ask {
             dir: "d",
             question: Some(Question::Rows(SEVEN, When::At(5), When::Now)),
+            style: PLAIN,
         },
     ),
     (
@@ -117,6 +177,7 @@ const ASKED: &[(&[&str], Action<'static>)] = &[
         Action::Ask {
             dir: "d",
             question: Some(Question::Times(u64::MAX)),
+            style: PLAIN,
         },
     ),
     (
@@ -126,6 +187,7 @@ const ASKED: &[(&[&str], Action<'static>)] = &[
             write: RecordWrite {
                 key: SEVEN,
                 fields: Some(&["61", "-"]),
+                is_text: false,
                 label: 0,
                 now: NOW,
             },
@@ -138,6 +200,7 @@ const ASKED: &[(&[&str], Action<'static>)] = &[
             write: RecordWrite {
                 key: SEVEN,
                 fields: Some(&["61"]),
+                is_text: false,
                 label: 3,
                 now: NOW,
             },
@@ -150,9 +213,77 @@ const ASKED: &[(&[&str], Action<'static>)] = &[
             write: RecordWrite {
                 key: SEVEN,
                 fields: None,
+                is_text: false,
                 label: 3,
                 now: NOW,
             },
+        },
+    ),
+    (
+        &["timestore", "get", "d", "--json", "1", "7"],
+        Action::Ask {
+            dir: "d",
+            question: Some(Question::Value(SEVEN, When::Now)),
+            style: JSON,
+        },
+    ),
+    (
+        &["timestore", "scan", "d", "1", "--text", "--json"],
+        Action::Ask {
+            dir: "d",
+            question: Some(Question::Records(1, When::Now)),
+            style: JSON,
+        },
+    ),
+    (
+        &[
+            "timestore",
+            "history",
+            "d",
+            "1",
+            "7",
+            "--text",
+            "--instants",
+        ],
+        Action::Ask {
+            dir: "d",
+            question: Some(Question::Rows(SEVEN, When::First, When::Now)),
+            style: TEXT_MOMENTS,
+        },
+    ),
+    (
+        &["timestore", "put", "d", "1", "7", "Ada", "--text"],
+        Action::Write {
+            dir: "d",
+            write: RecordWrite {
+                key: SEVEN,
+                fields: Some(&["Ada"]),
+                is_text: true,
+                label: 0,
+                now: NOW,
+            },
+        },
+    ),
+    (
+        &["timestore", "floor", "d", "1", "120"],
+        Action::Floor {
+            dir: "d",
+            relation: 1,
+            time: Some(120),
+        },
+    ),
+    (
+        &["timestore", "info", "d"],
+        Action::Info {
+            dir: "d",
+            json: false,
+        },
+    ),
+    (
+        &["timestore", "info", "--json", "d"],
+        Action::Info {
+            dir: "d",
+            json: true,
         },
     ),
     (
@@ -236,6 +367,15 @@ const FAULTS: &[(&str, &[&str])] = &[
         "vacuum with two times",
         &["timestore", "vacuum", "d", "1", "2"],
     ),
+    (
+        "instants where there is no time",
+        &["timestore", "get", "d", "1", "7", "--instants"],
+    ),
+    (
+        "a flag twice",
+        &["timestore", "info", "d", "--json", "--json"],
+    ),
+    ("floor without a time", &["timestore", "floor", "d", "1"]),
     ("put without a field", &["timestore", "put", "d", "1", "7"]),
     (
         "put with 17 fields",
@@ -330,6 +470,8 @@ const NAMED: &[&str] = &[
     "\n  times ",
     "\n  put ",
     "\n  del ",
+    "\n  floor ",
+    "\n  info ",
     "16 to 65536",
     "1 to 16\n             commits",
     "65536 extents of 8 KiB",
@@ -423,10 +565,33 @@ const HELP: &[(&str, &[&str])] = &[
             "first refusal",
         ],
     ),
-    ("get", &["<DIR>", "<REL>", "<REC>", "[TIME]", "`now`"]),
-    ("scan", &["<DIR>", "<REL>", "[TIME]", "`now`"]),
-    ("history", &["<DIR>", "<REL>", "<REC>", "[FROM]", "[TO]"]),
-    ("times", &["<DIR>", "<LABEL>"]),
+    (
+        "get",
+        &[
+            "<DIR>", "<REL>", "<REC>", "[TIME]", "`now`", "--text", "--json",
+        ],
+    ),
+    (
+        "scan",
+        &["<DIR>", "<REL>", "[TIME]", "`now`", "--text", "--json"],
+    ),
+    (
+        "history",
+        &[
+            "<DIR>",
+            "<REL>",
+            "<REC>",
+            "[FROM]",
+            "[TO]",
+            "--text",
+            "--json",
+            "--instants",
+        ],
+    ),
+    (
+        "times",
+        &["<DIR>", "<LABEL>", "--text", "--json", "--instants"],
+    ),
     (
         "put",
         &[
@@ -435,6 +600,7 @@ const HELP: &[(&str, &[&str])] = &[
             "<REC>",
             "<FIELD>...",
             "--label <N>",
+            "--text",
             "[default: 0]",
             "done T",
             "bad value",
@@ -445,6 +611,27 @@ const HELP: &[(&str, &[&str])] = &[
         &["<DIR>", "<REL>", "<REC>", "--label <N>", "missing"],
     ),
     ("grow", &["<DIR>", "slots N", "not growable"]),
+    (
+        "floor",
+        &["<DIR>", "<REL>", "<TIME>", "floor T", "wrong profile"],
+    ),
+    (
+        "info",
+        &[
+            "<DIR>",
+            "--json",
+            "\n  profile ",
+            "\n  slots, used ",
+            "\n  extents ",
+            "\n  commits ",
+            "\n  first, last ",
+            "\n  archived ",
+            "\n  archive ",
+            "\n  reclaimed ",
+            "\n  days ",
+            "\n  floor REL T ",
+        ],
+    ),
     (
         "dump",
         &[

@@ -6,6 +6,8 @@ mod groups;
 #[cfg(test)]
 mod images;
 #[cfg(test)]
+mod layouts;
+#[cfg(test)]
 mod on_disk;
 #[cfg(test)]
 mod queries;

@@ -7,7 +7,7 @@ use crate::write_sets::Written;
 use disk::{Area, Disk, Fault, FaultDisk, MemDisk};
 use history::Key;
 use script::read_time;
-use shell::{Action, Question, RecordWrite};
+use shell::{Action, Form, Question, RecordWrite, Style};
 use std::alloc::{AllocError, Global};
 
 /// What is done to a disk, and what must come of it. Lines and bytes are those of the newest profile.
@@ -40,9 +40,13 @@ pub enum Step {
     Refuses(&'static str),
     /// A question, what is answered, and the status.
     Asks(Question, &'static str, u8),
+    /// The same in a style.
+    AsksIn(Style, Question, &'static str, u8),
     /// A record's fields, or none where it is deleted, with the label and the clock's time: what is answered,
     /// and the status.
     Writes(Key, Option<&'static [&'static str]>, (u64, u64), &'static str, u8),
+    /// The same of fields that are text.
+    Texts(Key, &'static [&'static str], (u64, u64), &'static str, u8),
     /// The log's text, with the status; nothing is written.
     Dumps(&'static str, u8),
     /// The key's value at a time, as `at` answers; a refusal has status 1.
@@ -93,11 +97,18 @@ fn rows(from: &str, to: &str) -> Action<'static> {
     }
 }
 
-/// A question.
-fn asks(question: Question) -> Action<'static> {
+/// The style of scripts.
+const PLAIN: Style = Style {
+    form: Form::Hex,
+    instants: false,
+};
+
+/// A question in a style.
+fn asks(question: Question, style: Style) -> Action<'static> {
     Action::Ask {
         dir: "",
         question: Some(question),
+        style,
     }
 }
 
@@ -105,11 +116,13 @@ fn asks(question: Question) -> Action<'static> {
 fn writes(
     key: Key,
     fields: Option<&'static [&'static str]>,
+    is_text: bool,
     (label, now): (u64, u64),
 ) -> Action<'static> {
     let write = RecordWrite {
         key,
         fields,
+        is_text,
         label,
         now,
     };
@@ -281,9 +294,17 @@ impl Machine {
             }
             Step::Vacuums(time, lines, status) => self.says(vacuum(time), "", lines, status),
             Step::Rows(from, to, lines, status) => self.says(rows(from, to), "", lines, status),
-            Step::Asks(question, lines, status) => self.says(asks(question), "", lines, status),
+            Step::Asks(question, lines, status) => {
+                self.says(asks(question, PLAIN), "", lines, status)
+            }
+            Step::AsksIn(style, question, lines, status) => {
+                self.says(asks(question, style), "", lines, status)
+            }
             Step::Writes(key, fields, times, lines, status) => {
-                self.says(writes(key, fields, times), "", lines, status)
+                self.says(writes(key, fields, false, times), "", lines, status)
+            }
+            Step::Texts(key, fields, times, lines, status) => {
+                self.says(writes(key, Some(fields), true, times), "", lines, status)
             }
             Step::Dumps(text, status) => self.dumps(text, status),
             Step::At(time, line) => self.shows(time, line),

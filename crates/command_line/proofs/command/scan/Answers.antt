@@ -7,5 +7,6 @@ pub returns : goal.returns
 returns c =
     let name : App = new_app (codes "scan") in
     let with_dir = c.with_arg-command.ensures name dir c.command-command.ensures c.dir.ensures in
-    c.with_arg.ensures (with_rule (with_rule name dir) relation) time_or_now
-    (c.with_arg-command-2.ensures (with_rule name dir) relation with_dir c.relation.ensures) c.time_or_now.ensures
+    c.with_forms.ensures (with_rule (with_rule (with_rule name dir) relation) time_or_now)
+    (c.with_arg.ensures (with_rule (with_rule name dir) relation) time_or_now
+    (c.with_arg-command-2.ensures (with_rule name dir) relation with_dir c.relation.ensures) c.time_or_now.ensures)

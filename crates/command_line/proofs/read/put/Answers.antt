@@ -8,4 +8,4 @@ returns-in_err-key-clause-none c = rw c.from_residual.ensures
 
 pub returns-in_err-u64_of-clause-none : goal.returns-in_err-u64_of-clause-none
 returns-in_err-u64_of-clause-none c = rw c.from_residual-in_err-u64_of.ensures
-    (no_put c.args.now (rows_of (found_of c.args.matches.now)) (λ dir write asked. c.in_err-u64_of.ensures.none write.label asked.3))
+    (no_put c.args.now (rows_of (found_of c.args.matches.now)) (λ dir write asked. c.in_err-u64_of.ensures.none write.label asked.4))

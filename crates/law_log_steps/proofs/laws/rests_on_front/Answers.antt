@@ -2,4 +2,4 @@ use Rattle.law_log_steps.proofs.Resting.{rests-on-front}
 use Rattle.law_log_steps.proofs.laws.rests_on_front.Goals as goal
 
 pub returns : goal.returns
-returns c = λ v m image step is left. rests-on-front v m image step is left
+returns c = λ tells v m image told step is left. rests-on-front tells v m image told step is left

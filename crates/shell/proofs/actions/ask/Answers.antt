@@ -22,6 +22,6 @@ returns g c = inr (inr (record {
       c.in-Ok-new.ensures.ok
       (subst (λ (l : Line). Step g.D.Disk.tells c.in-Ok-new.session l c.answer-reply.result c.answer-reply.new.session) c.line_asked-line.ensures.line
       c.answer-reply.ensures);
-  told = c.tell.ensures;
+  told = c.tell_in.ensures;
   closes = c.close-2.ensures;
 }))

@@ -17,3 +17,9 @@ returns-in-Vacuum g c = rw c.in-Vacuum.is c.vacuum_upto.ensures
 
 pub returns-in-Grow : goal.returns-in-Grow
 returns-in-Grow g c = rw c.in-Grow.is c.grow.ensures
+
+pub returns-in-Floor : goal.returns-in-Floor
+returns-in-Floor g c = rw c.in-Floor.is c.raise_upto.ensures
+
+pub returns-in-Info : goal.returns-in-Info
+returns-in-Info g c = rw c.in-Info.is c.info.ensures

@@ -1,0 +1,5 @@
+pub mod Values
+pub mod Calls
+pub mod Queries
+pub mod Jobs
+pub mod Opens

@@ -1,0 +1,16 @@
+//! A store of records that keeps every version, whatever its layout. One event is one call; no call waits.
+#![tactic(auto)]
+
+mod any;
+mod engine;
+mod jobs;
+mod opening;
+mod over;
+mod queries;
+
+pub use any::Store;
+pub use engine::Engine;
+pub use store::{
+    BeginFault, Did, FormatFault, JobDid, OpenFault, Profile, PumpFault, QueryFault, Redeemed,
+    RowWalk, SharedValue, StartFault, SubmitFault, Submitted, Ticket, Txn, TxnFault, View, format,
+};

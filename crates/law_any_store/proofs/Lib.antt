@@ -1,0 +1,13 @@
+pub mod Memory
+pub mod Calls
+pub mod Jobs
+pub mod Leaving
+pub mod Views
+pub mod Marks
+pub mod Names
+pub mod Tickets
+pub mod StartSays
+pub mod Few
+pub mod Opened
+pub mod Reopened
+pub mod Answering

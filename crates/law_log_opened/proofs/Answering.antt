@@ -1,0 +1,152 @@
+-- Views are answered by the history, after a stop as before it.
+use Rattle.std.proofs.Common.{◌≡◌, inl, inr, ℕ, zero, suc, ◌≤◌, ◌==◌, nat_lt, Bool, true, false, IsTrue, List, [], ◌∷◌, ◌++◌, map, take, Option, Result}
+use Rattle.std.proofs.Common.{◌⊎◌, refl, arith, ap, sym, subst, ◌∙◌}
+use Rattle.std.specs.List.{filter}
+use Rattle.std.proofs.lemmas.Bool.Decides.{nat_tests}
+use Rattle.std.proofs.lemmas.List.{append-nil, map-append}
+use Rattle.std.proofs.lemmas.List.Elements.{filter-append}
+use Rattle.disk.specs.Calls.{DiskState}
+use Rattle.history.specs.declared.key.Key.{Key}
+use Rattle.history.specs.Histories.{Commit, History, HasRisingTimes, last, last_after}
+use Rattle.history.specs.Answers.{at_answer, times_of}
+use Rattle.history.specs.Fronts.{OnFront, with_group}
+use Rattle.history.specs.Machine.{Machine, opened_by}
+use Rattle.history.proofs.Filters.{filter-filter}
+use Rattle.history.proofs.Histories.{state-append, last_after-append, rising-from_following, times-earlier, may_follow-behind}
+use Rattle.law_image.specs.Values.{Value, IsValue}
+use Rattle.group.specs.CommitOrder as orders
+use Rattle.commits.specs.Values.{order_of}
+use Rattle.timequery.specs.View.{ViewValue}
+use Rattle.timequery.specs.declared.fault.QueryFault.{QueryFault}
+use Rattle.log_store.specs.Values.{LogStoreValue, IsInStep}
+use Rattle.log_store.specs.Queries.{IsViewOf, AnswersAtView}
+use Rattle.law_commits.proofs.Tickets.{late-times}
+use Rattle.law_refinement.specs.Homes.{IsSure}
+use Rattle.law_refinement.specs.Laws.{SaysAt}
+use Rattle.law_refinement.proofs.Growing.{front-map}
+use Rattle.law_refinement.proofs.Queries.{recent-answered}
+use Rattle.law_log_queries.specs.Archive.{Stands, GoesOn}
+use Rattle.law_log_queries.proofs.Views.{view-of-history, view-goes-on, at-answered, scan_at-answered, between-answered, scan_between-answered}
+use Rattle.law_log_opened.specs.Laws.{OpensAgain}
+use Rattle.law_log_opened.specs.Answers.{AnswersBy}
+use Rattle.law_log_opened.proofs.Fronts.{two-fronts}
+use Rattle.law_log_opened.proofs.Reopened.{reopen-stands}
+
+-- ---- a store's own views
+
+pub stands-answers : (tells : Bool) (v : LogStoreValue) (m : Machine Value) → Stands tells v m → AnswersBy tells v m.published m.floors
+stands-answers tells v m stands = record {
+  at = λ view asked new later key time answer is now goes says.
+      let of = view-of-history tells v view m stands is in at-answered tells asked new later view m.published m.floors now of.0
+      (view-goes-on tells v asked view m.published m.floors of.1 goes) key time answer says;
+  scan_at = λ view asked new later relation time answer is now goes says.
+      let of = view-of-history tells v view m stands is in scan_at-answered tells asked new later view m.published m.floors now of.0
+      (view-goes-on tells v asked view m.published m.floors of.1 goes) relation time answer says;
+  recent = λ view key time answer is says. recent-answered view m.published m.floors key time answer (view-of-history tells v view m stands is).0 says;
+  between = λ view asked new later key a b answer is now goes says.
+      let of = view-of-history tells v view m stands is in between-answered tells asked new later view m.published m.floors now of.0
+      (view-goes-on tells v asked view m.published m.floors of.1 goes) key a b answer says;
+  scan_between = λ view asked new later relation a b answer is now goes says.
+      let of = view-of-history tells v view m stands is in scan_between-answered tells asked new later view m.published m.floors now of.0
+      (view-goes-on tells v asked view m.published m.floors of.1 goes) relation a b answer says;
+}
+
+pub kept-answers : (tells : Bool) (v : LogStoreValue) (m : Machine Value) (disk : DiskState) (mark : ℕ) (again : LogStoreValue)
+    → IsInStep v → Stands tells v m → IsTrue tells → OpensAgain tells v disk mark again → OnFront (AnswersBy tells again) m
+kept-answers tells v m disk mark again step stands told opens =
+    front-map (λ h floors. Stands tells again (opened_by 1024 h floors)) (AnswersBy tells again) m
+    (λ h floors now. stands-answers tells again (opened_by 1024 h floors) now)
+    (reopen-stands tells v m disk mark again step stands told opens)
+
+-- ---- answers that stay
+
+rising-take : (t n : ℕ) (h : History Value) → HasRisingTimes t h → HasRisingTimes t (take n h)
+rising-take t zero h up = tt
+rising-take t (suc n) [] up = tt
+rising-take t (suc n) (c ∷ cs) up = (up.0, up.1, rising-take c.time n cs up.2)
+
+no_earlier : (t : ℕ) (h : History Value) → HasRisingTimes t h → t ≤ last_after t h
+no_earlier t [] up = omega arith
+no_earlier t (c ∷ cs) up = let rest = no_earlier c.time cs up.2 in omega (arith, up.0, rest)
+
+-- a query up to the last time is answered as before, also with more commits
+answer-append : (h more : History Value) (floors : ℕ → ℕ) (key : Key) (time : ℕ) → HasRisingTimes (last h) more → time ≤ last h
+    → at_answer (h ++ more) floors key time ≡ at_answer h floors key time
+answer-append h more floors key time up early =
+    let later : last h ≤ last (h ++ more) = let low = no_earlier (last h) more up in omega (arith, low, last_after-append 0 h more) in
+    let before : nat_lt (last h) time ≡ false = grind (arith, nat_tests) in
+    let after : nat_lt (last (h ++ more)) time ≡ false = let upto : time ≤ last (h ++ more) = omega (arith, later, early) in grind (arith, nat_tests) in
+    rw (before, after, state-append h more time key (times-earlier time (last h) more early up)) refl
+
+pub answers-stay : (tells : Bool) (v : LogStoreValue) (m : Machine Value) (disk : DiskState) (mark : ℕ) (again asked new : LogStoreValue)
+    (later : Machine Value) (view : ViewValue) (key : Key) (time : ℕ) (answer : Result (Option Value) QueryFault)
+    → IsInStep v → Stands tells v m → IsTrue tells → OpensAgain tells v disk mark again → IsViewOf again view → Stands tells asked later
+    → GoesOn tells again asked → AnswersAtView tells asked view key time answer new
+    → time ≤ last m.published → SaysAt (IsSure tells view.reclaimed time) (at_answer m.published m.floors key time) answer
+answers-stay tells v m disk mark again asked new later view key time answer step stands told opens is now goes answers early =
+    by-front
+    (two-fronts (AnswersBy tells again) m stands.store.writing.raising (kept-answers tells v m disk mark again step stands told opens))
+  where
+    by-front : AnswersBy tells again m.published m.floors ⊎ AnswersBy tells again (with_group m) m.floors
+        → SaysAt (IsSure tells view.reclaimed time) (at_answer m.published m.floors key time) answer
+    by-front (inl by) = by.at view asked new later key time answer is now goes answers
+    by-front (inr by) =
+        let up : HasRisingTimes (last m.published) (take m.group m.queue) =
+        rising-take (last m.published) m.group m.queue
+        (rising-from_following IsValue m.published m.queue (may_follow-behind IsValue [] m.published m.queue stands.store.machine.history)) in
+        subst (λ said. SaysAt (IsSure tells view.reclaimed time) said answer) (answer-append m.published (take m.group m.queue) m.floors key time up early)
+        (by.at view asked new later key time answer is now goes answers)
+
+-- ---- labels
+
+times-append : (label : ℕ) (h more : History Value) → times_of (h ++ more) label ≡ times_of h label ++ times_of more label
+times-append label h more =
+    ap (λ (l : History Value). map (λ (c : Commit Value). c.time) l) (filter-append (λ (c : Commit Value). c.label == label) h more)
+    ∙ map-append (λ (c : Commit Value). c.time) (filter (λ (c : Commit Value). c.label == label) h) (filter (λ (c : Commit Value). c.label == label) more)
+
+-- what agrees from a mark on agrees from a later time on
+late-more : (since mark : ℕ) (xs ys : List ℕ) → mark ≤ since → filter (nat_lt mark) xs ≡ filter (nat_lt mark) ys
+    → filter (nat_lt since) xs ≡ filter (nat_lt since) ys
+late-more since mark xs ys le same =
+    sym (filter-filter (nat_lt since) (nat_lt mark) xs later) ∙ ap (filter (nat_lt since)) same ∙ filter-filter (nat_lt since) (nat_lt mark) ys later
+  where
+    later : (t : ℕ) → nat_lt since t ≡ true → nat_lt mark t ≡ true
+    later t is = grind (arith, nat_tests)
+
+-- the late times of a label are those of the published history
+late-of : (tells : Bool) (v : LogStoreValue) (m : Machine Value) (label since : ℕ) → Stands tells v m → v.commits.reclaimed ≤ since
+    → filter (nat_lt since) (orders.times_of label (order_of v.commits)) ≡ filter (nat_lt since) (times_of m.published label)
+late-of tells v m label since stands le =
+    late-more since v.commits.reclaimed (orders.times_of label (order_of v.commits)) (times_of m.published label) le
+    (late-times v.commits m label stands.store.memory)
+
+pub labels-stay : (tells : Bool) (v : LogStoreValue) (m : Machine Value) (disk : DiskState) (mark : ℕ) (again : LogStoreValue) (label since : ℕ)
+    → IsInStep v → Stands tells v m → IsTrue tells → OpensAgain tells v disk mark again → v.commits.reclaimed ≤ since → again.commits.reclaimed ≤ since
+    → (more : List ℕ)
+    × (filter (nat_lt since) (orders.times_of label (order_of again.commits))
+    ≡ filter (nat_lt since) (orders.times_of label (order_of v.commits)) ++ more)
+labels-stay tells v m disk mark again label since step stands told opens from to =
+    by-front
+    (two-fronts (λ h floors. Stands tells again (opened_by 1024 h floors)) m stands.store.writing.raising
+    (reopen-stands tells v m disk mark again step stands told opens))
+  where
+    before : List ℕ
+    before = filter (nat_lt since) (orders.times_of label (order_of v.commits))
+
+    by-front : Stands tells again (opened_by 1024 m.published m.floors) ⊎ Stands tells again (opened_by 1024 (with_group m) m.floors)
+        → (more : List ℕ) × (filter (nat_lt since) (orders.times_of label (order_of again.commits))
+        ≡ filter (nat_lt since) (orders.times_of label (order_of v.commits)) ++ more)
+    by-front (inl now) = (
+      [],
+      late-of tells again (opened_by 1024 m.published m.floors) label since now to
+          ∙ sym (late-of tells v m label since stands from)
+          ∙ sym (append-nil (filter (nat_lt since) (orders.times_of label (order_of v.commits)))),
+    )
+    by-front (inr now) =
+        let group : History Value = take m.group m.queue in (
+          filter (nat_lt since) (times_of group label),
+          late-of tells again (opened_by 1024 (with_group m) m.floors) label since now to
+              ∙ ap (filter (nat_lt since)) (times-append label m.published group)
+              ∙ filter-append (nat_lt since) (times_of m.published label) (times_of group label)
+              ∙ ap (λ (ts : List ℕ). ts ++ filter (nat_lt since) (times_of group label)) (sym (late-of tells v m label since stands from)),
+        )

@@ -1,0 +1,137 @@
+-- After each call, and after any calls, the store stands for a state of the machine, and its views go on.
+use Rattle.std.proofs.Common.{◌≤◌, Bool, true, false, IsTrue, List, [], ◌∷◌, ◌++◌, Result, Ok, Err, MatchBool, refl, arith, ap, sym, subst, ◌∙◌}
+use Rattle.std.proofs.Common.{append_assoc}
+use Rattle.history.specs.Machine.{Machine}
+use Rattle.history.specs.Steps.{Event, Run, Began, Aborted, begun}
+use Rattle.law_image.specs.Values.{Value, IsValue}
+use Rattle.snapshot.specs.Txn.{TxnValue}
+use Rattle.group.specs.declared.answers.BeginFault.{BeginFault}
+use Rattle.group.specs.declared.answers.BeginFault.TheVariants as fault
+use Rattle.archive.specs.declared.run.RunEntry.{RunEntry}
+use Rattle.commits.specs.Values.{is_own}
+use Rattle.log_store.specs.Values.{LogStoreValue, IsInStep}
+use Rattle.law_refinement.specs.Laws.{submission_of, event_of}
+use Rattle.law_refinement.proofs.RunsKept.{IsLater, machine-rises, run-later}
+use Rattle.law_log_store.proofs.Calls.{begin-alone, abort-alone, redeem-alone}
+use Rattle.law_log_steps.specs.Laws.{BeginsTo, Goes, events_in}
+use Rattle.law_log_steps.specs.Store.{IsStoreOf}
+use Rattle.law_log_steps.proofs.Keeping.{begin-stands, abort-stands, redeem-stands}
+use Rattle.law_log_steps.proofs.Submitting.{submit-stands}
+use Rattle.law_log_steps.proofs.Pumping.{pump-stands}
+use Rattle.law_log_queries.specs.Archive.{Stands, GoesOn, end_of}
+use Rattle.law_log_queries.specs.Calls.{IsCall, LeadsTo, OfBegin, OfAbort, OfRedeem, OfSubmit, OfPump, OfAt, OfScanAt, OfBetween, OfScanBetween}
+use Rattle.law_log_queries.specs.Laws.{GoesTo}
+use Rattle.law_log_queries.proofs.Runs.{end-more}
+use Rattle.law_log_queries.proofs.Leaving.{LeavesArchive, alone-leaves, submit-leaves, pump-leaves, leaves-goes, leaves-same, runs-left}
+use Rattle.law_log_queries.proofs.Asking.{query-stands}
+
+-- ---- one call
+
+-- a call that leaves the archive keeps it for each later state
+kept : (tells : Bool) (old new : LogStoreValue) (m after : Machine Value) → Stands tells old m → LeavesArchive tells old new → IsLater m after
+    → IsStoreOf tells new after → Stands tells new after × GoesOn tells old new
+kept tells old new m after stands leaves later is = (
+  record { store = is; runs = λ told. runs-left tells old new m after (machine-rises m stands.store.machine) later leaves told (stands.runs told) },
+  leaves-goes tells old new leaves,
+)
+
+-- a query keeps it for the state that stood, and so for each later one
+asked : (tells : Bool) (old new : LogStoreValue) (m after : Machine Value) → IsLater m after → IsStoreOf tells new after
+    → Stands tells new m × GoesOn tells old new → Stands tells new after × GoesOn tells old new
+asked tells old new m after later is done = (
+  (kept tells new new m after done.0 (leaves-same tells new) later is).0,
+  done.1,
+)
+
+pub call-keeps : (tells : Bool) (old new : LogStoreValue) (m after : Machine Value) (events : List (Event Value)) → Stands tells old m → IsCall tells old new
+    → Run IsValue m events after → IsStoreOf tells new after → Stands tells new after × GoesOn tells old new
+call-keeps tells old new m after events stands call run is = by-call call
+  where
+    later : IsLater m after
+    later = run-later m after events stands.store.machine is.machine run
+
+    leaving : LeavesArchive tells old new → Stands tells new after × GoesOn tells old new
+    leaving leaves = kept tells old new m after stands leaves later is
+
+    by-call : IsCall tells old new → Stands tells new after × GoesOn tells old new
+    by-call (OfBegin answer begins) =
+        leaving (alone-leaves tells old new (begin-alone old.commits new.commits answer begins.is) begins.new_is)
+    by-call (OfAbort txn aborts) = leaving (alone-leaves tells old new (abort-alone old.commits new.commits txn aborts.is) aborts.new_is)
+    by-call (OfRedeem ticket answer redeems) =
+        leaving (alone-leaves tells old new (redeem-alone old.commits new.commits ticket answer redeems.is) redeems.new_is)
+    by-call (OfSubmit txn label now answer are range submits) = leaving (submit-leaves tells old new txn label now answer submits)
+    by-call (OfPump answer sound pumps) = leaving (pump-leaves tells old new answer pumps)
+    by-call (OfAt view key time answer says) =
+        asked tells old new m after later is (query-stands tells old new m view time _ _ _ _ answer stands says)
+    by-call (OfScanAt view relation time answer says) =
+        asked tells old new m after later is (query-stands tells old new m view time _ _ _ _ answer stands says)
+    by-call (OfBetween view key a b answer says) =
+        asked tells old new m after later is (query-stands tells old new m view a _ _ _ _ answer stands says)
+    by-call (OfScanBetween view relation a b answer says) =
+        asked tells old new m after later is (query-stands tells old new m view a _ _ _ _ answer stands says)
+
+-- ---- there is a state after it
+
+module _ (tells : Bool) (old new : LogStoreValue) (m : Machine Value) (told : IsTrue tells) (step : IsInStep old) (stands : Stands tells old m)
+    (call : IsCall tells old new) where
+  -- a state that the machine has run to
+  through : (events : List (Event Value)) (after : Machine Value) → Run IsValue m events after → IsStoreOf tells new after → GoesTo tells old new
+  through events after run is =
+      let done = call-keeps tells old new m after events stands call run is in record { after = after; stands = done.0; goes = done.1 }
+
+  stays : IsStoreOf tells new m → GoesTo tells old new
+  stays is = through [] m refl is
+
+  one : (event : Event Value) → Goes tells new m event → GoesTo tells old new
+  one event goes = through (event ∷ []) goes.0 (goes.0, goes.1, refl) goes.2
+
+  begun-to : (answer : Result TxnValue BeginFault) → BeginsTo tells m answer new → GoesTo tells old new
+  begun-to (Ok txn) to = one (Began txn.snapshot) (begun m, to.0, to.1)
+  begun-to (Err fault.NoMemory) to = stays to.1
+  begun-to (Err fault.Failed) to = stays to.1
+
+  by-own : (b : Bool) (event : Event Value) → MatchBool b (Goes tells new m event) (IsStoreOf tells new m) → GoesTo tells old new
+  by-own true event goes = one event goes
+  by-own false event is = stays is
+
+  queried : Stands tells new m × GoesOn tells old new → GoesTo tells old new
+  queried done = record { after = m; stands = done.0; goes = done.1 }
+
+  by-call : IsCall tells old new → GoesTo tells old new
+  by-call (OfBegin answer begins) = begun-to answer (begin-stands tells old new answer m stands.store begins)
+  by-call (OfAbort txn aborts) = by-own (is_own old.commits txn) (Aborted txn.snapshot) (abort-stands tells old new txn m stands.store aborts)
+  by-call (OfRedeem ticket answer redeems) = stays (redeem-stands tells old new ticket answer m stands.store redeems).1
+  by-call (OfSubmit txn label now answer are range submits) =
+      by-own (is_own old.commits txn) (event_of m (submission_of txn label now) answer)
+      (submit-stands tells old new txn label now answer m step stands.store submits are range)
+  by-call (OfPump answer sound pumps) =
+      let runs = pump-stands tells old new answer m step sound stands.store pumps in through (events_in m answer) runs.after runs.run runs.stands
+  by-call (OfAt view key time answer says) = queried (query-stands tells old new m view time _ _ _ _ answer stands says)
+  by-call (OfScanAt view relation time answer says) = queried (query-stands tells old new m view time _ _ _ _ answer stands says)
+  by-call (OfBetween view key a b answer says) = queried (query-stands tells old new m view a _ _ _ _ answer stands says)
+  by-call (OfScanBetween view relation a b answer says) = queried (query-stands tells old new m view a _ _ _ _ answer stands says)
+
+  pub call-stands : GoesTo tells old new
+  call-stands = by-call call
+
+-- ---- many calls
+
+further : (tells : Bool) (a b c : LogStoreValue) → GoesOn tells a b → GoesOn tells b c → GoesOn tells a c
+further tells a b c first next = record {
+  mark = next.mark ∙ first.mark;
+  more = first.more ++ next.more;
+  runs = next.runs ∙ ap (λ (runs : List RunEntry). runs ++ next.more) first.runs ∙ append_assoc a.archive.runs first.more next.more;
+  bytes = λ told at part low held.
+      let longer = subst (λ (runs : List RunEntry). end_of a.archive.runs ≤ end_of runs) (sym first.runs) (end-more a.archive.runs first.more) in
+      next.bytes told at part (omega arith) (first.bytes told at part low held);
+}
+
+pub calls-go-on : (tells : Bool) (old now : LogStoreValue) (between : List LogStoreValue) (m : Machine Value) → IsTrue tells → Stands tells old m
+    → LeadsTo tells old between now → GoesTo tells old now
+calls-go-on tells old now [] m told stands is =
+    subst (λ (v : LogStoreValue). GoesTo tells old v) (sym is)
+    (record { after = m; stands = stands; goes = leaves-goes tells old old (leaves-same tells old) })
+calls-go-on tells old now (next ∷ rest) m told stands leads =
+    let one = call-stands tells old next m told leads.0 stands leads.1 in
+    let more = calls-go-on tells next now rest one.after told one.stands leads.2 in
+    record { after = more.after; stands = more.stands; goes = further tells old next now one.goes more.goes }

@@ -1,0 +1,7 @@
+pub mod Runs
+pub mod Leaving
+pub mod Asking
+pub mod Views
+pub mod Opening
+pub mod Calls
+pub mod Frozen

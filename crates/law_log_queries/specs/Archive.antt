@@ -1,0 +1,57 @@
+-- The archive of a store whose log lies in the heap, what its views need of it, and what stays of it while the store goes on.
+use Rattle.std.specs.Prelude.{ℕ, ◌≡◌, ◌≤◌, max, Bool, true, IsTrue, List, [], ◌∷◌, ◌++◌}
+use Rattle.history.specs.Histories.{History, last}
+use Rattle.history.specs.Machine.{Machine}
+use Rattle.law_image.specs.Values.{Value}
+use Rattle.law_image.specs.Reading.{ArchiveRecord}
+use Rattle.archive.specs.declared.run.RunEntry.{RunEntry}
+use Rattle.archive.specs.Parts.{IsRight, EndBy}
+use Rattle.archive.specs.Runs.{HoldRuns, run_end}
+use Rattle.archive.specs.Searches.{archive_of}
+use Rattle.timequery.specs.Archives.{is_front}
+use Rattle.timequery.specs.View.{ViewValue, mark_of}
+use Rattle.log_store.specs.Values.{LogStoreValue}
+use Rattle.law_refinement.specs.Homes.{AreArchived, KeepsUpTo}
+use Rattle.law_log_steps.specs.Store.{IsStoreOf}
+
+-- no run reaches further
+abbrev pub end_of : List RunEntry → ℕ
+end_of [] = 0
+end_of (run ∷ runs) = max (run_end run) (end_of runs)
+
+-- The archive's bytes hold the runs of the store, and those have what the history says. What the reader keeps of them is right.
+pub record RunsStand (v : LogStoreValue) (h : History Value) (floors : ℕ → ℕ) : Type 0 where
+  pub lists : List (List ArchiveRecord)
+  pub held : HoldRuns (archive_of v.disk) v.archive.runs lists
+  pub marks : v.commits.reclaimed ≤ mark_of v.archive.runs
+  pub by_last : mark_of v.archive.runs ≤ last h
+  pub archived : AreArchived h floors (mark_of v.archive.runs) lists
+  pub right : IsRight v.archive.kept (archive_of v.disk)
+  pub near : EndBy (end_of v.archive.runs) v.archive.kept
+
+-- Memory, disk and archive stand for one state of the machine. Of the archive it is said where the disk tells its bytes.
+pub record Stands (tells : Bool) (v : LogStoreValue) (m : Machine Value) : Type 0 where
+  pub store : IsStoreOf tells v m
+  pub runs : IsTrue tells → RunsStand v m.published m.floors
+
+-- ---- views
+
+-- the archive's bytes hold the view's runs, and those have what the history says
+pub record RunsOfView (v : LogStoreValue) (view : ViewValue) (h : History Value) (floors : ℕ → ℕ) : Type 0 where
+  pub lists : List (List ArchiveRecord)
+  pub held : HoldRuns (archive_of v.disk) view.runs lists
+  pub marks : view.reclaimed ≤ mark_of view.runs
+  pub archived : AreArchived h floors (mark_of view.runs) lists
+
+-- What a view needs of its store: that it is its own, and where the disk tells its bytes that they hold its runs.
+pub record ViewReads (tells : Bool) (v : LogStoreValue) (view : ViewValue) (h : History Value) (floors : ℕ → ℕ) : Type 0 where
+  pub mark : view.mark ≡ v.commits.mark
+  pub front : is_front view.runs v.archive.runs ≡ true
+  pub runs : IsTrue tells → RunsOfView v view h floors
+
+-- The store has gone on: its views are its own still, and no byte of its runs is written.
+pub record GoesOn (tells : Bool) (old new : LogStoreValue) : Type 0 where
+  pub mark : new.commits.mark ≡ old.commits.mark
+  pub more : List RunEntry
+  pub runs : new.archive.runs ≡ old.archive.runs ++ more
+  pub bytes : IsTrue tells → KeepsUpTo (end_of old.archive.runs) (archive_of old.disk) (archive_of new.disk)

@@ -1,0 +1,4 @@
+pub mod Archive
+pub mod Calls
+pub mod Laws
+pub mod Views

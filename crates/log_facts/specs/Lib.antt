@@ -1,0 +1,4 @@
+pub mod Facts
+pub mod Texts
+pub mod Names
+pub mod Json

@@ -1,0 +1,14 @@
+use Rattle.std.proofs.Common.{subst}
+use Rattle.session.specs.Streams.{Says}
+use Rattle.session.specs.Texts.{Text}
+use Rattle.shell.specs.Acts.{told}
+use Rattle.shell.proofs.Said.{said-by}
+use Rattle.shell.proofs.actions.tell_text.Goals as goal
+
+pub returns-in-Ok : goal.returns-in-Ok
+returns-in-Ok g c = rw c.in-Ok.is (said-by (told g.W.Write.contents c.status_of.result c.args.output.now c.say.new.self) c.in-Ok.text.items c.say.result
+    (subst (λ (t : Text). Says (g.W.Write.contents c.args.output.now.writer) t c.say.result (g.W.Write.contents c.say.new.self.writer)
+    c.say.new.self.refused) c.as_slice.ensures.value c.say.ensures) c.status_of.ensures)
+
+pub returns-in-Err : goal.returns-in-Err
+returns-in-Err g c = rw c.in-Err.is c.refuse.ensures
