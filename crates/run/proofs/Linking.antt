@@ -3,8 +3,8 @@ use Rattle.std.proofs.Common.{◌+◌, ◌≤◌, Bool, List, [], ◌∷◌, ◌
 use Rattle.history.specs.Machine.{Machine}
 use Rattle.law_image.specs.Values.{Value}
 use Rattle.any_store.specs.Values.{StoreValue, disk_of}
-use Rattle.law_any_store.specs.Standing.{Stands, opened_as}
-use Rattle.law_any_store.proofs.Opened.{open-stands}
+use Rattle.law_any_store.specs.Standing.{Stands, opened_in}
+use Rattle.law_any_store.proofs.Opened.{open-stands_in}
 use Rattle.run.specs.declared.calls.Call.{Call}
 use Rattle.run.specs.declared.calls.Answer.{Answer}
 use Rattle.run.specs.declared.held.Held.{Held}
@@ -60,5 +60,5 @@ first-is tells v m stands = record { store = refl; places = refl; world = starte
 
 pub promise : Promise
 promise tells disk mark v new header h floors calls said held told sound is opens keeps =
-    let m = opened_as header h floors in
-    keeps (first_moment v m) (first-is tells v m (open-stands tells disk mark v header h floors opens told sound is))
+    let m = opened_in v h floors in
+    keeps (first_moment v m) (first-is tells v m (open-stands_in tells disk mark v header h floors opens told sound is))

@@ -12,9 +12,9 @@ use Rattle.any_store.specs.Values.{StoreValue, disk_of}
 use Rattle.law_opening.proofs.Fronts.{front-is}
 use Rattle.law_any_store.specs.Standing.{AnyHeader, IsImageOf}
 use Rattle.law_any_store.specs.Opened.{IsHeaderLeftBy}
-use Rattle.law_any_store.proofs.Opened.{image-header, open-stands}
+use Rattle.law_any_store.proofs.Opened.{image-header, open-stands_in}
 use Rattle.law_any_store.proofs.Reopened.{leaves-by, open-refuses}
-use Rattle.law_any_store.proofs.Answering.{opened-answers_as}
+use Rattle.law_any_store.proofs.Answering.{opened-answers}
 use Rattle.run.specs.declared.held.Held.{Held}
 use Rattle.run.specs.Moments.{Moment, HasCommitAt, IsAtMoment}
 use Rattle.run.specs.Promise.{IsKeptAs, IsKeptWith, Leaves}
@@ -30,8 +30,8 @@ kept-as tells header image h floors told is = record {
       let said = open-refuses tells disk new why header h floors refuses told (subst (λ (i : Image). IsImageOf header i h floors) (sym same) is) in
       (said.0, said.2);
   answers = λ disk mark again same sound opens.
-      let stands = open-stands tells disk mark again header h floors opens told sound (subst (λ (i : Image). IsImageOf header i h floors) (sym same) is) in
-      (stands, opened-answers_as tells header again h floors stands);
+      let stands = open-stands_in tells disk mark again header h floors opens told sound (subst (λ (i : Image). IsImageOf header i h floors) (sym same) is) in
+      (stands, opened-answers tells again again h floors stands);
 }
 
 -- ---- fronts

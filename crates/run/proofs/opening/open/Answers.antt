@@ -9,16 +9,16 @@ use Rattle.recovery.specs.declared.fault.OpenFault.{OpenFault}
 use Rattle.recovery.specs.Settling.{Settles, CountsMore, CountsAtMost}
 use Rattle.any_store.specs.Values.{StoreValue, disk_of}
 use Rattle.any_store.specs.Opens.{Opens, OpenRefuses}
-use Rattle.law_any_store.specs.Standing.{Stands, AnyHeader, IsImageOf, opened_as}
-use Rattle.law_any_store.proofs.Opened.{open-stands}
+use Rattle.law_any_store.specs.Standing.{Stands, AnyHeader, IsImageOf, opened_in}
+use Rattle.law_any_store.proofs.Opened.{open-stands_in}
 use Rattle.law_any_store.proofs.Reopened.{open-refuses, opens-made, opens-moments, opens-left, refuses-made, refuses-moments, refuses-left}
 use Rattle.run.proofs.opening.open.Goals as goal
 
 module _ {S : Type 0} (tells : Bool) (state : S → DiskState) (old : DiskState) (mark : ℕ) where
   by-result : (r : Result StoreValue (OpenFault × S)) → IfOk r (λ s. Opens tells old mark s) → IfErr r (λ e. OpenRefuses tells old e.0 (state e.1))
       → (header : AnyHeader) (h : History Value) (floors : ℕ → ℕ) → IsTrue tells → AreSound old.areas → IsImageOf header (image_of old.areas) h floors
-      → MatchResult r (λ s. Stands tells s (opened_as header h floors)) (λ e. IsReadFault e.0 × (image_of (state e.1).areas ≡ image_of old.areas))
-  by-result (Ok s) ok err header h floors told sound is = open-stands tells old mark s header h floors ok told sound is
+      → MatchResult r (λ s. Stands tells s (opened_in s h floors)) (λ e. IsReadFault e.0 × (image_of (state e.1).areas ≡ image_of old.areas))
+  by-result (Ok s) ok err header h floors told sound is = open-stands_in tells old mark s header h floors ok told sound is
   by-result (Err e) ok err header h floors told sound is =
       let said = open-refuses tells old (state e.1) e.0 header h floors err told is in (said.0, said.1)
 
