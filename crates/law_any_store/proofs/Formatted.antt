@@ -1,11 +1,9 @@
 -- A formatted disk stands for the empty history, in either layout.
-use Rattle.std.proofs.Common.{◌≡◌, ℕ, Bool, IsTrue, List, [], Result, inl, inr, sym, subst}
+use Rattle.std.proofs.Common.{ℕ, Bool, IsTrue, [], inl, inr}
 use Rattle.disk.specs.Areas.{Areas, Image, AreSound, LeavesImage, image_of}
 use Rattle.disk.specs.Calls.{DiskState}
 use Rattle.history.specs.Histories.{History}
 use Rattle.law_image.specs.Values.{Value}
-use Rattle.recovery.specs.Format.{IsTakenAnswer}
-use Rattle.recovery.specs.declared.fault.FormatFault.{FormatFault}
 use Rattle.any_store.specs.Formats.{HasStore, IsFormatted}
 use Rattle.any_store.specs.Opens.{Opens}
 use Rattle.any_store.specs.Values.{StoreValue}
@@ -14,7 +12,7 @@ use Rattle.any_store.specs.declared.formatting.Layout.{Layout}
 use Rattle.any_store.specs.declared.formatting.Layout.TheVariants.{Slots, Log}
 use Rattle.law_opening.proofs.Formatted as slot_formatted
 use Rattle.law_log_opened.proofs.Formatted as log_formatted
-use Rattle.law_any_store.specs.Formatted.{header_of, FormatKeeps}
+use Rattle.law_any_store.specs.Formatted.{header_of}
 use Rattle.law_any_store.specs.Standing.{Stands, AnyHeader, IsImageOf, opened_as}
 use Rattle.law_any_store.proofs.Opened.{image-slots, image-log, open-stands}
 
@@ -36,15 +34,6 @@ formatted-opens tells layout old new disk mark v is left sound opens told =
 
 -- ---- a store that stands there already
 
-has-store : (areas : Areas) (header : AnyHeader) (h : History Value) (floors : ℕ → ℕ) → IsImageOf header (image_of areas) h floors
-    → HasStore areas.status.bytes
-has-store areas (engine.Slots header) h floors image = inl (record { header = header; reads = image-slots header (image_of areas) h floors image })
-has-store areas (engine.Log roots) h floors image = inr (image-log roots (image_of areas) h floors image)
-
-pub format-keeps : FormatKeeps
-format-keeps old new result header h floors image sees =
-    let kept = sees (has-store old header h floors image) in (
-      kept.0,
-      subst (λ (areas : Areas). IsImageOf header (image_of areas) h floors) (sym kept.1) image,
-      λ left leaves. subst (λ (areas : Areas). LeavesImage areas left) kept.1 leaves,
-    )
+pub image-seen : (header : AnyHeader) (image : Image) (h : History Value) (floors : ℕ → ℕ) → IsImageOf header image h floors → HasStore image.status
+image-seen (engine.Slots header) image h floors is = inl (record { header = header; reads = image-slots header image h floors is })
+image-seen (engine.Log roots) image h floors is = inr (image-log roots image h floors is)

@@ -1,5 +1,5 @@
 -- What a format stands for, whatever its layout.
-use Rattle.std.specs.Prelude.{ℕ, ◌≡◌, ◌≤◌, Bool, IsTrue, [], Result}
+use Rattle.std.specs.Prelude.{ℕ, ◌≡◌, ◌≤◌, Bool, IsTrue, []}
 use Rattle.disk.specs.Areas.{Areas, Image, AreSound, LeavesImage, image_of}
 use Rattle.disk.specs.Calls.{DiskState}
 use Rattle.history.specs.Histories.{History}
@@ -7,8 +7,7 @@ use Rattle.law_image.specs.Values.{Value}
 use Rattle.status.specs.declared.header.Header.{Header}
 use Rattle.status.specs.Header.{new_header, total}
 use Rattle.status.specs.Reading.{ReadsHeader}
-use Rattle.recovery.specs.Format.{LeavesShut, IsTakenAnswer}
-use Rattle.recovery.specs.declared.fault.FormatFault.{FormatFault}
+use Rattle.recovery.specs.Format.{LeavesShut}
 use Rattle.log_roots.specs.declared.roots.Roots.{Roots}
 use Rattle.log_roots.specs.Roots.{root_of}
 use Rattle.log_recovery.specs.Opening.{ReadsRoots}
@@ -42,8 +41,8 @@ FormatOpens = (tells : Bool) (layout : Layout) (old new : Areas) (disk : DiskSta
 
 -- ---- a stop within a format
 
--- Where a format of slots left all of them closed, a header of no more slots that is read there stands for the empty history too; where its profile has pieces, if
--- it left no gate behind the open ones open.
+-- Where a format of slots left all of them closed, a header of no more slots that is read there stands for the empty history too; where its profile has
+-- pieces, if it left no gate behind the open ones open.
 abbrev pub SlotStopsStand : Type 0
 SlotStopsStand =
     (slots : ℕ) (new : Areas) (image : Image) (header : Header) → LeavesShut slots new.status → LeavesImage new image → ReadsHeader image.status header
@@ -57,9 +56,6 @@ LogStopsStand =
 
 -- ---- a store that stands there already
 
--- An image that stands for a history holds a store, which a format sees, as its clauses say: so the image stands for the history as before.
-abbrev pub FormatKeeps : Type 0
-FormatKeeps = (old new : Areas) (result : Result (Unit {0}) FormatFault) (header : AnyHeader) (h : History Value) (floors : ℕ → ℕ)
-    → IsImageOf header (image_of old) h floors
-    → (HasStore old.status.bytes → IsTakenAnswer result × (new ≡ old))
-    → IsTakenAnswer result × IsImageOf header (image_of new) h floors × ((image : Image) → LeavesImage new image → LeavesImage old image)
+-- An image that stands for a history, in either layout, holds a store that a format of any layout sees: by its clause nothing then changes.
+abbrev pub ImageIsSeen : Type 0
+ImageIsSeen = (header : AnyHeader) (image : Image) (h : History Value) (floors : ℕ → ℕ) → IsImageOf header image h floors → HasStore image.status

@@ -1,6 +1,6 @@
 use Rattle.law_opening.proofs.Formatted.{shut-stands}
 use Rattle.law_log_opened.proofs.Formatted.{stops-empty}
-use Rattle.law_any_store.proofs.Formatted.{formatted-leaves, formatted-stands, formatted-opens, format-keeps}
+use Rattle.law_any_store.proofs.Formatted.{formatted-leaves, formatted-stands, formatted-opens, image-seen}
 use Rattle.law_any_store.proofs.formatting.format_stands.Goals as goal
 
 pub returns-clause-leaves : goal.returns-clause-leaves
@@ -15,5 +15,5 @@ returns-clause-slot_stops c = shut-stands
 pub returns-clause-log_stops : goal.returns-clause-log_stops
 returns-clause-log_stops c = λ old new image roots stops none left reads first. stops-empty old new image roots stops none left reads first
 
-pub returns-clause-keeps : goal.returns-clause-keeps
-returns-clause-keeps c = format-keeps
+pub returns-clause-seen : goal.returns-clause-seen
+returns-clause-seen c = image-seen
