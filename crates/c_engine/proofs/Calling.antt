@@ -62,7 +62,8 @@ settled-asks-not s t settled same asking = false≢true (sym (ap asks (same ∙ 
 
 -- after a step of this kind
 after-step : (due : Option DeviceCall) (taken : Step) (old new : Engine) → call_of taken ≡ due → old.state ≡ Settled → asks new.state ≡ true
-    → MatchOption due (KeepsState old new) (λ d. (new.state ≡ Asks taken) × KeepsPublished old new) → LeadsBy (disk_of old.store).areas due (disk_of new.store).areas
+    → MatchOption due (KeepsState old new) (λ d. (new.state ≡ Asks taken) × KeepsPublished old new)
+    → LeadsBy (disk_of old.store).areas due (disk_of new.store).areas
     → LeadsByItsCall (disk_of old.store).areas new.state (disk_of new.store).areas
 after-step None taken old new is settled asking keeps leads = absurd (settled-asks-not old.state new.state settled keeps.0 asking)
 after-step (Some due) taken old new is settled asking keeps leads =

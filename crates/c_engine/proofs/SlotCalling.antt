@@ -161,7 +161,9 @@ slot-job-leads old new what pumps = by-failed old.transactions.failed pumps
   where
     by-job : (o : Option Job) → MatchOption o ((job_said what ≡ job_said job.Idle) × (new ≡ old)) (λ j. TakesJobStep true j.stage j old (Ok what) new)
         → LeadsBy old.disk.areas (job_call Status what) new.disk.areas
-    by-job None idle = let same : what ≡ job.Idle = (let e = idle.0 in cc) in of-job-did Status _ _ what job.Idle same (ap (λ (v : StoreValue). v.disk.areas) idle.1)
+    by-job None idle =
+        let same : what ≡ job.Idle = (let e = idle.0 in cc) in
+        of-job-did Status _ _ what job.Idle same (ap (λ (v : StoreValue). v.disk.areas) idle.1)
     by-job (Some j) takes = job-stage-leads j.stage j old new what takes
 
     by-failed : (b : Bool) → MatchBool b ((Ok what ≡ Err fault.Failed) × (new ≡ old))

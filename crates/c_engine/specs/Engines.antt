@@ -160,7 +160,8 @@ AfterStep (Ok step) old said info new =
     (said ≡ code.Ok) × (info ≡ told_due (call_of step))
     × MatchOption (call_of step) (KeepsState old new) (λ due. (new.state ≡ Asks step) × KeepsPublished old new)
 AfterStep (Err why) old said info new =
-    (said ≡ pump_code why) × MatchBool ((disk_of new.store).made == (disk_of old.store).made) (KeepsState old new) ((new.state ≡ Failed) × KeepsPublished old new)
+    (said ≡ pump_code why) × MatchBool ((disk_of new.store).made == (disk_of old.store).made) (KeepsState old new) ((new.state ≡ Failed)
+    × KeepsPublished old new)
 
 -- the device call that stands out, by its step
 abbrev pub due_in : EngineState → Option DeviceCall

@@ -88,7 +88,8 @@ is_none archive view = (length archive == 0) && takes_bytes (slice_get view.runs
 -- over the archive that is lent; where none is, from memory alone
 abbrev pub LentScanAt : List ℕ → ArchiveValue → ViewValue → ℕ → ℕ → Result (Vec (ℕ × Value) Global) QueryFault → Type 0
 LentScanAt archive runs view relation time answer =
-    MatchBool (is_none archive view) (RecentScanAt view relation time answer) (Over archive runs (λ old new. FindsScanAt alone true old view relation time answer new))
+    MatchBool (is_none archive view) (RecentScanAt view relation time answer) (Over archive runs
+    (λ old new. FindsScanAt alone true old view relation time answer new))
 
 -- so for a key's rows of an interval
 abbrev pub LentRows : List ℕ → ArchiveValue → ViewValue → Key → ℕ → ℕ → Result (Vec (Version Value) Global) QueryFault → Type 0
@@ -98,7 +99,8 @@ LentRows archive runs view key a b answer =
 -- so for the rows of all records of a relation
 abbrev pub LentScanRows : List ℕ → ArchiveValue → ViewValue → ℕ → ℕ → ℕ → Result (Vec (ℕ × Version Value) Global) QueryFault → Type 0
 LentScanRows archive runs view relation a b answer =
-    MatchBool (is_none archive view) (RecentScanRows view relation a b answer) (Over archive runs (λ old new. FindsScanRows alone true old view relation a b answer new))
+    MatchBool (is_none archive view) (RecentScanRows view relation a b answer) (Over archive runs
+    (λ old new. FindsScanRows alone true old view relation a b answer new))
 
 -- ---- codes and bytes
 

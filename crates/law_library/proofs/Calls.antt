@@ -243,7 +243,12 @@ module _ (e : Event) (m : HostMoment) (new : Host) (is : IsHostMoment m) (areas 
         by-failed t mid some taken are state before true gives_up = aborted n t mid some taken are gives_up.1 state before gives_up.2
         by-failed t mid some taken are state before false acts =
             by-answer t mid acts.0 (numbers.as-transaction (named old.places n) t some) taken are
-            (record { areas = ap (λ (d : DiskState). d.areas) (submit-disk old.store after.store t label now acts.0 acts.1); state = state; before = before }) acts.1 acts.2
+            (record {
+              areas = ap (λ (d : DiskState). d.areas)
+                  (submit-disk old.store after.store t label now acts.0 acts.1);
+              state = state;
+              before = before;
+            }) acts.1 acts.2
 
     -- ---- tickets and views that are given up
 
@@ -296,7 +301,8 @@ module _ (e : Event) (m : HostMoment) (new : Host) (is : IsHostMoment m) (areas 
 
     starts : (c : Call) (a : Result (Unit {0}) StartFault → Answer) (Starts : StoreValue → Result (Unit {0}) StartFault → StoreValue → Type 0) (said : Code)
         (info : Info)
-        → ((v v' : StoreValue) (r : Result (Unit {0}) StartFault) → Starts v r v' → (disk_of v' ≡ disk_of v) × Goes true v xs c (a r) v' (xs ++ held.Nothing ∷ []))
+        → ((v v' : StoreValue) (r : Result (Unit {0}) StartFault) → Starts v r v'
+        → (disk_of v' ≡ disk_of v) × Goes true v xs c (a r) v' (xs ++ held.Nothing ∷ []))
         → StartsEngine Starts old said info after → HostLink e m new
     starts c a Starts said info goes done = while-settled said _ done (λ settled does.
         let did = goes old.store after.store does.1.0 does.1.1 in

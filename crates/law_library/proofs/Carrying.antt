@@ -63,7 +63,8 @@ stage-carried (Asks step) m e xs w same follows st = record {
   was = was-carried m e xs w st.before st.was follows same.before;
   areas = st.areas;
   call = st.call;
-  due = ap (λ (s : EngineState). due_call (due_in s) (disk_of e.store).areas) same.state ∙ ap (λ (a : Areas). due_call (due_in m.host.engine.state) a) same.areas
+  due = ap (λ (s : EngineState). due_call (due_in s) (disk_of e.store).areas) same.state
+      ∙ ap (λ (a : Areas). due_call (due_in m.host.engine.state) a) same.areas
       ∙ st.due;
   leads = same.areas ∙ st.leads;
   sound = st.sound;

@@ -95,7 +95,8 @@ slots-reclaim v v' r starts = by-refusal (reclaim_refusal v) r starts
     by-refusal None (Err why) refused = ap (λ (x : slots.StoreValue). x.disk) refused.1
     by-refusal (Some why) r refused = ap (λ (x : slots.StoreValue). x.disk) refused.1
 
-slots-floor : (v v' : slots.StoreValue) (scope : Option ℕ) (time : ℕ) (r : Result (Unit {0}) StartFault) → raises.StartsFloor v scope time r v' → v'.disk ≡ v.disk
+slots-floor : (v v' : slots.StoreValue) (scope : Option ℕ) (time : ℕ) (r : Result (Unit {0}) StartFault) → raises.StartsFloor v scope time r v'
+    → v'.disk ≡ v.disk
 slots-floor v v' scope time r starts = by-refusal (floor_refusal v scope time) r starts
   where
     by-refusal : (o : Option StartFault) (r : Result (Unit {0}) StartFault)

@@ -148,7 +148,8 @@ pub promise : LibraryPromise
 promise status heap archive mark info e header h floors events host s hp a image opens_so run =
     let first = opens status heap archive mark info e header h floors s hp a image opens_so in
     let m : HostMoment = first.0 in
-    let follows : Follows (opened_as header h floors) m.at.world.machine = subst (λ n. Follows (opened_as header h floors) n) (sym first.3) (no-step (opened_as header h floors)) in
+    let follows : Follows (opened_as header h floors) m.at.world.machine =
+    subst (λ n. Follows (opened_as header h floors) n) (sym first.3) (no-step (opened_as header h floors)) in
     let to = run-reaches events m (opened_as header h floors) host first.4 follows (subst (λ (x : Host). HostRun events x host) (sym first.1) run) in
     let keeps = moment-keeps to.moment to.is in
     record {

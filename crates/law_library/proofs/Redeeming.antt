@@ -171,7 +171,12 @@ module _ (n : ℕ) (r : Reply) (m : HostMoment) (new : Host) (is : IsHostMoment 
     by-answer answered (redeemed.Done time) redeems state before tells = by-published (was_published old.state old.before time) refl tells.1
       where
         same : SameDisk old after
-        same = record { areas = ap (λ (d : DiskState). d.areas) (redeem-disk old.store after.store t (redeemed.Done time) redeems); state = state; before = before }
+        same = record {
+          areas = ap (λ (d : DiskState). d.areas) (redeem-disk old.store after.store t
+              (redeemed.Done time) redeems);
+          state = state;
+          before = before;
+        }
 
         by-published : (b : Bool) → was_published old.state old.before time ≡ b
             → MatchBool b ((r.said ≡ code.Ok) × (r.info.a ≡ time)) (r.said ≡ code.InDoubt) → HostLink event m new
@@ -187,7 +192,12 @@ module _ (n : ℕ) (r : Reply) (m : HostMoment) (new : Host) (is : IsHostMoment 
     by-answer answered (redeemed.Waiting back) redeems state before tells = by-failed (is_failed old.state) tells
       where
         same : SameDisk old after
-        same = record { areas = ap (λ (d : DiskState). d.areas) (redeem-disk old.store after.store t (redeemed.Waiting back) redeems); state = state; before = before }
+        same = record {
+          areas = ap (λ (d : DiskState). d.areas) (redeem-disk old.store after.store t
+              (redeemed.Waiting back) redeems);
+          state = state;
+          before = before;
+        }
 
         by-failed : (b : Bool) → MatchBool b ((r.said ≡ code.InDoubt) × (after.places ≡ mid))
             ((r.said ≡ code.Waiting) × IsKept (Ticket back) r.info.a mid after.places) → HostLink event m new
@@ -206,11 +216,21 @@ module _ (n : ℕ) (r : Reply) (m : HostMoment) (new : Host) (is : IsHostMoment 
     by-answer answered redeemed.InDoubt redeems state before tells =
         by-call event m new is is.held (slice_set is.held i held.Nothing ++ held.Nothing ∷ []) is.is is.place (call.Redeem i) (answer.Redeem told.InDoubt)
         (redeem-goes true old.store after.store is.held i t redeemed.InDoubt here redeems) (out held.Nothing held.Nothing after.places tells.0)
-        (record { areas = ap (λ (d : DiskState). d.areas) (redeem-disk old.store after.store t redeemed.InDoubt redeems); state = state; before = before }) areas (silent code.InDoubt refl tells.1)
+        (record {
+          areas = ap (λ (d : DiskState). d.areas)
+              (redeem-disk old.store after.store t redeemed.InDoubt redeems);
+          state = state;
+          before = before;
+        }) areas (silent code.InDoubt refl tells.1)
     by-answer answered redeemed.Stranger redeems state before tells =
         by-call event m new is is.held (slice_set is.held i held.Nothing ++ held.Nothing ∷ []) is.is is.place (call.Redeem i) (answer.Redeem told.Stranger)
         (redeem-goes true old.store after.store is.held i t redeemed.Stranger here redeems) (out held.Nothing held.Nothing after.places tells.0)
-        (record { areas = ap (λ (d : DiskState). d.areas) (redeem-disk old.store after.store t redeemed.Stranger redeems); state = state; before = before }) areas (silent code.Stranger refl tells.1)
+        (record {
+          areas = ap (λ (d : DiskState). d.areas)
+              (redeem-disk old.store after.store t redeemed.Stranger redeems);
+          state = state;
+          before = before;
+        }) areas (silent code.Stranger refl tells.1)
 
   pub redeems : RedeemsEngine n old r.said r.info after → HostLink event m new
   redeems done = by-asked (asks old.state) refl done

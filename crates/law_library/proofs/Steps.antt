@@ -155,7 +155,8 @@ module _ (e : Event) (m : HostMoment) (new : Host) (is : IsHostMoment m) (areas 
   group-step : (said : Code) (info : Info) (o : Result Did PumpFault) → Pumps true old.store o after.store → AreSound (disk_of after.store).areas
       → after.places ≡ old.places → AfterStep (of_group (log_area old.store) o) old said info after → HostLink e m new
   group-step said info (Ok what) takes sound places step =
-      done-step call.Pump (answer.Pump (Ok what)) (pump-goes true old.store after.store is.held (Ok what) (λ told. sound) takes) places sound (Group (log_area old.store) what)
+      done-step call.Pump (answer.Pump (Ok what)) (pump-goes true old.store after.store is.held (Ok what) (λ told. sound) takes) places sound (Group
+      (log_area old.store) what)
       (call_of (Group (log_area old.store) what)) refl (pump-leads old.store after.store what takes) step.2
   group-step said info (Err why) takes sound places step =
       refused-step call.Pump (answer.Pump (Err why)) (pump-goes true old.store after.store is.held (Err why) (λ told. sound) takes) places sound
@@ -177,7 +178,8 @@ module _ (e : Event) (m : HostMoment) (new : Host) (is : IsHostMoment m) (areas 
       where
         by-way : m.host.engine.state ≡ Settled → ((said ≡ code.NoMemory) × (new.engine ≡ m.host.engine))
             ⊎ ((o : Result Did PumpFault) × Pumps true m.host.engine.store o new.engine.store × AreSound (disk_of new.engine.store).areas
-            × (new.engine.places ≡ m.host.engine.places) × AfterStep (of_group (log_area m.host.engine.store) o) m.host.engine said info new.engine) → HostLink e m new
+            × (new.engine.places ≡ m.host.engine.places) × AfterStep (of_group (log_area m.host.engine.store) o) m.host.engine said info new.engine)
+            → HostLink e m new
         by-way settled (inl none) = stays e m new is none.1 areas silent
         by-way settled (inr takes) = group-step e m new is areas silent settled said info takes.0 takes.1 takes.2 takes.3 takes.4
 
@@ -186,7 +188,8 @@ module _ (e : Event) (m : HostMoment) (new : Host) (is : IsHostMoment m) (areas 
       where
         by-way : m.host.engine.state ≡ Settled → ((said ≡ code.NoMemory) × (new.engine ≡ m.host.engine))
             ⊎ ((o : Result JobDid PumpFault) × PumpsJob true m.host.engine.store o new.engine.store × AreSound (disk_of new.engine.store).areas
-            × (new.engine.places ≡ m.host.engine.places) × AfterStep (of_job (log_area m.host.engine.store) o) m.host.engine said info new.engine) → HostLink e m new
+            × (new.engine.places ≡ m.host.engine.places) × AfterStep (of_job (log_area m.host.engine.store) o) m.host.engine said info new.engine)
+            → HostLink e m new
         by-way settled (inl none) = stays e m new is none.1 areas silent
         by-way settled (inr takes) = job-step e m new is areas silent settled said info takes.0 takes.1 takes.2 takes.3 takes.4
 
@@ -239,7 +242,12 @@ makes r m new is step = by-state m.host.engine.state refl is.stage step.told ste
             place = is.place;
             numbers = subst (λ (p : Places). Holds p is.held is.place) (sym told.1) is.numbers;
             stage = subst (λ (s : EngineState). IsAtStage s (made-moment m new)) (sym told.2.2)
-                (record { none = refl; areas = now; sound = subst AreSound (ap (λ (v : StoreValue). (disk_of v).areas) (sym told.0) ∙ sym now) st.sound_after });
+                (record {
+                  none = refl;
+                  areas = now;
+                  sound = subst AreSound (ap (λ (v : StoreValue). (disk_of v).areas) (sym told.0)
+                      ∙ sym now) st.sound_after;
+                });
           };
         }
 
@@ -259,7 +267,8 @@ refuses r m new is step = by-state m.host.engine.state refl is.stage step.told s
         ap (λ (s : EngineState). due_call (due_in s) (disk_of m.host.engine.store).areas) (sym same) ∙ st.due in
         let in_part : IsRefusedIn st.call m.host.areas new.areas =
         subst (λ (o : Option HostCall). MatchOption o (new.areas ≡ m.host.areas) (λ c. IsRefusedIn c m.host.areas new.areas)) due done in
-        let store_areas : made st.call m.host.areas ≡ (disk_of new.engine.store).areas = sym st.leads ∙ ap (λ (v : StoreValue). (disk_of v).areas) (sym told.0) in
+        let store_areas : made st.call m.host.areas ≡ (disk_of new.engine.store).areas = sym st.leads
+        ∙ ap (λ (v : StoreValue). (disk_of v).areas) (sym told.0) in
         record {
           after = refused-moment m new;
           host = refl;
