@@ -15,7 +15,7 @@ use Rattle.session.specs.declared.reply.Reply.TheVariants as reply
 use Rattle.forms.specs.Styles.{is_plain, plain}
 use Rattle.forms.specs.declared.style.Style.{Style}
 use Rattle.shell.specs.Styled.{IsTextOf}
-use Rattle.store.specs.Values.{StoreValue}
+use Rattle.any_store.specs.Values.{StoreValue}
 use Rattle.command_line.specs.declared.question.Question.{Question}
 use Rattle.command_line.specs.declared.question.RecordWrite.{RecordWrite}
 use Rattle.command_line.specs.declared.action.Action.{Action}

@@ -15,8 +15,8 @@ use Rattle.status.specs.declared.fault.LogFault.TheVariants as log
 use Rattle.status.specs.declared.header.Header.{Header}
 use Rattle.status.specs.Header.{total}
 use Rattle.wire.specs.declared.slot.Slot.{Slot}
-use Rattle.store.specs.Values.{StoreValue}
-use Rattle.store.specs.Opens.{Opens, OpenRefuses}
+use Rattle.any_store.specs.Values.{StoreValue, disk_of}
+use Rattle.any_store.specs.Opens.{Opens, OpenRefuses}
 use Rattle.script.specs.declared.line.Line.{Line}
 use Rattle.script.specs.declared.line.Line.TheVariants as line
 use Rattle.session.specs.Lines.{AreLines}
@@ -112,7 +112,7 @@ DoesNotOpen tells old output new = (f : OpenFault) × OpenRefuses tells old f ne
 
 -- the store opens, but no session can begin for want of memory, which is said
 abbrev pub HasNoMemory : Bool → DiskState → Output → DiskState → Type 0
-HasNoMemory tells old output new = (store : StoreValue) × Opens tells old 1 store × (new ≡ store.disk) × IsRefused output (refusal_line fault.NoMemory)
+HasNoMemory tells old output new = (store : StoreValue) × Opens tells old 1 store × (new ≡ disk_of store) × IsRefused output (refusal_line fault.NoMemory)
 
 -- status 0 where the script ran to its end and all was given out, and only there
 abbrev pub HasStatusOf : Ending → Output → Type 0

@@ -31,7 +31,7 @@ use session::{
 use status::{Header, LogFault, read_header, read_log};
 use std::alloc::{AllocError, Global};
 use std::io::Write;
-use store::{OpenFault, Store, format};
+use any_store::{OpenFault, Store, format};
 use wire::Slot;
 
 /// The status of what was done and said in full.

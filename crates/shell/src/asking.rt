@@ -6,7 +6,7 @@ ghost use Rattle.shell.specs.Asking as told;
 use command_line::{Question, When};
 use disk::Disk;
 use script::Line;
-use store::Store;
+use any_store::Store;
 
 /// The time that is asked about, by the floor of the relation and the last commit.
 fn time_asked(floor: u64, last: u64, when: When) -> u64

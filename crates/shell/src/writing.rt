@@ -13,7 +13,7 @@ use session::{Fault, Reply, Session};
 use std::alloc::{AllocError, Global};
 use std::io;
 use std::io::Write;
-use store::TxnFault;
+use any_store::TxnFault;
 
 /// The two lines of a write that are not the same for every write.
 #[derive(Drop)]
