@@ -1,5 +1,5 @@
 -- What a clause sees of a store, whatever its layout.
-use Rattle.std.specs.Prelude.{ℕ, List, map}
+use Rattle.std.specs.Prelude.{ℕ, Bool, false, true, List, map}
 use Rattle.disk.specs.Calls.{DiskState}
 use Rattle.timequery.specs.Archives.{ArchiveValue}
 use Rattle.group.specs.Queued.{QueuedValue}
@@ -13,6 +13,11 @@ use Rattle.any_store.specs.declared.engine.Engine.TheVariants.{Slots, Log}
 -- a store is one of slots, or one whose log lies in the heap
 abbrev pub StoreValue : Type 0
 StoreValue = Engine slots.StoreValue LogStoreValue
+
+-- its log lies in the heap
+abbrev pub is_log : StoreValue → Bool
+is_log (Slots s) = false
+is_log (Log l) = true
 
 -- ---- what both have
 

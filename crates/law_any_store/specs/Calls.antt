@@ -1,5 +1,5 @@
 -- The calls of a store that stands for a state of the machine: each is one of its steps, with its answer, and the store stands for the state after it.
-use Rattle.std.specs.Prelude.{ℕ, ◌≡◌, ◌<◌, ◌^◌, ◌⊎◌, true, Bool, IsTrue, List, [], ◌++◌, Option, Some, Result, Ok, Err, IsSome, MatchBool}
+use Rattle.std.specs.Prelude.{ℕ, ◌≡◌, ◌<◌, ◌^◌, true, false, Bool, IsTrue, List, [], ◌++◌, Option, Some, Result, Ok, Err, IsSome, MatchBool}
 use Rattle.disk.specs.Areas.{AreSound}
 use Rattle.history.specs.Answers as answers
 use Rattle.history.specs.Floors.{Raising}
@@ -22,7 +22,7 @@ use Rattle.store.specs.declared.job.JobDid.{JobDid}
 use Rattle.store.specs.declared.job.StartFault.{StartFault}
 use Rattle.store.specs.declared.job.StartFault.TheVariants as start
 use Rattle.commits.specs.Values.{is_own}
-use Rattle.any_store.specs.Values.{StoreValue, commits_of, disk_of}
+use Rattle.any_store.specs.Values.{StoreValue, is_log, commits_of, disk_of}
 use Rattle.any_store.specs.Calls as stores
 use Rattle.any_store.specs.Jobs.{StartsArchive, StartsReclaim, StartsFloor, StartsGrowth, PumpsJob}
 use Rattle.law_refinement.specs.Calls.{raising_to}
@@ -57,17 +57,20 @@ SubmitStands =
     → AreTxnWrites txn.state txn.snapshot txn.writes → label < 2 ^ 64 → stores.Submits old txn label now answer new
     → MatchBool (is_own (commits_of old) txn) (Goes tells m (event_of m (submission_of txn label now) answer) new) (Stands tells new m)
 
--- the machine's events in a step of a group; where a step is put off, the group has begun or not
-abbrev pub ArePumped : Machine Value → Result Did PumpFault → List (Event Value) → Type 0
-ArePumped m (Ok what) events = events ≡ begins_in m ++ ends_in m.gate (Ok what)
-ArePumped m (Err pump.Busy) events = (events ≡ begins_in m) ⊎ (events ≡ [])
-ArePumped m (Err pump.NoMemory) events = (events ≡ begins_in m) ⊎ (events ≡ [])
-ArePumped m (Err pump.Failed) events = events ≡ begins_in m ++ ends_in m.gate (Err pump.Failed)
+-- the machine's events in a step of a group, where the log lies in the heap: a step that is put off begins none
+abbrev pub pumped_by_log : Machine Value → Result Did PumpFault → List (Event Value)
+pumped_by_log m (Ok what) = begins_in m ++ ends_in m.gate (Ok what)
+pumped_by_log m (Err pump.Busy) = []
+pumped_by_log m (Err pump.NoMemory) = []
+pumped_by_log m (Err pump.Failed) = begins_in m ++ ends_in m.gate (Err pump.Failed)
 
--- the machine runs by some such events to one that the store stands for
-pub record RunsTo (tells : Bool) (m : Machine Value) (Are : List (Event Value) → Type 0) (new : StoreValue) : Type 0 where
-  pub events : List (Event Value)
-  pub are : Are events
+-- and in either layout, by whether the log lies in the heap
+abbrev pub pumped_in : Bool → Machine Value → Result Did PumpFault → List (Event Value)
+pumped_in false m answer = begins_in m ++ ends_in m.gate answer
+pumped_in true m answer = pumped_by_log m answer
+
+-- the machine runs by these events to one that the store stands for
+pub record RunsTo (tells : Bool) (m : Machine Value) (events : List (Event Value)) (new : StoreValue) : Type 0 where
   pub after : Machine Value
   pub run : Run IsValue m events after
   pub stands : Stands tells new after
@@ -77,7 +80,7 @@ abbrev pub PumpStands : Type 0
 PumpStands =
     (tells : Bool) (old new : StoreValue) (answer : Result Did PumpFault) (m : Machine Value) → Stands tells old m
     → (IsTrue tells → AreSound (disk_of new).areas) → stores.Pumps tells old answer new
-    → MatchBool m.failed ((answer ≡ Err pump.Failed) × Stands tells new m) (RunsTo tells m (ArePumped m answer) new)
+    → MatchBool m.failed ((answer ≡ Err pump.Failed) × Stands tells new m) (RunsTo tells m (pumped_in (is_log old) m answer) new)
 
 -- a ticket is answered as the machine does, or as a stranger's, and nothing of the machine's changes
 abbrev pub RedeemStands : Type 0
@@ -131,4 +134,4 @@ abbrev pub JobPumpStands : Type 0
 JobPumpStands =
     (tells : Bool) (old new : StoreValue) (answer : Result JobDid PumpFault) (m : Machine Value) → Stands tells old m
     → (IsTrue tells → AreSound (disk_of new).areas) → PumpsJob tells old answer new
-    → MatchBool m.failed ((answer ≡ Err pump.Failed) × Stands tells new m) (RunsTo tells m (λ events. events ≡ job_ends_in m answer) new)
+    → MatchBool m.failed ((answer ≡ Err pump.Failed) × Stands tells new m) (RunsTo tells m (job_ends_in m answer) new)

@@ -1,5 +1,5 @@
 -- A store, whatever its layout, and the state of the machine that it stands for.
-use Rattle.std.specs.Prelude.{ℕ, Bool}
+use Rattle.std.specs.Prelude.{ℕ, ◌≡◌, Bool}
 use Rattle.disk.specs.Areas.{Image}
 use Rattle.history.specs.Histories.{History}
 use Rattle.history.specs.Machine.{Machine, opened, opened_by}
@@ -10,7 +10,7 @@ use Rattle.timequery.specs.View.{ViewValue}
 use Rattle.log_store.specs.Values.{IsInStep}
 use Rattle.any_store.specs.declared.engine.Engine.{Engine}
 use Rattle.any_store.specs.declared.engine.Engine.TheVariants.{Slots, Log}
-use Rattle.any_store.specs.Values.{StoreValue, OfEngine, ByEngine}
+use Rattle.any_store.specs.Values.{StoreValue, is_log, OfEngine, ByEngine}
 use Rattle.law_refinement.specs.Homes as slot_homes
 use Rattle.law_refinement.specs.OnDisk as slot_images
 use Rattle.law_refinement.specs.Stands as slots
@@ -52,3 +52,7 @@ ViewReads tells v view h floors = OfEngine (λ s. slot_homes.ViewReads tells s v
 -- the store has gone on: its views are its own still, and no byte of its runs is written
 abbrev pub GoesOn : Bool → StoreValue → StoreValue → Type 0
 GoesOn tells old new = ByEngine (λ s s'. slot_homes.GoesOn tells s s') (λ l l'. logs.GoesOn tells l l') old new
+
+-- no call changes its layout
+abbrev pub LayoutStays : Type 0
+LayoutStays = (tells : Bool) (old new : StoreValue) → GoesOn tells old new → is_log new ≡ is_log old

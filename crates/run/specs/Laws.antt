@@ -12,13 +12,11 @@ use Rattle.history.specs.Histories.{Commit, History, last, state, IsHistory}
 use Rattle.history.specs.Machine.{Machine, IsMachine}
 use Rattle.law_image.specs.Values.{Value, IsValue}
 use Rattle.snapshot.specs.WriteSets.{with_write}
-use Rattle.status.specs.declared.header.Header.{Header}
 use Rattle.timequery.specs.declared.fault.QueryFault.{QueryFault}
-use Rattle.store.specs.Values.{StoreValue}
+use Rattle.any_store.specs.Values.{StoreValue}
 use Rattle.law_refinement.specs.Homes.{IsSure}
 use Rattle.law_refinement.specs.Laws.{SaysAt}
-use Rattle.law_refinement.specs.OnDisk.{IsImageOf}
-use Rattle.law_refinement.specs.Stands.{Stands}
+use Rattle.law_any_store.specs.Standing.{Stands, AnyHeader, IsImageOf}
 use Rattle.run.specs.declared.calls.Call.{Call}
 use Rattle.run.specs.declared.calls.Call.TheVariants as call
 use Rattle.run.specs.declared.calls.Answer.{Answer}
@@ -44,7 +42,7 @@ MomentSurvives = (tells : Bool) (v : StoreValue) (held : List Held) (at : Moment
 -- an image that stands for a history is kept as it
 abbrev pub ImageIsKept : Type 0
 ImageIsKept =
-    (tells : Bool) (header : Header) (image : Image) (h : History Value) (floors : ℕ → ℕ) → IsTrue tells → IsImageOf header image h floors
+    (tells : Bool) (header : AnyHeader) (image : Image) (h : History Value) (floors : ℕ → ℕ) → IsTrue tells → IsImageOf header image h floors
     → IsKeptAs tells image h floors
 
 -- ---- commits

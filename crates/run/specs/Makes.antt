@@ -17,16 +17,12 @@ use Rattle.group.specs.declared.answers.Submitted.{Submitted}
 use Rattle.group.specs.declared.answers.SubmitFault.{SubmitFault}
 use Rattle.timequery.specs.View.{ViewValue}
 use Rattle.timequery.specs.declared.fault.QueryFault.{QueryFault}
-use Rattle.store.specs.Archives.{StartsArchive}
-use Rattle.store.specs.Calls as stores
-use Rattle.store.specs.Floors.{StartsFloor}
-use Rattle.store.specs.Growths.{StartsGrowth}
-use Rattle.store.specs.Jobs.{PumpsJob}
-use Rattle.store.specs.Pumps.{Pumps}
-use Rattle.store.specs.Reclaims.{StartsReclaim}
-use Rattle.store.specs.Values.{StoreValue}
 use Rattle.store.specs.declared.job.JobDid.{JobDid}
 use Rattle.store.specs.declared.job.StartFault.{StartFault}
+use Rattle.any_store.specs.Values.{StoreValue}
+use Rattle.any_store.specs.Calls as stores
+use Rattle.any_store.specs.Jobs.{StartsArchive, StartsReclaim, StartsFloor, StartsGrowth, PumpsJob}
+use Rattle.any_store.specs.Queries as queries
 use Rattle.law_opening.specs.Laws.{AnswersRecent}
 use Rattle.run.specs.declared.calls.Call.{Call}
 use Rattle.run.specs.declared.calls.Call.TheVariants as call
@@ -107,25 +103,25 @@ MakesCall tells old xs (call.Submit i label now) a new ys =
     × Yields a (submit_answer said).0 (slice_set xs i held.Nothing) (submit_answer said).1 ys
 MakesCall tells old xs (call.Abort i) a new ys =
     (t : TxnValue) × (slice_get xs i ≡ Some (held.Transaction t)) × stores.Aborts old t new × LeavesPlaces a answer.Abort (slice_set xs i held.Nothing) ys
-MakesCall tells old xs call.Pump a new ys = (said : Result Did PumpFault) × Pumps tells old said new × LeavesPlaces a (answer.Pump said) xs ys
+MakesCall tells old xs call.Pump a new ys = (said : Result Did PumpFault) × stores.Pumps tells old said new × LeavesPlaces a (answer.Pump said) xs ys
 MakesCall tells old xs (call.Redeem i) a new ys =
     (k : TicketValue) × (said : Redeemed) × (slice_get xs i ≡ Some (held.Ticket k)) × stores.Redeems old k said new
     × LeavesPlaces a (redeem_answer said).0 (slice_set xs i (redeem_answer said).1) ys
 MakesCall tells old xs (call.GiveUp i) a new ys =
     (k : TicketValue) × (slice_get xs i ≡ Some (held.Ticket k)) × (new ≡ old) × LeavesPlaces a answer.GiveUp (slice_set xs i held.Nothing) ys
 MakesCall tells old xs call.View a new ys =
-    (said : Result ViewValue AllocError) × IfOk said (stores.IsViewOf old) × (new ≡ old) × Yields a (view_answer said).0 xs (view_answer said).1 ys
+    (said : Result ViewValue AllocError) × IfOk said (queries.IsViewOf old) × (new ≡ old) × Yields a (view_answer said).0 xs (view_answer said).1 ys
 MakesCall tells old xs (call.At i key time) a new ys =
-    (said : Result (Option Value) QueryFault) × AsksIn xs i (λ view. stores.AnswersAtView tells old view key time said new) (answer.At said) a ys
+    (said : Result (Option Value) QueryFault) × AsksIn xs i (λ view. queries.AnswersAtView tells old view key time said new) (answer.At said) a ys
 MakesCall tells old xs (call.ScanAt i relation time) a new ys =
     (said : Result (Vec (ℕ × Value) Global) QueryFault)
-    × AsksIn xs i (λ view. stores.AnswersScanAt tells old view relation time said new) (answer.ScanAt said) a ys
+    × AsksIn xs i (λ view. queries.AnswersScanAt tells old view relation time said new) (answer.ScanAt said) a ys
 MakesCall tells old xs (call.Between i key from upto) a new ys =
     (said : Result (Vec (Version Value) Global) QueryFault)
-    × AsksIn xs i (λ view. stores.AnswersRows tells old view key from upto said new) (answer.Between said) a ys
+    × AsksIn xs i (λ view. queries.AnswersRows tells old view key from upto said new) (answer.Between said) a ys
 MakesCall tells old xs (call.ScanBetween i relation from upto) a new ys =
     (said : Result (Vec (ℕ × Version Value) Global) QueryFault)
-    × AsksIn xs i (λ view. stores.AnswersScanRows tells old view relation from upto said new) (answer.ScanBetween said) a ys
+    × AsksIn xs i (λ view. queries.AnswersScanRows tells old view relation from upto said new) (answer.ScanBetween said) a ys
 MakesCall tells old xs (call.Recent i key time) a new ys =
     (said : Result (Option Value) QueryFault)
     × AsksIn xs i (λ view. ((found : Result (Option Value) QueryFault) × AnswersRecent view key time found × IsShared found said)

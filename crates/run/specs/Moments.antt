@@ -4,7 +4,7 @@ use Rattle.std.specs.List.{AllByRecursion}
 use Rattle.history.specs.Histories.{Commit, History}
 use Rattle.history.specs.Machine.{Machine}
 use Rattle.law_image.specs.Values.{Value}
-use Rattle.store.specs.Values.{StoreValue}
+use Rattle.any_store.specs.Values.{StoreValue}
 use Rattle.run.specs.declared.calls.Answer.{Answer}
 use Rattle.run.specs.declared.calls.Answer.TheVariants as answer
 use Rattle.run.specs.declared.calls.RedeemOutcome.{RedeemOutcome}
@@ -22,7 +22,7 @@ pub record Moment : Type 0 where
 
 -- no call is made yet
 abbrev pub first_moment : StoreValue → Machine Value → Moment
-first_moment v m = record { store = v; held = []; world = started m; done = [] }
+first_moment v m = record { store = v; held = []; world = started v m; done = [] }
 
 -- ---- what was acknowledged
 

@@ -20,9 +20,10 @@ use Rattle.group.specs.declared.answers.SubmitFault.{SubmitFault}
 use Rattle.timequery.specs.View.{ViewValue}
 use Rattle.timequery.specs.declared.fault.QueryFault.{QueryFault}
 use Rattle.timequery.specs.declared.fault.QueryFault.TheVariants as query
-use Rattle.group.specs.Values.{TransactionsValue}
-use Rattle.law_refinement.specs.Homes.{ViewStands, ViewReads}
-use Rattle.store.specs.Values.{StoreValue}
+use Rattle.commits.specs.Values.{CommitsValue}
+use Rattle.any_store.specs.Values.{StoreValue}
+use Rattle.law_refinement.specs.Homes.{ViewStands}
+use Rattle.law_any_store.specs.Standing.{ViewReads}
 use Rattle.run.specs.declared.calls.Answer.{Answer}
 use Rattle.run.specs.declared.calls.Answer.TheVariants as answer
 use Rattle.run.specs.declared.calls.SubmitOutcome.TheVariants as outcome
@@ -112,19 +113,19 @@ view_in (Some (held.View view)) = Some view
 -- ---- the store's own
 
 -- an open transaction of the store, which reads the history at its snapshot
-pub record IsOwnTransaction (v : TransactionsValue) (h : History Value) (txn : TxnValue) : Type 0 where
+pub record IsOwnTransaction (v : CommitsValue) (h : History Value) (txn : TxnValue) : Type 0 where
   pub mark : txn.mark ≡ v.mark
   pub number : snapshot_of txn.number v.opened ≡ Some txn.snapshot
   pub published : txn.snapshot ≤ last h
   pub reads : (key : Key) → at_snapshot txn.state txn.snapshot key ≡ state h txn.snapshot key
 
 -- a ticket of the store that is not redeemed yet
-pub record IsOwnTicket (v : TransactionsValue) (ticket : TicketValue) : Type 0 where
+pub record IsOwnTicket (v : CommitsValue) (ticket : TicketValue) : Type 0 where
   pub mark : ticket.mark ≡ v.mark
   pub awaited : is_awaited ticket.time v.heads ≡ true
 
 -- What is held is the store's own, whose published history this is, and stands for this.
-abbrev pub ShowsAs : TransactionsValue → History Value → Held → Place → Type 0
+abbrev pub ShowsAs : CommitsValue → History Value → Held → Place → Type 0
 ShowsAs v h held.Nothing Free = Unit {0}
 ShowsAs v h (held.Transaction txn) (Running snapshot writes) = IsOwnTransaction v h txn × (txn.snapshot ≡ snapshot) × (txn.writes ≡ writes)
 ShowsAs v h (held.Ticket ticket) (Waits time) = IsOwnTicket v ticket × (ticket.time ≡ time)
@@ -147,7 +148,7 @@ Clash (held.Ticket a) (held.Ticket b) = a.time ≡ b.time
 Clash a b = ⊥
 
 -- each place stands for its own, and no two hold the same
-pub record ArePlaces (v : TransactionsValue) (h : History Value) (xs : List Held) (ps : List Place) : Type 0 where
+pub record ArePlaces (v : CommitsValue) (h : History Value) (xs : List Held) (ps : List Place) : Type 0 where
   pub many : length xs ≡ length ps
   pub each : (i : ℕ) (x : Held) → slice_get xs i ≡ Some x → ShowsAs v h x (place_at ps i)
   pub apart : (i j : ℕ) (a b : Held) → slice_get xs i ≡ Some a → slice_get xs j ≡ Some b → Clash a b → i ≡ j

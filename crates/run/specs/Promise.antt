@@ -6,16 +6,13 @@ use Rattle.disk.specs.Calls.{DiskState}
 use Rattle.disk.specs.Within.{LeavesWithin}
 use Rattle.history.specs.Fronts.{OnFront}
 use Rattle.history.specs.Histories.{History}
-use Rattle.history.specs.Machine.{opened}
 use Rattle.law_image.specs.Values.{Value}
-use Rattle.status.specs.declared.header.Header.{Header}
 use Rattle.recovery.specs.Faults.{IsReadFault}
 use Rattle.recovery.specs.declared.fault.OpenFault.{OpenFault}
-use Rattle.store.specs.Values.{StoreValue}
-use Rattle.store.specs.Opens.{Opens, OpenRefuses}
-use Rattle.law_refinement.specs.OnDisk.{IsImageOf}
-use Rattle.law_refinement.specs.Stands.{Stands}
-use Rattle.law_opening.specs.Laws.{AnswersBy, IsHeaderLeftBy, RecoversHeader}
+use Rattle.any_store.specs.Values.{StoreValue, disk_of}
+use Rattle.any_store.specs.Opens.{Opens, OpenRefuses}
+use Rattle.law_any_store.specs.Standing.{Stands, AnyHeader, IsImageOf, opened_as}
+use Rattle.law_any_store.specs.Opened.{AnswersBy, IsHeaderLeftBy, RecoversHeader}
 use Rattle.run.specs.declared.calls.Call.{Call}
 use Rattle.run.specs.declared.calls.Answer.{Answer}
 use Rattle.run.specs.declared.held.Held.{Held}
@@ -29,34 +26,34 @@ use Rattle.run.specs.Runs.{Does, Follows}
 -- An image is kept as this history: it stands for it, it opens unless the device or memory gives out, and all that the store which opens it answers is what the
 -- history's write sets say. A stop while it is opened leaves nothing that the disk might not have left before.
 pub record IsKeptAs (tells : Bool) (image : Image) (h : History Value) (floors : ℕ → ℕ) : Type 0 where
-  pub header : Header
+  pub header : AnyHeader
   pub stands : IsImageOf header image h floors
   pub opens : (disk new : DiskState) (why : OpenFault) → image_of disk.areas ≡ image → OpenRefuses tells disk why new → IsReadFault why
       × LeavesNoMore disk.areas new.areas
   pub answers : (disk : DiskState) (mark : ℕ) (again : StoreValue) → image_of disk.areas ≡ image → AreSound disk.areas → Opens tells disk mark again
-      → Stands tells again (opened h floors) × AnswersBy tells again h floors
+      → Stands tells again (opened_as header h floors) × AnswersBy tells again h floors
 
 -- An image is kept as this history, which has every commit that was acknowledged.
 pub record IsKeptWith (tells : Bool) (image : Image) (done : List ℕ) (h : History Value) (floors : ℕ → ℕ) : Type 0 where
   pub kept : IsKeptAs tells image h floors
   pub acknowledged : AllByRecursion (HasCommitAt h) done
 
--- It survives: it has the slots of the store at this moment or, once the gate of a piece may be open, 256 more.
+-- It survives: it has the header of the store at this moment or, once the gate of a piece may be open, that with 256 slots more.
 -- It is kept as what is published then or, once the gate of the group may be open, as that with the whole group. It has every commit that was acknowledged.
 pub record Survives (tells : Bool) (at : Moment) (image : Image) : Type 0 where
-  pub header : Header
+  pub header : AnyHeader
   pub left : IsHeaderLeftBy at.store header
   pub has : RecoversHeader tells image header
   pub front : OnFront (IsKeptWith tells image at.done) at.world.machine
 
 -- whatever a stop may leave at this moment survives
 abbrev pub Leaves : Bool → Moment → Type 0
-Leaves tells at = IsTrue tells → (image : Image) → LeavesImage at.store.disk.areas image → Survives tells at image
+Leaves tells at = IsTrue tells → (image : Image) → LeavesImage (disk_of at.store).areas image → Survives tells at image
 
 -- and so does whatever it may leave within the call between two moments
 abbrev pub LeavesBetween : Bool → Moment → Moment → Type 0
 LeavesBetween tells before after =
-    IsTrue tells → (image : Image) → LeavesWithin before.store.disk.areas after.store.disk.areas image → Survives tells before image
+    IsTrue tells → (image : Image) → LeavesWithin (disk_of before.store).areas (disk_of after.store).areas image → Survives tells before image
     ⊎ Survives tells after image
 
 -- ---- lists of calls
@@ -69,7 +66,7 @@ pub record Link (tells : Bool) (call : Call) (answer : Answer) (before after : M
   pub does : Does tells before.world call answer after.world
   pub follows : Follows before.world.machine after.world.machine
   pub acknowledges : after.done ≡ with_answer answer before.done
-  pub makes_few : after.store.disk.made ≤ before.store.disk.made + 1
+  pub makes_few : (disk_of after.store).made ≤ (disk_of before.store).made + 1
   pub leaves_within : LeavesBetween tells before after
   pub leaves : Leaves tells after
 
@@ -98,8 +95,8 @@ KeepsPromise tells old before calls answers new after =
 -- The whole promise: for every list of calls, by any number of callers in turn, on a store opened on an image that stands for some history.
 abbrev pub Promise : Type 0
 Promise =
-    (tells : Bool) (disk : DiskState) (mark : ℕ) (v new : StoreValue) (header : Header) (h : History Value) (floors : ℕ
+    (tells : Bool) (disk : DiskState) (mark : ℕ) (v new : StoreValue) (header : AnyHeader) (h : History Value) (floors : ℕ
     → ℕ) (calls : List Call) (answers : List Answer) (held : List Held)
     → IsTrue tells → AreSound disk.areas → IsImageOf header (image_of disk.areas) h floors → Opens tells disk mark v
     → KeepsPromise tells v [] calls answers new held
-    → (end : Moment) × Promises tells calls answers (first_moment v (opened h floors)) end × IsAtMoment tells new held end
+    → (end : Moment) × Promises tells calls answers (first_moment v (opened_as header h floors)) end × IsAtMoment tells new held end

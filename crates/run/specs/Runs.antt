@@ -1,6 +1,6 @@
 -- What each call answers and does, and lists of calls.
-use Rattle.std.specs.Prelude.{ℕ, ◌≡◌, ◌≢◌, ◌<◌, ◌≤◌, ◌⊎◌, ◌+◌, ◌↔◌, ◌++◌, Bool, true, false, List, [], map, is_some, IsSome, Option, None, Some, Contains}
-use Rattle.std.specs.Prelude.{Result, Ok, Err, IfOk, IfErr, OnOk, OnErr, MatchBool, Vec, if◌then◌else◌}
+use Rattle.std.specs.Prelude.{ℕ, ◌≡◌, ◌≢◌, ◌<◌, ◌≤◌, ◌⊎◌, ◌+◌, ◌↔◌, Bool, true, false, List, [], map, is_some, IsSome, Option, None, Some, Contains}
+use Rattle.std.specs.Prelude.{Result, Ok, Err, IfOk, IfErr, OnOk, OnErr, IsTrue, MatchBool, Vec, if◌then◌else◌}
 use Rattle.std.specs.declared.alloc.Global.{Global}
 use Rattle.std.specs.declared.alloc.AllocError.{AllocError}
 use Rattle.history.specs.declared.key.Key.{Key}
@@ -30,13 +30,15 @@ use Rattle.group.specs.declared.answers.SubmitFault.{SubmitFault}
 use Rattle.group.specs.declared.answers.SubmitFault.TheVariants as refused
 use Rattle.timequery.specs.declared.fault.QueryFault.{QueryFault}
 use Rattle.timequery.specs.declared.fault.QueryFault.TheVariants as query
-use Rattle.store.specs.Values.{StoreValue}
+use Rattle.any_store.specs.Values.{StoreValue, disk_of}
 use Rattle.store.specs.declared.job.JobDid.{JobDid}
 use Rattle.store.specs.declared.job.StartFault.{StartFault}
 use Rattle.store.specs.declared.job.StartFault.TheVariants as start
 use Rattle.law_refinement.specs.Homes.{IsSure}
 use Rattle.law_refinement.specs.Calls.{raising_to}
-use Rattle.law_refinement.specs.Laws.{begins_in, ends_in, job_ends_in, SaysAt, SaysScanAt, SaysBetween, SaysScanBetween}
+use Rattle.law_any_store.specs.Calls.{pumped_in}
+use Rattle.law_any_store.specs.Names.{AreTimesFrom}
+use Rattle.law_refinement.specs.Laws.{job_ends_in, SaysAt, SaysScanAt, SaysBetween, SaysScanBetween}
 use Rattle.run.specs.declared.calls.Call.{Call}
 use Rattle.run.specs.declared.calls.Call.TheVariants as call
 use Rattle.run.specs.declared.calls.Answer.{Answer}
@@ -140,11 +142,11 @@ Aborts w i place next = ⊥
 abbrev pub IsStepFault : PumpFault → Type 0
 IsStepFault why = (why ≡ pump.Failed) ⊎ (why ≡ pump.Busy) ⊎ (why ≡ pump.NoMemory)
 
--- a step of a group is a run of the machine, and nothing where the store has failed
+-- A step of a group is a run of the machine, and nothing where the store has failed. One that is put off begins a group where the log is slots, and none where
+-- it lies in the heap.
 abbrev pub Pumps : World → Result Did PumpFault → World → Type 0
 Pumps w said next = MatchBool w.machine.failed ((said ≡ Err pump.Failed) × (next ≡ same w))
-    ((after : Machine Value) × IfErr said IsStepFault × steps.Run IsValue w.machine (begins_in w.machine ++ ends_in w.machine.gate said) after
-    × (next ≡ same (moved w after)))
+    ((after : Machine Value) × IfErr said IsStepFault × steps.Run IsValue w.machine (pumped_in w.in_heap w.machine said) after × (next ≡ same (moved w after)))
 
 -- a ticket is spent but by Waiting
 abbrev pub Redeems : World → ℕ → Place → RedeemOutcome → World → Type 0
@@ -211,17 +213,19 @@ abbrev pub Closes : World → ℕ → Place → World → Type 0
 Closes w i (Views history floors reclaimed) next = next ≡ spent w i
 Closes w i place next = ⊥
 
--- the times of the published commits with a label, or there is no memory for them
+-- the times of the published commits with a label, or there is no memory for them; where names may have left memory up to a time, the later ones alone are
+-- sure
 abbrev pub ListsTimes : World → ℕ → Result (Vec ℕ Global) AllocError → World → Type 0
-ListsTimes w label said next = IfOk said (λ times. times.items ≡ answers.times_of w.machine.published label) × (next ≡ same w)
+ListsTimes w label said next = IfOk said (λ times. AreTimesFrom w.names_from times.items (answers.times_of w.machine.published label)) × (next ≡ same w)
 
 -- ---- archives
 
--- an archive begins up to a time that is published, and changes nothing of the machine's; which marks and slots there are the machine does not know
+-- An archive begins up to a time that is published, and changes nothing of the machine's; which marks and slots there are the machine does not know. The store's
+-- profile is never one without archives where the log is slots.
 abbrev pub Archives : World → ℕ → Result (Unit {0}) StartFault → World → Type 0
 Archives w upto (Ok u) next = (w.machine.failed ≡ false) × (upto ≤ last w.machine.published) × (next ≡ same w)
 Archives w upto (Err start.Failed) next = (w.machine.failed ≡ true) × (next ≡ same w)
-Archives w upto (Err start.WrongProfile) next = ⊥
+Archives w upto (Err start.WrongProfile) next = IsTrue w.in_heap × (next ≡ same w)
 Archives w upto (Err start.JobBusy) next = next ≡ same w
 Archives w upto (Err start.NothingToDo) next = next ≡ same w
 Archives w upto (Err (start.NotYet time)) next = (time ≡ last w.machine.published) × (time < upto) × (next ≡ same w)
@@ -232,11 +236,11 @@ Archives w upto (Err start.HeapFull) next = ⊥
 Archives w upto (Err start.NoMemory) next = next ≡ same w
 Archives w upto (Err start.NotGrowable) next = ⊥
 
--- nor does a reclaim; it does not begin where an open transaction reads what it is to forget
+-- Nor does a reclaim. It does not begin where an open transaction reads what it is to forget, and its profile is as an archive's.
 abbrev pub Reclaims : World → Result (Unit {0}) StartFault → World → Type 0
 Reclaims w (Ok u) next = (w.machine.failed ≡ false) × (next ≡ same w)
 Reclaims w (Err start.Failed) next = (w.machine.failed ≡ true) × (next ≡ same w)
-Reclaims w (Err start.WrongProfile) next = ⊥
+Reclaims w (Err start.WrongProfile) next = IsTrue w.in_heap × (next ≡ same w)
 Reclaims w (Err start.JobBusy) next = next ≡ same w
 Reclaims w (Err start.NothingToDo) next = next ≡ same w
 Reclaims w (Err (start.InUse time)) next = Contains w.machine.snapshots time × (next ≡ same w)
@@ -360,4 +364,4 @@ pub record Goes (tells : Bool) (old : StoreValue) (before : List Held) (c : Call
 
 -- at most one device call is made
 abbrev pub MakesFew : StoreValue → StoreValue → Type 0
-MakesFew old new = new.disk.made ≤ old.disk.made + 1
+MakesFew old new = (disk_of new).made ≤ (disk_of old).made + 1

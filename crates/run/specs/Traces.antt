@@ -9,7 +9,7 @@ use Rattle.history.specs.Machine.{Machine, IsMachine}
 use Rattle.history.specs.Steps.{Step, Decided}
 use Rattle.history.specs.Submissions.{Queues, commit_made}
 use Rattle.law_image.specs.Values.{Value, IsValue}
-use Rattle.store.specs.Values.{StoreValue}
+use Rattle.any_store.specs.Values.{StoreValue, disk_of}
 use Rattle.run.specs.declared.calls.Call.{Call}
 use Rattle.run.specs.declared.calls.Call.TheVariants as call
 use Rattle.run.specs.declared.calls.Answer.{Answer}
@@ -62,7 +62,7 @@ machine_at t n = (moment_at t n).world.machine
 
 -- the machine stops after this many calls, or within the next one, and may leave this image
 abbrev pub StopLeaves : {tells : Bool} → Trace tells → ℕ → Image → Type 0
-StopLeaves t n image = LeavesWithin (moment_at t n).store.disk.areas (moment_at t (suc n)).store.disk.areas image
+StopLeaves t n image = LeavesWithin (disk_of (moment_at t n).store).areas (disk_of (moment_at t (suc n)).store).areas image
 
 -- ---- calls by their numbers
 

@@ -1,9 +1,9 @@
 //! Calls, and what they answer.
-use history::{Key, Version};
-use std::alloc::AllocError;
-use store::{
+use any_store::{
     BeginFault, Did, JobDid, PumpFault, QueryFault, SharedValue, StartFault, SubmitFault, TxnFault,
 };
+use history::{Key, Version};
+use std::alloc::AllocError;
 
 /// A call of a store, or of a transaction, a ticket or a view that it gave out. Such a value is
 /// named by the place in the list of the call that gave it. Times are in microseconds since 1970.

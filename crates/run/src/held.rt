@@ -3,8 +3,8 @@ ghost use Rattle.std.specs.Prelude.{◌≡◌, Some, IfSome, IfNone, slice_get, 
 ghost use Rattle.std.specs.Option.{option_copied};
 ghost use Rattle.run.specs.Places.{HasNoTransaction, HasNoTicket, HasNoView, transaction_in, view_in};
 
+use any_store::{Ticket, Txn, View};
 use std::mem;
-use store::{Ticket, Txn, View};
 
 /// What the place of a call holds: what the call gave, until it is spent. It can't be dropped.
 pub enum Held {

@@ -3,22 +3,22 @@ ghost use Rattle.std.specs.Prelude.{ℕ, ◌≡◌, ◌↔◌, [], IsTrue, IfOk,
 ghost use Rattle.disk.specs.Areas.{Image, LeavesImage, LeavesNoMore, image_of};
 ghost use Rattle.history.specs.Fronts.{OnFront};
 ghost use Rattle.history.specs.Histories.{History};
-ghost use Rattle.history.specs.Machine.{Machine, opened};
+ghost use Rattle.history.specs.Machine.{Machine};
 ghost use Rattle.law_image.specs.Values.{Value};
-ghost use Rattle.status.specs.declared.header.Header.{Header};
 ghost use Rattle.status.specs.Header.{new_header};
 ghost use Rattle.recovery.specs.Faults.{IsReadFault};
 ghost use Rattle.recovery.specs.Format.{IsSlotCount, IsOccupied, IsTakenAnswer, FormatRefuses};
 ghost use Rattle.recovery.specs.Settling.{Settles, CountsMore, CountsAtMost};
-ghost use Rattle.store.specs.Opens.{Opens, OpenRefuses};
-ghost use Rattle.law_refinement.specs.OnDisk.{IsImageOf};
-ghost use Rattle.law_refinement.specs.Stands.{Stands};
-ghost use Rattle.law_opening.specs.Laws.{LeavesFronts};
+ghost use Rattle.any_store.specs.declared.engine.Engine.TheVariants.{Slots};
+ghost use Rattle.any_store.specs.Values.{disk_of};
+ghost use Rattle.any_store.specs.Opens.{Opens, OpenRefuses};
+ghost use Rattle.law_any_store.specs.Standing.{Stands, AnyHeader, IsImageOf, opened_as};
+ghost use Rattle.law_any_store.specs.Opened.{LeavesFronts};
 ghost use Rattle.run.specs.Promise.{Promise};
 
+use any_store::{FormatFault, OpenFault, Store};
 use disk::Disk;
 use std::alloc::Global;
-use store::{FormatFault, OpenFault, Store};
 
 /// Makes the status area that of a new store with this many slots, 16 to 65,536.
 ///
@@ -28,9 +28,9 @@ use store::{FormatFault, OpenFault, Store};
 pub fn format<D: Disk>(alloc: Global, disk: &mut D, slots: u32) -> Result<(), FormatFault>
     // Whatever a stop may leave of a formatted disk is an image of the empty history.
     ensures stands { IsTrue D.tells → OnOk result ((image : Image) → LeavesImage (D.state disk.new).areas image
-        → IsImageOf (new_header 3 slots) image [] (λ relation. 0)) }
+        → IsImageOf (Slots (new_header 3 slots)) image [] (λ relation. 0)) }
     // So is what is read of it, which is what `open` speaks of.
-    ensures reads { IsTrue D.tells → OnOk result (IsImageOf (new_header 3 slots) (image_of (D.state disk.new).areas) [] (λ relation. 0)) }
+    ensures reads { IsTrue D.tells → OnOk result (IsImageOf (Slots (new_header 3 slots)) (image_of (D.state disk.new).areas) [] (λ relation. 0)) }
     ensures bad_slots { (result ≡ Err FormatFault.BadSlots) ↔ ¬ IsSlotCount slots }
     ensures occupied { IsTrue D.tells → result ≡ Err FormatFault.Occupied → IsOccupied (D.state disk.old).areas.status.bytes }
     ensures free { IsTrue D.tells → IsOccupied (D.state disk.old).areas.status.bytes → IsTakenAnswer result }
@@ -49,22 +49,22 @@ pub fn open<D: Disk>(alloc: Global, disk: D, mark: u64) -> Result<Store<D>, (Ope
     ensures ok { IfOk result (λ s. Opens D.tells (D.state disk) mark s) }
     ensures err { IfErr result (λ e. OpenRefuses D.tells (D.state disk) e.0 (D.state e.1)) }
     // On an image that stands for a history the store stands for it. Nothing but the device or memory refuses it, and then the disk still holds the image.
-    ensures stands { (header : Header) (h : History Value) (floors : ℕ → ℕ) → IsTrue D.tells → IsImageOf header (image_of (D.state disk).areas) h floors
-        → MatchResult result (λ s. Stands D.tells s (opened h floors)) (λ e. IsReadFault e.0 × (image_of (D.state e.1).areas ≡ image_of (D.state disk).areas)) }
+    ensures stands { (header : AnyHeader) (h : History Value) (floors : ℕ → ℕ) → IsTrue D.tells → IsImageOf header (image_of (D.state disk).areas) h floors
+        → MatchResult result (λ s. Stands D.tells s (opened_as header h floors)) (λ e. IsReadFault e.0 × (image_of (D.state e.1).areas ≡ image_of (D.state disk).areas)) }
     // It makes three syncs and no write, or, where it is refused, at most three.
-    ensures made { MatchResult result (λ s. CountsMore 3 (D.state disk) s.disk) (λ e. CountsAtMost 3 (D.state disk) (D.state e.1)) }
+    ensures made { MatchResult result (λ s. CountsMore 3 (D.state disk) (disk_of s)) (λ e. CountsAtMost 3 (D.state disk) (D.state e.1)) }
     // A stop while it opens, refused or not, leaves nothing that it might not have left before.
-    ensures stops { IsTrue D.tells → MatchResult result (λ s. LeavesNoMore (D.state disk).areas s.disk.areas)
+    ensures stops { IsTrue D.tells → MatchResult result (λ s. LeavesNoMore (D.state disk).areas (disk_of s).areas)
         (λ e. LeavesNoMore (D.state disk).areas (D.state e.1).areas) }
     // So it does at each moment of it.
-    ensures moments { MatchResult result (λ s. Settles D.tells (D.state disk) s.disk) (λ e. Settles D.tells (D.state disk) (D.state e.1)) }
+    ensures moments { MatchResult result (λ s. Settles D.tells (D.state disk) (disk_of s)) (λ e. Settles D.tells (D.state disk) (D.state e.1)) }
 {
     Store::open(alloc, disk, mark)
 }
 
 /// Ends the store and hands its disk back. What waits is not published.
 pub fn close<D: Disk>(store: Store<D>) -> D
-    ensures state { D.state result ≡ store.disk }
+    ensures state { D.state result ≡ disk_of store }
     // Whatever a stop may leave of the disk is an image of a front of the commit order.
     ensures stands { (m : Machine Value) → Stands D.tells store m → IsTrue D.tells → LeavesFronts store (D.state result).areas m }
     // What is read of the disk, of which `open` speaks, is among it.

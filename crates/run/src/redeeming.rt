@@ -6,8 +6,8 @@ ghost use Rattle.run.specs.Runs.{Goes, MakesFew};
 
 use crate::calls::{Answer, RedeemOutcome};
 use crate::held::{Held, put_back, take_ticket};
+use any_store::{Redeemed, Store};
 use disk::Disk;
-use store::{Redeemed, Store};
 
 pub(crate) fn redeem<D: Disk>(store: &mut Store<D>, places: &mut [Held], ticket: usize) -> Answer
     ensures goes { Goes D.tells store.old places.old (Call.Redeem ticket) result store.new (places.new ++ Held.Nothing ∷ []) }

@@ -1,5 +1,6 @@
 //! Lists of calls.
 ghost use Rattle.std.specs.Prelude.{◌≡◌, ◌≤◌, ◌+◌, ◌++◌, ◌∷◌, [], List, length, IfOk, OnErr};
+ghost use Rattle.any_store.specs.Values.{disk_of};
 ghost use Rattle.run.specs.Kinds.{IsInTransaction, IsOfView, IsOfStore};
 ghost use Rattle.run.specs.Runs.{Goes, MakesFew};
 ghost use Rattle.run.specs.Promise.{KeepsPromise, LinksOne};
@@ -9,9 +10,9 @@ use crate::held::{Held, discard};
 use crate::redeeming::{give_up, redeem};
 use crate::transacting::{abort, begin, delete, get, put, scan, submit};
 use crate::viewing::{at, between, end, recent, scan_at, scan_between, times_of, view};
+use any_store::Store;
 use disk::Disk;
 use std::alloc::{AllocError, Global};
-use store::Store;
 
 /// Makes the calls in turn, and gives the answer to each. A call names a transaction, a ticket or a view
 /// by the place in the list of the call that gave it. Where that call gave none, or its value is spent,
@@ -31,7 +32,7 @@ pub fn run<D: Disk>(
     // what is given back.
     ensures run { IfOk result (λ answers. (left : List Held) × KeepsPromise D.tells store.old [] calls.now answers.items store.new left) }
     // Each call makes at most one write or sync of the disk.
-    ensures made { store.new.disk.made ≤ store.old.disk.made + length calls.now }
+    ensures made { (disk_of store.new).made ≤ (disk_of store.old).made + length calls.now }
     ensures err { OnErr result (store.new ≡ store.old) }
 {
     let mut places = Vec::new(alloc);
@@ -53,7 +54,7 @@ pub fn run_on<D: Disk>(
     calls: &[Call<'_>],
 ) -> Result<Vec<Answer>, AllocError>
     ensures run { IfOk result (λ answers. KeepsPromise D.tells store.old places.old.items calls.now answers.items store.new places.new.items) }
-    ensures made { store.new.disk.made ≤ store.old.disk.made + length calls.now }
+    ensures made { (disk_of store.new).made ≤ (disk_of store.old).made + length calls.now }
     ensures err { OnErr result (store.new ≡ store.old) }
     ensures left { OnErr result (places.new.items ≡ places.old.items) }
 {

@@ -8,10 +8,10 @@ ghost use Rattle.run.specs.Runs.{Goes, MakesFew};
 
 use crate::calls::{Answer, SubmitOutcome};
 use crate::held::{Held, put_back, take_transaction, transaction_at};
+use any_store::{BeginFault, SharedValue, Store, SubmitFault, Submitted, Txn};
 use disk::Disk;
 use history::Key;
 use std::alloc::{AllocError, Global};
-use store::{BeginFault, SharedValue, Store, SubmitFault, Submitted, Txn};
 
 pub(crate) fn begin<D: Disk>(store: &mut Store<D>, places: &[Held]) -> (Answer, Held)
     ensures goes { Goes D.tells store.old places.now Call.Begin result.0 store.new (places.now ++ result.1 ∷ []) }

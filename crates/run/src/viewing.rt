@@ -6,10 +6,10 @@ ghost use Rattle.run.specs.Runs.{Goes, MakesFew};
 
 use crate::calls::Answer;
 use crate::held::{Held, take_view, view_at};
+use any_store::{QueryFault, SharedValue, Store, View};
 use disk::Disk;
 use history::Key;
 use std::alloc::AllocError;
-use store::{QueryFault, SharedValue, Store, View};
 
 pub(crate) fn view<D: Disk>(store: &Store<D>, places: &[Held]) -> (Answer, Held)
     ensures { Goes D.tells store.now places.now Call.View result.0 store.now (places.now ++ result.1 ∷ []) }
