@@ -3,3 +3,4 @@ pub mod Calls
 pub mod Queries
 pub mod Jobs
 pub mod Opens
+pub mod Formats
