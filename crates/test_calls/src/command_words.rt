@@ -1,6 +1,8 @@
 //! Words of the command line: what they ask for, and the texts of help and usage faults.
 use clap::{ArgMatches, Error};
-use command_line::{Action, Form, Layout, Question, RecordWrite, Style, When, action_of, read_words};
+use command_line::{
+    Action, Form, Layout, Question, RecordWrite, Style, When, action_of, read_words,
+};
 use history::Key;
 use std::alloc::Global;
 use std::test::Fail;
@@ -73,7 +75,15 @@ const ASKED: &[(&[&str], Action<'static>)] = &[
         },
     ),
     (
-        &["timestore", "format", "d", "--extents", "64", "--profile", "4"],
+        &[
+            "timestore",
+            "format",
+            "d",
+            "--extents",
+            "64",
+            "--profile",
+            "4",
+        ],
         Action::Format {
             dir: "d",
             layout: Some(Layout::Extents(64)),
