@@ -53,7 +53,7 @@ opened-answers_as tells (Slots header) again h floors now = stands-answers tells
 opened-answers_as tells (Log roots) again h floors now = stands-answers tells again (opened_as (Log roots) h floors) now
 
 -- or on what a stop left of this store
-opened-answers : (tells : Bool) (v again : StoreValue) (h : History Value) (floors : ℕ → ℕ) → Stands tells again (opened_in v h floors)
+pub opened-answers : (tells : Bool) (v again : StoreValue) (h : History Value) (floors : ℕ → ℕ) → Stands tells again (opened_in v h floors)
     → AnswersBy tells again h floors
 opened-answers tells (Slots s) again h floors now = stands-answers tells again (opened_in (Slots s) h floors) now
 opened-answers tells (Log l) again h floors now = stands-answers tells again (opened_in (Log l) h floors) now

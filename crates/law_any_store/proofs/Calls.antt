@@ -1,5 +1,5 @@
 -- The calls of transactions, tickets and groups are steps of the machine, in either layout.
-use Rattle.std.proofs.Common.{◌≡◌, ℕ, ◌<◌, ◌^◌, Bool, true, false, cond, List, [], ◌∷◌, ◌++◌, Result, Ok, Err, refl, ap, sym, subst, ◌∙◌, append-nil, inl, inr}
+use Rattle.std.proofs.Common.{◌≡◌, ℕ, ◌<◌, ◌^◌, Bool, true, false, cond, List, [], ◌∷◌, ◌++◌, Result, Ok, Err, refl, ap, sym, subst, ◌∙◌}
 use Rattle.std.specs.Prelude.{IsTrue, MatchBool}
 use Rattle.disk.specs.Areas.{AreSound}
 use Rattle.history.specs.Answers as answers
@@ -21,7 +21,7 @@ use Rattle.commits.specs.Values.{is_own}
 use Rattle.store.specs.Values as slot_values
 use Rattle.log_store.specs.Values.{LogStoreValue}
 use Rattle.any_store.specs.declared.engine.Engine.TheVariants.{Slots, Log}
-use Rattle.any_store.specs.Values.{StoreValue, commits_of, disk_of}
+use Rattle.any_store.specs.Values.{StoreValue, is_log, commits_of, disk_of}
 use Rattle.any_store.specs.Calls as stores
 use Rattle.law_refinement.specs.Calls as slot_calls
 use Rattle.law_refinement.specs.Laws.{submission_of, event_of, RedeemsAs, begins_in, ends_in, breaks_in}
@@ -39,7 +39,7 @@ use Rattle.law_log_queries.specs.Archive as logs
 use Rattle.law_log_queries.specs.Calls.{IsCall, OfBegin, OfAbort, OfRedeem, OfSubmit, OfPump}
 use Rattle.law_log_queries.proofs.Calls.{call-keeps}
 use Rattle.law_any_store.specs.Standing.{Stands}
-use Rattle.law_any_store.specs.Calls.{BeginsOn, Goes, ArePumped, RunsTo}
+use Rattle.law_any_store.specs.Calls.{BeginsOn, Goes, pumped_by_log, pumped_in, RunsTo}
 
 -- a single event is a run
 one-step : (m after : Machine Value) (event : Event Value) → Step IsValue m event after → Run IsValue m (event ∷ []) after
@@ -125,37 +125,24 @@ redeem-stands tells (Log l) (Log l') ticket answer m is redeems =
 
 -- ---- groups
 
--- the events of a store of slots
-slots-pumped : (m : Machine Value) (answer : Result Did PumpFault) → ArePumped m answer (begins_in m ++ ends_in m.gate answer)
-slots-pumped m (Ok what) = refl
-slots-pumped m (Err pump.Busy) = inl (append-nil (begins_in m))
-slots-pumped m (Err pump.NoMemory) = inl (append-nil (begins_in m))
-slots-pumped m (Err pump.Failed) = refl
-
--- and those of one whose log lies in the heap
-log-pumped : (m : Machine Value) (answer : Result Did PumpFault) → m.failed ≡ false → ArePumped m answer (log_calls.events_in m answer)
+-- the events of a store that works, whose log lies in the heap
+log-pumped : (m : Machine Value) (answer : Result Did PumpFault) → m.failed ≡ false → log_calls.events_in m answer ≡ pumped_by_log m answer
 log-pumped m (Ok what) works = refl
-log-pumped m (Err pump.Busy) works = inr refl
-log-pumped m (Err pump.NoMemory) works = inr refl
+log-pumped m (Err pump.Busy) works = refl
+log-pumped m (Err pump.NoMemory) works = refl
 log-pumped m (Err pump.Failed) works = ap (λ (b : Bool). cond b [] (begins_in m ++ breaks_in m.gate)) works
 
 pub pump-stands : (tells : Bool) (old new : StoreValue) (answer : Result Did PumpFault) (m : Machine Value) → Stands tells old m
     → (IsTrue tells → AreSound (disk_of new).areas) → stores.Pumps tells old answer new
-    → MatchBool m.failed ((answer ≡ Err pump.Failed) × Stands tells new m) (RunsTo tells m (ArePumped m answer) new)
+    → MatchBool m.failed ((answer ≡ Err pump.Failed) × Stands tells new m) (RunsTo tells m (pumped_in (is_log old) m answer) new)
 pump-stands tells (Slots s) (Slots s') answer m is sound pumps = so m.failed (slot_pumps.pump-stands tells s s' answer m is sound pumps)
   where
     so : (b : Bool)
         → MatchBool b ((answer ≡ Err pump.Failed) × slots.Stands tells s' m) ((after : Machine Value)
         × Run IsValue m (begins_in m ++ ends_in m.gate answer) after × slots.Stands tells s' after)
-        → MatchBool b ((answer ≡ Err pump.Failed) × Stands tells (Slots s') m) (RunsTo tells m (ArePumped m answer) (Slots s'))
+        → MatchBool b ((answer ≡ Err pump.Failed) × Stands tells (Slots s') m) (RunsTo tells m (begins_in m ++ ends_in m.gate answer) (Slots s'))
     so true to = to
-    so false to = record {
-      events = begins_in m ++ ends_in m.gate answer;
-      are = slots-pumped m answer;
-      after = to.0;
-      run = to.1;
-      stands = to.2;
-    }
+    so false to = record { after = to.0; run = to.1; stands = to.2 }
 pump-stands tells (Slots s) (Log l') answer m is sound pumps = absurd pumps
 pump-stands tells (Log l) (Slots s') answer m is sound pumps = absurd pumps
 pump-stands tells (Log l) (Log l') answer m is sound pumps = so m.failed refl
@@ -164,16 +151,14 @@ pump-stands tells (Log l) (Log l') answer m is sound pumps = so m.failed refl
     stands_then = (is.1).store
 
     so : (b : Bool) → m.failed ≡ b
-        → MatchBool b ((answer ≡ Err pump.Failed) × Stands tells (Log l') m) (RunsTo tells m (ArePumped m answer) (Log l'))
+        → MatchBool b ((answer ≡ Err pump.Failed) × Stands tells (Log l') m) (RunsTo tells m (pumped_by_log m answer) (Log l'))
     so true fails =
         let rests = failed-rests tells l l' answer (stands_then.memory.failed ∙ fails) pumps in
         (rests.0, subst (λ (x : LogStoreValue). Stands tells (Log x) m) (sym rests.1) is)
     so false works =
         let runs = log_pumps.pump-stands tells l l' answer m is.0 sound stands_then pumps in record {
-          events = log_calls.events_in m answer;
-          are = log-pumped m answer works;
           after = runs.after;
-          run = runs.run;
+          run = subst (λ (events : List (Event Value)). Run IsValue m events runs.after) (log-pumped m answer works) runs.run;
           stands = (
             pump-in-step tells l l' answer is.0 pumps,
             (call-keeps tells l l' m runs.after (log_calls.events_in m answer) is.1 (OfPump answer sound pumps) runs.run runs.stands).0,

@@ -97,15 +97,15 @@ idle-ends m = by-raising m.raising
 
 pub job-pump-stands : (tells : Bool) (old new : StoreValue) (answer : Result JobDid PumpFault) (m : Machine Value) → Stands tells old m
     → (IsTrue tells → AreSound (disk_of new).areas) → PumpsJob tells old answer new
-    → MatchBool m.failed ((answer ≡ Err pump.Failed) × Stands tells new m) (RunsTo tells m (λ events. events ≡ job_ends_in m answer) new)
+    → MatchBool m.failed ((answer ≡ Err pump.Failed) × Stands tells new m) (RunsTo tells m (job_ends_in m answer) new)
 job-pump-stands tells (Slots s) (Slots s') answer m is sound pumps = so m.failed (slot_pieces.job-pump-stands tells s s' answer m is sound pumps)
   where
     so : (b : Bool)
         → MatchBool b ((answer ≡ Err pump.Failed) × slots.Stands tells s' m) ((after : Machine Value)
         × Run IsValue m (job_ends_in m answer) after × slots.Stands tells s' after)
-        → MatchBool b ((answer ≡ Err pump.Failed) × Stands tells (Slots s') m) (RunsTo tells m (λ events. events ≡ job_ends_in m answer) (Slots s'))
+        → MatchBool b ((answer ≡ Err pump.Failed) × Stands tells (Slots s') m) (RunsTo tells m (job_ends_in m answer) (Slots s'))
     so true to = to
-    so false to = record { events = job_ends_in m answer; are = refl; after = to.0; run = to.1; stands = to.2 }
+    so false to = record { after = to.0; run = to.1; stands = to.2 }
 job-pump-stands tells (Slots s) (Log l') answer m is sound pumps = absurd pumps
 job-pump-stands tells (Log l) (Slots s') answer m is sound pumps = absurd pumps
 job-pump-stands tells (Log l) (Log l') answer m is sound pumps = so m.failed (subst Says (let store = (is.1).store in store.memory.failed) pumps.0)
@@ -117,12 +117,10 @@ job-pump-stands tells (Log l) (Log l') answer m is sound pumps = so m.failed (su
     same = subst (λ (x : LogStoreValue). Stands tells (Log x) m) (sym pumps.1) is
 
     so : (b : Bool) → Says b
-        → MatchBool b ((answer ≡ Err pump.Failed) × Stands tells (Log l') m) (RunsTo tells m (λ events. events ≡ job_ends_in m answer) (Log l'))
+        → MatchBool b ((answer ≡ Err pump.Failed) × Stands tells (Log l') m) (RunsTo tells m (job_ends_in m answer) (Log l'))
     so true said = (said, same)
     so false said = record {
-      events = [];
-      are = sym (ap (job_ends_in m) said ∙ idle-ends m);
       after = m;
-      run = refl;
+      run = subst (λ (events : List (Event Value)). Run IsValue m events m) (sym (ap (job_ends_in m) said ∙ idle-ends m)) refl;
       stands = same;
     }

@@ -28,7 +28,7 @@ use Rattle.law_log_store.specs.Standing.{StopsOnHeap, StandsOnHeap, HasTurn}
 use Rattle.law_log_queries.specs.Archive as logs
 use Rattle.law_log_queries.proofs.Opening.{opened-stands}
 use Rattle.law_opening.proofs.Opened as slot_opened
-use Rattle.law_any_store.specs.Standing.{Stands, AnyHeader, IsImageOf, opened_as}
+use Rattle.law_any_store.specs.Standing.{Stands, AnyHeader, IsImageOf, opened_as, opened_in}
 use Rattle.law_any_store.specs.Opened.{IsOfHeader, RecoversHeader}
 
 -- ---- headers
@@ -130,6 +130,21 @@ open-header tells old mark (Slots s) (Log roots) h floors opens told image = ope
 open-header tells old mark (Log l) (Slots header) h floors opens told image =
     slots-no_log (image_of old.areas).status header (image-slots header (image_of old.areas) h floors image) (opens.layout told)
 open-header tells old mark (Log l) (Log roots) h floors opens told image = open-roots tells old mark l roots h floors opens.engine told image
+
+-- so it is opened as its own layout says
+header-opened : (v : StoreValue) (header : AnyHeader) (h : History Value) (floors : ℕ → ℕ) → IsOfHeader v header
+    → opened_as header h floors ≡ opened_in v h floors
+header-opened (Slots s) (Slots header) h floors of = refl
+header-opened (Slots s) (Log roots) h floors of = absurd of
+header-opened (Log l) (Slots header) h floors of = absurd of
+header-opened (Log l) (Log roots) h floors of = refl
+
+pub open-stands_in : (tells : Bool) (old : DiskState) (mark : ℕ) (v : StoreValue) (header : AnyHeader) (h : History Value) (floors : ℕ → ℕ)
+    → Opens tells old mark v → IsTrue tells → AreSound old.areas → IsImageOf header (image_of old.areas) h floors
+    → Stands tells v (opened_in v h floors)
+open-stands_in tells old mark v header h floors opens told sound image =
+    subst (Stands tells v) (header-opened v header h floors (open-header tells old mark v header h floors opens told image))
+    (open-stands tells old mark v header h floors opens told sound image)
 
 pub image-header : (tells : Bool) (header : AnyHeader) (image : Image) (h : History Value) (floors : ℕ → ℕ) → IsTrue tells → IsImageOf header image h floors
     → RecoversHeader tells image header

@@ -26,7 +26,7 @@ use Rattle.store.specs.declared.job.StartFault.{StartFault}
 use Rattle.store.specs.declared.job.StartFault.TheVariants as start
 use Rattle.log_store.specs.Values.{LogStoreValue}
 use Rattle.any_store.specs.declared.engine.Engine.TheVariants.{Slots, Log}
-use Rattle.any_store.specs.Values.{StoreValue}
+use Rattle.any_store.specs.Values.{StoreValue, is_log}
 use Rattle.any_store.specs.Jobs.{none_of, BeginsNone, StartsArchive, StartsReclaim, StartsGrowth}
 use Rattle.law_refinement.specs.Standing.{snapshots_of}
 use Rattle.law_refinement.specs.Stands as slots
@@ -39,18 +39,18 @@ use Rattle.law_any_store.specs.Starts.{ArchiveSays, ReclaimSays, GrowSays}
 -- what an archive's start says of the machine
 slots-start : (tells : Bool) (v v' : slot_values.StoreValue) (m : Machine Value) (upto : ℕ) (r : Result (Unit {0}) StartFault) → slots.Stands tells v m
     → archives.StartsArchive v upto r v'
-    → ArchiveSays m upto r
+    → ArchiveSays false m upto r
 slots-start tells v v' m upto r stands starts =
     by-tests v.transactions.failed refl (is_some v.job) (nat_le upto v.archived) (nat_lt (slot_calls.last v) upto) refl (spare v.transactions == 0) starts
   where
     at-last : slot_calls.last v ≡ last m.published
     at-last = last-is v.transactions m stands.memory
 
-    says : (x : Result (Unit {0}) StartFault) → r ≡ x → ArchiveSays m upto x → ArchiveSays m upto r
-    says x is so = subst (λ (y : Result (Unit {0}) StartFault). ArchiveSays m upto y) (sym is) so
+    says : (x : Result (Unit {0}) StartFault) → r ≡ x → ArchiveSays false m upto x → ArchiveSays false m upto r
+    says x is so = subst (λ (y : Result (Unit {0}) StartFault). ArchiveSays false m upto y) (sym is) so
 
     begins : v.transactions.failed ≡ false → nat_lt (slot_calls.last v) upto ≡ false → (x : Result (Unit {0}) StartFault) → BeginsRun v upto x v'
-        → ArchiveSays m upto x
+        → ArchiveSays false m upto x
     begins on early (Ok done) is =
         (sym stands.memory.failed ∙ on, (let low : upto ≤ slot_calls.last v = grind (arith, nat_tests) in omega (arith, low, at-last)))
     begins on early (Err start.ArchiveFull) is = tt
@@ -70,7 +70,7 @@ slots-start tells v v' m upto r stands starts =
         (cond b (Some start.JobBusy)
         (cond c (Some start.NothingToDo) (cond d (Some (start.NotYet (slot_calls.last v))) (cond e (Some start.StatusFull) None))))) (BeginsRun v upto r v')
         (λ why. (r ≡ Err why) × (v' ≡ v))
-        → ArchiveSays m upto r
+        → ArchiveSays false m upto r
     by-tests true on b c d late e is = says (Err start.Failed) is.0 (sym stands.memory.failed ∙ on)
     by-tests false on true c d late e is = says (Err start.JobBusy) is.0 tt
     by-tests false on false true d late e is = says (Err start.NothingToDo) is.0 tt
@@ -130,13 +130,13 @@ least-open opened snapshot is = by (least-among opened None snapshot is)
 -- what a reclaim's start says of the machine
 slots-reclaim : (tells : Bool) (v v' : slot_values.StoreValue) (m : Machine Value) (r : Result (Unit {0}) StartFault) → slots.Stands tells v m
     → reclaims.StartsReclaim v r v'
-    → ReclaimSays m r
+    → ReclaimSays false m r
 slots-reclaim tells v v' m r stands starts = by-tests v.transactions.failed refl (is_some v.job) (v.archived == v.transactions.reclaimed) starts
   where
-    says : (x : Result (Unit {0}) StartFault) → r ≡ x → ReclaimSays m x → ReclaimSays m r
-    says x is so = subst (λ (y : Result (Unit {0}) StartFault). ReclaimSays m y) (sym is) so
+    says : (x : Result (Unit {0}) StartFault) → r ≡ x → ReclaimSays false m x → ReclaimSays false m r
+    says x is so = subst (λ (y : Result (Unit {0}) StartFault). ReclaimSays false m y) (sym is) so
 
-    begins : v.transactions.failed ≡ false → (x : Result (Unit {0}) StartFault) → BeginsReclaim v x v' → ReclaimSays m x
+    begins : v.transactions.failed ≡ false → (x : Result (Unit {0}) StartFault) → BeginsReclaim v x v' → ReclaimSays false m x
     begins on (Ok done) is = (sym stands.memory.failed ∙ on)
     begins on (Err start.HeapFull) is = tt
     begins on (Err start.NoMemory) is = tt
@@ -157,12 +157,12 @@ slots-reclaim tells v v' m r stands starts = by-tests v.transactions.failed refl
         (least-open v.transactions.opened snapshot (below-is (oldest v.transactions) v.archived snapshot is))
 
     by-room : v.transactions.failed ≡ false → (e : Bool)
-        → MatchOption (cond e (Some start.StatusFull) None) (BeginsReclaim v r v') (λ why. (r ≡ Err why) × (v' ≡ v)) → ReclaimSays m r
+        → MatchOption (cond e (Some start.StatusFull) None) (BeginsReclaim v r v') (λ why. (r ≡ Err why) × (v' ≡ v)) → ReclaimSays false m r
     by-room on true is = says (Err start.StatusFull) is.0 tt
     by-room on false is = begins on r is
 
     by-use : v.transactions.failed ≡ false → (o : Option ℕ) → below (oldest v.transactions) v.archived ≡ o
-        → MatchOption (refusal_for_use v o) (BeginsReclaim v r v') (λ why. (r ≡ Err why) × (v' ≡ v)) → ReclaimSays m r
+        → MatchOption (refusal_for_use v o) (BeginsReclaim v r v') (λ why. (r ≡ Err why) × (v' ≡ v)) → ReclaimSays false m r
     by-use on (Some snapshot) low is = says (Err (start.InUse snapshot)) is.0 (in-use snapshot low)
     by-use on None low is = by-room on (spare v.transactions == 0) is
 
@@ -170,7 +170,7 @@ slots-reclaim tells v v' m r stands starts = by-tests v.transactions.failed refl
         → MatchOption (cond a (Some start.Failed)
         (cond b (Some start.JobBusy) (cond c (Some start.NothingToDo) (refusal_for_use v (below (oldest v.transactions) v.archived)))))
         (BeginsReclaim v r v') (λ why. (r ≡ Err why) × (v' ≡ v))
-        → ReclaimSays m r
+        → ReclaimSays false m r
     by-tests true on b c is = says (Err start.Failed) is.0 (sym stands.memory.failed ∙ on)
     by-tests false on true c is = says (Err start.JobBusy) is.0 tt
     by-tests false on false true is = says (Err start.NothingToDo) is.0 tt
@@ -211,20 +211,20 @@ module _ (tells : Bool) (why : StartFault) (answer : Result (Unit {0}) StartFaul
 -- ---- in either
 
 pub start-says : (tells : Bool) (old new : StoreValue) (upto : ℕ) (answer : Result (Unit {0}) StartFault) (m : Machine Value) → Stands tells old m
-    → StartsArchive old upto answer new → ArchiveSays m upto answer
+    → StartsArchive old upto answer new → ArchiveSays (is_log old) m upto answer
 start-says tells (Slots s) (Slots s') upto answer m is starts = slots-start tells s s' m upto answer is starts
 start-says tells (Slots s) (Log l') upto answer m is starts = absurd starts
 start-says tells (Log l) (Slots s') upto answer m is starts = absurd starts
 start-says tells (Log l) (Log l') upto answer m is starts =
-    none-says tells start.WrongProfile answer l l' m is (ArchiveSays m upto) (λ failed. failed) tt starts
+    none-says tells start.WrongProfile answer l l' m is (ArchiveSays true m upto) (λ failed. failed) tt starts
 
 pub reclaim-says : (tells : Bool) (old new : StoreValue) (answer : Result (Unit {0}) StartFault) (m : Machine Value) → Stands tells old m
-    → StartsReclaim old answer new → ReclaimSays m answer
+    → StartsReclaim old answer new → ReclaimSays (is_log old) m answer
 reclaim-says tells (Slots s) (Slots s') answer m is starts = slots-reclaim tells s s' m answer is starts
 reclaim-says tells (Slots s) (Log l') answer m is starts = absurd starts
 reclaim-says tells (Log l) (Slots s') answer m is starts = absurd starts
 reclaim-says tells (Log l) (Log l') answer m is starts =
-    none-says tells start.WrongProfile answer l l' m is (ReclaimSays m) (λ failed. failed) tt starts
+    none-says tells start.WrongProfile answer l l' m is (ReclaimSays true m) (λ failed. failed) tt starts
 
 pub grow-says : (tells : Bool) (old new : StoreValue) (answer : Result (Unit {0}) StartFault) (m : Machine Value) → Stands tells old m
     → StartsGrowth old answer new → GrowSays m answer

@@ -1,4 +1,5 @@
 //! Laws of a store's calls, whatever its layout.
+ghost use Rattle.law_any_store.specs.Standing.{LayoutStays};
 ghost use Rattle.law_any_store.specs.Calls.{BeginStands, AbortStands, SubmitStands, PumpStands, RedeemStands, ArchiveStartStands, ReclaimStartStands};
 ghost use Rattle.law_any_store.specs.Calls.{FloorStartStands, GrowStartStands, JobPumpStands};
 ghost use Rattle.law_any_store.specs.Leaving.{MemoryStands, LastIsPublished, LateTimesAreOfLabel, PumpLeaves, ArchiveStartLeaves, ReclaimStartLeaves};
@@ -71,6 +72,11 @@ pub fn queries_stand()
     ensures scan_at { ScanAtStands }
     ensures between { BetweenStands }
     ensures scan_between { ScanBetweenStands }
+{}
+
+/// No call changes the layout of a store.
+pub fn layout_stays()
+    ensures { LayoutStays }
 {}
 
 /// Views go on over every call.

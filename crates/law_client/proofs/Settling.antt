@@ -1,12 +1,16 @@
 -- What is settled stays so, and is read after any stop.
 use Rattle.std.proofs.Common.{◌≡◌, inl, inr, ◌≤◌, ◌++◌, ℕ, suc, Bool, IsTrue, [], Option, MatchOption, ap, sym, subst, ◌∙◌, arith}
+use Rattle.disk.specs.Areas.{Image}
 use Rattle.history.specs.declared.key.Key.{Key}
 use Rattle.history.specs.Floors.{Raising, covers}
 use Rattle.history.specs.Histories.{History, last, state, IsHistory, MayAllFollow}
 use Rattle.history.specs.Machine.{opened}
 use Rattle.history.proofs.Histories.{may_follow-front, may_follow-behind}
 use Rattle.law_image.specs.Values.{Value, IsValue}
-use Rattle.run.specs.Traces.{Trace, moment_at, machine_at}
+use Rattle.any_store.specs.declared.engine.Engine.TheVariants.{Slots, Log}
+use Rattle.any_store.specs.Values.{StoreValue}
+use Rattle.law_any_store.specs.Standing.{opened_in}
+use Rattle.run.specs.Traces.{Trace, moment_at, machine_at, StopLeaves}
 use Rattle.law_client.specs.Public.{Public}
 use Rattle.run.specs.Laws.{IsKeptTime}
 use Rattle.law_client.specs.Settled.{IsSettled, SettledStays, SettledIsRead, SettledReopens, TimesStayKept}
@@ -47,8 +51,11 @@ value-on public t p q key time value low reached is kept =
 pub settled-stays : Public → SettledStays
 settled-stays public tells t p q key time value low settled kept = value-on public t p q key time value low settled.reached settled.is kept
 
-pub settled-reopens : Public → SettledReopens
-settled-reopens public tells t n key time value image told settled kept stop =
+-- what is kept after a stop
+settled-kept : Public → (tells : Bool) (t : Trace tells) (n : ℕ) (key : Key) (time : ℕ) (value : Option Value) (image : Image)
+    → IsTrue tells → IsSettled (machine_at t n) key time value → IsKeptTime (machine_at t (suc n)) key.relation time → StopLeaves t n image
+    → KeptLike tells image (λ h floors. IsSettled (opened h floors) key time value)
+settled-kept public tells t n key time value image told settled kept stop =
     let next : IsSettled (machine_at t (suc n)) key time value = settled-stays public tells t n (suc n) key time value (omega arith) settled kept in
     elim (public.stops tells t n image told stop) as (λ o. KeptLike tells image (λ h floors. IsSettled (opened h floors) key time value)) [
       | inl here ↦ survivor-settled public.later tells (moment_at t n) image key time value (public.runs tells t n n (omega arith)).0 settled here
@@ -56,9 +63,20 @@ settled-reopens public tells t n key time value image told settled kept stop =
           there
     ]
 
+-- in any layout
+settled-in : (v : StoreValue) (h : History Value) (floors : ℕ → ℕ) (key : Key) (time : ℕ) (value : Option Value) → IsSettled (opened h floors) key time value
+    → IsSettled (opened_in v h floors) key time value
+settled-in (Slots s) h floors key time value settled = settled
+settled-in (Log l) h floors key time value settled = record { kept = settled.kept; reached = settled.reached; is = settled.is }
+
+pub settled-reopens : Public → SettledReopens
+settled-reopens public tells t n key time value image told settled kept stop =
+    let again = settled-kept public tells t n key time value image told settled kept stop in
+    (again.0, again.1, again.2, λ v. settled-in v again.0 again.1 key time value again.3)
+
 pub settled-read : Public → SettledIsRead
 settled-read public tells t n key time value image told settled kept stop =
-    let again = settled-reopens public tells t n key time value image told settled kept stop in
+    let again = settled-kept public tells t n key time value image told settled kept stop in
     kept-read tells image again.0 again.1 key time value again.2 again.3
 
 pub times-stay : Public → TimesStayKept

@@ -15,11 +15,10 @@ use Rattle.recovery.specs.declared.fault.OpenFault.{OpenFault}
 use Rattle.timequery.specs.View.{ViewValue}
 use Rattle.timequery.specs.declared.fault.QueryFault.{QueryFault}
 use Rattle.timequery.specs.declared.fault.QueryFault.TheVariants as query
-use Rattle.store.specs.Values.{StoreValue}
-use Rattle.store.specs.Calls.{IsViewOf, AnswersAtView}
-use Rattle.law_refinement.specs.Homes.{GoesOn}
-use Rattle.law_refinement.specs.Stands.{Stands}
-use Rattle.store.specs.Opens.{Opens, OpenRefuses}
+use Rattle.any_store.specs.Values.{StoreValue}
+use Rattle.any_store.specs.Opens.{Opens, OpenRefuses}
+use Rattle.any_store.specs.Queries.{IsViewOf, AnswersAtView}
+use Rattle.law_any_store.specs.Standing.{Stands, GoesOn}
 use Rattle.run.specs.declared.calls.Call.{Call}
 use Rattle.run.specs.declared.calls.Call.TheVariants as call
 use Rattle.run.specs.declared.calls.Answer.{Answer}

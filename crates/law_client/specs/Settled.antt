@@ -3,8 +3,10 @@ use Rattle.std.specs.Prelude.{ℕ, ◌≡◌, ◌≤◌, Bool, IsTrue, suc, Opti
 use Rattle.disk.specs.Areas.{Image}
 use Rattle.history.specs.declared.key.Key.{Key}
 use Rattle.history.specs.Histories.{History, last, state}
-use Rattle.history.specs.Machine.{Machine, opened}
+use Rattle.history.specs.Machine.{Machine}
 use Rattle.law_image.specs.Values.{Value}
+use Rattle.any_store.specs.Values.{StoreValue}
+use Rattle.law_any_store.specs.Standing.{opened_in}
 use Rattle.run.specs.Promise.{IsKeptAs}
 use Rattle.run.specs.Traces.{Trace, machine_at, StopLeaves}
 use Rattle.run.specs.Laws.{IsKeptTime}
@@ -39,7 +41,7 @@ SettledIsRead = (tells : Bool) (t : Trace tells) (n : ℕ) (key : Key) (time : �
 abbrev pub SettledReopens : Type 0
 SettledReopens = (tells : Bool) (t : Trace tells) (n : ℕ) (key : Key) (time : ℕ) (value : Option Value) (image : Image)
     → IsTrue tells → IsSettled (machine_at t n) key time value → IsKeptTime (machine_at t (suc n)) key.relation time → StopLeaves t n image
-    → (h : History Value) × (floors : ℕ → ℕ) × IsKeptAs tells image h floors × IsSettled (opened h floors) key time value
+    → (h : History Value) × (floors : ℕ → ℕ) × IsKeptAs tells image h floors × ((v : StoreValue) → IsSettled (opened_in v h floors) key time value)
 
 -- A time that is kept stays so, unless a call between begins a later floor.
 abbrev pub TimesStayKept : Type 0

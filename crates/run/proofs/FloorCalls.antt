@@ -1,40 +1,30 @@
 -- The beginning of a floor.
-use Rattle.std.proofs.Common.{◌≡◌, inr, ℕ, ◌+◌, ◌≤◌, Bool, List, [], ◌∷◌, ◌++◌, Some, None, Option, Result, Ok, Err, MatchOption, refl, sym, ap, subst, arith}
+use Rattle.std.proofs.Common.{◌≡◌, inr, ℕ, Bool, List, [], ◌∷◌, ◌++◌, Option, Result, Ok, Err, refl, sym, subst}
+use Rattle.history.specs.Histories.{History}
 use Rattle.history.specs.Steps as steps
 use Rattle.history.specs.Machine.{Machine}
 use Rattle.law_image.specs.Values.{Value}
-use Rattle.store.specs.Values.{StoreValue}
-use Rattle.store.specs.Floors.{floor_refusal, BeginsFloor, StartsFloor}
 use Rattle.store.specs.declared.job.StartFault.{StartFault}
 use Rattle.store.specs.declared.job.StartFault.TheVariants as start
-use Rattle.law_refinement.specs.Calls.{raising_to, StartsOn}
-use Rattle.law_refinement.specs.Stands.{Stands}
-use Rattle.law_refinement.proofs.JobLeaving.{floor-leaves}
-use Rattle.law_refinement.proofs.GrowingCalls.{floor-start-stands}
-use Rattle.law_refinement.proofs.GrowingViews.{floor-start-goes}
+use Rattle.any_store.specs.Values.{StoreValue, commits_of}
+use Rattle.any_store.specs.Jobs.{StartsFloor}
+use Rattle.law_refinement.specs.Calls.{raising_to}
+use Rattle.law_any_store.specs.Calls.{StartsOn}
+use Rattle.law_any_store.specs.Standing.{Stands}
+use Rattle.law_any_store.proofs.Jobs.{floor-start-stands}
+use Rattle.law_any_store.proofs.Leaving.{floor-leaves}
+use Rattle.law_any_store.proofs.Names.{floor-names}
+use Rattle.law_any_store.proofs.Views.{floor-start-goes}
 use Rattle.run.specs.declared.calls.Call.TheVariants as call
 use Rattle.run.specs.declared.calls.Answer.TheVariants as answer
 use Rattle.run.specs.declared.held.Held.{Held}
 use Rattle.run.specs.declared.held.Held.TheVariants as held
-use Rattle.run.specs.Places.{Free, ArePlaces}
 use Rattle.run.specs.Worlds.{World, moved, same}
 use Rattle.run.specs.Runs.{Goes, Leads, Follows, Raises}
 use Rattle.run.proofs.Runs.{no-step}
-use Rattle.run.proofs.Places.{reads-move, reads-plain, push_nothing, move, goes_on-same, stays}
+use Rattle.run.proofs.Places.{GoesOn, goes_on-same}
 use Rattle.run.proofs.Pumping.{pump-keeps}
-
-pub floor-few : (old new : StoreValue) (scope : Option ℕ) (floor : ℕ) (r : Result (Unit {0}) StartFault) → StartsFloor old scope floor r new
-    → new.disk.made ≤ old.disk.made + 1
-floor-few old new scope floor r starts = by-refusal (floor_refusal old scope floor) starts
-  where
-    begun : (said : Result (Unit {0}) StartFault) → BeginsFloor old scope floor said new → new.disk.made ≤ old.disk.made + 1
-    begun (Ok done) is = let made = ap (λ (v : StoreValue). v.disk.made) is.1 in omega (arith, made)
-    begun (Err why) is = let made = ap (λ (v : StoreValue). v.disk.made) is.2 in omega (arith, made)
-
-    by-refusal : (o : Option StartFault) → MatchOption o (BeginsFloor old scope floor r new) (λ why. (r ≡ Err why) × (new ≡ old))
-        → new.disk.made ≤ old.disk.made + 1
-    by-refusal None is = begun r is
-    by-refusal (Some why) is = let made = ap (λ (v : StoreValue). v.disk.made) is.1 in omega (arith, made)
+use Rattle.run.proofs.Steps.{kept-world}
 
 -- what the call leads to
 record StartsTo (tells : Bool) (v' : StoreValue) (w : World) (scope : Option ℕ) (floor : ℕ) (r : Result (Unit {0}) StartFault) : Type 0 where
@@ -75,21 +65,15 @@ starts-to tells v' w scope floor (Err start.NotGrowable) is = absurd is
 floor-leads : (tells : Bool) (v v' : StoreValue) (xs : List Held) (scope : Option ℕ) (floor : ℕ) (r : Result (Unit {0}) StartFault)
     → StartsFloor v scope floor r v' → Leads tells v xs (call.Floor scope floor) (answer.Floor r) v' (xs ++ held.Nothing ∷ [])
 floor-leads tells v v' xs scope floor r starts w is =
-    let leads = starts-to tells v' w scope floor r (floor-start-stands tells v v' scope floor r w.machine is.stands starts) in
-    let places : ArePlaces v'.transactions w.machine.published (xs ++ held.Nothing ∷ []) (w.places ++ Free ∷ []) =
-    push_nothing v'.transactions w.machine.published xs w.places
-    (move v.transactions v'.transactions w.machine.published w.machine.published xs w.places is.places
-    (λ i x p at shows. stays v.transactions v'.transactions w.machine.published w.machine.published x p
-    (pump-keeps v.transactions v'.transactions x (floor-leaves v v' scope floor r starts)) (goes_on-same w.machine.published) shows)) in (
+    let leads = starts-to tells v' w scope floor r (floor-start-stands tells v v' scope floor r w.machine is.stands starts) in (
       same (moved w leads.after),
       leads.says,
       leads.follows,
-      record {
-        stands = leads.stands;
-        places = subst (λ h. ArePlaces v'.transactions h (xs ++ held.Nothing ∷ []) (w.places ++ Free ∷ [])) (sym leads.published) places;
-        views = reads-plain tells v' xs w.places held.Nothing Free is.places.many tt
-            (reads-move tells v v' xs w.places (floor-start-goes tells v v' scope floor r w.machine is.stands starts) is.views);
-      },
+      kept-world tells v v' xs w leads.after is
+          (record { goes = floor-start-goes tells v v' scope floor r w.machine is.stands starts; names = floor-names v v' scope floor r starts })
+          leads.stands
+          (subst (λ (h : History Value). GoesOn w.machine.published h) (sym leads.published) (goes_on-same w.machine.published))
+          (λ x. pump-keeps (commits_of v) (commits_of v') x (floor-leaves v v' scope floor r starts)),
     )
 
 pub floor-goes : (tells : Bool) (v v' : StoreValue) (xs : List Held) (scope : Option ℕ) (floor : ℕ) (r : Result (Unit {0}) StartFault)

@@ -25,6 +25,7 @@ use Rattle.store.specs.declared.job.JobDid.{JobDid}
 use Rattle.store.specs.declared.job.JobDid.TheVariants as job_did
 use Rattle.store.specs.declared.job.StartFault.{StartFault}
 use Rattle.store.specs.declared.job.StartFault.TheVariants as start
+use Rattle.law_any_store.specs.Calls.{pumped_in}
 use Rattle.law_refinement.specs.Laws.{begins_in, breaks_in, ends_in, floor_ends_in, floor_ends, job_breaks_in, job_ends_in}
 use Rattle.run.specs.declared.calls.Call.{Call}
 use Rattle.run.specs.declared.calls.Call.TheVariants as call
@@ -116,6 +117,14 @@ ends-keep gate (Ok (did.Published count)) = (tt, tt)
 ends-keep gate (Err pump.Busy) = tt
 ends-keep gate (Err pump.NoMemory) = tt
 ends-keep gate (Err pump.Failed) = breaks-keep gate
+
+-- so does a step of a group, in either layout
+pumped-keep : (in_heap : Bool) (m : Machine Value) (said : Result Did PumpFault) → AllByRecursion KeepsFloors (pumped_in in_heap m said)
+pumped-keep false m said = begins-keep m (ends_in m.gate said) (ends-keep m.gate said)
+pumped-keep true m (Ok what) = begins-keep m (ends_in m.gate (Ok what)) (ends-keep m.gate (Ok what))
+pumped-keep true m (Err pump.Busy) = tt
+pumped-keep true m (Err pump.NoMemory) = tt
+pumped-keep true m (Err pump.Failed) = begins-keep m (breaks_in m.gate) (breaks-keep m.gate)
 
 -- ---- a time that is kept
 
@@ -325,8 +334,8 @@ call-times tells w (call.Submit i label now) (answer.Submit said) next does =
     unraised w (call.Submit i label now) (answer.Submit said) next (submit-floors w i label now (place_at w.places i) said next does)
 call-times tells w (call.Abort i) answer.Abort next does = unraised w (call.Abort i) answer.Abort next (abort-floors w i (place_at w.places i) next does)
 call-times tells w call.Pump (answer.Pump said) next does =
-    unraised w call.Pump (answer.Pump said) next (moves-floors w next w.machine.failed _ _ (begins_in w.machine
-    ++ ends_in w.machine.gate said) (begins-keep w.machine (ends_in w.machine.gate said) (ends-keep w.machine.gate said)) does)
+    unraised w call.Pump (answer.Pump said) next (moves-floors w next w.machine.failed _ _ (pumped_in w.in_heap w.machine said)
+    (pumped-keep w.in_heap w.machine said) does)
 call-times tells w (call.Redeem i) (answer.Redeem said) next does =
     unraised w (call.Redeem i) (answer.Redeem said) next (redeem-floors w i (place_at w.places i) said next does)
 call-times tells w (call.GiveUp i) answer.GiveUp next does =

@@ -1,10 +1,10 @@
 -- A call leads from one moment to the next, and one call after another makes a chain.
 use Rattle.std.proofs.Common.{◌+◌, ◌≤◌, Bool, List, [], ◌∷◌, ◌++◌, refl, sym, subst, inl, inr}
-use Rattle.store.specs.Values.{StoreValue}
-use Rattle.law_opening.proofs.Opened.{open-stands}
-use Rattle.history.specs.Machine.{Machine, opened}
+use Rattle.history.specs.Machine.{Machine}
 use Rattle.law_image.specs.Values.{Value}
-use Rattle.law_refinement.specs.Stands.{Stands}
+use Rattle.any_store.specs.Values.{StoreValue, disk_of}
+use Rattle.law_any_store.specs.Standing.{Stands, opened_in}
+use Rattle.law_any_store.proofs.Opened.{open-stands_in}
 use Rattle.run.specs.declared.calls.Call.{Call}
 use Rattle.run.specs.declared.calls.Answer.{Answer}
 use Rattle.run.specs.declared.held.Held.{Held}
@@ -23,7 +23,7 @@ between tells before after old new told image (inr left) = inr (new told image l
 
 -- the next moment of a store, of which a call is made
 pub links : (tells : Bool) (v v' : StoreValue) (xs ys : List Held) (c : Call) (a : Answer) (at : Moment) → IsAtMoment tells v xs at
-    → Goes tells v xs c a v' ys → v'.disk.made ≤ v.disk.made + 1
+    → Goes tells v xs c a v' ys → (disk_of v').made ≤ (disk_of v).made + 1
     → (after : Moment) × Link tells c a at after × IsAtMoment tells v' ys after
 links tells v v' xs ys c a at is goes few =
     let did = goes.leads at.world is.world in
@@ -40,7 +40,7 @@ links tells v v' xs ys c a at is goes few =
         does = did.1;
         follows = did.2;
         acknowledges = refl;
-        makes_few = subst (λ (x : StoreValue). v'.disk.made ≤ x.disk.made + 1) (sym is.store) few;
+        makes_few = subst (λ (x : StoreValue). (disk_of v').made ≤ (disk_of x).made + 1) (sym is.store) few;
         leaves_within = between tells at after old new;
         leaves = new;
       },
@@ -60,4 +60,5 @@ first-is tells v m stands = record { store = refl; places = refl; world = starte
 
 pub promise : Promise
 promise tells disk mark v new header h floors calls said held told sound is opens keeps =
-    keeps (first_moment v (opened h floors)) (first-is tells v (opened h floors) (open-stands tells disk mark v header h floors opens told sound is))
+    let m = opened_in v h floors in
+    keeps (first_moment v m) (first-is tells v m (open-stands_in tells disk mark v header h floors opens told sound is))

@@ -332,7 +332,7 @@ closes-spent w i (Waits t) next does = absurd does
 pub archive-same : (w : World) (upto : ℕ) (said : Result (Unit {0}) StartFault) (next : World) → Archives w upto said next → next ≡ same w
 archive-same w upto (Ok u) next does = does.2
 archive-same w upto (Err start.Failed) next does = does.1
-archive-same w upto (Err start.WrongProfile) next does = absurd does
+archive-same w upto (Err start.WrongProfile) next does = does.1
 archive-same w upto (Err start.JobBusy) next does = does
 archive-same w upto (Err start.NothingToDo) next does = does
 archive-same w upto (Err (start.NotYet time)) next does = does.2
@@ -346,7 +346,7 @@ archive-same w upto (Err start.NotGrowable) next does = absurd does
 pub reclaim-same : (w : World) (said : Result (Unit {0}) StartFault) (next : World) → Reclaims w said next → next ≡ same w
 reclaim-same w (Ok u) next does = does.1
 reclaim-same w (Err start.Failed) next does = does.1
-reclaim-same w (Err start.WrongProfile) next does = absurd does
+reclaim-same w (Err start.WrongProfile) next does = does.1
 reclaim-same w (Err start.JobBusy) next does = does
 reclaim-same w (Err start.NothingToDo) next does = does
 reclaim-same w (Err (start.InUse time)) next does = does.1

@@ -17,11 +17,11 @@ use Rattle.group.specs.CommitOrder.{is_awaited, redeemed, IsRisingAfter, last_ti
 use Rattle.group.specs.Tickets.{TicketValue}
 use Rattle.group.specs.declared.commit_order.CommitHead.{CommitHead}
 use Rattle.timequery.specs.View.{ViewValue}
-use Rattle.group.specs.Values.{TransactionsValue}
+use Rattle.commits.specs.Values.{CommitsValue}
+use Rattle.any_store.specs.Values.{StoreValue}
 use Rattle.law_refinement.specs.Homes.{ViewStands}
-use Rattle.law_refinement.specs.Homes as homes
-use Rattle.law_refinement.proofs.Views.{view-goes-on}
-use Rattle.store.specs.Values.{StoreValue}
+use Rattle.law_any_store.specs.Standing as stores
+use Rattle.law_any_store.proofs.Views.{view-goes-on}
 use Rattle.run.specs.declared.held.Held.{Held}
 use Rattle.run.specs.declared.held.Held.TheVariants as held
 use Rattle.run.specs.Places.{Place, Free, Running, Waits, Views, place_at, IsNoTransaction, IsNoTicket, IsNoView, HasNoTransaction, HasNoTicket, HasNoView}
@@ -63,7 +63,7 @@ view-no_clash w (held.View u) c = c
 
 -- ---- places
 
-pub push : (v : TransactionsValue) (h : History Value) (xs : List Held) (ps : List Place) (x : Held) (p : Place) → ArePlaces v h xs ps → ShowsAs v h x p
+pub push : (v : CommitsValue) (h : History Value) (xs : List Held) (ps : List Place) (x : Held) (p : Place) → ArePlaces v h xs ps → ShowsAs v h x p
     → ((j : ℕ) (b : Held) → slice_get xs j ≡ Some b → Clash x b → ⊥) → ArePlaces v h (xs ++ x ∷ []) (ps ++ p ∷ [])
 push v h xs ps x p are shows fresh = record {
   many = held-length-push xs x ∙ ap suc are.many ∙ sym (length-push ps p);
@@ -86,11 +86,11 @@ push v h xs ps x p are shows fresh = record {
   ];
 }
 
-pub push_nothing : (v : TransactionsValue) (h : History Value) (xs : List Held) (ps : List Place) → ArePlaces v h xs ps
+pub push_nothing : (v : CommitsValue) (h : History Value) (xs : List Held) (ps : List Place) → ArePlaces v h xs ps
     → ArePlaces v h (xs ++ held.Nothing ∷ []) (ps ++ Free ∷ [])
 push_nothing v h xs ps are = push v h xs ps held.Nothing Free are tt (λ j b at clash. no_clash b clash)
 
-pub set : (v : TransactionsValue) (h : History Value) (xs : List Held) (ps : List Place) (k : ℕ) (old x : Held) (p : Place) → ArePlaces v h xs ps
+pub set : (v : CommitsValue) (h : History Value) (xs : List Held) (ps : List Place) (k : ℕ) (old x : Held) (p : Place) → ArePlaces v h xs ps
     → slice_get xs k ≡ Some old → ShowsAs v h x p → ((b : Held) → Clash x b → Clash old b) → ArePlaces v h (slice_set xs k x) (slice_set ps k p)
 set v h xs ps k old x p are here shows same = record {
   many = held-length-set xs k x ∙ are.many ∙ sym (length-set ps k p);
@@ -113,16 +113,16 @@ set v h xs ps k old x p are here shows same = record {
   ];
 }
 
-pub free : (v : TransactionsValue) (h : History Value) (xs : List Held) (ps : List Place) (k : ℕ) (old : Held) → ArePlaces v h xs ps → slice_get xs k ≡ Some old
+pub free : (v : CommitsValue) (h : History Value) (xs : List Held) (ps : List Place) (k : ℕ) (old : Held) → ArePlaces v h xs ps → slice_get xs k ≡ Some old
     → ArePlaces v h (slice_set xs k held.Nothing) (slice_set ps k Free)
 free v h xs ps k old are here = set v h xs ps k old held.Nothing Free are here tt (λ b clash. absurd (no_clash b clash))
 
-pub move : (v v' : TransactionsValue) (h h' : History Value) (xs : List Held) (ps : List Place) → ArePlaces v h xs ps
+pub move : (v v' : CommitsValue) (h h' : History Value) (xs : List Held) (ps : List Place) → ArePlaces v h xs ps
     → ((i : ℕ) (x : Held) (p : Place) → slice_get xs i ≡ Some x → ShowsAs v h x p → ShowsAs v' h' x p) → ArePlaces v' h' xs ps
 move v v' h h' xs ps are stays = record { many = are.many; each = λ i x at. stays i x (place_at ps i) at (are.each i x at); apart = are.apart }
 
 -- what a place gave up clashes with no other
-pub freed_apart : (v : TransactionsValue) (h : History Value) (xs : List Held) (ps : List Place) (k : ℕ) (old : Held) → ArePlaces v h xs ps → slice_get xs k
+pub freed_apart : (v : CommitsValue) (h : History Value) (xs : List Held) (ps : List Place) (k : ℕ) (old : Held) → ArePlaces v h xs ps → slice_get xs k
     ≡ Some old → (j : ℕ) (b : Held) → slice_get (slice_set xs k held.Nothing) j ≡ Some b → Clash old b → ⊥
 freed_apart v h xs ps k old are here j b at clash = elim (get-set xs k j held.Nothing b at) [
   | inl new ↦ no_clash old (clash-swap old held.Nothing (subst (λ (y : Held). Clash old y) new.1 clash))
@@ -139,7 +139,7 @@ module _ (tells : Bool) where
   read-plain v (held.View w) none p = absurd none
 
   -- what is held is read still once the store has gone on
-  read-on : (v v' : StoreValue) (x : Held) (p : Place) → homes.GoesOn tells v v' → IsRead tells v x p → IsRead tells v' x p
+  read-on : (v v' : StoreValue) (x : Held) (p : Place) → stores.GoesOn tells v v' → IsRead tells v x p → IsRead tells v' x p
   read-on v v' held.Nothing p goes is = tt
   read-on v v' (held.Transaction t) p goes is = tt
   read-on v v' (held.Ticket t) p goes is = tt
@@ -148,7 +148,7 @@ module _ (tells : Bool) where
   read-on v v' (held.View w) (Waits time) goes is = tt
   read-on v v' (held.View w) (Views history floors reclaimed) goes is = view-goes-on tells v v' w history floors is goes
 
-  pub reads-move : (v v' : StoreValue) (xs : List Held) (ps : List Place) → homes.GoesOn tells v v' → AreRead tells v xs ps → AreRead tells v' xs ps
+  pub reads-move : (v v' : StoreValue) (xs : List Held) (ps : List Place) → stores.GoesOn tells v v' → AreRead tells v xs ps → AreRead tells v' xs ps
   reads-move v v' xs ps goes are = record { each = λ i x at. read-on v v' x (place_at ps i) goes (are.each i x at) }
 
   pub reads-push : (v : StoreValue) (xs : List Held) (ps : List Place) (x : Held) (p : Place) → length xs ≡ length ps → AreRead tells v xs ps
@@ -178,7 +178,7 @@ module _ (tells : Bool) where
 
 -- ---- what a place is known to hold
 
-shown-no_transaction : (v : TransactionsValue) (h : History Value) (x : Held) (p : Place) → ShowsAs v h x p → HasNoTransaction (Some x) → IsNoTransaction p
+shown-no_transaction : (v : CommitsValue) (h : History Value) (x : Held) (p : Place) → ShowsAs v h x p → HasNoTransaction (Some x) → IsNoTransaction p
 shown-no_transaction v h x Free shows none = tt
 shown-no_transaction v h x (Waits time) shows none = tt
 shown-no_transaction v h x (Views history floors reclaimed) shows none = tt
@@ -187,7 +187,7 @@ shown-no_transaction v h (held.Transaction t) (Running s ws) shows none = none
 shown-no_transaction v h (held.Ticket t) (Running s ws) shows none = shows
 shown-no_transaction v h (held.View w) (Running s ws) shows none = shows
 
-shown-no_ticket : (v : TransactionsValue) (h : History Value) (x : Held) (p : Place) → ShowsAs v h x p → HasNoTicket (Some x) → IsNoTicket p
+shown-no_ticket : (v : CommitsValue) (h : History Value) (x : Held) (p : Place) → ShowsAs v h x p → HasNoTicket (Some x) → IsNoTicket p
 shown-no_ticket v h x Free shows none = tt
 shown-no_ticket v h x (Running s ws) shows none = tt
 shown-no_ticket v h x (Views history floors reclaimed) shows none = tt
@@ -196,7 +196,7 @@ shown-no_ticket v h (held.Transaction t) (Waits time) shows none = shows
 shown-no_ticket v h (held.Ticket t) (Waits time) shows none = none
 shown-no_ticket v h (held.View w) (Waits time) shows none = shows
 
-shown-no_view : (v : TransactionsValue) (h : History Value) (x : Held) (p : Place) → ShowsAs v h x p → HasNoView (Some x) → IsNoView p
+shown-no_view : (v : CommitsValue) (h : History Value) (x : Held) (p : Place) → ShowsAs v h x p → HasNoView (Some x) → IsNoView p
 shown-no_view v h x Free shows none = tt
 shown-no_view v h x (Running s ws) shows none = tt
 shown-no_view v h x (Waits time) shows none = tt
@@ -205,7 +205,7 @@ shown-no_view v h (held.Transaction t) (Views history floors reclaimed) shows no
 shown-no_view v h (held.Ticket t) (Views history floors reclaimed) shows none = shows
 shown-no_view v h (held.View w) (Views history floors reclaimed) shows none = none
 
-pub no_transaction : (v : TransactionsValue) (h : History Value) (xs : List Held) (ps : List Place) (i : ℕ) → ArePlaces v h xs ps
+pub no_transaction : (v : CommitsValue) (h : History Value) (xs : List Held) (ps : List Place) (i : ℕ) → ArePlaces v h xs ps
     → HasNoTransaction (slice_get xs i) → IsNoTransaction (place_at ps i)
 no_transaction v h xs ps i are none = by-option (slice_get xs i) refl none
   where
@@ -214,7 +214,7 @@ no_transaction v h xs ps i are none = by-option (slice_get xs i) refl none
         are.many in subst (λ (p : Place). IsNoTransaction p) (sym (place-past ps i (omega arith))) tt
     by-option (Some x) at none = shown-no_transaction v h x (place_at ps i) (are.each i x at) none
 
-pub no_ticket : (v : TransactionsValue) (h : History Value) (xs : List Held) (ps : List Place) (i : ℕ) → ArePlaces v h xs ps → HasNoTicket (slice_get xs i)
+pub no_ticket : (v : CommitsValue) (h : History Value) (xs : List Held) (ps : List Place) (i : ℕ) → ArePlaces v h xs ps → HasNoTicket (slice_get xs i)
     → IsNoTicket (place_at ps i)
 no_ticket v h xs ps i are none = by-option (slice_get xs i) refl none
   where
@@ -222,7 +222,7 @@ no_ticket v h xs ps i are none = by-option (slice_get xs i) refl none
     by-option None at none = let past = get-past xs i at in let many = are.many in subst (λ (p : Place). IsNoTicket p) (sym (place-past ps i (omega arith))) tt
     by-option (Some x) at none = shown-no_ticket v h x (place_at ps i) (are.each i x at) none
 
-pub no_view : (v : TransactionsValue) (h : History Value) (xs : List Held) (ps : List Place) (i : ℕ) → ArePlaces v h xs ps → HasNoView (slice_get xs i)
+pub no_view : (v : CommitsValue) (h : History Value) (xs : List Held) (ps : List Place) (i : ℕ) → ArePlaces v h xs ps → HasNoView (slice_get xs i)
     → IsNoView (place_at ps i)
 no_view v h xs ps i are none = by-option (slice_get xs i) refl none
   where
@@ -230,34 +230,34 @@ no_view v h xs ps i are none = by-option (slice_get xs i) refl none
     by-option None at none = let past = get-past xs i at in let many = are.many in subst (λ (p : Place). IsNoView p) (sym (place-past ps i (omega arith))) tt
     by-option (Some x) at none = shown-no_view v h x (place_at ps i) (are.each i x at) none
 
-pub own_transaction : (v : TransactionsValue) (h : History Value) (t : TxnValue) (p : Place) → ShowsAs v h (held.Transaction t) p → IsOwnTransaction v h t
+pub own_transaction : (v : CommitsValue) (h : History Value) (t : TxnValue) (p : Place) → ShowsAs v h (held.Transaction t) p → IsOwnTransaction v h t
 own_transaction v h t Free shows = absurd shows
 own_transaction v h t (Running s ws) shows = shows.0
 own_transaction v h t (Waits time) shows = absurd shows
 own_transaction v h t (Views history floors reclaimed) shows = absurd shows
 
-pub own_ticket : (v : TransactionsValue) (h : History Value) (t : TicketValue) (p : Place) → ShowsAs v h (held.Ticket t) p → IsOwnTicket v t
+pub own_ticket : (v : CommitsValue) (h : History Value) (t : TicketValue) (p : Place) → ShowsAs v h (held.Ticket t) p → IsOwnTicket v t
 own_ticket v h t Free shows = absurd shows
 own_ticket v h t (Running s ws) shows = absurd shows
 own_ticket v h t (Waits time) shows = shows.0
 own_ticket v h t (Views history floors reclaimed) shows = absurd shows
 
 -- what holds of the place of a transaction holds of the place that is known to hold it
-pub at_transaction : (P : Place → Type 0) (v : TransactionsValue) (h : History Value) (t : TxnValue) (p : Place) → ShowsAs v h (held.Transaction t) p
+pub at_transaction : (P : Place → Type 0) (v : CommitsValue) (h : History Value) (t : TxnValue) (p : Place) → ShowsAs v h (held.Transaction t) p
     → P (Running t.snapshot t.writes) → P p
 at_transaction P v h t Free shows there = absurd shows
 at_transaction P v h t (Running s ws) shows there = let at = shows.1 in let wrote = shows.2 in subst P (λ i. Running (at i) (wrote i)) there
 at_transaction P v h t (Waits time) shows there = absurd shows
 at_transaction P v h t (Views history floors reclaimed) shows there = absurd shows
 
-pub at_ticket : (P : Place → Type 0) (v : TransactionsValue) (h : History Value) (t : TicketValue) (p : Place) → ShowsAs v h (held.Ticket t) p
+pub at_ticket : (P : Place → Type 0) (v : CommitsValue) (h : History Value) (t : TicketValue) (p : Place) → ShowsAs v h (held.Ticket t) p
     → P (Waits t.time) → P p
 at_ticket P v h t Free shows there = absurd shows
 at_ticket P v h t (Running s ws) shows there = absurd shows
 at_ticket P v h t (Waits time) shows there = subst P (ap (λ (n : ℕ). Waits n) shows.1) there
 at_ticket P v h t (Views history floors reclaimed) shows there = absurd shows
 
-pub at_view : (P : Place → Type 0) (v : TransactionsValue) (h : History Value) (w : ViewValue) (p : Place) → ShowsAs v h (held.View w) p
+pub at_view : (P : Place → Type 0) (v : CommitsValue) (h : History Value) (w : ViewValue) (p : Place) → ShowsAs v h (held.View w) p
     → ((history : History Value) (floors : ℕ → ℕ) → w.mark ≡ v.mark → ViewStands w history floors → P (Views history floors w.reclaimed)) → P p
 at_view P v h w Free shows there = absurd shows
 at_view P v h w (Running s ws) shows there = absurd shows
@@ -291,13 +291,13 @@ run-goes_on old new events machine run =
     (goes_on-more old.published shows.0 (rising-from_following IsValue old.published shows.0 behind))
 
 -- what of the store's a held value needs
-abbrev pub Keeps : TransactionsValue → TransactionsValue → Held → Type 0
+abbrev pub Keeps : CommitsValue → CommitsValue → Held → Type 0
 Keeps v v' held.Nothing = Unit {0}
 Keeps v v' (held.Transaction t) = (v'.mark ≡ v.mark) × (snapshot_of t.number v'.opened ≡ snapshot_of t.number v.opened)
 Keeps v v' (held.Ticket t) = (v'.mark ≡ v.mark) × (is_awaited t.time v.heads ≡ true → is_awaited t.time v'.heads ≡ true)
 Keeps v v' (held.View w) = v'.mark ≡ v.mark
 
-pub stays : (v v' : TransactionsValue) (h h' : History Value) (x : Held) (p : Place) → Keeps v v' x → GoesOn h h' → ShowsAs v h x p → ShowsAs v' h' x p
+pub stays : (v v' : CommitsValue) (h h' : History Value) (x : Held) (p : Place) → Keeps v v' x → GoesOn h h' → ShowsAs v h x p → ShowsAs v' h' x p
 stays v v' h h' held.Nothing Free keeps goes shows = tt
 stays v v' h h' held.Nothing (Running s ws) keeps goes shows = absurd shows
 stays v v' h h' held.Nothing (Waits time) keeps goes shows = absurd shows

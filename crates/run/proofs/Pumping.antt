@@ -1,42 +1,36 @@
 -- A step of a group.
-use Rattle.std.proofs.Common.{◌≡◌, ℕ, ◌+◌, ◌≤◌, Bool, true, false, List, [], ◌∷◌, ◌++◌, Some, None, Option, Result, Ok, Err, MatchBool, MatchOption, refl, sym}
-use Rattle.std.proofs.Common.{ap, subst, inl, inr, arith}
-use Rattle.std.specs.Prelude.{IsTrue, IfErr, is_some}
+use Rattle.std.proofs.Common.{◌≡◌, ℕ, Bool, true, false, List, [], ◌∷◌, ◌++◌, Option, Result, Ok, Err, MatchBool, refl, sym, ap, subst, inl, inr}
+use Rattle.std.specs.Prelude.{IsTrue, IfErr}
 use Rattle.disk.specs.Areas.{AreSound}
-use Rattle.disk.specs.Calls.{counted}
 use Rattle.history.specs.Machine.{Machine}
 use Rattle.history.specs.Steps as steps
-use Rattle.history.specs.Histories.{History}
 use Rattle.law_image.specs.Values.{Value, IsValue}
-use Rattle.status.specs.TurnState.{TurnState}
 use Rattle.group.specs.CommitOrder.{is_awaited}
 use Rattle.group.specs.declared.commit_order.CommitHead.{CommitHead}
 use Rattle.group.specs.declared.answers.Did.{Did}
 use Rattle.group.specs.declared.answers.PumpFault.{PumpFault}
 use Rattle.group.specs.declared.answers.PumpFault.TheVariants as pump
-use Rattle.group.specs.declared.queued.StoredExtent.{StoredExtent}
 use Rattle.snapshot.specs.OpenTable.{snapshot_of}
-use Rattle.group.specs.Values.{TransactionsValue}
-use Rattle.group.specs.Steps as groups
-use Rattle.group.specs.declared.stage.NextStep.{NextStep}
-use Rattle.group.specs.declared.stage.NextStep.TheVariants as next
-use Rattle.store.specs.Values.{StoreValue, turn_of}
-use Rattle.store.specs.Pumps.{Pumps, TakesStep, WritesExtent, MayBeginSlot, TurnsSlot, started}
-use Rattle.law_refinement.specs.Laws.{begins_in, ends_in}
-use Rattle.law_refinement.specs.Leaving.{Leaves}
-use Rattle.law_refinement.specs.Stands.{Stands}
-use Rattle.law_refinement.proofs.Leaving.{pump-leaves}
-use Rattle.law_refinement.proofs.GrowingPumps.{pump-stands}
-use Rattle.law_refinement.proofs.GrowingViews as lasting
+use Rattle.commits.specs.Values.{CommitsValue}
+use Rattle.any_store.specs.Values.{StoreValue, is_log, commits_of, disk_of}
+use Rattle.any_store.specs.Calls as stores
+use Rattle.law_any_store.specs.Calls.{pumped_in, RunsTo}
+use Rattle.law_any_store.specs.Leaving.{Leaves}
+use Rattle.law_any_store.specs.Standing.{Stands}
+use Rattle.law_any_store.proofs.Memory.{memory-stands}
+use Rattle.law_any_store.proofs.Calls.{pump-stands}
+use Rattle.law_any_store.proofs.Leaving.{pump-leaves}
+use Rattle.law_any_store.proofs.Names.{pump-names}
+use Rattle.law_any_store.proofs.Views as lasting
 use Rattle.run.specs.declared.calls.Call.TheVariants as call
 use Rattle.run.specs.declared.calls.Answer.TheVariants as answer
 use Rattle.run.specs.declared.held.Held.{Held}
 use Rattle.run.specs.declared.held.Held.TheVariants as held
-use Rattle.run.specs.Places.{Free, ArePlaces, AreRead}
 use Rattle.run.specs.Worlds.{World, IsWorld, moved, same}
 use Rattle.run.specs.Runs.{Does, Goes, Leads, Follows, IsStepFault}
 use Rattle.run.proofs.Runs.{no-step}
-use Rattle.run.proofs.Places.{reads-move, reads-plain, push_nothing, move, GoesOn, goes_on-same, run-goes_on, Keeps, stays}
+use Rattle.run.proofs.Places.{GoesOn, goes_on-same, run-goes_on, Keeps}
+use Rattle.run.proofs.Steps.{kept-world}
 
 -- ---- refusals
 
@@ -50,86 +44,52 @@ pump-refused : (r : Result Did PumpFault) → IfErr r IsStepFault
 pump-refused (Ok what) = tt
 pump-refused (Err why) = any-fault why
 
--- ---- device calls
-
-pub counted-few : (n : ℕ) → counted n ≤ n + 1
-counted-few n = omega arith
-
-wrote-few : (tells : Bool) (o : Option StoredExtent) (old new : StoreValue) (r : Result Did PumpFault)
-    → MatchOption o ⊥ (λ stored. WritesExtent tells stored old r new) → new.disk.made ≤ old.disk.made + 1
-wrote-few tells None old new r takes = absurd takes
-wrote-few tells (Some stored) old new r takes = omega (arith, takes.call.counts.made, counted-few old.disk.made)
-
-advance-few : (tells : Bool) (o : Option TurnState) (old new : StoreValue) (r : Result Did PumpFault) → MatchOption o ⊥ (λ turn. TurnsSlot tells turn old r new)
-    → new.disk.made ≤ old.disk.made + 1
-advance-few tells None old new r takes = absurd takes
-advance-few tells (Some turn) old new r takes = omega (arith, takes.call.counts.made, counted-few old.disk.made)
-
-step-few : (tells : Bool) (s : NextStep) (old new : StoreValue) (r : Result Did PumpFault) → TakesStep tells s old r new → new.disk.made ≤ old.disk.made + 1
-step-few tells next.Idle old new r takes = let is = ap (λ (v : StoreValue). v.disk.made) takes.1 in omega (arith, is)
-step-few tells next.WriteExtent old new r takes = wrote-few tells (groups.next_extent old.transactions) old new r takes
-step-few tells next.SyncHeap old new r takes = omega (arith, takes.call.counts.made, counted-few old.disk.made)
-step-few tells next.BeginSlot old new r takes = by-job (is_some (turn_of old.job)) takes
-  where
-    by-job : (b : Bool) → MatchBool b ((r ≡ Err pump.Busy) × (new ≡ old)) (MayBeginSlot tells old r new) → new.disk.made ≤ old.disk.made + 1
-    by-job true is = let same = ap (λ (v : StoreValue). v.disk.made) is.1 in omega (arith, same)
-    by-job false (inl short) = let same = ap (λ (v : StoreValue). v.disk.made) short.2 in omega (arith, same)
-    by-job false (inr first) = omega (arith, first.turns.call.counts.made, counted-few old.disk.made)
-step-few tells next.AdvanceSlot old new r takes = advance-few tells old.turn old new r takes
-
-pub pump-few : (tells : Bool) (old new : StoreValue) (r : Result Did PumpFault) → Pumps tells old r new → new.disk.made ≤ old.disk.made + 1
-pump-few tells old new r pumps = by-failure old.transactions.failed pumps
-  where
-    by-failure : (b : Bool) → MatchBool b ((r ≡ Err pump.Failed) × (new ≡ old)) (TakesStep tells (groups.next_step old.transactions) (started old) r new)
-        → new.disk.made ≤ old.disk.made + 1
-    by-failure true is = let same = ap (λ (v : StoreValue). v.disk.made) is.1 in omega (arith, same)
-    by-failure false takes = step-few tells (groups.next_step old.transactions) (started old) new r takes
-
-pub pump-keeps : (v v' : TransactionsValue) (x : Held) → Leaves v v' → Keeps v v' x
+pub pump-keeps : (v v' : CommitsValue) (x : Held) → Leaves v v' → Keeps v v' x
 pump-keeps v v' held.Nothing leaves = tt
 pump-keeps v v' (held.Transaction t) leaves = (leaves.mark, ap (λ (o : List (Option ℕ)). snapshot_of t.number o) leaves.opened)
 pump-keeps v v' (held.Ticket t) leaves = (leaves.mark, λ waits. subst (λ (heads : List CommitHead). is_awaited t.time heads ≡ true) (sym leaves.heads) waits)
 pump-keeps v v' (held.View t) leaves = leaves.mark
 
-pump-leads : (tells : Bool) (v v' : StoreValue) (xs : List Held) (r : Result Did PumpFault) → (IsTrue tells → AreSound v'.disk.areas) → Pumps tells v r v'
+pump-leads : (tells : Bool) (v v' : StoreValue) (xs : List Held) (r : Result Did PumpFault) → (IsTrue tells → AreSound (disk_of v').areas)
+    → stores.Pumps tells v r v'
     → Leads tells v xs call.Pump (answer.Pump r) v' (xs ++ held.Nothing ∷ [])
 pump-leads tells v v' xs r sound pumps w is =
     by-failure w.machine.failed refl (pump-refused r) (pump-stands tells v v' r w.machine is.stands sound pumps)
   where
-    places : (h' : History Value) → GoesOn w.machine.published h' → ArePlaces v'.transactions h' (xs ++ held.Nothing ∷ []) (w.places ++ Free ∷ [])
-    places h' goes = push_nothing v'.transactions h' xs w.places
-        (move v.transactions v'.transactions w.machine.published h' xs w.places is.places
-        (λ i x p at shows. stays v.transactions v'.transactions w.machine.published h' x p
-        (pump-keeps v.transactions v'.transactions x (pump-leaves tells v v' r pumps)) goes shows))
+    world : (m : Machine Value) → GoesOn w.machine.published m.published → Stands tells v' m
+        → IsWorld tells v' (xs ++ held.Nothing ∷ []) (same (moved w m))
+    world m goes stands =
+        kept-world tells v v' xs w m is
+        (record { goes = lasting.pump-goes tells v v' r w.machine is.stands pumps; names = pump-names tells v v' r pumps }) stands goes
+        (λ x. pump-keeps (commits_of v) (commits_of v') x (pump-leaves tells v v' r pumps))
 
-    read : AreRead tells v' (xs ++ held.Nothing ∷ []) (w.places ++ Free ∷ [])
-    read = reads-plain tells v' xs w.places held.Nothing Free is.places.many tt
-        (reads-move tells v v' xs w.places (lasting.pump-goes tells v v' r w.machine is.stands pumps) is.views)
+    Done : Bool → Type 0
+    Done b = MatchBool b ((r ≡ Err pump.Failed) × Stands tells v' w.machine) (RunsTo tells w.machine (pumped_in (is_log v) w.machine r) v')
 
-    by-failure : (b : Bool) → w.machine.failed ≡ b → IfErr r IsStepFault
-        → MatchBool b ((r ≡ Err pump.Failed) × Stands tells v' w.machine) ((after : Machine Value)
-        × steps.Run IsValue w.machine (begins_in w.machine ++ ends_in w.machine.gate r) after × Stands tells v' after)
+    Does-so : Bool → World → Type 0
+    Does-so b next = MatchBool b ((r ≡ Err pump.Failed) × (next ≡ same w)) ((after : Machine Value) × IfErr r IsStepFault
+        × steps.Run IsValue w.machine (pumped_in w.in_heap w.machine r) after × (next ≡ same (moved w after)))
+
+    by-failure : (b : Bool) → w.machine.failed ≡ b → IfErr r IsStepFault → Done b
         → (next : World) × Does tells w call.Pump (answer.Pump r) next × Follows w.machine next.machine × IsWorld tells v' (xs ++ held.Nothing ∷ []) next
     by-failure true failed refused did = (
       same w,
-      subst (λ (b : Bool). MatchBool b ((r ≡ Err pump.Failed) × (same w ≡ same w)) ((after : Machine Value) × IfErr r IsStepFault
-          × steps.Run IsValue w.machine (begins_in w.machine ++ ends_in w.machine.gate r) after × (same w ≡ same (moved w after)))) (sym failed) (did.0, refl),
+      subst (λ (b : Bool). Does-so b (same w)) (sym failed) (did.0, refl),
       no-step w.machine,
-      record { stands = did.1; places = places w.machine.published (goes_on-same w.machine.published); views = read },
+      world w.machine (goes_on-same w.machine.published) did.1,
     )
-    by-failure false works refused did = (
-      same (moved w did.0),
-      subst (λ (b : Bool). MatchBool b ((r ≡ Err pump.Failed) × (same (moved w did.0) ≡ same w)) ((after : Machine Value) × IfErr r IsStepFault
-          × steps.Run IsValue w.machine (begins_in w.machine ++ ends_in w.machine.gate r) after
-          × (same (moved w did.0) ≡ same (moved w after)))) (sym works) (did.0, refused, did.1, refl),
-      (begins_in w.machine ++ ends_in w.machine.gate r, did.1),
-      record {
-        stands = did.2;
-        places = places did.0.published (run-goes_on w.machine did.0 (begins_in w.machine ++ ends_in w.machine.gate r) did.2.machine did.1);
-        views = read;
-      },
-    )
+    by-failure false works refused did =
+        let events = pumped_in (is_log v) w.machine r in
+        let run : steps.Run IsValue w.machine (pumped_in w.in_heap w.machine r) did.after =
+        subst (λ (b : Bool). steps.Run IsValue w.machine (pumped_in b w.machine r) did.after) (sym is.layout) did.run in
+        let machine = (memory-stands tells v' did.after did.stands).1 in (
+          same (moved w did.after),
+          subst (λ (b : Bool). Does-so b (same (moved w did.after))) (sym works) (did.after, refused, run, refl),
+          (events, did.run),
+          world did.after (run-goes_on w.machine did.after events machine did.run) did.stands,
+        )
 
-pub pump-goes : (tells : Bool) (v v' : StoreValue) (xs : List Held) (r : Result Did PumpFault) → (IsTrue tells → AreSound v'.disk.areas) → Pumps tells v r v'
+pub pump-goes : (tells : Bool) (v v' : StoreValue) (xs : List Held) (r : Result Did PumpFault) → (IsTrue tells → AreSound (disk_of v').areas)
+    → stores.Pumps tells v r v'
     → Goes tells v xs call.Pump (answer.Pump r) v' (xs ++ held.Nothing ∷ [])
 pump-goes tells v v' xs r sound pumps = record { makes = inr (r, pumps, (refl, refl)); leads = pump-leads tells v v' xs r sound pumps }

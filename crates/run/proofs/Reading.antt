@@ -14,8 +14,8 @@ use Rattle.snapshot.specs.Txn.{TxnValue, at_snapshot, seen_by, IsFullFor, with_p
 use Rattle.snapshot.specs.WriteSets.{with_write}
 use Rattle.snapshot.specs.declared.txn.TxnFault.{TxnFault}
 use Rattle.snapshot.specs.declared.txn.TxnFault.TheVariants as fault
-use Rattle.group.specs.Values.{TransactionsValue}
-use Rattle.store.specs.Values.{StoreValue}
+use Rattle.commits.specs.Values.{CommitsValue}
+use Rattle.any_store.specs.Values.{StoreValue, commits_of}
 use Rattle.run.specs.declared.calls.Call.{Call}
 use Rattle.run.specs.declared.calls.Call.TheVariants as call
 use Rattle.run.specs.declared.calls.Answer.{Answer}
@@ -46,7 +46,7 @@ held-no_transaction (Some (held.Ticket k)) is = tt
 held-no_transaction (Some (held.View k)) is = tt
 
 -- what a transaction sees is what the history says
-sees : (v : TransactionsValue) (h : History Value) (t : TxnValue) (key : Key) → IsOwnTransaction v h t → seen_by t key ≡ seen h t.snapshot t.writes key
+sees : (v : CommitsValue) (h : History Value) (t : TxnValue) (key : Key) → IsOwnTransaction v h t → seen_by t key ≡ seen h t.snapshot t.writes key
 sees v h t key own = ap (λ (o : Option Value). unwrap_or (write_in t.writes key) o) (own.reads key)
 
 -- ---- get and scan
@@ -57,10 +57,10 @@ get-leads : (tells : Bool) (v : StoreValue) (xs : List Held) (i : ℕ) (key : Ke
 get-leads tells v xs i key t r here says w is =
     let h = w.machine.published in
     let shows = is.places.each i (held.Transaction t) here in
-    let own = own_transaction v.transactions h t (place_at w.places i) shows in (
+    let own = own_transaction (commits_of v) h t (place_at w.places i) shows in (
       same w,
-      at_transaction (λ (p : Place). Gets w key p r (same w)) v.transactions h t (place_at w.places i) shows
-          (by-result r says (sees v.transactions h t key own), refl),
+      at_transaction (λ (p : Place). Gets w key p r (same w)) (commits_of v) h t (place_at w.places i) shows
+          (by-result r says (sees (commits_of v) h t key own), refl),
       no-step w.machine,
       same-world tells v xs w is,
     )
@@ -76,10 +76,10 @@ scan-leads : (tells : Bool) (v : StoreValue) (xs : List Held) (i relation : ℕ)
 scan-leads tells v xs i relation t r here says w is =
     let h = w.machine.published in
     let shows = is.places.each i (held.Transaction t) here in
-    let own = own_transaction v.transactions h t (place_at w.places i) shows in
-    let reads : Path (Key → Option Value) (seen_by t) (seen h t.snapshot t.writes) = λ k key. sees v.transactions h t key own k in (
+    let own = own_transaction (commits_of v) h t (place_at w.places i) shows in
+    let reads : Path (Key → Option Value) (seen_by t) (seen h t.snapshot t.writes) = λ k key. sees (commits_of v) h t key own k in (
       same w,
-      at_transaction (λ (p : Place). Scans w relation p r (same w)) v.transactions h t (place_at w.places i) shows
+      at_transaction (λ (p : Place). Scans w relation p r (same w)) (commits_of v) h t (place_at w.places i) shows
           (subst (λ (f : Key → Option Value). IfOk r (λ found. IsScan f relation found.items)) reads says, refl),
       no-step w.machine,
       same-world tells v xs w is,
@@ -99,7 +99,7 @@ scan-goes tells v xs i relation t r here says =
 -- ---- put and delete
 
 -- a transaction whose writes alone are others
-pub rewritten-places : (v : TransactionsValue) (h : History Value) (xs : List Held) (ps : List Place) (i : ℕ) (t : TxnValue) (ws : List (KeyWrite Value))
+pub rewritten-places : (v : CommitsValue) (h : History Value) (xs : List Held) (ps : List Place) (i : ℕ) (t : TxnValue) (ws : List (KeyWrite Value))
     → slice_get xs i ≡ Some (held.Transaction t) → ArePlaces v h xs ps
     → ArePlaces v h (slice_set xs i (held.Transaction (record t { writes = ws }))) (slice_set ps i (Running t.snapshot ws))
 rewritten-places v h xs ps i t ws here are =
@@ -132,12 +132,14 @@ rewrite-leads tells v xs i t t' ws c a here is does w world = (
   subst (λ (x : TxnValue). IsWorld tells v (slice_set xs i (held.Transaction x) ++ held.Nothing
       ∷ []) (same (put w i (Running t.snapshot ws)))) (sym is) (record {
         stands = world.stands;
-        places = push_nothing v.transactions w.machine.published (slice_set xs i (held.Transaction (record t { writes = ws })))
+        layout = world.layout;
+        names = world.names;
+        places = push_nothing (commits_of v) w.machine.published (slice_set xs i (held.Transaction (record t { writes = ws })))
             (slice_set w.places i (Running t.snapshot ws))
-            (rewritten-places v.transactions w.machine.published xs w.places i t ws here world.places);
+            (rewritten-places (commits_of v) w.machine.published xs w.places i t ws here world.places);
         views = reads-plain tells v (slice_set xs i (held.Transaction (record t { writes = ws })))
             (slice_set w.places i (Running t.snapshot ws)) held.Nothing Free
-            (rewritten-places v.transactions w.machine.published xs w.places i t ws here world.places).many tt
+            (rewritten-places (commits_of v) w.machine.published xs w.places i t ws here world.places).many tt
             (reads-set tells v xs w.places i (held.Transaction (record t { writes = ws })) (Running t.snapshot ws) tt world.views);
       }),
 )
@@ -156,7 +158,7 @@ put-leads tells v xs i key fields t t' r here ok missing too_many bad err = by-r
     at-place : (o : Result (Unit {0}) TxnFault) (ws : List (KeyWrite Value)) → PutSays t.writes key value o ws → (w : World) → IsWorld tells v xs w
         → Puts w i key value (place_at w.places i) o (same (put w i (Running t.snapshot ws)))
     at-place o ws says w is =
-        at_transaction (λ (p : Place). Puts w i key value p o (same (put w i (Running t.snapshot ws)))) v.transactions w.machine.published t
+        at_transaction (λ (p : Place). Puts w i key value p o (same (put w i (Running t.snapshot ws)))) (commits_of v) w.machine.published t
         (place_at w.places i) (is.places.each i (held.Transaction t) here) (ws, says, refl)
 
     by-result : (o : Result (Unit {0}) TxnFault) → OnOk o (t' ≡ with_put t key value) → o ≢ Err fault.Missing → (o ≡ Err fault.TooManyKeys)
@@ -183,10 +185,10 @@ delete-leads tells v xs i key t t' r here ok missing too_many bad err = by-resul
     at-place o ws says w is =
         let h = w.machine.published in
         let shows = is.places.each i (held.Transaction t) here in
-        let own = own_transaction v.transactions h t (place_at w.places i) shows in
+        let own = own_transaction (commits_of v) h t (place_at w.places i) shows in
         let by_history : DeleteSays (state h t.snapshot key) (seen h t.snapshot t.writes key) t.writes key o ws =
         subst (λ (x : Option Value). DeleteSays x (unwrap_or (write_in t.writes key) x) t.writes key o ws) (own.reads key) says in
-        at_transaction (λ (p : Place). Deletes w i key p o (same (put w i (Running t.snapshot ws)))) v.transactions h t (place_at w.places i) shows (
+        at_transaction (λ (p : Place). Deletes w i key p o (same (put w i (Running t.snapshot ws)))) (commits_of v) h t (place_at w.places i) shows (
           ws,
           by_history,
           refl,

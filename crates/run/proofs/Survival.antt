@@ -6,23 +6,22 @@ use Rattle.disk.specs.Areas.{Image, LeavesImage}
 use Rattle.history.specs.Floors.{Raising}
 use Rattle.history.specs.Fronts.{OnFront, OnOpened, OnRaised}
 use Rattle.history.specs.Histories.{History}
-use Rattle.history.specs.Machine.{Machine, Gate, Shut, Due, MayBeOpen, OfGroup, OfFloor, opened}
+use Rattle.history.specs.Machine.{Machine, Gate, Shut, Due, MayBeOpen, OfGroup, OfFloor}
 use Rattle.law_image.specs.Values.{Value}
-use Rattle.status.specs.declared.header.Header.{Header}
-use Rattle.store.specs.Values.{StoreValue}
-use Rattle.law_refinement.specs.OnDisk.{IsImageOf}
-use Rattle.law_opening.specs.Laws.{IsHeaderLeftBy}
+use Rattle.any_store.specs.Values.{StoreValue, disk_of}
 use Rattle.law_opening.proofs.Fronts.{front-is}
-use Rattle.law_opening.proofs.Opened.{image-header, open-stands}
-use Rattle.law_opening.proofs.Reopened.{left-by, open-refuses}
-use Rattle.law_opening.proofs.Answering.{stands-answers}
+use Rattle.law_any_store.specs.Standing.{AnyHeader, IsImageOf}
+use Rattle.law_any_store.specs.Opened.{IsHeaderLeftBy}
+use Rattle.law_any_store.proofs.Opened.{image-header, open-stands_in}
+use Rattle.law_any_store.proofs.Reopened.{leaves-by, open-refuses}
+use Rattle.law_any_store.proofs.Answering.{opened-answers}
 use Rattle.run.specs.declared.held.Held.{Held}
 use Rattle.run.specs.Moments.{Moment, HasCommitAt, IsAtMoment}
 use Rattle.run.specs.Promise.{IsKeptAs, IsKeptWith, Leaves}
 use Rattle.run.proofs.Acknowledging.{more-have}
 
 -- an image that stands for a history is kept as it
-pub kept-as : (tells : Bool) (header : Header) (image : Image) (h : History Value) (floors : ℕ → ℕ) → IsTrue tells → IsImageOf header image h floors
+pub kept-as : (tells : Bool) (header : AnyHeader) (image : Image) (h : History Value) (floors : ℕ → ℕ) → IsTrue tells → IsImageOf header image h floors
     → IsKeptAs tells image h floors
 kept-as tells header image h floors told is = record {
   header = header;
@@ -31,13 +30,13 @@ kept-as tells header image h floors told is = record {
       let said = open-refuses tells disk new why header h floors refuses told (subst (λ (i : Image). IsImageOf header i h floors) (sym same) is) in
       (said.0, said.2);
   answers = λ disk mark again same sound opens.
-      let stands = open-stands tells disk mark again header h floors opens told sound (subst (λ (i : Image). IsImageOf header i h floors) (sym same) is) in
-      (stands, stands-answers tells again (opened h floors) stands);
+      let stands = open-stands_in tells disk mark again header h floors opens told sound (subst (λ (i : Image). IsImageOf header i h floors) (sym same) is) in
+      (stands, opened-answers tells again again h floors stands);
 }
 
 -- ---- fronts
 
-module _ (tells : Bool) (header : Header) (image : Image) (m : Machine Value) (done : List ℕ) (told : IsTrue tells)
+module _ (tells : Bool) (header : AnyHeader) (image : Image) (m : Machine Value) (done : List ℕ) (told : IsTrue tells)
     (published : AllByRecursion (HasCommitAt m.published) done) where
   on-raised : (o : Option Raising) → OnRaised (IsImageOf header image) m o → OnRaised (IsKeptWith tells image done) m o
   on-raised None on = on
@@ -57,11 +56,11 @@ module _ (tells : Bool) (header : Header) (image : Image) (m : Machine Value) (d
 -- whatever a stop may leave at a moment of a store survives
 pub moment-leaves : (tells : Bool) (v : StoreValue) (held : List Held) (at : Moment) → IsAtMoment tells v held at → Leaves tells at
 moment-leaves tells v held at is told image left =
-    let on = is.world.stands.disk told in
-    let l = on.leaves image (subst (λ (x : StoreValue). LeavesImage x.disk.areas image) is.store left) in
+    let l =
+    leaves-by tells v at.world.machine is.world.stands told image (subst (λ (x : StoreValue). LeavesImage (disk_of x).areas image) is.store left) in
     record {
-      header = l.found;
-      left = subst (λ (x : StoreValue). IsHeaderLeftBy x l.found) (sym is.store) (left-by v at.world.machine on l.found l.is_found);
-      has = front-is (IsImageOf l.found image) at.world.machine (λ h floors stands. image-header tells l.found image h floors told stands) l.front;
-      front = on-front tells l.found image at.world.machine at.done told is.published l.front;
+      header = l.0;
+      left = subst (λ (x : StoreValue). IsHeaderLeftBy x l.0) (sym is.store) l.1;
+      has = front-is (IsImageOf l.0 image) at.world.machine (λ h floors stands. image-header tells l.0 image h floors told stands) l.2;
+      front = on-front tells l.0 image at.world.machine at.done told is.published l.2;
     }

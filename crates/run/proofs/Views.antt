@@ -10,26 +10,27 @@ use Rattle.history.specs.Answers as answers
 use Rattle.history.specs.declared.key.Key.{Key}
 use Rattle.history.specs.declared.time.Version.{Version}
 use Rattle.law_image.specs.Values.{Value}
-use Rattle.disk.specs.Calls.{DiskState}
-use Rattle.timequery.specs.Faults.{after_query}
 use Rattle.chains.specs.KeyWrites.{writes_of}
 use Rattle.history.specs.Time.{value_at}
 use Rattle.timequery.specs.View.{ViewValue, AnswersAt, RefusesRecent}
 use Rattle.timequery.specs.declared.fault.QueryFault.{QueryFault}
 use Rattle.timequery.specs.declared.fault.QueryFault.TheVariants as query
-use Rattle.store.specs.Values.{StoreValue}
-use Rattle.store.specs.Calls as stores
-use Rattle.store.specs.Calls.{Finds, OrStranger, is_own}
-use Rattle.group.specs.Values.{TransactionsValue}
+use Rattle.commits.specs.Values.{CommitsValue}
+use Rattle.any_store.specs.Values.{StoreValue, commits_of}
+use Rattle.any_store.specs.Calls as stores
+use Rattle.any_store.specs.Queries as queries
 use Rattle.history.specs.Histories.{History}
-use Rattle.law_refinement.specs.Homes.{ViewStands, ViewReads, GoesOn}
-use Rattle.law_refinement.specs.Stands.{Stands}
+use Rattle.law_refinement.specs.Homes.{ViewStands}
 use Rattle.law_refinement.specs.Views as views
-use Rattle.law_opening.specs.Laws.{AnswersRecent}
-use Rattle.law_refinement.proofs.Answering.{times-of_label}
 use Rattle.law_refinement.proofs.Queries.{recent-answered}
-use Rattle.law_refinement.proofs.GrowingViews.{query-stands}
-use Rattle.law_refinement.proofs.Views.{view-of-history, at-answered, scan_at-answered, between-answered, scan_between-answered}
+use Rattle.law_opening.specs.Laws.{AnswersRecent}
+use Rattle.law_any_store.specs.Names.{AreTimesFrom}
+use Rattle.law_any_store.specs.Standing.{ViewReads}
+use Rattle.law_any_store.specs.Views.{IsKept}
+use Rattle.law_any_store.proofs.Marks.{view-mark}
+use Rattle.law_any_store.proofs.Names.{kept-names, times-are}
+use Rattle.law_any_store.proofs.Views.{view-of-history, at-answered, scan_at-answered, between-answered, scan_between-answered}
+use Rattle.law_any_store.proofs.Views.{at-stands, scan_at-stands, between-stands, scan_between-stands}
 use Rattle.run.specs.declared.calls.Call.TheVariants as call
 use Rattle.run.specs.declared.calls.Answer.TheVariants as answer
 use Rattle.run.specs.declared.held.Held.{Held}
@@ -38,8 +39,8 @@ use Rattle.run.specs.Places.{Place, Free, Running, Waits, Views, place_at, view_
 use Rattle.run.specs.Worlds.{World, IsWorld, leaves, same, spent}
 use Rattle.run.specs.Runs.{Goes, Leads, Asks, AsksScan, AsksBetween, AsksScanBetween, AsksRecent, SaysRecent, Closes}
 use Rattle.run.proofs.Runs.{no-step}
-use Rattle.run.proofs.Places.{reads-move, reads-push, reads-plain, reads-set, push, push_nothing, free, view-no_clash, at_view}
-use Rattle.run.proofs.Steps.{same-world}
+use Rattle.run.proofs.Places.{reads-push, reads-plain, reads-set, push, push_nothing, free, view-no_clash, at_view, goes_on-same}
+use Rattle.run.proofs.Steps.{same-world, kept-world, keeps-same}
 
 pub held-view : (o : Option Held) (view : ViewValue) → Path (Option ViewValue) (Some view) (view_in o) → o ≡ Some (held.View view)
 held-view None view is = absurd cc
@@ -55,19 +56,22 @@ held-no_view (Some (held.Transaction u)) is = tt
 held-no_view (Some (held.Ticket k)) is = tt
 held-no_view (Some (held.View k)) is = absurd cc
 
-view-leads : (tells : Bool) (v : StoreValue) (xs : List Held) (r : Result ViewValue AllocError) → IfOk r (stores.IsViewOf v)
+view-leads : (tells : Bool) (v : StoreValue) (xs : List Held) (r : Result ViewValue AllocError) → IfOk r (queries.IsViewOf v)
     → Leads tells v xs call.View (view_answer r).0 v (xs ++ (view_answer r).1 ∷ [])
 view-leads tells v xs (Ok view) of w is =
     let h = w.machine.published in
     let stands = view-of-history tells v view w.machine is.stands of in
     let marked = stands.0.memory.marked in
-    let shows : ShowsAs v.transactions h (held.View view) (Views h w.machine.floors view.reclaimed) = (ap (λ (x : ViewValue). x.mark) of, refl, stands.0) in (
+    let shows : ShowsAs (commits_of v) h (held.View view) (Views h w.machine.floors view.reclaimed) =
+    (view-mark tells v view h w.machine.floors stands.1, refl, stands.0) in (
       leaves w (Views h w.machine.floors view.reclaimed),
       (view.reclaimed, marked, refl),
       no-step w.machine,
       record {
         stands = is.stands;
-        places = push v.transactions h xs w.places (held.View view) (Views h w.machine.floors view.reclaimed) is.places shows
+        layout = is.layout;
+        names = is.names;
+        places = push (commits_of v) h xs w.places (held.View view) (Views h w.machine.floors view.reclaimed) is.places shows
             (λ j b at clash. view-no_clash view b clash);
         views = reads-push tells v xs w.places (held.View view) (Views h w.machine.floors view.reclaimed) is.places.many is.views stands.1;
       },
@@ -75,18 +79,15 @@ view-leads tells v xs (Ok view) of w is =
 view-leads tells v xs (Err why) of w is = (same w, refl, no-step w.machine, same-world tells v xs w is)
 
 -- the world of a store that was asked
-asked-world : (tells : Bool) (v v' : StoreValue) (xs : List Held) (w : World) → IsWorld tells v xs w → v'.transactions ≡ v.transactions
-    → Stands tells v' w.machine × GoesOn tells v v' → IsWorld tells v' (xs ++ held.Nothing ∷ []) (same w)
-asked-world tells v v' xs w is unchanged goes = record {
-  stands = goes.0;
-  places = subst (λ (t : TransactionsValue). ArePlaces t w.machine.published (xs ++ held.Nothing ∷ []) (w.places ++ Free
-      ∷ [])) (sym unchanged) (push_nothing v.transactions w.machine.published xs w.places is.places);
-  views = reads-plain tells v' xs w.places held.Nothing Free is.places.many tt (reads-move tells v v' xs w.places goes.1 is.views);
-}
+asked-world : (tells : Bool) (v v' : StoreValue) (xs : List Held) (w : World) → IsWorld tells v xs w → IsKept tells v v' w.machine
+    → IsWorld tells v' (xs ++ held.Nothing ∷ []) (same w)
+asked-world tells v v' xs w is kept =
+    kept-world tells v v' xs w w.machine is (record { goes = kept.goes; names = kept-names tells v v' kept.goes kept.commits }) kept.stands
+    (goes_on-same w.machine.published) (keeps-same (commits_of v) (commits_of v') kept.commits)
 
 -- what the view at a place reads is there
 view-read : (tells : Bool) (v : StoreValue) (view : ViewValue) (P : Place → Type 0) (h : History Value) (p : Place)
-    → ShowsAs v.transactions h (held.View view) p → IsRead tells v (held.View view) p
+    → ShowsAs (commits_of v) h (held.View view) p → IsRead tells v (held.View view) p
     → ((history : History Value) (floors : ℕ → ℕ) → ViewStands view history floors → ViewReads tells v view history floors
     → P (Views history floors view.reclaimed)) → P p
 view-read tells v view P h Free shows read there = absurd shows
@@ -95,41 +96,8 @@ view-read tells v view P h (Waits time) shows read there = absurd shows
 view-read tells v view P h (Views history floors reclaimed) shows read there =
     subst (λ (r : ℕ). P (Views history floors r)) shows.1 (there history floors shows.2 read)
 
--- the transactions of a store that was asked
-asked-same : {T : Type 0} (tells : Bool) (v v' : StoreValue) (view : ViewValue) (from : ℕ) (Refuses : QueryFault → Type 0) (Recent : T
-    → Type 0) (OfHistory : History Value → T → Type 0) (Exact : Result T QueryFault → Type 0) (answer : Result T QueryFault)
-    → OrStranger v view (Finds tells v view from Refuses Recent OfHistory Exact) answer v' → v'.transactions ≡ v.transactions
-asked-same tells v v' view from Refuses Recent OfHistory Exact answer says = by-own (is_own v view) says
-  where
-    by-own : (b : Bool) → MatchBool b (Finds tells v view from Refuses Recent OfHistory Exact answer v') ((answer ≡ Err query.Stranger) × (v' ≡ v))
-        → v'.transactions ≡ v.transactions
-    by-own true finds = ap (λ (x : StoreValue). x.transactions) finds.asks.new_is
-    by-own false strange = ap (λ (x : StoreValue). x.transactions) strange.1
-
-after-made : {T : Type 0} (answer : Result T QueryFault) (disk : DiskState) → (after_query answer disk).made ≡ disk.made
-after-made (Ok found) disk = refl
-after-made (Err query.Device) disk = refl
-after-made (Err (query.BeforeKept floor)) disk = refl
-after-made (Err (query.NotYet late)) disk = refl
-after-made (Err query.EmptyInterval) disk = refl
-after-made (Err query.NoMemory) disk = refl
-after-made (Err (query.Damaged start)) disk = refl
-after-made (Err query.NeedsDisk) disk = refl
-after-made (Err query.Stranger) disk = refl
-
--- a query writes and syncs nothing
-pub asked-few : {T : Type 0} (tells : Bool) (v v' : StoreValue) (view : ViewValue) (from : ℕ) (Refuses : QueryFault → Type 0) (Recent : T
-    → Type 0) (OfHistory : History Value → T → Type 0) (Exact : Result T QueryFault → Type 0) (answer : Result T QueryFault)
-    → OrStranger v view (Finds tells v view from Refuses Recent OfHistory Exact) answer v' → v'.disk.made ≤ v.disk.made + 1
-asked-few tells v v' view from Refuses Recent OfHistory Exact answer says = by-own (is_own v view) says
-  where
-    by-own : (b : Bool) → MatchBool b (Finds tells v view from Refuses Recent OfHistory Exact answer v') ((answer ≡ Err query.Stranger) × (v' ≡ v))
-        → v'.disk.made ≤ v.disk.made + 1
-    by-own true finds = let is = ap (λ (x : StoreValue). x.disk.made) finds.asks.new_is ∙ after-made answer v.disk in omega arith
-    by-own false strange = let is = ap (λ (x : StoreValue). x.disk.made) strange.1 in omega arith
-
 at-leads : (tells : Bool) (v v' : StoreValue) (xs : List Held) (i : ℕ) (key : Key) (time : ℕ) (view : ViewValue) (r : Result (Option Value) QueryFault)
-    → slice_get xs i ≡ Some (held.View view) → stores.AnswersAtView tells v view key time r v'
+    → slice_get xs i ≡ Some (held.View view) → queries.AnswersAtView tells v view key time r v'
     → Leads tells v xs (call.At i key time) (answer.At r) v' (xs ++ held.Nothing ∷ [])
 at-leads tells v v' xs i key time view r here says w is = (
   same w,
@@ -137,11 +105,11 @@ at-leads tells v v' xs i key time view r here says w is = (
       (is.views.each i (held.View view) here) (λ history floors stands reads.
       (at-answered tells v v' w.machine view history floors key time r is.stands stands reads says, refl)),
   no-step w.machine,
-  asked-world tells v v' xs w is (asked-same tells v v' view time _ _ _ _ r says) (query-stands tells v v' w.machine view time _ _ _ _ r is.stands says),
+  asked-world tells v v' xs w is (at-stands tells v v' w.machine view key time r is.stands says),
 )
 
 scan_at-leads : (tells : Bool) (v v' : StoreValue) (xs : List Held) (i : ℕ) (relation time : ℕ) (view : ViewValue)
-    (r : Result (Vec (ℕ × Value) Global) QueryFault) → slice_get xs i ≡ Some (held.View view) → stores.AnswersScanAt tells v view relation time r v'
+    (r : Result (Vec (ℕ × Value) Global) QueryFault) → slice_get xs i ≡ Some (held.View view) → queries.AnswersScanAt tells v view relation time r v'
     → Leads tells v xs (call.ScanAt i relation time) (answer.ScanAt r) v' (xs ++ held.Nothing ∷ [])
 scan_at-leads tells v v' xs i relation time view r here says w is = (
   same w,
@@ -149,11 +117,11 @@ scan_at-leads tells v v' xs i relation time view r here says w is = (
       (is.places.each i (held.View view) here) (is.views.each i (held.View view) here) (λ history floors stands reads.
       (scan_at-answered tells v v' w.machine view history floors relation time r is.stands stands reads says, refl)),
   no-step w.machine,
-  asked-world tells v v' xs w is (asked-same tells v v' view time _ _ _ _ r says) (query-stands tells v v' w.machine view time _ _ _ _ r is.stands says),
+  asked-world tells v v' xs w is (scan_at-stands tells v v' w.machine view relation time r is.stands says),
 )
 
 between-leads : (tells : Bool) (v v' : StoreValue) (xs : List Held) (i : ℕ) (key : Key) (a b : ℕ) (view : ViewValue)
-    (r : Result (Vec (Version Value) Global) QueryFault) → slice_get xs i ≡ Some (held.View view) → stores.AnswersRows tells v view key a b r v'
+    (r : Result (Vec (Version Value) Global) QueryFault) → slice_get xs i ≡ Some (held.View view) → queries.AnswersRows tells v view key a b r v'
     → Leads tells v xs (call.Between i key a b) (answer.Between r) v' (xs ++ held.Nothing ∷ [])
 between-leads tells v v' xs i key a b view r here says w is = (
   same w,
@@ -161,11 +129,11 @@ between-leads tells v v' xs i key a b view r here says w is = (
       (is.places.each i (held.View view) here) (is.views.each i (held.View view) here) (λ history floors stands reads.
       (between-answered tells v v' w.machine view history floors key a b r is.stands stands reads says, refl)),
   no-step w.machine,
-  asked-world tells v v' xs w is (asked-same tells v v' view a _ _ _ _ r says) (query-stands tells v v' w.machine view a _ _ _ _ r is.stands says),
+  asked-world tells v v' xs w is (between-stands tells v v' w.machine view key a b r is.stands says),
 )
 
 scan_between-leads : (tells : Bool) (v v' : StoreValue) (xs : List Held) (i : ℕ) (relation a b : ℕ) (view : ViewValue)
-    (r : Result (Vec (ℕ × Version Value) Global) QueryFault) → slice_get xs i ≡ Some (held.View view) → stores.AnswersScanRows tells v view relation a b r v'
+    (r : Result (Vec (ℕ × Version Value) Global) QueryFault) → slice_get xs i ≡ Some (held.View view) → queries.AnswersScanRows tells v view relation a b r v'
     → Leads tells v xs (call.ScanBetween i relation a b) (answer.ScanBetween r) v' (xs ++ held.Nothing ∷ [])
 scan_between-leads tells v v' xs i relation a b view r here says w is = (
   same w,
@@ -173,7 +141,7 @@ scan_between-leads tells v v' xs i relation a b view r here says w is = (
       (is.places.each i (held.View view) here) (is.views.each i (held.View view) here) (λ history floors stands reads.
       (scan_between-answered tells v v' w.machine view history floors relation a b r is.stands stands reads says, refl)),
   no-step w.machine,
-  asked-world tells v v' xs w is (asked-same tells v v' view a _ _ _ _ r says) (query-stands tells v v' w.machine view a _ _ _ _ r is.stands says),
+  asked-world tells v v' xs w is (scan_between-stands tells v v' w.machine view relation a b r is.stands says),
 )
 
 -- what a view lends is what it answers
@@ -222,14 +190,16 @@ recent-leads tells v xs i key time view found r here says shared w is = (
 end-leads : (tells : Bool) (v v' : StoreValue) (xs : List Held) (i : ℕ) (view : ViewValue) → slice_get xs i ≡ Some (held.View view) → v' ≡ v
     → Leads tells v xs (call.End i) answer.End v' (slice_set xs i held.Nothing ++ held.Nothing ∷ [])
 end-leads tells v v' xs i view here unchanged w is =
-    let freed = free v.transactions w.machine.published xs w.places i (held.View view) is.places here in (
+    let freed = free (commits_of v) w.machine.published xs w.places i (held.View view) is.places here in (
       spent w i,
-      at_view (λ (p : Place). Closes w i p (spent w i)) v.transactions w.machine.published view (place_at w.places i) (is.places.each i (held.View view) here)
+      at_view (λ (p : Place). Closes w i p (spent w i)) (commits_of v) w.machine.published view (place_at w.places i) (is.places.each i (held.View view) here)
           (λ history floors mark stands. refl),
       no-step w.machine,
       subst (λ (x : StoreValue). IsWorld tells x (slice_set xs i held.Nothing ++ held.Nothing ∷ []) (spent w i)) (sym unchanged) (record {
         stands = is.stands;
-        places = push_nothing v.transactions w.machine.published (slice_set xs i held.Nothing) (slice_set w.places i Free) freed;
+        layout = is.layout;
+        names = is.names;
+        places = push_nothing (commits_of v) w.machine.published (slice_set xs i held.Nothing) (slice_set w.places i Free) freed;
         views = reads-plain tells v (slice_set xs i held.Nothing) (slice_set w.places i Free) held.Nothing Free freed.many tt
             (reads-set tells v xs w.places i held.Nothing Free tt is.views);
       }),
@@ -238,35 +208,44 @@ end-leads tells v v' xs i view here unchanged w is =
 times-leads : (tells : Bool) (v : StoreValue) (xs : List Held) (label : ℕ) (r : Result (Vec ℕ Global) AllocError)
     → IfOk r (λ times. stores.IsTimesOf v label times.items) → Leads tells v xs (call.TimesOf label) (answer.TimesOf r) v (xs ++ held.Nothing ∷ [])
 times-leads tells v xs label (Ok times) of w is =
-    (same w, (of ∙ times-of_label v.transactions w.machine label is.stands.memory, refl), no-step w.machine, same-world tells v xs w is)
+    (
+      same w,
+      (
+        subst (λ (from : ℕ). AreTimesFrom from times.items (answers.times_of w.machine.published label)) (sym is.names)
+            (times-are tells v w.machine label times.items is.stands of),
+        refl,
+      ),
+      no-step w.machine,
+      same-world tells v xs w is,
+    )
 times-leads tells v xs label (Err why) of w is = (same w, (tt, refl), no-step w.machine, same-world tells v xs w is)
 
 -- ---- as the store's own clauses say
 
-pub view-goes : (tells : Bool) (v : StoreValue) (xs : List Held) (r : Result ViewValue AllocError) → IfOk r (stores.IsViewOf v)
+pub view-goes : (tells : Bool) (v : StoreValue) (xs : List Held) (r : Result ViewValue AllocError) → IfOk r (queries.IsViewOf v)
     → Goes tells v xs call.View (view_answer r).0 v (xs ++ (view_answer r).1 ∷ [])
 view-goes tells v xs r of = record { makes = inr (r, of, refl, (refl, refl)); leads = view-leads tells v xs r of }
 
 pub at-goes : (tells : Bool) (v v' : StoreValue) (xs : List Held) (i : ℕ) (key : Key) (time : ℕ) (view : ViewValue) (r : Result (Option Value) QueryFault)
-    → slice_get xs i ≡ Some (held.View view) → stores.AnswersAtView tells v view key time r v'
+    → slice_get xs i ≡ Some (held.View view) → queries.AnswersAtView tells v view key time r v'
     → Goes tells v xs (call.At i key time) (answer.At r) v' (xs ++ held.Nothing ∷ [])
 at-goes tells v v' xs i key time view r here says =
     record { makes = inr (r, (view, here, says, (refl, refl))); leads = at-leads tells v v' xs i key time view r here says }
 
 pub scan_at-goes : (tells : Bool) (v v' : StoreValue) (xs : List Held) (i : ℕ) (relation time : ℕ) (view : ViewValue)
-    (r : Result (Vec (ℕ × Value) Global) QueryFault) → slice_get xs i ≡ Some (held.View view) → stores.AnswersScanAt tells v view relation time r v'
+    (r : Result (Vec (ℕ × Value) Global) QueryFault) → slice_get xs i ≡ Some (held.View view) → queries.AnswersScanAt tells v view relation time r v'
     → Goes tells v xs (call.ScanAt i relation time) (answer.ScanAt r) v' (xs ++ held.Nothing ∷ [])
 scan_at-goes tells v v' xs i relation time view r here says =
     record { makes = inr (r, (view, here, says, (refl, refl))); leads = scan_at-leads tells v v' xs i relation time view r here says }
 
 pub between-goes : (tells : Bool) (v v' : StoreValue) (xs : List Held) (i : ℕ) (key : Key) (a b : ℕ) (view : ViewValue)
-    (r : Result (Vec (Version Value) Global) QueryFault) → slice_get xs i ≡ Some (held.View view) → stores.AnswersRows tells v view key a b r v'
+    (r : Result (Vec (Version Value) Global) QueryFault) → slice_get xs i ≡ Some (held.View view) → queries.AnswersRows tells v view key a b r v'
     → Goes tells v xs (call.Between i key a b) (answer.Between r) v' (xs ++ held.Nothing ∷ [])
 between-goes tells v v' xs i key a b view r here says =
     record { makes = inr (r, (view, here, says, (refl, refl))); leads = between-leads tells v v' xs i key a b view r here says }
 
 pub scan_between-goes : (tells : Bool) (v v' : StoreValue) (xs : List Held) (i : ℕ) (relation a b : ℕ) (view : ViewValue)
-    (r : Result (Vec (ℕ × Version Value) Global) QueryFault) → slice_get xs i ≡ Some (held.View view) → stores.AnswersScanRows tells v view relation a b r v'
+    (r : Result (Vec (ℕ × Version Value) Global) QueryFault) → slice_get xs i ≡ Some (held.View view) → queries.AnswersScanRows tells v view relation a b r v'
     → Goes tells v xs (call.ScanBetween i relation a b) (answer.ScanBetween r) v' (xs ++ held.Nothing ∷ [])
 scan_between-goes tells v v' xs i relation a b view r here says =
     record { makes = inr (r, (view, here, says, (refl, refl))); leads = scan_between-leads tells v v' xs i relation a b view r here says }

@@ -11,7 +11,7 @@ use Rattle.recovery.specs.Faults.{IsReadFault}
 use Rattle.recovery.specs.declared.fault.OpenFault.{OpenFault}
 use Rattle.any_store.specs.Values.{StoreValue, disk_of}
 use Rattle.any_store.specs.Opens.{Opens, OpenRefuses}
-use Rattle.law_any_store.specs.Standing.{Stands, AnyHeader, IsImageOf, opened_as}
+use Rattle.law_any_store.specs.Standing.{Stands, AnyHeader, IsImageOf, opened_in}
 use Rattle.law_any_store.specs.Opened.{AnswersBy, IsHeaderLeftBy, RecoversHeader}
 use Rattle.run.specs.declared.calls.Call.{Call}
 use Rattle.run.specs.declared.calls.Answer.{Answer}
@@ -31,7 +31,7 @@ pub record IsKeptAs (tells : Bool) (image : Image) (h : History Value) (floors :
   pub opens : (disk new : DiskState) (why : OpenFault) → image_of disk.areas ≡ image → OpenRefuses tells disk why new → IsReadFault why
       × LeavesNoMore disk.areas new.areas
   pub answers : (disk : DiskState) (mark : ℕ) (again : StoreValue) → image_of disk.areas ≡ image → AreSound disk.areas → Opens tells disk mark again
-      → Stands tells again (opened_as header h floors) × AnswersBy tells again h floors
+      → Stands tells again (opened_in again h floors) × AnswersBy tells again h floors
 
 -- An image is kept as this history, which has every commit that was acknowledged.
 pub record IsKeptWith (tells : Bool) (image : Image) (done : List ℕ) (h : History Value) (floors : ℕ → ℕ) : Type 0 where
@@ -99,4 +99,4 @@ Promise =
     → ℕ) (calls : List Call) (answers : List Answer) (held : List Held)
     → IsTrue tells → AreSound disk.areas → IsImageOf header (image_of disk.areas) h floors → Opens tells disk mark v
     → KeepsPromise tells v [] calls answers new held
-    → (end : Moment) × Promises tells calls answers (first_moment v (opened_as header h floors)) end × IsAtMoment tells new held end
+    → (end : Moment) × Promises tells calls answers (first_moment v (opened_in v h floors)) end × IsAtMoment tells new held end

@@ -1,5 +1,5 @@
 use Rattle.disk.proofs.Stops.{LeavesImage-read}
-use Rattle.law_opening.proofs.Reopened.{close-leaves}
+use Rattle.law_any_store.proofs.Reopened.{close-leaves}
 use Rattle.run.proofs.opening.close.Goals as goal
 
 pub returns-clause-stands : goal.returns-clause-stands

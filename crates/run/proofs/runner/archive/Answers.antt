@@ -1,4 +1,5 @@
-use Rattle.run.proofs.Archiving.{start-goes, start-few}
+use Rattle.law_any_store.proofs.Few.{start-few}
+use Rattle.run.proofs.Archiving.{start-goes}
 use Rattle.run.proofs.runner.archive.Goals as goal
 
 pub returns-clause-goes : goal.returns-clause-goes

@@ -1,4 +1,5 @@
-use Rattle.run.proofs.GrowCalls.{grow-goes, grow-few}
+use Rattle.law_any_store.proofs.Few.{grow-few}
+use Rattle.run.proofs.GrowCalls.{grow-goes}
 use Rattle.run.proofs.runner.grow.Goals as goal
 
 pub returns-clause-goes : goal.returns-clause-goes

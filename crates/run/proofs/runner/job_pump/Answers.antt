@@ -1,4 +1,5 @@
-use Rattle.run.proofs.Archiving.{pumped-goes, pumped-few}
+use Rattle.law_any_store.proofs.Few.{pumped-few}
+use Rattle.run.proofs.Archiving.{pumped-goes}
 use Rattle.run.proofs.runner.job_pump.Goals as goal
 
 pub returns-clause-goes : goal.returns-clause-goes

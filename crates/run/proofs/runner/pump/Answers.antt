@@ -1,4 +1,5 @@
-use Rattle.run.proofs.Pumping.{pump-goes, pump-few}
+use Rattle.law_any_store.proofs.Few.{pump-few}
+use Rattle.run.proofs.Pumping.{pump-goes}
 use Rattle.run.proofs.runner.pump.Goals as goal
 
 pub returns-clause-goes : goal.returns-clause-goes

@@ -1,4 +1,5 @@
-use Rattle.run.proofs.FloorCalls.{floor-goes, floor-few}
+use Rattle.law_any_store.proofs.Few.{floor-few}
+use Rattle.run.proofs.FloorCalls.{floor-goes}
 use Rattle.run.proofs.runner.raise_floor.Goals as goal
 
 pub returns-clause-goes : goal.returns-clause-goes

@@ -1,4 +1,5 @@
-use Rattle.run.proofs.Archiving.{reclaim-goes, reclaim-few}
+use Rattle.law_any_store.proofs.Few.{reclaim-few}
+use Rattle.run.proofs.Archiving.{reclaim-goes}
 use Rattle.run.proofs.runner.reclaim.Goals as goal
 
 pub returns-clause-goes : goal.returns-clause-goes

@@ -1,8 +1,9 @@
 use Rattle.std.proofs.Common.{refl}
 use Rattle.std.specs.Prelude.{slice_get}
 use Rattle.run.specs.declared.calls.Call.TheVariants as call
+use Rattle.law_any_store.proofs.Few.{between-few}
 use Rattle.run.proofs.Steps.{unknown-goes}
-use Rattle.run.proofs.Views.{held-view, held-no_view, between-goes, asked-few}
+use Rattle.run.proofs.Views.{held-view, held-no_view, between-goes}
 use Rattle.run.proofs.viewing.between.Goals as goal
 
 pub returns-in_default-clause-goes : goal.returns-in_default-clause-goes
@@ -16,4 +17,5 @@ returns-clause-goes g c =
     c.between.result (held-view (slice_get c.args.places.now c.args.view) c.in-Some.asked.now c.in-Some.ensures) c.between.ensures
 
 pub returns-clause-made : goal.returns-clause-made
-returns-clause-made g c = asked-few g.D.Disk.tells c.args.store.now c.between.new.self c.in-Some.asked.now c.args.a _ _ _ _ c.between.result c.between.ensures
+returns-clause-made g c =
+    between-few g.D.Disk.tells c.args.store.now c.between.new.self c.in-Some.asked.now c.args.key c.args.a c.args.b c.between.result c.between.ensures

@@ -1,8 +1,9 @@
 use Rattle.std.proofs.Common.{refl}
 use Rattle.std.specs.Prelude.{slice_get}
 use Rattle.run.specs.declared.calls.Call.TheVariants as call
+use Rattle.law_any_store.proofs.Few.{scan_at-few}
 use Rattle.run.proofs.Steps.{unknown-goes}
-use Rattle.run.proofs.Views.{held-view, held-no_view, scan_at-goes, asked-few}
+use Rattle.run.proofs.Views.{held-view, held-no_view, scan_at-goes}
 use Rattle.run.proofs.viewing.scan_at.Goals as goal
 
 pub returns-in_default-clause-goes : goal.returns-in_default-clause-goes
@@ -17,4 +18,4 @@ returns-clause-goes g c =
 
 pub returns-clause-made : goal.returns-clause-made
 returns-clause-made g c =
-    asked-few g.D.Disk.tells c.args.store.now c.scan_at.new.self c.in-Some.asked.now c.args.time _ _ _ _ c.scan_at.result c.scan_at.ensures
+    scan_at-few g.D.Disk.tells c.args.store.now c.scan_at.new.self c.in-Some.asked.now c.args.relation c.args.time c.scan_at.result c.scan_at.ensures
