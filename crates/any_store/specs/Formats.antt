@@ -23,10 +23,15 @@ abbrev pub IsOccupied : Layout → List ℕ → Type 0
 IsOccupied (Slots slots) status = HasStore status
 IsOccupied (Log extents) status = log_formats.IsOccupied status
 
+-- the first extent is zeros and the header is that of a new store, in a heap of a size that one may have
+pub record IsLogFormatted (extents : ℕ) (old new : Areas) : Type 0 where
+  pub size : IsHeapSize extents
+  pub new_is : new ≡ log_formats.formatted extents old
+
 -- the disk is that of a new store
 abbrev pub IsFormatted : Layout → Areas → Areas → Type 0
 IsFormatted (Slots slots) old new = slot_formats.IsFormatted slots old new
-IsFormatted (Log extents) old new = new ≡ log_formats.formatted extents old
+IsFormatted (Log extents) old new = IsLogFormatted extents old new
 
 -- what a refused format leaves: all refusals but the device's come before the first write
 abbrev pub FormatRefuses : Bool → Layout → DiskState → FormatFault → DiskState → Type 0

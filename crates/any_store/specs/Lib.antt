@@ -4,3 +4,4 @@ pub mod Queries
 pub mod Jobs
 pub mod Opens
 pub mod Formats
+pub mod Places

@@ -3,7 +3,7 @@ use Rattle.std.proofs.Common.{ℕ, ◌≡◌, ◌⊎◌, inl, inr, Bool, true, f
 use Rattle.std.proofs.Common.{Option, Some, None, Result, Ok, Err, Vec, ap, refl, sym, subst, ◌∙◌}
 use Rattle.std.specs.declared.alloc.Global.{Global}
 use Rattle.std.specs.Prelude.{MatchBool, MatchOption}
-use Rattle.disk.specs.Areas.{Areas, AreSound, Image, LeavesImage, image_of}
+use Rattle.disk.specs.Areas.{AreSound, image_of}
 use Rattle.disk.specs.Calls.{DiskState}
 use Rattle.history.specs.Answers as answers
 use Rattle.history.specs.Answers.{QueryRefusal, at_answer, between_answer, times_of}
@@ -17,16 +17,14 @@ use Rattle.floors.specs.Floors.{floor_at}
 use Rattle.law_refinement.specs.Homes.{IsSure, ViewStands}
 use Rattle.law_refinement.specs.Laws.{Says, SaysAt, SaysScanAt}
 use Rattle.any_store.specs.declared.engine.Engine.TheVariants as engine
-use Rattle.any_store.specs.declared.formatting.Layout.TheVariants.{Slots, Log}
+use Rattle.any_store.specs.declared.formatting.Layout.TheVariants.{Slots}
 use Rattle.any_store.specs.Calls as stores
 use Rattle.any_store.specs.Opens.{Opens}
 use Rattle.any_store.specs.Queries as queries
 use Rattle.any_store.specs.Queries.{IsViewOf}
 use Rattle.any_store.specs.Values.{StoreValue}
-use Rattle.any_store.specs.Formats.{IsFormatted, IsSize}
-use Rattle.any_store.specs.declared.formatting.Layout.{Layout as StoreLayout}
-use Rattle.law_opening.proofs.Formatted as slots
-use Rattle.law_log_opened.proofs.Formatted as logs
+use Rattle.law_any_store.specs.Formatted.{header_of}
+use Rattle.law_any_store.proofs.Formatted.{formatted-leaves, formatted-stands}
 use Rattle.law_any_store.specs.Names.{AreTimesFrom, names_from}
 use Rattle.law_any_store.specs.Opened.{IsOfHeader}
 use Rattle.law_any_store.specs.Standing.{AnyHeader, IsImageOf, Stands, ViewReads, opened_as, opened_in}
@@ -73,7 +71,7 @@ use Rattle.shell.specs.Asking.{end_asked, line_asked, time_asked}
 use Rattle.command_line.specs.declared.layout.Layout.{Layout}
 use Rattle.shell.specs.Layouts.{store_layout}
 use Rattle.shell.specs.Acts.{IfSlots, RefusesProfile}
-use Rattle.shell.specs.Keeps.{header_made, LineLeads, LinesKeep, RunKeeps, NewRunKeeps, KeepsPromise, VacuumKeeps, VacuumingKeeps, GrowthKeeps}
+use Rattle.shell.specs.Keeps.{LineLeads, LinesKeep, RunKeeps, NewRunKeeps, KeepsPromise, VacuumKeeps, VacuumingKeeps, GrowthKeeps}
 use Rattle.shell.specs.Keeps.{GrowingKeeps, MakingKeeps, IsValueReply, IsRowsReply, OrGaveOut, AskingKeeps}
 use Rattle.shell.specs.Keeps.{FloorKeeps, RaisingKeeps}
 use Rattle.shell.specs.Keeps.{IsRecordsReply, IsReplyTo, IsTimesReply, WriteKeeps, WritingKeeps}
@@ -141,8 +139,8 @@ new-keeps : (tells : Bool) (old new : DiskState) (input : Input) (output : Outpu
 new-keeps tells old new input output told runs = record {
   made = runs.made;
   formatted = runs.formatted told;
-  keeps = run-keeps tells runs.made new input output (header_made (Slots 16)) [] (λ relation. 0) told (runs.sound told)
-      (slots.formatted-stands 16 old.areas runs.made.areas (runs.formatted told)) runs.runs;
+  keeps = run-keeps tells runs.made new input output (header_of (Slots 16)) [] (λ relation. 0) told (runs.sound told)
+      (formatted-stands (Slots 16) old.areas runs.made.areas (runs.formatted told)) runs.runs;
 }
 
 example-keeps : (tells : Bool) (old new : DiskState) (input : Input) (output : Output) → IsTrue tells → RunsNew tells old input output new
@@ -390,20 +388,14 @@ growth-keeps tells old new output told sound (inr (inr did)) =
 
 -- ---- format
 
--- whatever a stop may leave of what was made stands for the empty history
-made-leaves : (layout : StoreLayout) (old new : Areas) (image : Image) → IsSize layout → IsFormatted layout old new → LeavesImage new image
-    → IsImageOf (header_made layout) image [] (λ relation. 0)
-made-leaves (Slots count) old new image size is left = slots.formatted-leaves count old new image is left
-made-leaves (Log extents) old new image size is left = logs.formatted-leaves extents old new image (record { size = size; new_is = is }) left
-
 make-keeps : (tells : Bool) (old new : DiskState) (layout : Layout) (output : Output) → IsTrue tells → Makes tells old layout output new
     → MakingKeeps tells old (store_layout layout) new
 make-keeps tells old new layout output told (inl made) =
     inl (record {
-      kept = λ image left. kept-as tells (header_made (store_layout layout)) image [] (λ relation. 0) told
-          (made-leaves (store_layout layout) old.areas new.areas image made.size (made.formatted told) left);
-      has = λ image left. image-header tells (header_made (store_layout layout)) image [] (λ relation. 0) told
-          (made-leaves (store_layout layout) old.areas new.areas image made.size (made.formatted told) left);
+      kept = λ image left. kept-as tells (header_of (store_layout layout)) image [] (λ relation. 0) told
+          (formatted-leaves (store_layout layout) old.areas new.areas image (made.formatted told) left);
+      has = λ image left. image-header tells (header_of (store_layout layout)) image [] (λ relation. 0) told
+          (formatted-leaves (store_layout layout) old.areas new.areas image (made.formatted told) left);
     })
 make-keeps tells old new layout output told (inr refused) = inr (refused.0, refused.1)
 

@@ -12,15 +12,13 @@ use Rattle.law_image.specs.Values.{Value}
 use Rattle.recovery.specs.Faults.{IsReadFault}
 use Rattle.recovery.specs.declared.fault.FormatFault.{FormatFault}
 use Rattle.recovery.specs.declared.fault.OpenFault.{OpenFault}
-use Rattle.status.specs.Header.{new_header}
-use Rattle.log_store.specs.Formats.{new_roots}
 use Rattle.timequery.specs.declared.fault.QueryFault.TheVariants as query
-use Rattle.any_store.specs.declared.engine.Engine.TheVariants as engine
 use Rattle.any_store.specs.declared.formatting.Layout.{Layout as StoreLayout}
-use Rattle.any_store.specs.declared.formatting.Layout.TheVariants.{Slots, Log}
+use Rattle.any_store.specs.declared.formatting.Layout.TheVariants.{Slots}
 use Rattle.any_store.specs.Values.{StoreValue, disk_of}
 use Rattle.any_store.specs.Opens.{Opens, OpenRefuses}
 use Rattle.any_store.specs.Formats.{IsFormatted, FormatRefuses}
+use Rattle.law_any_store.specs.Formatted.{header_of}
 use Rattle.law_any_store.specs.Names.{AreTimesFrom, names_from}
 use Rattle.law_any_store.specs.Opened.{RecoversHeader}
 use Rattle.law_any_store.specs.Standing.{AnyHeader, IsImageOf, opened_in}
@@ -140,15 +138,10 @@ RaisingKeeps tells old relation time output new = (header : AnyHeader) (h : Hist
 
 -- ---- an empty store
 
--- the header of a new store
-abbrev pub header_made : StoreLayout → AnyHeader
-header_made (Slots slots) = engine.Slots (new_header 3 slots)
-header_made (Log extents) = engine.Log (new_roots extents)
-
 -- Whatever a stop may leave of what was made is kept as the empty history, with these slots or extents.
 pub record LeavesEmpty (tells : Bool) (layout : StoreLayout) (new : DiskState) : Type 0 where
   pub kept : (image : Image) → LeavesImage new.areas image → IsKeptAs tells image [] (λ relation. 0)
-  pub has : (image : Image) → LeavesImage new.areas image → RecoversHeader tells image (header_made layout)
+  pub has : (image : Image) → LeavesImage new.areas image → RecoversHeader tells image (header_of layout)
 
 -- an empty store is made, or none, and the disk is as this says
 abbrev pub MakingKeeps : Bool → DiskState → StoreLayout → DiskState → Type 0
