@@ -7,7 +7,7 @@ use crate::write_sets::Written;
 use disk::{Area, Disk, Fault, FaultDisk, MemDisk};
 use history::Key;
 use script::read_time;
-use shell::{Action, Form, Question, RecordWrite, Style};
+use shell::{Action, Form, Layout, Question, RecordWrite, Style};
 use std::alloc::{AllocError, Global};
 
 /// What is done to a disk, and what must come of it. Lines and bytes are those of the newest profile.
@@ -199,7 +199,8 @@ impl Machine {
     /// A new store takes the place of the disk.
     fn starts(&mut self, slots: u32) -> bool {
         self.gets(Some(MemDisk::new(self.alloc)), NO_FAULT);
-        self.does(Action::Format { dir: "", slots }, "");
+        let layout = Some(Layout::Slots(slots));
+        self.does(Action::Format { dir: "", layout }, "");
         let is_newest = self.profile == NEWEST;
         self.status == 0 && (is_newest || change(&mut self.disk, Area::Status, 8, self.profile))
     }
@@ -290,7 +291,8 @@ impl Machine {
         match *step {
             Step::Does(action, input, lines, status) => self.says(action, input, lines, status),
             Step::Formats(slots, line, status) => {
-                self.says(Action::Format { dir, slots }, "", line, status)
+                let layout = Some(Layout::Slots(slots));
+                self.says(Action::Format { dir, layout }, "", line, status)
             }
             Step::Vacuums(time, lines, status) => self.says(vacuum(time), "", lines, status),
             Step::Rows(from, to, lines, status) => self.says(rows(from, to), "", lines, status),
