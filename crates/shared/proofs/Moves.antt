@@ -13,7 +13,7 @@ use Rattle.history.specs.Machine.{Machine}
 use Rattle.history.specs.Steps.{Step, Run, Began, Aborted, FloorStarted, begun, floor_started}
 use Rattle.history.specs.Submissions.{commit_made}
 use Rattle.law_image.specs.Values.{Value, IsValue}
-use Rattle.snapshot.specs.OpenTable.{with_closed}
+use Rattle.snapshot.specs.OpenTable.{with_opened, with_closed}
 use Rattle.snapshot.specs.Txn.{TxnValue, AreTxnWrites}
 use Rattle.group.specs.CommitOrder as orders
 use Rattle.group.specs.Tickets.{TicketValue}
@@ -88,11 +88,11 @@ pub known : {a b c : ArchiveSeen} → b ≡ a → IsArchiveLater a c → IsArchi
 known {a} {b} {c} is later = subst (λ (x : ArchiveSeen). IsArchiveLater x c) (sym is) later
 
 -- what is out is open, by another name
-still-open : {a b : Tokens} {opened : List (Option ℕ)} → b ≡ a → AreOpen a.out opened → AreOpen b.out opened
-still-open {a} {b} {opened} is are = subst (λ (x : Tokens). AreOpen x.out opened) (sym is) are
+still-open : (a b : Tokens) (opened : List (Option ℕ)) → b ≡ a → AreOpen a.out opened → AreOpen b.out opened
+still-open a b opened is are = subst (λ (x : Tokens). AreOpen x.out opened) (sym is) are
 
-open-still : {out : ℕ → Option ℕ} {a b : List (Option ℕ)} → b ≡ a → AreOpen out a → AreOpen out b
-open-still {out} {a} {b} is are = subst (AreOpen out) (sym is) are
+open-still : (out : ℕ → Option ℕ) (a b : List (Option ℕ)) → b ≡ a → AreOpen out a → AreOpen out b
+open-still out a b is are = subst (λ (x : List (Option ℕ)). AreOpen out x) (sym is) are
 
 -- the same under another pass of the writer's
 pub repass : (tells : Bool) (start : Machine Value) (brand : ℕ) (table : TableId) (v : StoreValue) (shares : ℕ) (at at' : TableId) (pass pass' : SightValue)
@@ -110,7 +110,7 @@ repass tells start brand table v shares at at' pass pass' h same on seen archive
   seen = seen ∙ h.seen;
   archive = known archive h.archive;
   writes = on;
-  given = still-open tokens h.given;
+  given = still-open pass.tokens pass'.tokens v.transactions.opened tokens h.given;
 }
 
 -- and where it knows the archive as it is now
@@ -129,7 +129,7 @@ repass-known tells start brand table v shares at at' pass pass' h same on seen a
   seen = seen ∙ h.seen;
   archive = known archive (archive-same (archive_seen tells v));
   writes = on;
-  given = still-open tokens h.given;
+  given = still-open pass.tokens pass'.tokens v.transactions.opened tokens h.given;
 }
 
 -- the machine's commits are as they were, under a pass that has other transactions out
@@ -162,7 +162,7 @@ quiet : (tells : Bool) (start : Machine Value) (brand : ℕ) (table : TableId) (
     → IsShared tells start brand table new shares at pass
 quiet tells start brand table old new shares at pass h after stands goes reached same mark heads opened =
     rested tells start brand table old new shares at at pass pass h after stands goes reached same mark heads refl h.writes refl refl
-    (open-still opened h.given)
+    (open-still pass.tokens.out old.transactions.opened new.transactions.opened opened h.given)
 
 -- ---- opening
 
@@ -184,7 +184,7 @@ begins tells start brand table v total at pass stands mark fresh empty none cell
   seen = seen;
   archive = known archive (archive-first (archive_seen tells v));
   writes = writes;
-  given = still-open tokens (λ number snapshot is. absurd cc);
+  given = still-open no_tokens pass.tokens v.transactions.opened tokens (λ number snapshot is. absurd cc);
 }
 
 -- ---- transactions
@@ -213,7 +213,8 @@ begin-gives tells start brand table old new shares at at' pass pass' txn h begin
     rested tells start brand table old new shares at at' pass pass' h (begun h.state) did.1 (rest-goes tells old new begins.rest mark)
     (stepped (Began txn.snapshot) h.reached did.0) refl mark (ap (λ (v : TransactionsValue). v.heads) is) cell on seen archive
     (subst (λ (o : ℕ → Option ℕ). AreOpen o new.transactions.opened) (sym out)
-    (open-still (ap (λ (v : TransactionsValue). v.opened) is) given))
+    (open-still (given_out pass.tokens.out (token_of txn)) (with_opened old.transactions.opened txn.number txn.snapshot) new.transactions.opened
+    (ap (λ (v : TransactionsValue). v.opened) is) given))
 
 -- or none does
 pub begin-keeps : (tells : Bool) (start : Machine Value) (brand : ℕ) (table : TableId) (old new : StoreValue) (shares : ℕ) (at : TableId) (pass : SightValue)
@@ -267,7 +268,8 @@ abort-keeps tells start brand table old new shares at at' pass pass' txn own h a
     rested tells start brand table old new shares at at' pass pass' h a.after a.stands (rest-goes tells old new aborts.rest mark)
     (stepped (Aborted txn.snapshot) h.reached a.step) (ap seen_of a.step.2) mark (ap (λ (v : TransactionsValue). v.heads) a.left) cell on seen archive
     (subst (λ (o : ℕ → Option ℕ). AreOpen o new.transactions.opened) (sym (out ∙ ap (taken_back pass.tokens.out) goes))
-    (open-still (ap (λ (v : TransactionsValue). v.opened) a.left) taken))
+    (open-still (taken_back pass.tokens.out (Some (token_of txn))) (with_closed old.transactions.opened txn.number) new.transactions.opened
+    (ap (λ (v : TransactionsValue). v.opened) a.left) taken))
 
 -- ---- submits
 
@@ -441,7 +443,8 @@ submit-keeps tells start brand table old new shares at at' pass pass' t label no
       archive = known archive (archive-then pass.archive (archive_seen tells old) (archive_seen tells new) h.archive (archive-on tells old new s.goes));
       writes = on;
       given = subst (λ (o : ℕ → Option ℕ). AreOpen o new.transactions.opened) (sym (out ∙ ap (taken_back pass.tokens.out) goes))
-          (open-still s.opened (taken-open pass.tokens.out old.transactions.opened (token_of t) h.given));
+          (open-still (taken_back pass.tokens.out (Some (token_of t))) (with_closed old.transactions.opened t.number) new.transactions.opened s.opened
+          (taken-open pass.tokens.out old.transactions.opened (token_of t) h.given));
     }
 
 -- ---- steps of groups and jobs
@@ -513,7 +516,8 @@ pump-publishes tells start brand table old new shares at at' pass pass' r h p ce
       seen = seen ∙ sym p.seen;
       archive = known archive (archive-then pass.archive (archive_seen tells old) (archive_seen tells new) h.archive (archive-on tells old new p.goes));
       writes = on;
-      given = still-open tokens (open-still p.opened h.given);
+      given = still-open pass.tokens pass'.tokens new.transactions.opened tokens
+          (open-still pass.tokens.out old.transactions.opened new.transactions.opened p.opened h.given);
     }
 
 -- what the beginning of an archive answers
@@ -770,7 +774,8 @@ job-keeps tells start brand table old new shares at at' pass pass' r h raising i
       seen = seen ∙ ap (job_seen r raising) h.seen ∙ ap (λ (o : Option Raising). job_seen r o (seen_of h.state)) (sym is) ∙ sym p.seen;
       archive = known archive (archive-then pass.archive (archive_seen tells old) (archive_seen tells new) h.archive (archive-on tells old new p.goes));
       writes = on;
-      given = still-open tokens (open-still p.left.opened h.given);
+      given = still-open pass.tokens pass'.tokens new.transactions.opened tokens
+          (open-still pass.tokens.out old.transactions.opened new.transactions.opened p.left.opened h.given);
     }
 
 -- ---- queries
@@ -833,7 +838,7 @@ redeem-keeps tells start brand table old new shares at pass k r h redeems =
               archive-then pass.archive (archive_seen tells old) (archive_seen tells new) h.archive
               (archive-on tells old new (rest-goes tells old new redeems.rest (ap (λ (v : TransactionsValue). v.mark) left.3)));
           writes = h.writes;
-          given = open-still (ap (λ (v : TransactionsValue). v.opened) left.3) h.given;
+          given = open-still pass.tokens.out old.transactions.opened new.transactions.opened (ap (λ (v : TransactionsValue). v.opened) left.3) h.given;
         }
     by-result (redeemed.Waiting back) left stands = same (redeemed.Waiting back) refl left.1 stands
     by-result redeemed.InDoubt left stands = same redeemed.InDoubt refl left stands
