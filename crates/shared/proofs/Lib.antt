@@ -7,6 +7,7 @@ pub mod Archives
 pub mod Passes
 pub mod Counting
 pub mod Stepping
+pub mod Tokens
 pub mod Moves
 pub mod Awaiting
 pub mod Telling
