@@ -18,7 +18,6 @@ use Rattle.group.specs.declared.answers.Redeemed.{Redeemed}
 use Rattle.group.specs.declared.answers.Submitted.{Submitted}
 use Rattle.group.specs.declared.answers.SubmitFault.{SubmitFault}
 use Rattle.commits.specs.Values.{is_own}
-use Rattle.store.specs.Values as slot_values
 use Rattle.log_store.specs.Values.{LogStoreValue}
 use Rattle.any_store.specs.declared.engine.Engine.TheVariants.{Slots, Log}
 use Rattle.any_store.specs.Values.{StoreValue, is_log, commits_of, disk_of}
@@ -35,8 +34,7 @@ use Rattle.law_log_steps.proofs.Keeping as log_laws
 use Rattle.law_log_steps.proofs.Submitting as log_submits
 use Rattle.law_log_steps.proofs.Pumping as log_pumps
 use Rattle.law_log_steps.proofs.InStep.{begin-in-step, abort-in-step, redeem-in-step, submit-in-step, pump-in-step}
-use Rattle.law_log_queries.specs.Archive as logs
-use Rattle.law_log_queries.specs.Calls.{IsCall, OfBegin, OfAbort, OfRedeem, OfSubmit, OfPump}
+use Rattle.law_log_queries.specs.Calls.{OfBegin, OfAbort, OfRedeem, OfSubmit, OfPump}
 use Rattle.law_log_queries.proofs.Calls.{call-keeps}
 use Rattle.law_any_store.specs.Standing.{Stands}
 use Rattle.law_any_store.specs.Calls.{BeginsOn, Goes, pumped_by_log, pumped_in, RunsTo}

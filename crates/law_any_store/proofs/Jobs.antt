@@ -1,5 +1,5 @@
 -- The jobs of a store, in either layout. None runs yet where the log lies in the heap.
-use Rattle.std.proofs.Common.{◌≡◌, ℕ, Bool, true, false, List, [], ◌∷◌, Option, None, Some, Result, Ok, Err, refl, ap, sym, subst, ◌∙◌}
+use Rattle.std.proofs.Common.{◌≡◌, ℕ, Bool, true, false, List, [], Option, None, Some, Result, Ok, Err, refl, ap, sym, subst, ◌∙◌}
 use Rattle.std.specs.Prelude.{IsTrue, MatchBool}
 use Rattle.disk.specs.Areas.{AreSound}
 use Rattle.history.specs.Floors.{Raising}
@@ -15,7 +15,7 @@ use Rattle.store.specs.declared.job.StartFault.TheVariants as start
 use Rattle.log_store.specs.Values.{LogStoreValue}
 use Rattle.any_store.specs.declared.engine.Engine.TheVariants.{Slots, Log}
 use Rattle.any_store.specs.Values.{StoreValue, disk_of}
-use Rattle.any_store.specs.Jobs.{none_of, BeginsNone, PumpsNone, StartsArchive, StartsReclaim, StartsFloor, StartsGrowth, PumpsJob}
+use Rattle.any_store.specs.Jobs.{none_of, BeginsNone, StartsArchive, StartsReclaim, StartsFloor, StartsGrowth, PumpsJob}
 use Rattle.law_refinement.specs.Calls.{raising_to}
 use Rattle.law_refinement.specs.Calls as slot_calls
 use Rattle.law_refinement.specs.Laws.{floor_ends, job_ends_in}

@@ -1,5 +1,5 @@
 -- What the calls leave in memory, in either layout.
-use Rattle.std.proofs.Common.{◌≡◌, ℕ, ◌==◌, ◌≤◌, nat_le, nat_lt, min, max, ◌&&◌, Bool, true, false, cond, List, [], ◌∷◌, ◌++◌, length, Option, None, Some}
+use Rattle.std.proofs.Common.{◌≡◌, ℕ, ◌==◌, ◌≤◌, nat_le, nat_lt, min, max, ◌&&◌, Bool, true, false, cond, length, Option, None, Some}
 use Rattle.std.proofs.Common.{Result, Ok, Err}
 use Rattle.std.proofs.Common.{refl, arith, ap, sym, subst, ◌∙◌, inl, inr}
 use Rattle.std.specs.Prelude.{MatchBool, MatchResult}
@@ -44,7 +44,7 @@ use Rattle.law_refinement.specs.Leaving as slots
 use Rattle.law_refinement.proofs.Leaving as slot_leaves
 use Rattle.law_refinement.proofs.JobLeaving as job_leaves
 use Rattle.law_refinement.proofs.Told as slot_told
-use Rattle.law_any_store.specs.Leaving.{Leaves, LeftByBegin, JoinsOrder, LeftBySubmit, LeftByRedeem}
+use Rattle.law_any_store.specs.Leaving.{Leaves, LeftByBegin, LeftBySubmit, LeftByRedeem}
 
 -- ---- steps
 

@@ -1,11 +1,11 @@
 -- What a store of slots has in memory stands for the machine in the words of both layouts.
-use Rattle.std.proofs.Common.{◌≡◌, ℕ, Bool, List, [], ◌∷◌, ◌++◌, length, map, filter, take, nat_lt, max, Option, Some, refl, arith, ap, sym, subst, ◌∙◌}
-use Rattle.std.specs.Prelude.{IsPermutation, Contains}
+use Rattle.std.proofs.Common.{◌≡◌, ℕ, Bool, List, [], ◌∷◌, map, filter, nat_lt, Some, refl, arith, ap, ◌∙◌}
+use Rattle.std.specs.Prelude.{Contains}
 use Rattle.std.proofs.lemmas.List.Sorted.{IsPermutation-sym, Contains-permutation}
 use Rattle.history.specs.declared.key.Key.{Key}
 use Rattle.history.specs.Time.{value_at}
 use Rattle.history.specs.Answers as answers
-use Rattle.history.specs.Histories.{Commit, History}
+use Rattle.history.specs.Histories.{History}
 use Rattle.history.specs.Histories as histories
 use Rattle.history.specs.Machine.{Machine, IsMachine, IsKeptSnapshot}
 use Rattle.history.proofs.Members.{Contains-head}
@@ -14,7 +14,7 @@ use Rattle.chains.specs.KeyWrites.{KeyWrites, writes_of}
 use Rattle.snapshot.specs.OpenTable.{snapshot_of, with_closed}
 use Rattle.group.specs.Queued.{QueuedValue}
 use Rattle.group.specs.Values.{TransactionsValue}
-use Rattle.commits.specs.Values.{CommitsValue, WaitingValue}
+use Rattle.commits.specs.Values.{CommitsValue}
 use Rattle.any_store.specs.declared.engine.Engine.TheVariants.{Slots, Log}
 use Rattle.any_store.specs.Values.{StoreValue, waiting_of, commits_in, commits_of}
 use Rattle.any_store.specs.Calls as stores

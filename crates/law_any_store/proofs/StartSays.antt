@@ -216,7 +216,7 @@ start-says tells (Slots s) (Slots s') upto answer m is starts = slots-start tell
 start-says tells (Slots s) (Log l') upto answer m is starts = absurd starts
 start-says tells (Log l) (Slots s') upto answer m is starts = absurd starts
 start-says tells (Log l) (Log l') upto answer m is starts =
-    none-says tells start.WrongProfile answer l l' m is (ArchiveSays true m upto) (λ failed. failed) tt starts
+    none-says tells start.WrongProfile answer l l' m is (ArchiveSays true m upto) (λ failed. failed) refl starts
 
 pub reclaim-says : (tells : Bool) (old new : StoreValue) (answer : Result (Unit {0}) StartFault) (m : Machine Value) → Stands tells old m
     → StartsReclaim old answer new → ReclaimSays (is_log old) m answer
@@ -224,7 +224,7 @@ reclaim-says tells (Slots s) (Slots s') answer m is starts = slots-reclaim tells
 reclaim-says tells (Slots s) (Log l') answer m is starts = absurd starts
 reclaim-says tells (Log l) (Slots s') answer m is starts = absurd starts
 reclaim-says tells (Log l) (Log l') answer m is starts =
-    none-says tells start.WrongProfile answer l l' m is (ReclaimSays true m) (λ failed. failed) tt starts
+    none-says tells start.WrongProfile answer l l' m is (ReclaimSays true m) (λ failed. failed) refl starts
 
 pub grow-says : (tells : Bool) (old new : StoreValue) (answer : Result (Unit {0}) StartFault) (m : Machine Value) → Stands tells old m
     → StartsGrowth old answer new → GrowSays m answer

@@ -1,5 +1,5 @@
 -- The time of a ticket is that of the machine's commit.
-use Rattle.std.proofs.Common.{◌≡◌, ℕ, ◌<◌, max, true, List, [], ◌∷◌, ◌++◌, arith, ap, sym, subst, ◌∙◌}
+use Rattle.std.proofs.Common.{◌≡◌, ℕ, ◌<◌, max, true, [], ◌∷◌, ◌++◌, arith, ap, sym, subst, ◌∙◌}
 use Rattle.std.proofs.lemmas.Bool.Decides.{nat_tests}
 use Rattle.history.specs.Histories.{Commit, History, HasRisingTimes, last}
 use Rattle.history.specs.Machine.{Machine, IsMachine, commit_order}

@@ -2,8 +2,8 @@
 use Rattle.std.specs.Prelude.{ℕ, ◌≡◌, Bool}
 use Rattle.disk.specs.Areas.{Image}
 use Rattle.history.specs.Histories.{History}
-use Rattle.history.specs.Machine.{Machine, opened, opened_by}
-use Rattle.law_image.specs.Values.{Value}
+use Rattle.history.specs.Machine.{Machine, IsMachine, opened, opened_by}
+use Rattle.law_image.specs.Values.{Value, IsValue}
 use Rattle.status.specs.declared.header.Header.{Header}
 use Rattle.log_roots.specs.declared.roots.Roots.{Roots}
 use Rattle.timequery.specs.View.{ViewValue}
@@ -21,6 +21,11 @@ use Rattle.law_log_queries.specs.Archive as logs
 abbrev pub Stands : Bool → StoreValue → Machine Value → Type 0
 Stands tells (Slots s) m = slots.Stands tells s m
 Stands tells (Log l) m = IsInStep l × logs.Stands tells l m
+
+-- what it stands for is a state of the machine
+abbrev pub machine_is : (tells : Bool) (v : StoreValue) (m : Machine Value) → Stands tells v m → IsMachine IsValue m
+machine_is tells (Slots s) m is = is.machine
+machine_is tells (Log l) m is = let store = (is.1).store in store.machine
 
 -- ---- images
 

@@ -1,8 +1,7 @@
 -- What is settled stays so, and is read after any stop.
-use Rattle.std.proofs.Common.{◌≡◌, inl, inr, ◌≤◌, ◌++◌, ℕ, suc, Bool, IsTrue, [], Option, MatchOption, ap, sym, subst, ◌∙◌, arith}
+use Rattle.std.proofs.Common.{◌≡◌, inl, inr, ◌≤◌, ◌++◌, ℕ, suc, Bool, IsTrue, [], Option, ap, sym, subst, ◌∙◌, arith}
 use Rattle.disk.specs.Areas.{Image}
 use Rattle.history.specs.declared.key.Key.{Key}
-use Rattle.history.specs.Floors.{Raising, covers}
 use Rattle.history.specs.Histories.{History, last, state, IsHistory, MayAllFollow}
 use Rattle.history.specs.Machine.{opened}
 use Rattle.history.proofs.Histories.{may_follow-front, may_follow-behind}

@@ -17,7 +17,7 @@ use Rattle.history.specs.Queries.{seen}
 use Rattle.history.specs.Steps.{Event, Step, Decided}
 use Rattle.history.specs.Steps as steps
 use Rattle.history.specs.Submissions as submissions
-use Rattle.history.specs.Submissions.{Submission, commit_made}
+use Rattle.history.specs.Submissions.{commit_made}
 use Rattle.law_image.specs.Values.{Value, IsValue}
 use Rattle.group.specs.declared.answers.BeginFault.{BeginFault}
 use Rattle.group.specs.declared.answers.BeginFault.TheVariants as begin

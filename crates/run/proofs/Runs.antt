@@ -1,8 +1,8 @@
 -- Worlds before any call, and after one that leaves the machine as it is.
-use Rattle.std.proofs.Common.{◌≡◌, Bool, List, [], refl, sym, ◌∙◌}
+use Rattle.std.proofs.Common.{Bool, List, [], refl, sym, ◌∙◌}
 use Rattle.history.specs.Machine.{Machine}
 use Rattle.law_image.specs.Values.{Value}
-use Rattle.any_store.specs.Values.{StoreValue, is_log, commits_of}
+use Rattle.any_store.specs.Values.{StoreValue, commits_of}
 use Rattle.law_any_store.specs.Standing.{Stands, GoesOn}
 use Rattle.law_any_store.specs.Names as memory
 use Rattle.law_any_store.proofs.Marks.{layout-stays}

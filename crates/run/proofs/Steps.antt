@@ -86,6 +86,8 @@ keeps-same old new is x = subst (λ (c : CommitsValue). Keeps old c x) (sym is) 
     all (held.Ticket t) = (refl, λ waits. waits)
     all (held.View t) = refl
 
+-- ---- a call that names nothing
+
 -- a place that the callers hold no such value in stands for none
 names-none : (tells : Bool) (v : StoreValue) (xs : List Held) (c : Call) → LacksNamed c xs → (w : World) → IsWorld tells v xs w → NamesNone w c
 names-none tells v xs call.Begin lacks w is = lacks
@@ -112,7 +114,6 @@ names-none tells v xs (call.Floor scope floor) lacks w is = lacks
 names-none tells v xs call.Grow lacks w is = lacks
 names-none tells v xs call.JobPump lacks w is = lacks
 
--- a call that names nothing
 pub unknown-goes : (tells : Bool) (v : StoreValue) (xs new : List Held) (c : Call) → new ≡ xs → LacksNamed c xs
     → Goes tells v xs c answer.Unknown v (new ++ held.Nothing ∷ [])
 unknown-goes tells v xs new c is lacks = record {

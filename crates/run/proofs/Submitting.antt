@@ -7,7 +7,7 @@ use Rattle.history.specs.Machine.{Machine}
 use Rattle.history.specs.Steps.{Event, Step, Decided}
 use Rattle.history.specs.Steps as steps
 use Rattle.history.specs.Submissions as submissions
-use Rattle.history.specs.Submissions.{Submission, commit_made}
+use Rattle.history.specs.Submissions.{commit_made}
 use Rattle.law_image.specs.Values.{Value, IsValue}
 use Rattle.snapshot.specs.OpenTable.{snapshot_of}
 use Rattle.snapshot.specs.Txn.{TxnValue, AreTxnWrites}

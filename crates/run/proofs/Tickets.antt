@@ -3,7 +3,6 @@ use Rattle.std.proofs.Common.{◌≡◌, inr, ℕ, Bool, List, [], ◌∷◌, �
 use Rattle.std.specs.Prelude.{slice_get, slice_set}
 use Rattle.history.specs.Answers as answers
 use Rattle.group.specs.CommitOrder as orders
-use Rattle.group.specs.CommitOrder.{is_awaited, last_published}
 use Rattle.group.specs.Tickets.{TicketValue}
 use Rattle.group.specs.declared.answers.Redeemed.{Redeemed}
 use Rattle.group.specs.declared.answers.Redeemed.TheVariants as redeemed
@@ -22,7 +21,7 @@ use Rattle.run.specs.declared.calls.Answer.TheVariants as answer
 use Rattle.run.specs.declared.calls.RedeemOutcome.TheVariants as told
 use Rattle.run.specs.declared.held.Held.{Held}
 use Rattle.run.specs.declared.held.Held.TheVariants as held
-use Rattle.run.specs.Places.{Place, Free, place_at, ShowsAs, Clash, ArePlaces, redeem_answer, AreRead}
+use Rattle.run.specs.Places.{Place, Free, place_at, ShowsAs, Clash, ArePlaces, redeem_answer}
 use Rattle.run.specs.Worlds.{World, IsWorld, same, spent}
 use Rattle.run.specs.Runs.{Does, Goes, Leads, Redeems, GivesUp, Follows}
 use Rattle.run.proofs.Runs.{no-step, Lasts}

@@ -1,6 +1,6 @@
 -- The calls of views, and those that ask of what is published.
-use Rattle.std.proofs.Common.{◌≡◌, inl, inr, ℕ, ◌+◌, ◌≤◌, Bool, true, false, List, [], ◌∷◌, ◌++◌, Some, None, Option, Result, Ok, Err, Vec, MatchBool, refl}
-use Rattle.std.proofs.Common.{sym, ◌∙◌, ap, subst, arith}
+use Rattle.std.proofs.Common.{◌≡◌, inl, inr, ℕ, ◌+◌, ◌≤◌, Bool, List, [], ◌∷◌, ◌++◌, Some, None, Option, Result, Ok, Err, Vec, refl}
+use Rattle.std.proofs.Common.{sym, ap, subst}
 use Rattle.std.specs.Prelude.{slice_get, slice_set, IfOk, MatchResult}
 use Rattle.std.specs.Borrow.{Bor}
 use Rattle.std.specs.Option.{option_copied}
@@ -15,7 +15,6 @@ use Rattle.history.specs.Time.{value_at}
 use Rattle.timequery.specs.View.{ViewValue, AnswersAt, RefusesRecent}
 use Rattle.timequery.specs.declared.fault.QueryFault.{QueryFault}
 use Rattle.timequery.specs.declared.fault.QueryFault.TheVariants as query
-use Rattle.commits.specs.Values.{CommitsValue}
 use Rattle.any_store.specs.Values.{StoreValue, commits_of}
 use Rattle.any_store.specs.Calls as stores
 use Rattle.any_store.specs.Queries as queries
@@ -35,7 +34,7 @@ use Rattle.run.specs.declared.calls.Call.TheVariants as call
 use Rattle.run.specs.declared.calls.Answer.TheVariants as answer
 use Rattle.run.specs.declared.held.Held.{Held}
 use Rattle.run.specs.declared.held.Held.TheVariants as held
-use Rattle.run.specs.Places.{Place, Free, Running, Waits, Views, place_at, view_in, HasNoView, ShowsAs, ArePlaces, IsRead, IsShared, copied, view_answer}
+use Rattle.run.specs.Places.{Place, Free, Running, Waits, Views, place_at, view_in, HasNoView, ShowsAs, IsRead, IsShared, copied, view_answer}
 use Rattle.run.specs.Worlds.{World, IsWorld, leaves, same, spent}
 use Rattle.run.specs.Runs.{Goes, Leads, Asks, AsksScan, AsksBetween, AsksScanBetween, AsksRecent, SaysRecent, Closes}
 use Rattle.run.proofs.Runs.{no-step}

@@ -2,7 +2,6 @@
 use Rattle.std.specs.Prelude.{ℕ, ◌≡◌, ◌⊎◌, ◌++◌, Bool, List, [], ◌∷◌, map, slice_get, slice_set, Option, Some, Result, IfOk, OnOk, OnErr, Vec}
 use Rattle.std.specs.declared.alloc.AllocError.{AllocError}
 use Rattle.std.specs.declared.alloc.Global.{Global}
-use Rattle.history.specs.declared.key.Key.{Key}
 use Rattle.history.specs.declared.time.Version.{Version}
 use Rattle.history.specs.Queries.{IsScan}
 use Rattle.law_image.specs.Values.{Value}

@@ -10,6 +10,7 @@ use Rattle.history.specs.Steps.{Step, Decided}
 use Rattle.history.specs.Submissions.{Queues, commit_made}
 use Rattle.law_image.specs.Values.{Value, IsValue}
 use Rattle.any_store.specs.Values.{StoreValue, disk_of}
+use Rattle.law_any_store.specs.Standing.{machine_is}
 use Rattle.run.specs.declared.calls.Call.{Call}
 use Rattle.run.specs.declared.calls.Call.TheVariants as call
 use Rattle.run.specs.declared.calls.Answer.{Answer}
@@ -39,7 +40,7 @@ trace_of tells old before calls answers new after start keeps is = record {
   answers = answers;
   start = start;
   end = (keeps start is).0;
-  machine = is.world.stands.machine;
+  machine = machine_is tells old start.world.machine is.world.stands;
   promises = (keeps start is).1;
 }
 
