@@ -140,7 +140,7 @@ def endless(program, folder):
     assert run(program, ["run", store], "begin t\ndel t 1 7\nput t 1 8 62 -\nsubmit t 6 200\nflush\nredeem t\n")[:2] == (
         0, "snapshot 100\nok\nok\nqueued\nidle\ndone 200\n")
     for words, answer in ((["at", "1", "7", "100"], "value 61\n"), (["at", "1", "7", "200"], "none\n"), (["get", "1", "8"], "value 62 -\n"),
-                          (["between", "1", "7", "1", "300"], "100 200 61\nrows 1\n"), (["scan", "1"], "8 62 -\nrows 1\n"),
+                          (["between", "1", "7", "1", "201"], "100 200 61\nrows 1\n"), (["scan", "1"], "8 62 -\nrows 1\n"),
                           (["scan", "1", "100"], "7 61\nrows 1\n"), (["history", "1", "7"], "100 200 61\nrows 1\n"), (["times", "5"], "times 100\n")):
         assert run(program, [words[0], store, *words[1:]]) == (0, answer, ""), words
     status, said, told = run(program, ["put", store, "1", "7", "Ada", "--text"])
