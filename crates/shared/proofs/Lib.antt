@@ -4,10 +4,10 @@ pub mod Carrying
 pub mod Floors
 pub mod Fronts
 pub mod Archives
+pub mod Tokens
 pub mod Passes
 pub mod Counting
 pub mod Stepping
-pub mod Tokens
 pub mod Moves
 pub mod Awaiting
 pub mod Telling

@@ -1,5 +1,5 @@
 -- What one call of the store leaves under the lock.
-use Rattle.std.proofs.Common.{◌≡◌, ℕ, ◌+◌, ◌<◌, ◌^◌, ◌≤◌, ◌==◌, nat_le, nat_lt, Bool, true, false, cond, is_some, List, [], ◌++◌, length, Option, None, Some}
+use Rattle.std.proofs.Common.{◌≡◌, ℕ, ◌+◌, ◌<◌, ◌^◌, ◌≤◌, ◌==◌, nat_le, nat_lt, Bool, true, false, cond, is_some, List, [], ◌∷◌, ◌++◌, length, Option, None, Some}
 use Rattle.std.proofs.Common.{Result, Ok, Err, MatchBool, MatchOption, refl, sym, ap, ◌∙◌, subst, arith}
 use Rattle.std.specs.Prelude.{IsTrue}
 use Rattle.std.proofs.lemmas.Bool.Decides.{nat_tests}
@@ -72,7 +72,7 @@ use Rattle.law_refinement.proofs.GrowingViews.{query-stands}
 use Rattle.shared.specs.Archives.{ArchiveSeen, IsArchiveLater, archive_seen, no_archive}
 use Rattle.shared.specs.Counts.{told_count, told_after}
 use Rattle.shared.specs.Moments.{TxnPassValue, GoesWith, token_of}
-use Rattle.shared.specs.Tokens.{Token, Tokens, no_tokens, IsOut, AreOpen, given_out, taken_back}
+use Rattle.shared.specs.Tokens.{Token, Tokens, no_tokens, IsOut, IsFree, AreOpen, without, taken_back}
 use Rattle.shared.specs.Reached.{Reached, opened, stepped}
 use Rattle.shared.specs.Seen.{Seen, SightValue, seen_of, IsLater}
 use Rattle.shared.specs.Shared.{IsShared, Submits, SubmitSays, SubmitHappens, FloorSays, FloorHappens, ArchiveSays, ArchiveHappens, ReclaimSays, ReclaimHappens}
@@ -80,7 +80,7 @@ use Rattle.shared.specs.Shared.{GrowthSays, GrowthHappens, queued_seen, pumped_s
 use Rattle.shared.proofs.Archives.{archive-same, archive-then, archive-first, archive-on}
 use Rattle.shared.proofs.Counting.{told-push, after-push, told-redeemed, after-redeemed, after-later, none-after}
 use Rattle.shared.proofs.Fronts.{last-seen, later-same}
-use Rattle.shared.proofs.Tokens.{given-open, taken-open, is-its_own}
+use Rattle.shared.proofs.Tokens.{given-open, taken-open, unopened-free, is-its_own}
 use Rattle.shared.proofs.Stepping.{follows, submit_seen, submit-seen, broken-seen, published-none, pump-seen, later-pumped, job-seen, later-done, later-job}
 
 -- what is known of an archive, by another name
@@ -91,7 +91,7 @@ known {a} {b} {c} is later = subst (λ (x : ArchiveSeen). IsArchiveLater x c) (s
 still-open : (a b : Tokens) (opened : List (Option ℕ)) → b ≡ a → AreOpen a.out opened → AreOpen b.out opened
 still-open a b opened is are = subst (λ (x : Tokens). AreOpen x.out opened) (sym is) are
 
-open-still : (out : ℕ → Option ℕ) (a b : List (Option ℕ)) → b ≡ a → AreOpen out a → AreOpen out b
+open-still : (out : List Token) (a b : List (Option ℕ)) → b ≡ a → AreOpen out a → AreOpen out b
 open-still out a b is are = subst (λ (x : List (Option ℕ)). AreOpen out x) (sym is) are
 
 -- the same under another pass of the writer's
@@ -184,36 +184,32 @@ begins tells start brand table v total at pass stands mark fresh empty none cell
   seen = seen;
   archive = known archive (archive-first (archive_seen tells v));
   writes = writes;
-  given = still-open no_tokens pass.tokens v.transactions.opened tokens (λ number snapshot is. absurd cc);
+  given = still-open no_tokens pass.tokens v.transactions.opened tokens tt;
 }
 
 -- ---- transactions
 
 -- the number of a transaction that begins is that of none that is out
 pub begin-fresh : (tells : Bool) (start : Machine Value) (brand : ℕ) (table : TableId) (old new : StoreValue) (shares : ℕ) (at : TableId) (pass : SightValue)
-    (txn : TxnValue) → IsShared tells start brand table old shares at pass → stores.Begins old (Ok txn) new → pass.tokens.out txn.number ≡ None
-begin-fresh tells start brand table old new shares at pass txn h begins = by-found (pass.tokens.out txn.number) refl
-  where
-    by-found : (o : Option ℕ) → pass.tokens.out txn.number ≡ o → o ≡ None
-    by-found None found = refl
-    by-found (Some snapshot) found =
-        let both : Path (Option ℕ) None (Some snapshot) = sym begins.transactions.fresh ∙ h.given txn.number snapshot found in
-        absurd cc
+    (txn : TxnValue) → IsShared tells start brand table old shares at pass → stores.Begins old (Ok txn) new → IsFree txn.number pass.tokens.out
+begin-fresh tells start brand table old new shares at pass txn h begins =
+    unopened-free pass.tokens.out old.transactions.opened txn.number h.given begins.transactions.fresh
 
 -- a transaction begins, and the writer's pass has given it out
 pub begin-gives : (tells : Bool) (start : Machine Value) (brand : ℕ) (table : TableId) (old new : StoreValue) (shares : ℕ) (at at' : TableId)
     (pass pass' : SightValue) (txn : TxnValue) → IsShared tells start brand table old shares at pass → stores.Begins old (Ok txn) new → at' ≡ at
-    → pass'.writes ≡ true → pass'.seen ≡ pass.seen → pass'.archive ≡ pass.archive → pass'.tokens.out ≡ given_out pass.tokens.out (token_of txn)
+    → pass'.writes ≡ true → pass'.seen ≡ pass.seen → pass'.archive ≡ pass.archive → pass'.tokens.out ≡ token_of txn ∷ pass.tokens.out
     → IsShared tells start brand table new shares at' pass'
 begin-gives tells start brand table old new shares at at' pass pass' txn h begins cell on seen archive out =
     let did = begin-stands tells old new (Ok txn) h.state h.stands begins in
     let is = begins.transactions.new_is in
     let mark : new.transactions.mark ≡ old.transactions.mark = ap (λ (v : TransactionsValue). v.mark) is in
-    let given = given-open pass.tokens.out old.transactions.opened (token_of txn) h.given begins.transactions.within in
+    let free = begin-fresh tells start brand table old new shares at pass txn h begins in
+    let given = given-open pass.tokens.out old.transactions.opened (token_of txn) h.given free begins.transactions.within in
     rested tells start brand table old new shares at at' pass pass' h (begun h.state) did.1 (rest-goes tells old new begins.rest mark)
     (stepped (Began txn.snapshot) h.reached did.0) refl mark (ap (λ (v : TransactionsValue). v.heads) is) cell on seen archive
-    (subst (λ (o : ℕ → Option ℕ). AreOpen o new.transactions.opened) (sym out)
-    (open-still (given_out pass.tokens.out (token_of txn)) (with_opened old.transactions.opened txn.number txn.snapshot) new.transactions.opened
+    (subst (λ (o : List Token). AreOpen o new.transactions.opened) (sym out)
+    (open-still (token_of txn ∷ pass.tokens.out) (with_opened old.transactions.opened txn.number txn.snapshot) new.transactions.opened
     (ap (λ (v : TransactionsValue). v.opened) is) given))
 
 -- or none does
@@ -264,11 +260,11 @@ pub abort-keeps : (tells : Bool) (start : Machine Value) (brand : ℕ) (table : 
     → IsShared tells start brand table new shares at' pass'
 abort-keeps tells start brand table old new shares at at' pass pass' txn own h aborts a goes cell on seen archive out =
     let mark : new.transactions.mark ≡ old.transactions.mark = ap (λ (v : TransactionsValue). v.mark) a.left in
-    let taken = taken-open pass.tokens.out old.transactions.opened (token_of txn) h.given in
+    let taken = taken-open pass.tokens.out old.transactions.opened txn.number h.given in
     rested tells start brand table old new shares at at' pass pass' h a.after a.stands (rest-goes tells old new aborts.rest mark)
     (stepped (Aborted txn.snapshot) h.reached a.step) (ap seen_of a.step.2) mark (ap (λ (v : TransactionsValue). v.heads) a.left) cell on seen archive
-    (subst (λ (o : ℕ → Option ℕ). AreOpen o new.transactions.opened) (sym (out ∙ ap (taken_back pass.tokens.out) goes))
-    (open-still (taken_back pass.tokens.out (Some (token_of txn))) (with_closed old.transactions.opened txn.number) new.transactions.opened
+    (subst (λ (o : List Token). AreOpen o new.transactions.opened) (sym (out ∙ ap (taken_back pass.tokens.out) goes))
+    (open-still (without txn.number pass.tokens.out) (with_closed old.transactions.opened txn.number) new.transactions.opened
     (ap (λ (v : TransactionsValue). v.opened) a.left) taken))
 
 -- ---- submits
@@ -442,9 +438,9 @@ submit-keeps tells start brand table old new shares at at' pass pass' t label no
       seen = seen;
       archive = known archive (archive-then pass.archive (archive_seen tells old) (archive_seen tells new) h.archive (archive-on tells old new s.goes));
       writes = on;
-      given = subst (λ (o : ℕ → Option ℕ). AreOpen o new.transactions.opened) (sym (out ∙ ap (taken_back pass.tokens.out) goes))
-          (open-still (taken_back pass.tokens.out (Some (token_of t))) (with_closed old.transactions.opened t.number) new.transactions.opened s.opened
-          (taken-open pass.tokens.out old.transactions.opened (token_of t) h.given));
+      given = subst (λ (o : List Token). AreOpen o new.transactions.opened) (sym (out ∙ ap (taken_back pass.tokens.out) goes))
+          (open-still (without t.number pass.tokens.out) (with_closed old.transactions.opened t.number) new.transactions.opened s.opened
+          (taken-open pass.tokens.out old.transactions.opened t.number h.given));
     }
 
 -- ---- steps of groups and jobs

@@ -1,8 +1,7 @@
 -- Each step keeps the rule of the cell.
-use Rattle.std.proofs.Common.{◌≡◌, ◌≢◌, ℕ, zero, suc, ◌==◌, List, [], ◌∷◌, ◌++◌, length, set, Bool, true, false, true≢false, cond, refl, sym, ap, ◌∙◌, subst}
+use Rattle.std.proofs.Common.{◌≡◌, ◌≢◌, ℕ, zero, suc, List, [], ◌∷◌, ◌++◌, length, set, Bool, true, false, true≢false, refl, sym, ap, ◌∙◌, subst}
 use Rattle.std.proofs.Common.{Option, None, Some, ◌⊎◌, inl, inr, ⊎_elim, arith}
 use Rattle.std.specs.Prelude.{slice_index}
-use Rattle.std.proofs.lemmas.Bool.Decides.{nat_tests}
 use Rattle.std.proofs.lemmas.List.{set_comm}
 use mathlib.Core.Option.{some, some-ne-none, some-injective}
 use lib.ListN.{get_elem?}
@@ -12,10 +11,11 @@ use Rattle.history.specs.Histories.{IsHistory, last}
 use Rattle.law_image.specs.Values.{IsValue}
 use Rattle.shared.specs.Archives.{ArchiveSeen, IsArchiveLater}
 use Rattle.shared.specs.Seen.{Seen, Known, nothing_known, order_of, known_by, IsLater, IsMore, SightValue, first_sight}
-use Rattle.shared.specs.Tokens.{Token, IsOut, AreApart, given_out, taken_back}
+use Rattle.shared.specs.Tokens.{Token, IsOut, IsFree, AreApart, taken_back}
 use Rattle.shared.specs.Cell.{IsPublished, Sees, Learns, Confirms, Advances, Moves, GivesOut, TakesBack, told, informed, idle, handed, handed_on, returned}
 use Rattle.shared.proofs.Archives.{archive-same, more-same, more-then, more-nothing}
 use Rattle.shared.proofs.Fronts.{later-same}
+use Rattle.shared.proofs.Tokens.{free-apart, among-without}
 
 off : {A : Type 0} (b : Bool) → b ≡ true → b ≡ false → A
 off b on isnt = absurd (true≢false (sym on ∙ isnt))
@@ -41,31 +41,18 @@ apart-sym (Some s) None apart = tt
 apart-sym (Some s) (Some t) apart = λ same. apart (sym same)
 
 -- where one more is out, of which no token was
-more-out : (out : ℕ → Option ℕ) (token : Token) (o : Option Token) → out token.number ≡ None → IsOut out o
-    → IsOut (given_out out token) o × AreApart (Some token) o
+more-out : (out : List Token) (token : Token) (o : Option Token) → IsFree token.number out → IsOut out o → IsOut (token ∷ out) o × AreApart (Some token) o
 more-out out token None free is = (tt, tt)
-more-out out token (Some t) free is =
-    let apart : token.number ≢ t.number = λ same.
-    let both : Path (Option ℕ) None (Some t.snapshot) = sym free ∙ ap out same ∙ is in
-    absurd cc in
-    let test : (t.number == token.number) ≡ false = grind (arith, nat_tests) in
-    (ap (λ (b : Bool). cond b (Some token.snapshot) (out t.number)) test ∙ is, apart)
-
-self-out : (out : ℕ → Option ℕ) (token : Token) → IsOut (given_out out token) (Some token)
-self-out out token =
-    let test : (token.number == token.number) ≡ true = grind (arith, nat_tests) in
-    ap (λ (b : Bool). cond b (Some token.snapshot) (out token.number)) test
+more-out out token (Some t) free is = (inr is, λ same. free-apart out token.number t free is (sym same))
 
 -- where one is out no more, the others are
-less-out : (out : ℕ → Option ℕ) (own o : Option Token) → IsOut out o → AreApart own o → IsOut (taken_back out own) o
+less-out : (out : List Token) (own o : Option Token) → IsOut out o → AreApart own o → IsOut (taken_back out own) o
 less-out out own None is apart = tt
 less-out out None (Some t) is apart = is
-less-out out (Some s) (Some t) is apart =
-    let test : (t.number == s.number) ≡ false = grind (arith, nat_tests) in
-    ap (λ (b : Bool). cond b None (out t.number)) test ∙ is
+less-out out (Some s) (Some t) is apart = among-without out s.number t is (λ same. apart (sym same))
 
 -- the token of the pass with this number may be this one, where so many are out
-record Fits (views : List SightValue) (by : ℕ) (own : Option Token) (out : ℕ → Option ℕ) : Type 0 where
+record Fits (views : List SightValue) (by : ℕ) (own : Option Token) (out : List Token) : Type 0 where
   own_out : IsOut out own
   others : (j : ℕ) (u : SightValue) → j ≢ by → get_elem? views j ≡ some u → IsOut out u.tokens.own × AreApart own u.tokens.own
 
@@ -78,14 +65,14 @@ fits-same words views by v h at =
 fits-none : (words : List ℕ) (views : List SightValue) (by : ℕ) (h : IsPublished words views) → Fits views by None h.own.tokens.out
 fits-none words views by h = record { own_out = tt; others = λ j u apart e. (h.out j u e, tt) }
 
-out-set : (views : List SightValue) (by : ℕ) (w : SightValue) (out : ℕ → Option ℕ) → Fits views by w.tokens.own out → (j : ℕ) (u : SightValue)
+out-set : (views : List SightValue) (by : ℕ) (w : SightValue) (out : List Token) → Fits views by w.tokens.own out → (j : ℕ) (u : SightValue)
     → get_elem? (set views by w) j ≡ some u → IsOut out u.tokens.own
 out-set views by w out fits j u e = ⊎_elim
     (λ (t : (j ≡ by) × (w ≡ u)). subst (λ (x : SightValue). IsOut out x.tokens.own) t.1 fits.own_out)
     (λ (t : (j ≢ by) × (get_elem? views j ≡ some u)). (fits.others j u t.0 t.1).0)
     (at_set views by j w u e)
 
-apart-set : (words : List ℕ) (views : List SightValue) (by : ℕ) (w : SightValue) (out : ℕ → Option ℕ) → IsPublished words views
+apart-set : (words : List ℕ) (views : List SightValue) (by : ℕ) (w : SightValue) (out : List Token) → IsPublished words views
     → Fits views by w.tokens.own out → (one other : ℕ) (u x : SightValue) → one ≢ other → get_elem? (set views by w) one ≡ some u
     → get_elem? (set views by w) other ≡ some x → AreApart u.tokens.own x.tokens.own
 apart-set words views by w out h fits one other u x apart e f = ⊎_elim
@@ -347,13 +334,13 @@ its-heard : (words : List ℕ) (views : List SightValue) (by : ℕ) (v : SightVa
 its-heard words views by v h at on = subst (λ (x : SightValue). IsMore v.heard (known_by x)) (own_is words views by v h at on) (h.each by v at).1
 
 -- the writer gives a transaction out, of a number that none has that is out
-pub gives_out : (by : ℕ) (v : SightValue) (token : Token) → v.writes ≡ true → v.tokens.out token.number ≡ None
+pub gives_out : (by : ℕ) (v : SightValue) (token : Token) → v.writes ≡ true → IsFree token.number v.tokens.out
     → Turns IsPublished by v (λ x. x) (GivesOut token)
 gives_out by v token on free words views h at =
-    let w : SightValue = record v { tokens = record { out = given_out v.tokens.out token; own = Some token } } in
+    let w : SightValue = record v { tokens = record { out = token ∷ v.tokens.out; own = Some token } } in
     let kept = fits-kept words views by v h at on in
-    let fits : Fits views by (Some token) (given_out v.tokens.out token) = record {
-      own_out = self-out v.tokens.out token;
+    let fits : Fits views by (Some token) (token ∷ v.tokens.out) = record {
+      own_out = inl refl;
       others = λ j u apart e. more-out v.tokens.out token u.tokens.own free (kept.others j u apart e).0;
     } in
     (w, stays words views by v w h at on on refl refl (its-heard words views by v h at on) fits, refl)

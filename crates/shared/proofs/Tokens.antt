@@ -1,6 +1,6 @@
 -- What is out is open in the store, and is the store's own.
 use Rattle.std.proofs.Common.{◌≡◌, ◌≢◌, ℕ, zero, suc, ◌≤◌, ◌<◌, ◌==◌, ◌||◌, ◌&&◌, nat_lt, Bool, true, false, cond, List, [], ◌∷◌, ◌++◌, length, slice_get, slice_set}
-use Rattle.std.proofs.Common.{Option, None, Some, is_some, refl, sym, ap, ◌∙◌, subst, inl, inr, arith}
+use Rattle.std.proofs.Common.{Option, None, Some, is_some, refl, sym, ap, ◌∙◌, subst, inl, inr, ⊎_elim, arith}
 use Rattle.std.specs.Prelude.{IsSome}
 use Rattle.std.specs.List.{list_all, AllByRecursion}
 use Rattle.std.proofs.lemmas.Bool.{cases_lt}
@@ -20,7 +20,7 @@ use Rattle.law_refinement.specs.Standing.{StandsInMemory}
 use Rattle.law_refinement.proofs.Memory.{open-sees}
 use Rattle.shared.specs.Moments.{WorksOn, GoesWith, TxnPassValue, token_of}
 use Rattle.shared.specs.Seen.{Seen, IsFrontOf, IsLater, seen_of}
-use Rattle.shared.specs.Tokens.{Token, IsOut, AreOpen, given_out, taken_back}
+use Rattle.shared.specs.Tokens.{Token, IsAmong, IsOut, IsFree, AreOpen, without}
 
 -- ---- the table of the open transactions
 
@@ -61,32 +61,69 @@ opened-other places n s m t ne is = elim (cases_lt n (length places)) [
   | inr past ↦ let test : nat_lt n (length places) ≡ false = grind (arith, nat_tests) in rw test (push-other places m s t is)
 ]
 
--- all that are out are open once one more is given out
-pub given-open : (out : ℕ → Option ℕ) (opened : List (Option ℕ)) (token : Token) → AreOpen out opened → token.number ≤ length opened
-    → AreOpen (given_out out token) (with_opened opened token.number token.snapshot)
-given-open out opened token are within number snapshot is = by-test (number == token.number) refl is
+-- ---- those that are out
+
+-- a token among these is not of a number that none of them has
+pub free-apart : (out : List Token) (number : ℕ) (token : Token) → IsFree number out → IsAmong out token → token.number ≢ number
+free-apart [] number token free is = absurd is
+free-apart (t ∷ ts) number token free (inl same) = λ e. free.0 (ap (λ (x : Token). x.number) same ∙ e)
+free-apart (t ∷ ts) number token free (inr more) = free-apart ts number token free.1 more
+
+-- nor does it go with those of another number
+pub among-without : (out : List Token) (number : ℕ) (token : Token) → IsAmong out token → token.number ≢ number → IsAmong (without number out) token
+among-without [] number token is apart = absurd is
+among-without (t ∷ ts) number token is apart = by-test (t.number == number) refl
   where
-    by-test : (b : Bool) → (number == token.number) ≡ b → cond b (Some token.snapshot) (out number) ≡ Some snapshot
-        → snapshot_of number (with_opened opened token.number token.snapshot) ≡ Some snapshot
-    by-test true test found =
-        let same : number ≡ token.number = grind (arith, nat_tests) in
-        subst (λ (n : ℕ). snapshot_of n (with_opened opened token.number token.snapshot) ≡ Some snapshot) (sym same)
-        (opened-here opened token.number token.snapshot within ∙ found)
-    by-test false test found =
-        let apart : number ≢ token.number = grind (arith, nat_tests) in
-        opened-other opened token.number token.snapshot number snapshot apart (are number snapshot found)
+    later : IsAmong ts token → IsAmong (without number ts) token
+    later more = among-without ts number token more apart
+
+    by-test : (b : Bool) → (t.number == number) ≡ b → IsAmong (cond b (without number ts) (t ∷ without number ts)) token
+    by-test true test = ⊎_elim (λ (same : t ≡ token).
+        let one : t.number ≡ number = grind (arith, nat_tests) in
+        absurd (apart (ap (λ (x : Token). x.number) (sym same) ∙ one))) later is
+    by-test false test = ⊎_elim (λ same. inl same) (λ more. inr (later more)) is
+
+-- what is out is open, with its snapshot
+found-open : (out : List Token) (opened : List (Option ℕ)) (token : Token) → AreOpen out opened → IsAmong out token
+    → snapshot_of token.number opened ≡ Some token.snapshot
+found-open [] opened token are is = absurd is
+found-open (t ∷ ts) opened token are (inl same) = subst (λ (x : Token). snapshot_of x.number opened ≡ Some x.snapshot) same are.0
+found-open (t ∷ ts) opened token are (inr more) = found-open ts opened token are.1 more
+
+-- a number that none has that is open is free
+pub unopened-free : (out : List Token) (opened : List (Option ℕ)) (number : ℕ) → AreOpen out opened → snapshot_of number opened ≡ None → IsFree number out
+unopened-free [] opened number are none = tt
+unopened-free (t ∷ ts) opened number are none = (
+  λ same.
+      let both : Path (Option ℕ) None (Some t.snapshot) =
+      sym none ∙ ap (λ (n : ℕ). snapshot_of n opened) (sym same) ∙ are.0 in
+      absurd cc,
+  unopened-free ts opened number are.1 none,
+)
+
+-- all that are out are open once one more is given out
+pub given-open : (out : List Token) (opened : List (Option ℕ)) (token : Token) → AreOpen out opened → IsFree token.number out → token.number ≤ length opened
+    → AreOpen (token ∷ out) (with_opened opened token.number token.snapshot)
+given-open out opened token are free within = (opened-here opened token.number token.snapshot within, others out are free)
+  where
+    others : (ts : List Token) → AreOpen ts opened → IsFree token.number ts → AreOpen ts (with_opened opened token.number token.snapshot)
+    others [] are free = tt
+    others (t ∷ ts) are free =
+        (opened-other opened token.number token.snapshot t.number t.snapshot free.0 are.0, others ts are.1 free.1)
 
 -- and once one was taken back that is open no more
-pub taken-open : (out : ℕ → Option ℕ) (opened : List (Option ℕ)) (token : Token) → AreOpen out opened
-    → AreOpen (taken_back out (Some token)) (with_closed opened token.number)
-taken-open out opened token are number snapshot is = by-test (number == token.number) refl is
+pub taken-open : (out : List Token) (opened : List (Option ℕ)) (number : ℕ) → AreOpen out opened → AreOpen (without number out) (with_closed opened number)
+taken-open [] opened number are = tt
+taken-open (t ∷ ts) opened number are = by-test (t.number == number) refl
   where
-    by-test : (b : Bool) → (number == token.number) ≡ b → cond b None (out number) ≡ Some snapshot
-        → snapshot_of number (with_closed opened token.number) ≡ Some snapshot
-    by-test true test found = absurd cc
-    by-test false test found =
-        let apart : number ≢ token.number = grind (arith, nat_tests) in
-        set-other opened token.number number None apart ∙ are number snapshot found
+    later : AreOpen (without number ts) (with_closed opened number)
+    later = taken-open ts opened number are.1
+
+    by-test : (b : Bool) → (t.number == number) ≡ b → AreOpen (cond b (without number ts) (t ∷ without number ts)) (with_closed opened number)
+    by-test true test = later
+    by-test false test =
+        let apart : t.number ≢ number = grind (arith, nat_tests) in
+        (set-other opened number t.number None apart ∙ are.0, later)
 
 -- ---- the store's own transactions
 
@@ -120,7 +157,7 @@ sees-still seen m key machine later =
     ap (λ (h : History Value). state h (last seen.published) key) front.1 ∙ state-append seen.published front.0 (last seen.published) key rising
 
 -- a transaction that is out is the store's own
-pub is-its_own : (start : Machine Value) (brand : ℕ) (v : TransactionsValue) (m : Machine Value) (t : TxnValue) (pass : TxnPassValue) (out : ℕ → Option ℕ)
+pub is-its_own : (start : Machine Value) (brand : ℕ) (v : TransactionsValue) (m : Machine Value) (t : TxnValue) (pass : TxnPassValue) (out : List Token)
     → StandsInMemory v m → IsMachine IsValue m → v.mark ≡ brand → AreOpen out v.opened → GoesWith start brand t pass → IsLater pass.seen (seen_of m)
     → IsOut out pass.token → AreTxnWrites t.state t.snapshot t.writes → is_own v t ≡ true
 is-its_own start brand v m t pass out stands machine mark are goes later is_out writes =
@@ -136,7 +173,7 @@ is-its_own start brand v m t pass out stands machine mark are goes later is_out 
     marked = let same : t.mark ≡ v.mark = goes.0.mark ∙ sym mark in grind (arith, nat_tests)
 
     found : snapshot_of t.number v.opened ≡ Some t.snapshot
-    found = are t.number t.snapshot (subst (IsOut out) goes.1 is_out)
+    found = found-open out v.opened (token_of t) are (subst (λ (o : Option Token). IsOut out o) goes.1 is_out)
 
     opened : is_snapshot (snapshot_of t.number v.opened) t.snapshot ≡ true
     opened =

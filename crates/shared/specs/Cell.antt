@@ -1,11 +1,11 @@
 -- The cell of the published time: its word, and what each pass has seen of the commits and the floors and knows of the archive.
-use Rattle.std.specs.Prelude.{◌≡◌, ◌≢◌, ℕ, List, slice_index, None, Some, true, false}
+use Rattle.std.specs.Prelude.{◌≡◌, ◌≢◌, ℕ, List, [], ◌∷◌, slice_index, None, Some, true, false}
 use mathlib.Core.Option.{some}
 use lib.ListN.{get_elem?}
 use Rattle.history.specs.Histories.{IsHistory, last}
 use Rattle.law_image.specs.Values.{IsValue}
 use Rattle.shared.specs.Archives.{ArchiveSeen, no_archive}
-use Rattle.shared.specs.Tokens.{Token, no_tokens, IsOut, AreApart, given_out, taken_back}
+use Rattle.shared.specs.Tokens.{Token, no_tokens, IsOut, AreApart, taken_back}
 use Rattle.shared.specs.Seen.{Seen, nothing, nothing_known, order_of, known_by, IsLater, IsMore, SightValue}
 
 -- One view, the writer's, has seen all commits, which are a history, and the floors, and the word is the last published time. Each other view has seen a front
@@ -60,7 +60,7 @@ idle = record { seen = nothing; archive = no_archive; heard = nothing_known; wri
 
 -- the writer gives a transaction out, and has its token for now
 abbrev pub GivesOut : Token → SightValue → List ℕ → List ℕ → SightValue → Type 0
-GivesOut token v before after w = w ≡ record v { tokens = record { out = given_out v.tokens.out token; own = Some token } }
+GivesOut token v before after w = w ≡ record v { tokens = record { out = token ∷ v.tokens.out; own = Some token } }
 
 -- what is left of the writer's once the token goes with another pass
 abbrev pub handed : SightValue → SightValue
@@ -73,7 +73,7 @@ handed_on v = record {
   archive = v.archive;
   heard = nothing_known;
   writes = false;
-  tokens = record { out = λ number. None; own = v.tokens.own };
+  tokens = record { out = []; own = v.tokens.own };
 }
 
 -- the writer is told what such a pass has seen and knows, and has its token

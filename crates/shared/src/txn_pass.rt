@@ -1,8 +1,8 @@
 //! The pass that goes with an open transaction.
-ghost use Rattle.std.specs.Prelude.{◌≡◌, true, false, [], None, Some};
+ghost use Rattle.std.specs.Prelude.{◌≡◌, ◌∷◌, true, false, [], Some};
 ghost use Rattle.crossbeam_utils.specs.Seq.{cell_view};
 ghost use Rattle.shared.specs.Seen.{IsLater};
-ghost use Rattle.shared.specs.Tokens.{IsOut, given_out, taken_back};
+ghost use Rattle.shared.specs.Tokens.{IsFree, IsOut, taken_back};
 
 use crate::cell::{GiveOut, Hand, PublishedCell, Return, TakeBack, WriterPass};
 use crate::naming::{Given, Opening};
@@ -51,11 +51,11 @@ impl<L: Opening> TxnPass<L> {
     ) -> TxnPass<L>
         requires cell { (cell.now.table.shared.table_id ≡ L.table) × (writer.old.table_id ≡ L.table) }
         requires writes { (cell_view writer.old).writes ≡ true }
-        requires fresh { (cell_view writer.old).tokens.out number ≡ None }
+        requires fresh { IsFree number (cell_view writer.old).tokens.out }
         ensures given { result ≡ record { seen = (cell_view writer.old).seen; token = Some (record { number = number; snapshot = snapshot }) } }
         ensures writer { (writer.new.table_id ≡ writer.old.table_id) × ((cell_view writer.new).writes ≡ true)
             × ((cell_view writer.new).seen ≡ (cell_view writer.old).seen) × ((cell_view writer.new).archive ≡ (cell_view writer.old).archive)
-            × ((cell_view writer.new).tokens.out ≡ given_out (cell_view writer.old).tokens.out (record { number = number; snapshot = snapshot })) }
+            × ((cell_view writer.new).tokens.out ≡ record { number = number; snapshot = snapshot } ∷ (cell_view writer.old).tokens.out) }
     {
         let _ = (number, snapshot);
         give_out::<Brand, R>(rt, cell, writer);
@@ -72,7 +72,8 @@ impl<L: Opening> TxnPass<L> {
             × ((cell_view writer.new).seen ≡ (cell_view writer.old).seen) × ((cell_view writer.new).archive ≡ (cell_view writer.old).archive)
             × ((cell_view writer.new).tokens.out ≡ taken_back (cell_view writer.old).tokens.out self.token) }
     {
-        cell.join_pass::<Return>(writer, self.pass);
+        let TxnPass { pass, of: _ } = self;
+        cell.join_pass::<Return>(writer, pass);
         cell.load_as::<TakeBack, R>(rt, writer);
     }
 }
@@ -81,9 +82,9 @@ impl<L: Opening> TxnPass<L> {
 fn give_out<K: Given, R: Wait>(rt: &R, cell: &PublishedCell, writer: &mut WriterPass)
     requires cell { writer.old.table_id ≡ cell.now.table.shared.table_id }
     requires writes { (cell_view writer.old).writes ≡ true }
-    requires fresh { (cell_view writer.old).tokens.out K.token.number ≡ None }
+    requires fresh { IsFree K.token.number (cell_view writer.old).tokens.out }
     ensures cell { writer.new.table_id ≡ writer.old.table_id }
-    ensures view { cell_view writer.new ≡ record (cell_view writer.old) { tokens = record { out = given_out (cell_view writer.old).tokens.out K.token; own = Some K.token } } }
+    ensures view { cell_view writer.new ≡ record (cell_view writer.old) { tokens = record { out = K.token ∷ (cell_view writer.old).tokens.out; own = Some K.token } } }
 {
     cell.load_as::<GiveOut<K>, R>(rt, writer);
 }

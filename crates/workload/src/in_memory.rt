@@ -5,7 +5,7 @@ ghost use Rattle.law_image.specs.Values.{Value};
 ghost use Rattle.law_refinement.specs.Stands.{Stands};
 ghost use Rattle.shared.specs.Counts.{told_count, unredeemed};
 ghost use Rattle.shared.specs.Reached.{Reached};
-ghost use Rattle.workload.specs.Reading.{AllAreAnswered, HasCommitted, HasLastRound, HasLastRounds, value_of};
+ghost use Rattle.workload.specs.Reading.{AllAreAnswered, HasCommitted, IsStressed, HasLastRound, HasLastRounds, value_of};
 
 use crate::workers::{Plan, field_of, key_of, run_workers};
 use disk::{Disk, MemDisk};
@@ -28,8 +28,7 @@ const MARK: u64 = 1;
 /// has not the value of its last round.
 pub fn stress<R: Threads + Wait + Sync>(rt: &R, alloc: Global, plan: Plan) -> Option<(u64, u64)>
     ensures counted { IfSome result (λ done. done.0 ≡ plan.writers * plan.rounds) }
-    ensures last { IfSome result (λ done. HasCommitted plan.writers plan.rounds done.0 done.1) }
-    ensures answered { IfSome result (λ done. AllAreAnswered true (opened [] (λ relation. 0)) plan.readers plan.writers plan.rounds) }
+    ensures shown { IfSome result (λ done. IsStressed plan.readers plan.writers plan.rounds done.0 done.1) }
 {
     let store = match fresh_store(alloc, MemDisk::new(alloc), SLOTS, MARK) {
         Ok(store) => store,
