@@ -38,6 +38,7 @@ def helps(program):
 def no_commands(program, folder):
     """Nothing is said on standard output, and no file is made or changed."""
     for words in (["forget", folder], ["format"], ["format", folder, "--slots", "4294967296"], ["format", folder, "--slots", "many"],
+                  ["format", folder, "--profile", "2"], ["format", folder, "--profile", "5"], ["format", folder, "--extents", "many"],
                   ["run"], ["run", folder, "more"], ["at", folder, "1", "7"], ["at", folder, "65536", "7", "1"],
                   ["at", folder, "1", "18446744073709551616", "1"], ["at", folder, "1", "-7", "1"],
                   ["between", folder, "1", "7", "0"], ["dump"], ["dump", folder, "more"], ["--slots", "16"], ["get", folder, "1"],
@@ -120,6 +121,37 @@ def forms(program, folder):
     assert run(program, ["info", os.path.join(folder, "none")])[:2] == (1, "refused: device\n")
 
 
+def endless(program, folder):
+    """A store of profile 4, which is still being built: format says so, what is done stays, and jobs are refused."""
+    store = os.path.join(folder, "endless")
+    os.mkdir(store)
+    for words in (["--profile", "4", "--slots", "64"], ["--extents", "64"], ["--profile", "3", "--extents", "64"]):
+        assert run(program, ["format", store, *words]) == (1, "refused: wrong profile\n", ""), words
+    for extents in ("63", "48", "72", "1048592"):
+        assert run(program, ["format", store, "--profile", "4", "--extents", extents]) == (1, "refused: bad slots\n", ""), extents
+    assert os.listdir(store) == []
+    status, said, told = run(program, ["format", store, "--profile", "4", "--extents", "64"])
+    assert (status, said, told.count("\n")) == (0, "formatted 64\n", 1) and "profile 4" in told, (status, said, told)
+    for words in ([], ["--profile", "4"]):
+        assert run(program, ["format", store, *words])[:2] == (1, "refused: occupied\n"), words
+    script = "begin t\nput t 1 7 61\nsubmit t 5 100\nflush\nredeem t\nreopen\nat 1 7 100\narchive 100\nreclaim\nfloorof 1 100\nfloor 100\ngrow\nfinish\n"
+    answers = "snapshot 0\nok\nqueued\nidle\ndone 100\nlast 100 floors 0\nvalue 61\n" + "refused: wrong profile\n" * 4 + "refused: not growable\nidle\n"
+    assert run(program, ["run", store], script) == (0, answers, "")
+    assert run(program, ["run", store], "begin t\ndel t 1 7\nput t 1 8 62 -\nsubmit t 6 200\nflush\nredeem t\n")[:2] == (
+        0, "snapshot 100\nok\nok\nqueued\nidle\ndone 200\n")
+    for words, answer in ((["at", "1", "7", "100"], "value 61\n"), (["at", "1", "7", "200"], "none\n"), (["get", "1", "8"], "value 62 -\n"),
+                          (["between", "1", "7", "1", "201"], "100 200 61\nrows 1\n"), (["scan", "1"], "8 62 -\nrows 1\n"),
+                          (["scan", "1", "100"], "7 61\nrows 1\n"), (["history", "1", "7"], "100 200 61\nrows 1\n"), (["times", "5"], "times 100\n")):
+        assert run(program, [words[0], store, *words[1:]]) == (0, answer, ""), words
+    status, said, told = run(program, ["put", store, "1", "7", "Ada", "--text"])
+    assert (status, told) == (0, "") and said.startswith("done "), (status, said, told)
+    assert run(program, ["get", store, "1", "7", "--json"])[1].endswith('"value":["Ada"]}\n')
+    assert run(program, ["del", store, "1", "7"])[0] == 0 and run(program, ["get", store, "1", "7"]) == (0, "none\n", "")
+    for words in (["vacuum", store, "200"], ["floor", store, "1", "200"], ["info", store], ["info", store, "--json"], ["dump", store]):
+        assert run(program, words)[:2] == (1, "refused: wrong profile\n"), words
+    assert run(program, ["grow", store])[:2] == (1, "refused: not growable\n")
+
+
 def main():
     program = os.path.abspath(sys.argv[1])
     with tempfile.TemporaryDirectory() as folder:
@@ -129,6 +161,7 @@ def main():
         says_version(program)
         one_record(program, folder)
         forms(program, folder)
+        endless(program, folder)
     print("command line: ok")
 
 

@@ -7,7 +7,7 @@ _timestore() {
         return
     fi
     case $command:$word in
-    format:-*) mapfile -t COMPREPLY < <(compgen -W "--slots --help" -- "$word") ;;
+    format:-*) mapfile -t COMPREPLY < <(compgen -W "--profile --slots --extents --help" -- "$word") ;;
     get:-*) mapfile -t COMPREPLY < <(compgen -W "--text --json --help" -- "$word") ;;
     scan:-*) mapfile -t COMPREPLY < <(compgen -W "--text --json --help" -- "$word") ;;
     history:-*) mapfile -t COMPREPLY < <(compgen -W "--text --json --instants --help" -- "$word") ;;

@@ -189,11 +189,11 @@ completed() { # WORDS.., the last of which is completed
     (. "$top/completions/timestore.bash"; COMP_WORDS=("$@"); COMP_CWORD=$(($# - 1)); _timestore; echo "${COMPREPLY[*]}")
 }
 mkdir -p "$work/words/reg"
-all_completed() { (cd "$work/words"; completed timestore g; completed timestore ""; completed timestore format --s; completed timestore at r; completed timestore stress ""); }
+all_completed() { (cd "$work/words"; completed timestore g; completed timestore ""; completed timestore format --; completed timestore at r; completed timestore stress ""); }
 compare all_completed <<'END'
 grow get
 format run at between vacuum grow dump get scan history times put del floor info stress help --help --version
---slots
+--profile --slots --extents --help
 reg
 
 END

@@ -1,5 +1,5 @@
 -- What the store's calls do, each in one word: what its engine's call does.
-use Rattle.std.specs.Prelude.{◌≡◌, ℕ, Bool, List, Result}
+use Rattle.std.specs.Prelude.{◌≡◌, ◌==◌, ℕ, Bool, true, List, Result}
 use Rattle.floors.specs.Floors.{FloorsValue}
 use Rattle.snapshot.specs.Txn.{TxnValue}
 use Rattle.group.specs.Tickets.{TicketValue}
@@ -28,6 +28,11 @@ last (Log l) = commits.last l.commits
 abbrev pub floors : StoreValue → FloorsValue
 floors (Slots s) = slots.floors s
 floors (Log l) = l.commits.floors
+
+-- each relation has a floor of its own
+abbrev pub has_own_floors : StoreValue → Bool
+has_own_floors (Slots s) = s.log.profile == 3
+has_own_floors (Log l) = true
 
 -- a begin
 abbrev pub Begins : StoreValue → Result TxnValue BeginFault → StoreValue → Type 0

@@ -3,3 +3,5 @@ pub mod Calls
 pub mod Queries
 pub mod Jobs
 pub mod Opens
+pub mod Formats
+pub mod Places

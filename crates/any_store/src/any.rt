@@ -2,10 +2,11 @@
 ghost use Rattle.std.specs.Prelude.{◌≡◌, IsTrue, IfOk};
 ghost use Rattle.disk.specs.Areas.{AreSound};
 ghost use Rattle.any_store.specs.Values.{disk_of, profile_of};
-ghost use Rattle.any_store.specs.Calls.{last, floors, Begins, Aborts, Submits, Redeems, Pumps, IsTimesOf};
+ghost use Rattle.any_store.specs.Places.{log_area};
+ghost use Rattle.any_store.specs.Calls.{last, floors, has_own_floors, Begins, Aborts, Submits, Redeems, Pumps, IsTimesOf};
 
 use crate::engine::Engine;
-use disk::Disk;
+use disk::{Area, Disk};
 use floors::Floors;
 use group::{BeginFault, Did, PumpFault, Redeemed, SubmitFault, Submitted, Ticket};
 use log_store::LogStore;
@@ -67,6 +68,26 @@ impl<D: Disk> Store<D> {
         match &self.engine {
             Engine::Slots(store) => store.profile().number(),
             Engine::Log(_) => log_store::PROFILE,
+        }
+    }
+
+    /// Whether each relation has a floor of its own. Else there is one floor for all relations.
+    pub fn has_own_floors(&self) -> bool
+        ensures { result ≡ has_own_floors self.now }
+    {
+        match &self.engine {
+            Engine::Slots(store) => store.profile().has_own_floors(),
+            Engine::Log(_) => true,
+        }
+    }
+
+    /// The area of its log: a group is committed by a gate there.
+    pub fn log_area(&self) -> Area
+        ensures { result ≡ log_area self.now }
+    {
+        match &self.engine {
+            Engine::Slots(_) => Area::Status,
+            Engine::Log(_) => Area::Heap,
         }
     }
 

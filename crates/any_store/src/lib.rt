@@ -3,6 +3,7 @@
 
 mod any;
 mod engine;
+mod formatting;
 mod jobs;
 mod opening;
 mod over;
@@ -10,7 +11,8 @@ mod queries;
 
 pub use any::Store;
 pub use engine::Engine;
+pub use formatting::{Layout, format};
 pub use store::{
     BeginFault, Did, FormatFault, JobDid, OpenFault, Profile, PumpFault, QueryFault, Redeemed,
-    RowWalk, SharedValue, StartFault, SubmitFault, Submitted, Ticket, Txn, TxnFault, View, format,
+    RowWalk, SharedValue, StartFault, SubmitFault, Submitted, Ticket, Txn, TxnFault, View,
 };

@@ -1,226 +1,59 @@
 -- The device call that stands out after a step is the step's own.
-use Rattle.std.specs.Prelude.{ℕ, ◌≡◌, Bool, true, false, List, ◌∷◌, is_some, nat_lt, slice_get, if◌then◌else◌, [], Option, None, Some, Result, Ok, Err}
-use Rattle.std.specs.Prelude.{MatchBool, MatchOption}
+use Rattle.std.specs.Prelude.{◌≡◌, Bool, true, false, Option, None, Some, Result, Ok, Err, MatchBool, MatchOption}
 use Rattle.std.proofs.Common.{◌∙◌, sym, ap, subst, refl, inl, inr, ◌⊎◌}
 use Rattle.std.proofs.lemmas.Bool.{false≢true}
-use Rattle.disk.specs.Areas.{Areas, AreSound, AreaState, area_of, with_area, written}
-use Rattle.disk.specs.Calls.{DiskState, Writes, Syncs}
-use Rattle.disk.specs.declared.area.Area.{Area}
-use Rattle.disk.specs.declared.area.Area.TheVariants.{Status, Heap, Archive}
-use Rattle.disk.proofs.Stops.{slice_range-overlaid_same}
+use Rattle.disk.specs.Areas.{Areas, AreSound}
+use Rattle.disk.specs.declared.area.Area.TheVariants.{Heap}
 use Rattle.group.specs.declared.answers.Did.{Did}
-use Rattle.group.specs.declared.answers.Did.TheVariants as did
 use Rattle.group.specs.declared.answers.PumpFault.{PumpFault}
 use Rattle.group.specs.declared.answers.PumpFault.TheVariants as fault
-use Rattle.group.specs.declared.queued.StoredExtent.{StoredExtent}
-use Rattle.group.specs.declared.stage.NextStep.{NextStep}
-use Rattle.group.specs.declared.stage.NextStep.TheVariants as step
-use Rattle.group.specs.Steps.{next_step, next_extent}
-use Rattle.status.specs.SlotCalls.{SlotStage}
-use Rattle.status.specs.SlotCalls as slots
-use Rattle.status.specs.TurnState.{TurnState}
-use Rattle.status.specs.Growth.{WritesZeros, IsGrowthCall, grew_at}
-use Rattle.status.specs.GrowthState.{GrowthState}
-use Rattle.status.specs.declared.growth.Grew.TheVariants as grew
-use Rattle.status.specs.declared.growth.GrowthStage.{GrowthStage}
-use Rattle.status.specs.declared.growth.GrowthStage.TheVariants as growth
-use Rattle.store.specs.Jobs.{PumpsJob, TakesJobStep, Stores, WritesOrSyncs, AnchorsOrSync, HasGrown, made_ready, BeginsJobSlot, TurnsJob, IsJobTurned}
-use Rattle.store.specs.Pumps.{Pumps, TakesStep, WritesExtent, MayBeginSlot, TurnsSlot, IsTurned, started}
-use Rattle.store.specs.Values.{StoreValue, turn_of}
-use Rattle.store.specs.declared.job.Job.{Job}
 use Rattle.store.specs.declared.job.JobDid.{JobDid}
 use Rattle.store.specs.declared.job.JobDid.TheVariants as job
-use Rattle.store.specs.declared.job.JobStage.{JobStage}
-use Rattle.store.specs.declared.job.JobStage.TheVariants as stages
-use Rattle.store.specs.declared.job.JobWork.{JobWork}
-use Rattle.store.specs.declared.job.JobWork.TheVariants as works
+use Rattle.log_store.specs.Values.{LogStoreValue}
+use Rattle.any_store.specs.Calls.{Pumps}
+use Rattle.any_store.specs.Jobs.{PumpsJob}
+use Rattle.any_store.specs.Places.{log_area}
+use Rattle.any_store.specs.Values.{StoreValue, disk_of}
+use Rattle.any_store.specs.declared.engine.Engine.TheVariants.{Slots, Log}
 use Rattle.c_engine.specs.Engines.{asks, due_in, due_call, stopped_by, AfterStep, KeepsState, KeepsPublished}
-use Rattle.c_engine.specs.HostCalls.{HostCall, made, call_in}
-use Rattle.c_engine.specs.HostCalls as host
-use Rattle.c_engine.specs.LastWrites.{last_write}
 use Rattle.c_engine.specs.Laws.{LeadsByItsCall, GroupCallIsTheSteps, JobCallIsTheSteps}
 use Rattle.c_engine.specs.Steps.{group_call, job_call, call_of, of_group, of_job}
 use Rattle.c_engine.specs.declared.code.Code.{Code}
 use Rattle.c_engine.specs.declared.code.Code.TheVariants as code
 use Rattle.c_engine.specs.declared.code.Info.{Info}
 use Rattle.c_engine.specs.declared.device_call.DeviceCall.{DeviceCall}
-use Rattle.c_engine.specs.declared.device_call.DeviceCall.TheVariants.{Write, Sync}
 use Rattle.c_engine.specs.declared.engine.Engine.{Engine}
 use Rattle.c_engine.specs.declared.engine.EngineState.{EngineState}
 use Rattle.c_engine.specs.declared.engine.EngineState.TheVariants.{Settled, Asks, Failed}
 use Rattle.c_engine.specs.declared.step.Step.{Step}
-use Rattle.c_engine.specs.declared.step.Step.TheVariants.{Group}
-use Rattle.c_engine.specs.declared.step.Step.TheVariants as kinds
+use Rattle.c_engine.specs.declared.step.Step.TheVariants.{Group, Job}
+use Rattle.c_engine.proofs.Leading.{LeadsBy, of-job-did}
+use Rattle.c_engine.proofs.SlotCalling.{slot-pump-leads, slot-job-leads}
+use Rattle.c_engine.proofs.LogCalling.{log-pump-leads}
 
--- ---- a device call
+-- ---- a step, in either layout
 
-pub last_written : (a : AreaState) (at : ℕ) (bytes : List ℕ) → last_write (written at bytes a) ≡ Some (at, bytes)
-last_written a at bytes = ap (λ (b : List ℕ). Some (at, b)) (slice_range-overlaid_same a.bytes at bytes)
-
--- such a call leads from areas to areas, if one is due; else they are the same
-abbrev pub LeadsBy : Areas → Option DeviceCall → Areas → Type 0
-LeadsBy before None after = after ≡ before
-LeadsBy before (Some due) after = (call : HostCall) × (call_in due after ≡ Some call) × (after ≡ made call before)
-
-wrote : (area : Area) (at : ℕ) (bytes : List ℕ) (before : Areas)
-    → call_in (Write area) (with_area area (written at bytes (area_of before area)) before) ≡ Some (host.Writes area at bytes)
-wrote Status at bytes before = ap (λ (w : Option (ℕ × List ℕ)). host.write_in Status w) (last_written before.status at bytes)
-wrote Heap at bytes before = ap (λ (w : Option (ℕ × List ℕ)). host.write_in Heap w) (last_written before.heap at bytes)
-wrote Archive at bytes before = ap (λ (w : Option (ℕ × List ℕ)). host.write_in Archive w) (last_written before.archive at bytes)
-
-by-write : (area : Area) (at : ℕ) (bytes : List ℕ) (before after : Areas) → Writes area at bytes (Ok tt) before after
-    → LeadsBy before (Some (Write area)) after
-by-write area at bytes before after writes = (
-  host.Writes area at bytes,
-  ap (λ (a : Areas). call_in (Write area) a) writes.written
-      ∙ wrote area at bytes before,
-  writes.written,
-)
-
-by-sync : (area : Area) (before after : Areas) → Syncs area (Ok tt) before after → LeadsBy before (Some (Sync area)) after
-by-sync area before after syncs = (host.Syncs area, refl, syncs.synced)
-
--- ---- a group
-
-of-did : (before after : Areas) (what other : Did) → what ≡ other → LeadsBy before (group_call other) after → LeadsBy before (group_call what) after
-of-did before after what other same leads = subst (λ (d : Did). LeadsBy before (group_call d) after) (sym same) leads
-
-turn-leads : (stage : SlotStage) (turn : TurnState) (old new : StoreValue) (what : Did)
-    → slots.IsSlotCall turn.number turn.body stage (Ok tt) old.disk.areas new.disk.areas → IsTurned stage turn old what new
-    → LeadsBy old.disk.areas (group_call what) new.disk.areas
-turn-leads slots.Begun turn old new what call is = of-did _ _ what did.BodyWritten is.0 (by-write Status _ _ _ _ call)
-turn-leads slots.BodyWritten turn old new what call is = of-did _ _ what did.BodySynced is.0 (by-sync Status _ _ call)
-turn-leads slots.BodySynced turn old new what call is = of-did _ _ what did.GateWritten is.0 (by-write Status _ _ _ _ call)
-turn-leads slots.GateWritten turn old new what call is = of-did _ _ what (did.Published old.transactions.group) is.0 (by-sync Status _ _ call)
-turn-leads slots.Opened turn old new what call is = absurd is
-
-turns-lead : (turn : TurnState) (old new : StoreValue) (what : Did) → TurnsSlot true turn old (Ok what) new
-    → LeadsBy old.disk.areas (group_call what) new.disk.areas
-turns-lead turn old new what turns = turn-leads turn.stage turn old new what (turns.call.areas refl) turns.answer
-
-step-leads : (next : NextStep) (old new : StoreValue) (what : Did) → TakesStep true next old (Ok what) new
-    → LeadsBy old.disk.areas (group_call what) new.disk.areas
-step-leads step.Idle old new what takes = let same : what ≡ did.Idle =
-    (let e = takes.0 in cc) in of-did _ _ what did.Idle same (ap (λ (v : StoreValue). v.disk.areas) takes.1)
-step-leads step.WriteExtent old new what takes = by-extent (next_extent old.transactions) takes
-  where
-    by-extent : (o : Option StoredExtent) → MatchOption o ⊥ (λ stored. WritesExtent true stored old (Ok what) new)
-        → LeadsBy old.disk.areas (group_call what) new.disk.areas
-    by-extent None never = absurd never
-    by-extent (Some stored) writes = of-did _ _ what did.WroteExtent writes.steps.answer.0 (by-write Heap _ _ _ _ (writes.call.areas refl))
-step-leads step.SyncHeap old new what takes = of-did _ _ what did.HeapSynced takes.steps.answer.0 (by-sync Heap _ _ (takes.call.areas refl))
-step-leads step.BeginSlot old new what takes = by-job (is_some (turn_of old.job)) takes
-  where
-    by-job : (b : Bool) → MatchBool b ((Ok what ≡ Err fault.Busy) × (new ≡ old)) (MayBeginSlot true old (Ok what) new)
-        → LeadsBy old.disk.areas (group_call what) new.disk.areas
-    by-job true busy = absurd (let e = busy.0 in cc)
-    by-job false (inl none) = absurd (let e = none.1 in cc)
-    by-job false (inr begins) = turns-lead _ _ new what begins.turns
-step-leads step.AdvanceSlot old new what takes = by-turn old.turn takes
-  where
-    by-turn : (o : Option TurnState) → MatchOption o ⊥ (λ turn. TurnsSlot true turn old (Ok what) new)
-        → LeadsBy old.disk.areas (group_call what) new.disk.areas
-    by-turn None never = absurd never
-    by-turn (Some turn) turns = turns-lead turn old new what turns
-
-pub pump-leads : (old new : StoreValue) (what : Did) → Pumps true old (Ok what) new → LeadsBy old.disk.areas (group_call what) new.disk.areas
-pump-leads old new what pumps = by-failed old.transactions.failed pumps
-  where
-    by-failed : (b : Bool) → MatchBool b ((Ok what ≡ Err fault.Failed) × (new ≡ old))
-        (TakesStep true (next_step old.transactions) (started old) (Ok what) new) → LeadsBy old.disk.areas (group_call what) new.disk.areas
-    by-failed true fails = absurd (let e = fails.0 in cc)
-    by-failed false takes = step-leads (next_step old.transactions) (started old) new what takes
-
--- ---- a job
-
-of-job-did : (before after : Areas) (what other : JobDid) → what ≡ other → LeadsBy before (job_call other) after → LeadsBy before (job_call what) after
-of-job-did before after what other same leads = subst (λ (d : JobDid). LeadsBy before (job_call d) after) (sym same) leads
-
-job-turn-leads : (stage : SlotStage) (turn : TurnState) (j : Job) (old new : StoreValue) (what : JobDid)
-    → slots.IsSlotCall turn.number turn.body stage (Ok tt) old.disk.areas new.disk.areas → IsJobTurned stage turn j old what new
-    → LeadsBy old.disk.areas (job_call what) new.disk.areas
-job-turn-leads slots.Begun turn j old new what call is = of-job-did _ _ what job.BodyWritten is.0 (by-write Status _ _ _ _ call)
-job-turn-leads slots.BodyWritten turn j old new what call is = of-job-did _ _ what job.BodySynced is.0 (by-sync Status _ _ call)
-job-turn-leads slots.BodySynced turn j old new what call is = of-job-did _ _ what job.GateWritten is.0 (by-write Status _ _ _ _ call)
-job-turn-leads slots.GateWritten turn j old new what call is = of-job-did _ _ what job.JobDone is.0 (by-sync Status _ _ call)
-job-turn-leads slots.Opened turn j old new what call is = absurd is
-
-job-turns-lead : (j : Job) (turn : TurnState) (old new : StoreValue) (what : JobDid) → TurnsJob true j turn old (Ok what) new
-    → LeadsBy old.disk.areas (job_call what) new.disk.areas
-job-turns-lead j turn old new what turns = job-turn-leads turn.stage turn j old new what (turns.call.areas refl) turns.answer
-
-zeros-lead : (b : Bool) (slots_are parts : ℕ) (g : GrowthState) (old new : StoreValue) (what : JobDid)
-    → MatchBool b (WritesZeros slots_are parts (Ok tt) old.disk.areas new.disk.areas) (Syncs Status (Ok tt) old.disk.areas new.disk.areas)
-    → HasGrown (if b then grew.WroteZeros else grew.ZerosSynced) g old what new
-    → LeadsBy old.disk.areas (job_call what) new.disk.areas
-zeros-lead true slots_are parts g old new what call is = of-job-did _ _ what job.WroteZeros is.0 (by-write Status _ _ _ _ call)
-zeros-lead false slots_are parts g old new what call is = of-job-did _ _ what job.ZerosSynced is.0 (by-sync Status _ _ call)
-
-growth-leads : (stage : GrowthStage) (g : GrowthState) (old new : StoreValue) (what : JobDid)
-    → IsGrowthCall stage g.slots g.piece (Ok tt) old.disk.areas new.disk.areas
-    → HasGrown (grew_at stage) g old what new → LeadsBy old.disk.areas (job_call what) new.disk.areas
-growth-leads (growth.Zeroing parts) g old new what call is = zeros-lead (nat_lt parts 16) g.slots parts g old new what call is
-growth-leads growth.ZerosSynced g old new what call is = of-job-did _ _ what job.GateWritten is.0 (by-write Status _ _ _ _ call)
-growth-leads growth.GateWritten g old new what call is = of-job-did _ _ what job.JobDone is.0 (by-sync Status _ _ call)
-
-run-leads : (left : List ℕ) (run : _) (writer : _) (j : Job) (old new : StoreValue) (what : JobDid) → WritesOrSyncs true left run writer j old (Ok what) new
-    → LeadsBy old.disk.areas (job_call what) new.disk.areas
-run-leads [] run writer j old new what syncs = of-job-did _ _ what job.RunSynced syncs.moves.0 (by-sync Archive _ _ (syncs.call.areas refl))
-run-leads (b ∷ bs) run writer j old new what writes = of-job-did _ _ what job.WroteRun writes.moves.0 (by-write Archive _ _ _ _ (writes.call.areas refl))
-
-anchors-lead : (next : Option ℕ) (anchors : _) (source : _) (count : ℕ) (j : Job) (old new : StoreValue) (what : JobDid)
-    → AnchorsOrSync true next anchors source count j old (Ok what) new → LeadsBy old.disk.areas (job_call what) new.disk.areas
-anchors-lead None anchors source count j old new what syncs = of-job-did _ _ what job.HeapSynced syncs.moves.0 (by-sync Heap _ _ (syncs.call.areas refl))
-anchors-lead (Some number) anchors source count j old new what writes =
-    of-job-did _ _ what job.WroteExtent writes.moves.0 (by-write Heap _ _ _ _ (writes.call.areas refl))
-
-work-leads : (work : JobWork) (j : Job) (old new : StoreValue) (what : JobDid) → Stores true work j old (Ok what) new
-    → LeadsBy old.disk.areas (job_call what) new.disk.areas
-work-leads (works.Archive run writer) j old new what stores = run-leads writer.left run writer j old new what stores
-work-leads (works.Reclaim anchors source count) j old new what stores =
-    anchors-lead (slice_get old.transactions.reserved count) anchors source count j old new what stores
-work-leads (works.Floor scope floor floors) j old new what stores = absurd stores
-work-leads (works.Grow g) j old new what grows = growth-leads g.stage g old new what (grows.call.areas refl) grows.answer
-
-disk-ready : (work : JobWork) (v : StoreValue) → (made_ready work v).disk ≡ v.disk
-disk-ready (works.Archive run writer) v = refl
-disk-ready (works.Reclaim anchors source count) v = refl
-disk-ready (works.Floor scope floor floors) v = refl
-disk-ready (works.Grow g) v = refl
-
-slot-begins : (j : Job) (old new : StoreValue) (what : JobDid) → BeginsJobSlot true j old (Ok what) new
-    → LeadsBy old.disk.areas (job_call what) new.disk.areas
-slot-begins j old new what (inl none) = absurd (let e = none.1 in cc)
-slot-begins j old new what (inr turns) = subst (λ (d : DiskState). LeadsBy d.areas (job_call what) new.disk.areas) (disk-ready j.work old)
-    (job-turns-lead _ _ _ new what turns)
-
-job-stage-leads : (stage : JobStage) (j : Job) (old new : StoreValue) (what : JobDid) → TakesJobStep true stage j old (Ok what) new
-    → LeadsBy old.disk.areas (job_call what) new.disk.areas
-job-stage-leads stages.Writing j old new what takes = work-leads j.work j old new what takes
-job-stage-leads stages.Stored j old new what takes = by-turn (is_some old.turn) takes
-  where
-    by-turn : (b : Bool) → MatchBool b ((Ok what ≡ Err fault.Busy) × (new ≡ old)) (BeginsJobSlot true j old (Ok what) new)
-        → LeadsBy old.disk.areas (job_call what) new.disk.areas
-    by-turn true busy = absurd (let e = busy.0 in cc)
-    by-turn false begins = slot-begins j old new what begins
-job-stage-leads (stages.Turning turn) j old new what takes = job-turns-lead j turn old new what takes
+pub pump-leads : (old new : StoreValue) (what : Did) → Pumps true old (Ok what) new
+    → LeadsBy (disk_of old).areas (group_call (log_area old) what) (disk_of new).areas
+pump-leads (Slots s) (Slots s') what pumps = slot-pump-leads s s' what pumps
+pump-leads (Slots s) (Log l') what pumps = absurd pumps
+pump-leads (Log l) (Slots s') what pumps = absurd pumps
+pump-leads (Log l) (Log l') what pumps = log-pump-leads l l' what pumps
 
 abbrev job_said : JobDid → Result JobDid PumpFault
 job_said what = Ok what
 
-pub job-leads : (old new : StoreValue) (what : JobDid) → PumpsJob true old (Ok what) new → LeadsBy old.disk.areas (job_call what) new.disk.areas
-job-leads old new what pumps = by-failed old.transactions.failed pumps
+pub job-leads : (old new : StoreValue) (what : JobDid) → PumpsJob true old (Ok what) new
+    → LeadsBy (disk_of old).areas (job_call (log_area old) what) (disk_of new).areas
+job-leads (Slots s) (Slots s') what pumps = slot-job-leads s s' what pumps
+job-leads (Slots s) (Log l') what pumps = absurd pumps
+job-leads (Log l) (Slots s') what pumps = absurd pumps
+job-leads (Log l) (Log l') what pumps = by-failed l.commits.failed pumps.0
   where
-    by-job : (o : Option Job) → MatchOption o ((job_said what ≡ job_said job.Idle) × (new ≡ old)) (λ j. TakesJobStep true j.stage j old (Ok what) new)
-        → LeadsBy old.disk.areas (job_call what) new.disk.areas
-    by-job None idle = let same : what ≡ job.Idle = (let e = idle.0 in cc) in of-job-did _ _ what job.Idle same (ap (λ (v : StoreValue). v.disk.areas) idle.1)
-    by-job (Some j) takes = job-stage-leads j.stage j old new what takes
-
-    by-failed : (b : Bool) → MatchBool b ((Ok what ≡ Err fault.Failed) × (new ≡ old))
-        (MatchOption old.job ((job_said what ≡ job_said job.Idle) × (new ≡ old)) (λ j. TakesJobStep true j.stage j old (Ok what) new))
-        → LeadsBy old.disk.areas (job_call what) new.disk.areas
-    by-failed true fails = absurd (let e = fails.0 in cc)
-    by-failed false takes = by-job old.job takes
+    by-failed : (b : Bool) → MatchBool b (job_said what ≡ Err fault.Failed) (job_said what ≡ job_said job.Idle)
+        → LeadsBy l.disk.areas (job_call Heap what) l'.disk.areas
+    by-failed true fails = absurd cc
+    by-failed false idle = let same : what ≡ job.Idle = cc in of-job-did Heap _ _ what job.Idle same (ap (λ (v : LogStoreValue). v.disk.areas) pumps.1)
 
 -- ---- what stands out
 
@@ -229,12 +62,13 @@ settled-asks-not s t settled same asking = false≢true (sym (ap asks (same ∙ 
 
 -- after a step of this kind
 after-step : (due : Option DeviceCall) (taken : Step) (old new : Engine) → call_of taken ≡ due → old.state ≡ Settled → asks new.state ≡ true
-    → MatchOption due (KeepsState old new) (λ d. (new.state ≡ Asks taken) × KeepsPublished old new) → LeadsBy old.store.disk.areas due new.store.disk.areas
-    → LeadsByItsCall old.store.disk.areas new.state new.store.disk.areas
+    → MatchOption due (KeepsState old new) (λ d. (new.state ≡ Asks taken) × KeepsPublished old new)
+    → LeadsBy (disk_of old.store).areas due (disk_of new.store).areas
+    → LeadsByItsCall (disk_of old.store).areas new.state (disk_of new.store).areas
 after-step None taken old new is settled asking keeps leads = absurd (settled-asks-not old.state new.state settled keeps.0 asking)
 after-step (Some due) taken old new is settled asking keeps leads =
     let state : due_in new.state ≡ Some due = ap due_in keeps.0 ∙ is in
-    (leads.0, ap (λ (d : Option DeviceCall). due_call d new.store.disk.areas) state ∙ leads.1, leads.2)
+    (leads.0, ap (λ (d : Option DeviceCall). due_call d (disk_of new.store).areas) state ∙ leads.1, leads.2)
 
 -- a step that was refused leaves nothing to be asked for
 refused-asks-not : (b : Bool) (old new : Engine) → old.state ≡ Settled → asks new.state ≡ true
@@ -245,14 +79,14 @@ refused-asks-not false old new settled asking fails = false≢true (sym (ap asks
 -- what a step of a group does where none was stopped
 abbrev GroupStep : Engine → Code → Info → Engine → Type 0
 GroupStep old said info new = ((said ≡ code.NoMemory) × (new ≡ old))
-    ⊎ ((answer : Result Did PumpFault) × Pumps true old.store answer new.store × AreSound new.store.disk.areas × (new.places ≡ old.places)
-    × AfterStep (of_group answer) old said info new)
+    ⊎ ((answer : Result Did PumpFault) × Pumps true old.store answer new.store × AreSound (disk_of new.store).areas × (new.places ≡ old.places)
+    × AfterStep (of_group (log_area old.store) answer) old said info new)
 
 -- and one of a job
 abbrev JobStep : Engine → Code → Info → Engine → Type 0
 JobStep old said info new = ((said ≡ code.NoMemory) × (new ≡ old))
-    ⊎ ((answer : Result JobDid PumpFault) × PumpsJob true old.store answer new.store × AreSound new.store.disk.areas × (new.places ≡ old.places)
-    × AfterStep (of_job answer) old said info new)
+    ⊎ ((answer : Result JobDid PumpFault) × PumpsJob true old.store answer new.store × AreSound (disk_of new.store).areas × (new.places ≡ old.places)
+    × AfterStep (of_job (log_area old.store) answer) old said info new)
 
 -- nothing stops a settled engine
 unstopped : (Does : Type 0) (state : EngineState) (old new : Engine) (said : Code) → state ≡ Settled
@@ -262,25 +96,25 @@ unstopped Does state old new said settled done = subst (λ (s : EngineState). Ma
 pub group-call : GroupCallIsTheSteps
 group-call old new said info settled pumps asking = by-way (unstopped (GroupStep old said info new) old.state old new said settled pumps)
   where
-    by-answer : (answer : Result Did PumpFault) → Pumps true old.store answer new.store → AfterStep (of_group answer) old said info new
-        → LeadsByItsCall old.store.disk.areas new.state new.store.disk.areas
-    by-answer (Ok what) takes after = after-step (group_call what) (Group what) old new refl settled asking after.2
+    by-answer : (answer : Result Did PumpFault) → Pumps true old.store answer new.store → AfterStep (of_group (log_area old.store) answer) old said info new
+        → LeadsByItsCall (disk_of old.store).areas new.state (disk_of new.store).areas
+    by-answer (Ok what) takes after = after-step (group_call (log_area old.store) what) (Group (log_area old.store) what) old new refl settled asking after.2
         (pump-leads old.store new.store what takes)
     by-answer (Err why) takes after = absurd (refused-asks-not _ old new settled asking after.1)
 
-    by-way : GroupStep old said info new → LeadsByItsCall old.store.disk.areas new.state new.store.disk.areas
+    by-way : GroupStep old said info new → LeadsByItsCall (disk_of old.store).areas new.state (disk_of new.store).areas
     by-way (inl none) = absurd (settled-asks-not old.state new.state settled (ap (λ (e : Engine). e.state) none.1) asking)
     by-way (inr takes) = by-answer takes.0 takes.1 takes.4
 
 pub job-call : JobCallIsTheSteps
 job-call old new said info settled pumps asking = by-way (unstopped (JobStep old said info new) old.state old new said settled pumps)
   where
-    by-answer : (answer : Result JobDid PumpFault) → PumpsJob true old.store answer new.store → AfterStep (of_job answer) old said info new
-        → LeadsByItsCall old.store.disk.areas new.state new.store.disk.areas
-    by-answer (Ok what) takes after = after-step (job_call what) (kinds.Job what) old new refl settled asking after.2
+    by-answer : (answer : Result JobDid PumpFault) → PumpsJob true old.store answer new.store → AfterStep (of_job (log_area old.store) answer) old said info new
+        → LeadsByItsCall (disk_of old.store).areas new.state (disk_of new.store).areas
+    by-answer (Ok what) takes after = after-step (job_call (log_area old.store) what) (Job (log_area old.store) what) old new refl settled asking after.2
         (job-leads old.store new.store what takes)
     by-answer (Err why) takes after = absurd (refused-asks-not _ old new settled asking after.1)
 
-    by-way : JobStep old said info new → LeadsByItsCall old.store.disk.areas new.state new.store.disk.areas
+    by-way : JobStep old said info new → LeadsByItsCall (disk_of old.store).areas new.state (disk_of new.store).areas
     by-way (inl none) = absurd (settled-asks-not old.state new.state settled (ap (λ (e : Engine). e.state) none.1) asking)
     by-way (inr takes) = by-answer takes.0 takes.1 takes.4

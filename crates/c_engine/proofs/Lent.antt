@@ -1,14 +1,19 @@
 -- An opening of lent bytes is not refused by their disk: they refuse no read, and it makes too few calls to come to the greatest count.
-use Rattle.std.proofs.Common.{◌≡◌, ℕ, ◌+◌, ◌≤◌, true, List, [], ◌∷◌, Option, None, Some, refl, ap, ◌∙◌, arith}
+use Rattle.std.proofs.Common.{◌≡◌, ℕ, ◌+◌, ◌≤◌, true, List, [], ◌∷◌, Option, None, Some, inl, inr, refl, ap, ◌∙◌, arith}
 use Rattle.std.specs.Prelude.{Result, Ok, Err}
 use Rattle.disk.specs.Areas.{Areas, Image, settled_on, area_of, with_area, synced, while_written}
 use Rattle.disk.specs.Calls.{DiskState, Syncs, counted, fresh_on}
 use Rattle.disk.specs.declared.area.Area.{Area}
 use Rattle.disk.specs.declared.area.Area.TheVariants.{Status, Heap, Archive}
 use Rattle.disk.specs.declared.area.DeviceFault.{DeviceFault}
-use Rattle.recovery.specs.Settling.{AreSyncs, last_moment}
-use Rattle.recovery.specs.declared.fault.OpenFault.TheVariants.{Device}
-use Rattle.store.specs.Opens.{OpenRefuses}
+use Rattle.recovery.specs.Settling.{Settles, AreSyncs, CountsAtMost, last_moment}
+use Rattle.recovery.specs.declared.fault.OpenFault.{OpenFault}
+use Rattle.recovery.specs.declared.fault.OpenFault.TheVariants.{Device, NoMemory}
+use Rattle.any_store.specs.Opens.{OpenRefuses}
+use Rattle.any_store.specs.Values.{StoreValue, OfEngine}
+use Rattle.any_store.specs.declared.engine.Engine.TheVariants.{Slots, Log}
+use Rattle.log_store.specs.Formats.{HasLogHeader}
+use Rattle.c_engine.specs.Engines.{IsImageFault}
 use Rattle.c_engine.specs.RelayState.{slices_state, lent, torn_at}
 use Rattle.c_engine.specs.declared.slice_disk.Range.{Range}
 use Rattle.c_engine.specs.declared.slice_disk.SliceDisk.{SliceDisk}
@@ -43,12 +48,36 @@ not_torn : (torn : Option Range) (own image : Image) → torn_at torn (settled_o
 not_torn None own image is = refl
 not_torn (Some range) own image is = absurd (torn_differs range.area range.at range.len own image is)
 
-pub no_device : (d : SliceDisk) (image : Image) → OpenRefuses true (fresh_on image) Device (slices_state d) → ⊥
-no_device d image refused =
-    let areas : torn_at d.torn (settled_on (lent d)) ≡ settled_on image =
-    ap (λ (s : DiskState). s.areas) refused.moments.reads
-    ∙ settled_still image (Status ∷ Heap ∷ Archive ∷ []) (fresh_on image) refused.moments.moments refl refused.moments.syncs in
-    let few : d.made ≤ 0 + 3 = refused.most in
+-- after at most three syncs and no write no call was refused
+settled_served : (d : SliceDisk) (image : Image) → (slices_state d).areas ≡ settled_on image → d.made ≤ 3 → d.refused ≡ counted 0 → ⊥
+settled_served d image areas few one =
     let none : d.refused ≡ 0 = d.served (not_torn d.torn (lent d) image areas) (omega (arith, few)) in
-    let one : d.refused ≡ counted 0 = refused.refused in
     omega (arith, none, one)
+
+syncs_served : (d : SliceDisk) (image : Image) → Settles true (fresh_on image) (slices_state d) → CountsAtMost 3 (fresh_on image) (slices_state d)
+    → d.refused ≡ counted 0 → ⊥
+syncs_served d image settles most one =
+    let areas : (slices_state d).areas ≡ settled_on image =
+    ap (λ (s : DiskState). s.areas) settles.reads
+    ∙ settled_still image (Status ∷ Heap ∷ Archive ∷ []) (fresh_on image) settles.moments refl settles.syncs in
+    settled_served d image areas (omega (arith, most)) one
+
+pub no_device : (d : SliceDisk) (image : Image) → OpenRefuses true (fresh_on image) Device (slices_state d) → ⊥
+no_device d image (inl slots) = syncs_served d image slots.1.moments slots.1.most slots.1.refused
+no_device d image (inr (inl log)) = syncs_served d image log.1.moments log.1.most log.1.refused
+no_device d image (inr (inr unread)) =
+    let made : d.made ≡ 0 = ap (λ (s : DiskState). s.made) unread.1 in
+    settled_served d image (ap (λ (s : DiskState). s.areas) unread.1) (omega (arith, made)) (ap (λ (s : DiskState). s.refused) unread.1)
+
+-- why the image does not open
+pub image_fault : (d : SliceDisk) (image : Image) (why : OpenFault) → OpenRefuses true (fresh_on image) why (slices_state d) → IsImageFault image why
+image_fault d image why (inl slots) = inl (slots.0 refl, slots.1.fault refl)
+image_fault d image why (inr (inl log)) = inr (log.0 refl, log.1.fault refl)
+image_fault d image why (inr (inr unread)) =
+    absurd (no_device d image (inr (inr (refl, unread.1))))
+
+-- memory may be short in either layout
+pub short_of_memory : (image : Image) (v : StoreValue) → OfEngine (λ s. ¬ HasLogHeader image.status) (λ l. HasLogHeader image.status) v
+    → IsImageFault image NoMemory
+short_of_memory image (Slots s) none = inl (none, tt)
+short_of_memory image (Log l) has = inr (has, tt)

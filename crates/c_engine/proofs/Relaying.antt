@@ -6,7 +6,7 @@ use Rattle.disk.specs.Areas.{Areas, Image, settled_on, area_of, with_area, writt
 use Rattle.disk.specs.declared.area.Area.{Area}
 use Rattle.disk.specs.declared.area.Area.TheVariants.{Status, Heap, Archive}
 use Rattle.c_engine.specs.LastWrites.{Noted, noted_in, with_write, last_write, last_writes}
-use Rattle.c_engine.proofs.Calling.{last_written}
+use Rattle.c_engine.proofs.Leading.{last_written}
 
 -- nothing is loose of areas that were synced
 pub none_noted : (writes : Noted) (image : Image) → ((area : Area) → noted_in writes area ≡ None) → writes ≡ last_writes (settled_on image)

@@ -1,7 +1,7 @@
 -- What the calls of an engine do to its store.
 use Rattle.std.specs.Prelude.{◌≡◌, ◌≢◌, ◌⊎◌, ◌==◌, ◌&&◌, ◌%◌, ℕ, Bool, true, false, ℤ, List, [], filter, length, take, nat_le, Result, Ok, Err, Option, Some}
 use Rattle.std.specs.Prelude.{None, MatchBool, MatchOption}
-use Rattle.disk.specs.Areas.{Areas, AreSound}
+use Rattle.disk.specs.Areas.{Areas, AreSound, Image}
 use Rattle.disk.specs.Calls.{fresh_on}
 use Rattle.group.specs.Tickets.{TicketValue}
 use Rattle.group.specs.declared.answers.BeginFault.{BeginFault}
@@ -12,20 +12,19 @@ use Rattle.group.specs.declared.answers.Redeemed.TheVariants as redeemed
 use Rattle.group.specs.declared.answers.Submitted.{Submitted}
 use Rattle.group.specs.declared.answers.Submitted.TheVariants.{ReadOnly, Queued}
 use Rattle.group.specs.declared.answers.SubmitFault.{SubmitFault}
-use Rattle.recovery.specs.Faults.{IsImageFault}
+use Rattle.recovery.specs.Faults as slot_faults
+use Rattle.log_recovery.specs.Opening as log_faults
+use Rattle.log_store.specs.Formats.{HasLogHeader}
 use Rattle.recovery.specs.declared.fault.OpenFault.{OpenFault}
 use Rattle.recovery.specs.declared.fault.OpenFault.TheVariants.{Device}
 use Rattle.snapshot.specs.Txn.{TxnValue, AreTxnWrites}
 use Rattle.snapshot.specs.declared.txn.TxnFault.{TxnFault}
-use Rattle.store.specs.Archives.{StartsArchive}
-use Rattle.store.specs.Calls.{Begins, Aborts, Submits, Redeems, IsTimesOf, IsViewOf, last, floors}
-use Rattle.store.specs.Floors.{StartsFloor}
-use Rattle.store.specs.Growths.{StartsGrowth}
-use Rattle.store.specs.Jobs.{PumpsJob}
-use Rattle.store.specs.Opens.{Opens}
-use Rattle.store.specs.Pumps.{Pumps}
-use Rattle.store.specs.Reclaims.{StartsReclaim}
-use Rattle.store.specs.Values.{StoreValue}
+use Rattle.any_store.specs.Calls.{Begins, Aborts, Submits, Redeems, Pumps, IsTimesOf, last, floors}
+use Rattle.any_store.specs.Jobs.{StartsArchive, StartsReclaim, StartsFloor, StartsGrowth, PumpsJob}
+use Rattle.any_store.specs.Opens.{Opens}
+use Rattle.any_store.specs.Places.{log_area}
+use Rattle.any_store.specs.Queries.{IsViewOf}
+use Rattle.any_store.specs.Values.{StoreValue, disk_of, with_disk}
 use Rattle.store.specs.declared.job.JobDid.{JobDid}
 use Rattle.store.specs.declared.job.StartFault.{StartFault}
 use Rattle.timequery.specs.View.{ViewValue}
@@ -112,8 +111,12 @@ pub record IsNew (mark : ℕ) (e : Engine) : Type 0 where
 abbrev pub OpensEngine : List ℕ → List ℕ → List ℕ → ℕ → Info → Engine → Type 0
 OpensEngine status heap archive mark info e =
     (opened : StoreValue) × Opens true (fresh_on (record { status = status; heap = heap; archive = archive })) mark opened
-    × (e.store ≡ record opened { disk = record { areas = opened.disk.areas; made = 0; refused = 0 } }) × IsNew mark e × (info.a ≡ last e.store)
+    × (e.store ≡ with_disk opened (record { areas = (disk_of opened).areas; made = 0; refused = 0 })) × IsNew mark e × (info.a ≡ last e.store)
     × (info.b ≡ (floors e.store).every)
+
+-- why an image is not read, by the first check that fails in the layout that its header says
+abbrev pub IsImageFault : Image → OpenFault → Type 0
+IsImageFault image why = ((¬ HasLogHeader image.status) × slot_faults.IsImageFault image why) ⊎ (HasLogHeader image.status × log_faults.IsImageFault image why)
 
 -- no store is opened from these bytes, and why is told: bytes that are lent refuse no read
 abbrev pub RefusesEngine : List ℕ → List ℕ → List ℕ → Code → Info → Type 0
@@ -144,7 +147,7 @@ StandsOut step published old said info new = (new.store ≡ old.store) × (new.p
 -- a step was refused: where its device call was, which is counted, the store goes on no more
 abbrev pub IsRefused : PumpFault → ℕ → Published → Engine → Code → Engine → Type 0
 IsRefused why made published old said new = (new.store ≡ old.store) × (new.places ≡ old.places) × (said ≡ pump_code why)
-    × MatchBool (old.store.disk.made == made) (KeepsState old new) ((new.state ≡ Failed) × (new.before ≡ Some published))
+    × MatchBool ((disk_of old.store).made == made) (KeepsState old new) ((new.state ≡ Failed) × (new.before ≡ Some published))
 
 -- what was published when the store was so is kept
 abbrev pub KeepsPublished : Engine → Engine → Type 0
@@ -157,7 +160,8 @@ AfterStep (Ok step) old said info new =
     (said ≡ code.Ok) × (info ≡ told_due (call_of step))
     × MatchOption (call_of step) (KeepsState old new) (λ due. (new.state ≡ Asks step) × KeepsPublished old new)
 AfterStep (Err why) old said info new =
-    (said ≡ pump_code why) × MatchBool (new.store.disk.made == old.store.disk.made) (KeepsState old new) ((new.state ≡ Failed) × KeepsPublished old new)
+    (said ≡ pump_code why) × MatchBool ((disk_of new.store).made == (disk_of old.store).made) (KeepsState old new) ((new.state ≡ Failed)
+    × KeepsPublished old new)
 
 -- the device call that stands out, by its step
 abbrev pub due_in : EngineState → Option DeviceCall
@@ -172,7 +176,7 @@ due_call (Some due) areas = call_in due areas
 
 -- the device call that stands out is told, and none where none does
 abbrev pub TellsCall : Engine → Code → Call → List ℕ → Type 0
-TellsCall e said told out = Tells (due_call (due_in e.state) e.store.disk.areas) said told out
+TellsCall e said told out = Tells (due_call (due_in e.state) (disk_of e.store).areas) said told out
 
 -- a call that stands out was made: what its step did is told, and the store goes on. Or it was refused, and it goes on no more.
 abbrev pub HasCalled : Bool → Engine → Code → Info → Engine → Type 0
@@ -234,8 +238,8 @@ AbortsEngine number old said new = OfNumber (transaction_under old number) old s
 -- the store takes a step of its group; or there was no memory to keep what is published, and nothing changes
 abbrev pub PumpsEngine : Engine → Code → Info → Engine → Type 0
 PumpsEngine old said info new = WhileSettled old said new (((said ≡ code.NoMemory) × (new ≡ old))
-    ⊎ ((answer : Result Did PumpFault) × Pumps true old.store answer new.store × AreSound new.store.disk.areas × (new.places ≡ old.places)
-    × AfterStep (of_group answer) old said info new))
+    ⊎ ((answer : Result Did PumpFault) × Pumps true old.store answer new.store × AreSound (disk_of new.store).areas × (new.places ≡ old.places)
+    × AfterStep (of_group (log_area old.store) answer) old said info new))
 
 -- a commit of this time was published, also where a call was refused since
 abbrev pub was_published : EngineState → Option Published → ℕ → Bool
@@ -350,8 +354,8 @@ RaisesFloorOf relation time = StartsEngine (λ old answer new. StartsFloor old (
 -- the store takes a step of its job, as it takes one of its group
 abbrev pub PumpsJobOf : Engine → Code → Info → Engine → Type 0
 PumpsJobOf old said info new = WhileSettled old said new (((said ≡ code.NoMemory) × (new ≡ old))
-    ⊎ ((answer : Result JobDid PumpFault) × PumpsJob true old.store answer new.store × AreSound new.store.disk.areas × (new.places ≡ old.places)
-    × AfterStep (of_job answer) old said info new))
+    ⊎ ((answer : Result JobDid PumpFault) × PumpsJob true old.store answer new.store × AreSound (disk_of new.store).areas × (new.places ≡ old.places)
+    × AfterStep (of_job (log_area old.store) answer) old said info new))
 
 -- ---- handles
 

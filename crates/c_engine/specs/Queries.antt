@@ -3,7 +3,7 @@ use Rattle.std.specs.Prelude.{◌≡◌, ◌≤◌, ◌⊎◌, ◌==◌, ◌&&�
 use Rattle.std.specs.Prelude.{Some, None, MatchBool, MatchOption, MatchResult}
 use Rattle.std.specs.declared.alloc.Global.{Global}
 use Rattle.std.specs.declared.vec.Vec.{Vec}
-use Rattle.disk.specs.Calls.{fresh_on}
+use Rattle.disk.specs.Calls.{DiskState, fresh_on}
 use Rattle.disk.specs.declared.area.Area.TheVariants.{Archive}
 use Rattle.history.specs.declared.key.Key.{Key}
 use Rattle.history.specs.declared.time.Version.{Version}
@@ -18,8 +18,9 @@ use Rattle.archive.specs.Readers.{kept_of}
 use Rattle.archive.specs.declared.run.RunEntry.{RunEntry}
 use Rattle.c_engine.specs.RelayState.{slices_state}
 use Rattle.snapshot.specs.Txn.{seen_by}
-use Rattle.store.specs.Calls.{FindsAt, FindsScanAt, FindsRows, FindsScanRows}
-use Rattle.store.specs.Values.{StoreValue}
+use Rattle.any_store.specs.Values.{archive_of}
+use Rattle.timequery.specs.Archives.{ArchiveValue}
+use Rattle.timequery.specs.Asked.{alone, FindsAt, FindsScanAt, FindsRows, FindsScanRows}
 use Rattle.timequery.specs.View.{ViewValue, AnswersAt, AnswersBetween, RefusesRecent, RefusesRecentScan, RefusesRecentRows}
 use Rattle.timequery.specs.declared.fault.QueryFault.{QueryFault}
 use Rattle.timequery.specs.declared.fault.QueryFault.TheVariants.{BeforeKept, NotYet, EmptyInterval, Device, NoMemory, Damaged, NeedsDisk, Stranger}
@@ -34,20 +35,20 @@ use Rattle.c_engine.specs.declared.code.Info.{Info}
 use Rattle.c_engine.specs.declared.code.Row.{Row}
 use Rattle.c_engine.specs.declared.engine.Engine.{Engine}
 
--- ---- the store's queries over an archive that is lent
+-- ---- the queries of a store's runs over an archive that is lent
 
--- a store that reads what is lent
-abbrev pub over : Lent → StoreValue → StoreValue
-over lent v = record v { archive = record v.archive { kept = kept_of lent.reader }; disk = slices_state lent.disk }
+-- runs that are read of what is lent
+abbrev pub over : Lent → ArchiveValue → ArchiveValue × DiskState
+over lent runs = (record runs { kept = kept_of lent.reader }, slices_state lent.disk)
 
 -- the archive is lent, and nothing is kept of it
 pub record IsOver (archive : List ℕ) (lent : Lent) : Type 0 where
   pub kept : kept_of lent.reader ≡ []
   pub disk : slices_state lent.disk ≡ fresh_on (record { status = []; heap = []; archive = archive })
 
--- a query of the store, by its own contract, where it reads the archive that is lent
-abbrev pub Over : List ℕ → StoreValue → (StoreValue → StoreValue → Type 0) → Type 0
-Over archive v Finds = (before after : Lent) × IsOver archive before × Finds (over before v) (over after v)
+-- a query of a store's runs where the archive that is lent is read
+abbrev pub Over : List ℕ → ArchiveValue → (ArchiveValue × DiskState → ArchiveValue × DiskState → Type 0) → Type 0
+Over archive runs Finds = (before after : Lent) × IsOver archive before × Finds (over before runs) (over after runs)
 
 -- from memory alone
 abbrev pub IsRecentAt : ViewValue → Key → ℕ → Option Value → Type 0
@@ -85,19 +86,21 @@ abbrev pub is_none : List ℕ → ViewValue → Bool
 is_none archive view = (length archive == 0) && takes_bytes (slice_get view.runs (length view.runs - 1))
 
 -- over the archive that is lent; where none is, from memory alone
-abbrev pub LentScanAt : List ℕ → StoreValue → ViewValue → ℕ → ℕ → Result (Vec (ℕ × Value) Global) QueryFault → Type 0
-LentScanAt archive v view relation time answer =
-    MatchBool (is_none archive view) (RecentScanAt view relation time answer) (Over archive v (λ old new. FindsScanAt true old view relation time answer new))
+abbrev pub LentScanAt : List ℕ → ArchiveValue → ViewValue → ℕ → ℕ → Result (Vec (ℕ × Value) Global) QueryFault → Type 0
+LentScanAt archive runs view relation time answer =
+    MatchBool (is_none archive view) (RecentScanAt view relation time answer) (Over archive runs
+    (λ old new. FindsScanAt alone true old view relation time answer new))
 
 -- so for a key's rows of an interval
-abbrev pub LentRows : List ℕ → StoreValue → ViewValue → Key → ℕ → ℕ → Result (Vec (Version Value) Global) QueryFault → Type 0
-LentRows archive v view key a b answer =
-    MatchBool (is_none archive view) (RecentRows view key a b answer) (Over archive v (λ old new. FindsRows true old view key a b answer new))
+abbrev pub LentRows : List ℕ → ArchiveValue → ViewValue → Key → ℕ → ℕ → Result (Vec (Version Value) Global) QueryFault → Type 0
+LentRows archive runs view key a b answer =
+    MatchBool (is_none archive view) (RecentRows view key a b answer) (Over archive runs (λ old new. FindsRows alone true old view key a b answer new))
 
 -- so for the rows of all records of a relation
-abbrev pub LentScanRows : List ℕ → StoreValue → ViewValue → ℕ → ℕ → ℕ → Result (Vec (ℕ × Version Value) Global) QueryFault → Type 0
-LentScanRows archive v view relation a b answer =
-    MatchBool (is_none archive view) (RecentScanRows view relation a b answer) (Over archive v (λ old new. FindsScanRows true old view relation a b answer new))
+abbrev pub LentScanRows : List ℕ → ArchiveValue → ViewValue → ℕ → ℕ → ℕ → Result (Vec (ℕ × Version Value) Global) QueryFault → Type 0
+LentScanRows archive runs view relation a b answer =
+    MatchBool (is_none archive view) (RecentScanRows view relation a b answer) (Over archive runs
+    (λ old new. FindsScanRows alone true old view relation a b answer new))
 
 -- ---- codes and bytes
 
@@ -126,14 +129,14 @@ TellsValue (Err why) said info out = IsFaultCode why said info
 abbrev pub TellsRecent : ViewValue → Key → ℕ → Code → Info → List ℕ → Type 0
 TellsRecent view key time said info out = (answer : Result (Option Value) QueryFault) × RecentAt view key time answer × TellsValue answer said info out
 
--- the store has answered, by its own contract, where it reads what is lent
-abbrev pub TellsAt : Lent → Lent → StoreValue → ViewValue → Key → ℕ → Code → Info → List ℕ → Type 0
-TellsAt before after v view key time said info out =
-    (answer : Result (Option Value) QueryFault) × FindsAt true (over before v) view key time answer (over after v) × TellsValue answer said info out
+-- the store's runs have answered, where what is lent is read
+abbrev pub TellsAt : Lent → Lent → ArchiveValue → ViewValue → Key → ℕ → Code → Info → List ℕ → Type 0
+TellsAt before after runs view key time said info out =
+    (answer : Result (Option Value) QueryFault) × FindsAt alone true (over before runs) view key time answer (over after runs) × TellsValue answer said info out
 
 -- so it has over this archive
-abbrev pub TellsOver : List ℕ → StoreValue → ViewValue → Key → ℕ → Code → Info → List ℕ → Type 0
-TellsOver archive v view key time said info out = (before after : Lent) × IsOver archive before × TellsAt before after v view key time said info out
+abbrev pub TellsOver : List ℕ → ArchiveValue → ViewValue → Key → ℕ → Code → Info → List ℕ → Type 0
+TellsOver archive runs view key time said info out = (before after : Lent) × IsOver archive before × TellsAt before after runs view key time said info out
 
 -- what was found is told, each as such a row
 abbrev pub TellsRows : {T : Type 0} → (T → Shown) → Result (Vec T Global) QueryFault → Code → Info → List Row → List ℕ → Type 0
@@ -162,22 +165,22 @@ abbrev pub AsksAt : List ℕ → ℕ → Key → ℕ → Engine → Code → Inf
 AsksAt archive number key time e said info out =
     MatchOption (view_under e number) (said
     ≡ code.Unknown) (λ view. MatchBool (is_none archive view) (TellsRecent view key time said info out)
-    (TellsOver archive e.store view key time said info out))
+    (TellsOver archive (archive_of e.store) view key time said info out))
 
 -- so for a relation's records at a time
 abbrev pub AsksScanAt : List ℕ → ℕ → ℕ → ℕ → Engine → Code → Info → List Row → List ℕ → Type 0
 AsksScanAt archive number relation time e said info rows out =
     MatchOption (view_under e number) (said ≡ code.Unknown) (λ view. (answer : Result (Vec (ℕ × Value) Global) QueryFault)
-    × LentScanAt archive e.store view relation time answer × TellsRows shown_record answer said info rows out)
+    × LentScanAt archive (archive_of e.store) view relation time answer × TellsRows shown_record answer said info rows out)
 
 -- so for a key's rows of an interval
 abbrev pub AsksRows : List ℕ → ℕ → Key → ℕ → ℕ → Engine → Code → Info → List Row → List ℕ → Type 0
 AsksRows archive number key a b e said info rows out =
     MatchOption (view_under e number) (said ≡ code.Unknown) (λ view. (answer : Result (Vec (Version Value) Global) QueryFault)
-    × LentRows archive e.store view key a b answer × TellsRows (shown_version key.«record») answer said info rows out)
+    × LentRows archive (archive_of e.store) view key a b answer × TellsRows (shown_version key.«record») answer said info rows out)
 
 -- so for the rows of all records of a relation
 abbrev pub AsksScanRows : List ℕ → ℕ → ℕ → ℕ → ℕ → Engine → Code → Info → List Row → List ℕ → Type 0
 AsksScanRows archive number relation a b e said info rows out =
     MatchOption (view_under e number) (said ≡ code.Unknown) (λ view. (answer : Result (Vec (ℕ × Version Value) Global) QueryFault)
-    × LentScanRows archive e.store view relation a b answer × TellsRows shown_entry answer said info rows out)
+    × LentScanRows archive (archive_of e.store) view relation a b answer × TellsRows shown_entry answer said info rows out)

@@ -1,14 +1,15 @@
 //! The store's views and queries: nothing else of this crate asks for them.
 ghost use Rattle.std.specs.Prelude.{true, IfOk};
-ghost use Rattle.store.specs.Values.{StoreValue};
-ghost use Rattle.store.specs.Calls.{IsViewOf, FindsAt, FindsScanAt, FindsRows, FindsScanRows};
+ghost use Rattle.any_store.specs.Queries.{IsViewOf};
+ghost use Rattle.timequery.specs.Archives.{ArchiveValue};
+ghost use Rattle.timequery.specs.Asked.{alone, FindsAt, FindsScanAt, FindsRows, FindsScanRows};
 ghost use Rattle.c_engine.specs.Queries.{IsOver, over};
 
 use crate::{RelayDisk, SliceDisk};
+use any_store::{QueryFault, SharedValue, Store, View};
 use archive::ArchiveReader;
 use history::{Key, Version};
 use std::alloc::{AllocError, Global};
-use store::{QueryFault, SharedValue, Store, View};
 
 /// The store under an engine.
 pub type Kept = Store<RelayDisk>;
@@ -47,7 +48,7 @@ impl<'a> Lent<'a> {
         key: Key,
         time: u64,
     ) -> Result<Option<SharedValue>, QueryFault>
-        ensures { (v : StoreValue) → FindsAt true (over self.old v) view.now key time result (over self.new v) }
+        ensures { (runs : ArchiveValue) → FindsAt alone true (over self.old runs) view.now key time result (over self.new runs) }
     {
         view.value_at(&mut self.reader, &mut self.disk, key, time)
     }
@@ -59,7 +60,7 @@ impl<'a> Lent<'a> {
         relation: u16,
         time: u64,
     ) -> Result<Vec<(u64, SharedValue)>, QueryFault>
-        ensures { (v : StoreValue) → FindsScanAt true (over self.old v) view.now relation time result (over self.new v) }
+        ensures { (runs : ArchiveValue) → FindsScanAt alone true (over self.old runs) view.now relation time result (over self.new runs) }
     {
         view.values_at(self.alloc, &mut self.reader, &mut self.disk, relation, time)
     }
@@ -72,7 +73,7 @@ impl<'a> Lent<'a> {
         a: u64,
         b: u64,
     ) -> Result<Vec<Version<SharedValue>>, QueryFault>
-        ensures { (v : StoreValue) → FindsRows true (over self.old v) view.now key a b result (over self.new v) }
+        ensures { (runs : ArchiveValue) → FindsRows alone true (over self.old runs) view.now key a b result (over self.new runs) }
     {
         view.rows_between(self.alloc, &mut self.reader, &mut self.disk, key, a, b)
     }
@@ -85,7 +86,7 @@ impl<'a> Lent<'a> {
         a: u64,
         b: u64,
     ) -> Result<Vec<(u64, Version<SharedValue>)>, QueryFault>
-        ensures { (v : StoreValue) → FindsScanRows true (over self.old v) view.now relation a b result (over self.new v) }
+        ensures { (runs : ArchiveValue) → FindsScanRows alone true (over self.old runs) view.now relation a b result (over self.new runs) }
     {
         view.scan_rows_between(self.alloc, &mut self.reader, &mut self.disk, relation, a, b)
     }

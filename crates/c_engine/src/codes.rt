@@ -5,10 +5,10 @@ ghost use Rattle.c_engine.specs.Codes.{IsDamagedCode, IsOpenCode, begin_code, tx
 ghost use Rattle.c_engine.specs.Queries.{IsFaultCode};
 
 use crate::code::{Code, Info};
-use disk::Area;
-use store::{
+use any_store::{
     BeginFault, Did, JobDid, OpenFault, PumpFault, QueryFault, StartFault, SubmitFault, TxnFault,
 };
+use disk::Area;
 
 pub(crate) fn area_number(area: Area) -> u32
     ensures { result ≡ area_number area }

@@ -8,10 +8,10 @@ use crate::codes::{area_number, pump_code};
 use crate::places::Places;
 use crate::step::Step;
 use crate::values::copy_bytes;
+use any_store::{PumpFault, View};
 use disk::{Area, Disk};
 use std::alloc::Global;
 use std::mem;
-use store::{PumpFault, View};
 
 /// Whether the engine's store is asked now.
 #[derive(Clone, Copy, Debug, PartialEq, Eq)]
@@ -90,6 +90,7 @@ fn put_published(place: &mut Option<Published>, published: Option<Published>)
 
 impl Engine {
     ghost use Rattle.disk.specs.Areas.{area_of};
+    ghost use Rattle.any_store.specs.Values.{disk_of};
     ghost use Rattle.c_engine.specs.Engines.{stopped_by, asks, is_failed, due_in, IsNew, TellsTimes, HasCalled, StandsOut, IsRefused, WasPublished, TellsCall};
     ghost use Rattle.c_engine.specs.HostCalls.{Tells, write_in};
     ghost use Rattle.c_engine.specs.LastWrites.{last_write};
@@ -188,7 +189,7 @@ impl Engine {
 
     // The last write of an area is told.
     fn tell_write(&self, area: Area, call: &mut Call, out: &mut [u8]) -> Code
-        ensures { Tells (write_in area (last_write (area_of self.now.store.disk.areas area))) result call.new out.new }
+        ensures { Tells (write_in area (last_write (area_of (disk_of self.now.store).areas area))) result call.new out.new }
     {
         let write = self.store.disk().last_write(area);
         let Some(at) = write.at else {
@@ -274,7 +275,7 @@ impl Engine {
     }
 
     pub(crate) fn calls(&self) -> u64
-        ensures { result ≡ self.now.store.disk.made }
+        ensures { result ≡ (disk_of self.now.store).made }
     {
         self.store.disk().made()
     }

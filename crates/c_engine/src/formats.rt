@@ -7,10 +7,10 @@ use crate::code::{Code, Info};
 use crate::codes::open_code;
 use crate::engine::Engine;
 use crate::{RelayDisk, SliceDisk};
+use any_store::Store;
 use disk::{Area, Disk, MemDisk};
 use recovery::FormatFault;
 use std::alloc::Global;
-use store::Store;
 
 /// The bytes of the status area of a new store. The host writes them from 512 on, syncs, writes the
 /// first 512, and syncs; the other areas are empty.

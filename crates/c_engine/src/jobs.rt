@@ -83,8 +83,9 @@ impl Engine {
             return Code::NoMemory;
         };
         let made = self.calls();
+        let log = self.store.log_area();
         match self.store.job_pump() {
-            Ok(did) => self.stand_out(Step::Job(did), published, info),
+            Ok(did) => self.stand_out(Step::Job(log, did), published, info),
             Err(fault) => self.refuse_step(fault, made, published),
         }
     }

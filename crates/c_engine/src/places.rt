@@ -4,10 +4,10 @@ ghost use Rattle.c_engine.specs.FreePlaces.{AreChained};
 ghost use Rattle.c_engine.specs.Numbers.{place_in, stamp_in, tag_in};
 
 use crate::values;
+use any_store::{Ticket, Txn, TxnFault, View};
 use history::Key;
 use std::alloc::Global;
 use std::mem;
-use store::{Ticket, Txn, TxnFault, View};
 
 /// So many values are held at a time.
 const MAX_PLACES: usize = 65_536;

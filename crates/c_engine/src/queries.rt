@@ -1,6 +1,6 @@
 //! Views and queries.
 ghost use Rattle.std.specs.Prelude.{◌≡◌, option_copied};
-ghost use Rattle.store.specs.Values.{StoreValue};
+ghost use Rattle.timequery.specs.Archives.{ArchiveValue};
 ghost use Rattle.c_engine.specs.Engines.{AreTimesTold};
 ghost use Rattle.c_engine.specs.Held.{view_of};
 ghost use Rattle.c_engine.specs.Queries.{is_none, takes_bytes, TellsRecent, TellsAt, LentScanAt, LentRows, LentScanRows};
@@ -11,10 +11,10 @@ use crate::codes::query_code;
 use crate::engine::{Engine, EngineState, Published};
 use crate::places::{Held, Places};
 use crate::rows::{records_out, rows_out, scan_out, value_out};
+use any_store::{QueryFault, SharedValue, View};
 use archive::RunEntry;
 use history::{Key, Version};
 use std::alloc::Global;
-use store::{QueryFault, SharedValue, View};
 
 // The view of a number; the last one names that of what was published before a device call.
 fn view_of<'a>(places: &'a Places, before: &'a Option<Published>, number: u64) -> Option<&'a View>
@@ -65,7 +65,7 @@ fn lent_out(
     out: &mut [u8],
     info: &mut Info,
 ) -> Code
-    ensures { (v : StoreValue) → TellsAt lent.old lent.new v view.now key time result info.new out.new }
+    ensures { (runs : ArchiveValue) → TellsAt lent.old lent.new runs view.now key time result info.new out.new }
 {
     match lent.at(view, key, time) {
         Err(fault) => query_code(fault, info),
@@ -81,7 +81,7 @@ fn scan_at(
     relation: u16,
     time: u64,
 ) -> Result<Vec<(u64, SharedValue)>, QueryFault>
-    ensures { (v : StoreValue) → LentScanAt archive.now v view.now relation time result }
+    ensures { (runs : ArchiveValue) → LentScanAt archive.now runs view.now relation time result }
 {
     if is_none(archive, view) {
         return view.recent_scan(alloc, relation, time);
@@ -98,7 +98,7 @@ fn between(
     a: u64,
     b: u64,
 ) -> Result<Vec<Version<SharedValue>>, QueryFault>
-    ensures { (v : StoreValue) → LentRows archive.now v view.now key a b result }
+    ensures { (runs : ArchiveValue) → LentRows archive.now runs view.now key a b result }
 {
     if is_none(archive, view) {
         return view.recent_between(alloc, key, a, b);
@@ -115,7 +115,7 @@ fn scan_between(
     a: u64,
     b: u64,
 ) -> Result<Vec<(u64, Version<SharedValue>)>, QueryFault>
-    ensures { (v : StoreValue) → LentScanRows archive.now v view.now relation a b result }
+    ensures { (runs : ArchiveValue) → LentScanRows archive.now runs view.now relation a b result }
 {
     if is_none(archive, view) {
         return view.recent_scan_between(alloc, relation, a, b);

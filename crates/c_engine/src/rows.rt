@@ -8,8 +8,8 @@ ghost use Rattle.c_engine.specs.Rows.{Shown, shown_record, shown_version, shown_
 
 use crate::code::{Code, Info, Row};
 use crate::values::{copy_out, length_of};
+use any_store::SharedValue;
 use history::Version;
-use store::SharedValue;
 use wire::Value;
 
 /// Copies a value out; none has its own code.

@@ -5,30 +5,30 @@ ghost use Rattle.c_engine.specs.Steps.{group_call, job_call, call_of, told_step}
 use crate::code::Info;
 use crate::codes::{did_number, job_number};
 use crate::device_call::DeviceCall;
+use any_store::{Did, JobDid};
 use disk::Area;
-use store::{Did, JobDid};
 
-/// What a step of a store did.
+/// What a step of a store did, and the area of its log.
 #[derive(Clone, Copy, Debug, PartialEq, Eq)]
 pub enum Step {
-    Group(Did),
-    Job(JobDid),
+    Group(Area, Did),
+    Job(Area, JobDid),
 }
 
-fn group_call(did: Did) -> Option<DeviceCall>
-    ensures { result ≡ group_call did }
+fn group_call(log: Area, did: Did) -> Option<DeviceCall>
+    ensures { result ≡ group_call log did }
 {
     match did {
         Did::Idle => None,
         Did::WroteExtent => Some(DeviceCall::Write(Area::Heap)),
         Did::HeapSynced => Some(DeviceCall::Sync(Area::Heap)),
-        Did::BodyWritten | Did::GateWritten => Some(DeviceCall::Write(Area::Status)),
-        Did::BodySynced | Did::Published(_) => Some(DeviceCall::Sync(Area::Status)),
+        Did::BodyWritten | Did::GateWritten => Some(DeviceCall::Write(log)),
+        Did::BodySynced | Did::Published(_) => Some(DeviceCall::Sync(log)),
     }
 }
 
-fn job_call(did: JobDid) -> Option<DeviceCall>
-    ensures { result ≡ job_call did }
+fn job_call(log: Area, did: JobDid) -> Option<DeviceCall>
+    ensures { result ≡ job_call log did }
 {
     match did {
         JobDid::Idle => None,
@@ -36,12 +36,10 @@ fn job_call(did: JobDid) -> Option<DeviceCall>
         JobDid::RunSynced => Some(DeviceCall::Sync(Area::Archive)),
         JobDid::WroteExtent => Some(DeviceCall::Write(Area::Heap)),
         JobDid::HeapSynced => Some(DeviceCall::Sync(Area::Heap)),
-        JobDid::BodyWritten | JobDid::GateWritten | JobDid::WroteZeros => {
-            Some(DeviceCall::Write(Area::Status))
-        }
-        JobDid::BodySynced | JobDid::JobDone | JobDid::ZerosSynced => {
-            Some(DeviceCall::Sync(Area::Status))
-        }
+        JobDid::WroteZeros => Some(DeviceCall::Write(Area::Status)),
+        JobDid::ZerosSynced => Some(DeviceCall::Sync(Area::Status)),
+        JobDid::BodyWritten | JobDid::GateWritten => Some(DeviceCall::Write(log)),
+        JobDid::BodySynced | JobDid::JobDone => Some(DeviceCall::Sync(log)),
     }
 }
 
@@ -51,8 +49,8 @@ impl Step {
         ensures { result ≡ call_of self }
     {
         match self {
-            Step::Group(did) => group_call(did),
-            Step::Job(did) => job_call(did),
+            Step::Group(log, did) => group_call(log, did),
+            Step::Job(log, did) => job_call(log, did),
         }
     }
 
@@ -61,8 +59,8 @@ impl Step {
         ensures { info.new ≡ told_step self }
     {
         match self {
-            Step::Group(did) => did_number(did, info),
-            Step::Job(did) => {
+            Step::Group(_, did) => did_number(did, info),
+            Step::Job(_, did) => {
                 *info = Info {
                     a: job_number(did),
                     b: 0,

@@ -8,8 +8,8 @@ use crate::engine::{Engine, EngineState};
 use crate::places::Held;
 use crate::rows::{records_out, value_out};
 use crate::step::Step;
+use any_store::{Redeemed, Submitted, Ticket, Txn};
 use history::Key;
-use store::{Redeemed, Submitted, Ticket, Txn};
 
 impl Engine {
     ghost use Rattle.c_engine.specs.Queries.{Sees, SeesScan};
@@ -163,8 +163,9 @@ impl Engine {
             return Code::NoMemory;
         };
         let made = self.calls();
+        let log = self.store.log_area();
         match self.store.pump() {
-            Ok(did) => self.stand_out(Step::Group(did), published, info),
+            Ok(did) => self.stand_out(Step::Group(log, did), published, info),
             Err(fault) => self.refuse_step(fault, made, published),
         }
     }

@@ -3,9 +3,9 @@ ghost use Rattle.std.specs.Prelude.{◌≡◌, ◌≤◌, nat_le, map, take, len
 ghost use Rattle.wire.specs.Values.{IsValue, value_bytes};
 ghost use Rattle.c_engine.specs.Writes.{SpellsValue, Puts};
 
+use any_store::{Txn, TxnFault};
 use history::Key;
 use std::alloc::{AllocError, Global};
-use store::{Txn, TxnFault};
 use wire::{Value, take_fields};
 
 /// Copies a value to the front; none where there is no room.

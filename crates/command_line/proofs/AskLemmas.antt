@@ -1,5 +1,6 @@
 -- Without a number that it needs an action is not asked for.
-use Rattle.std.proofs.Common.{ℕ, List, codes}
+use Rattle.std.proofs.Common.{ℕ, List, Option, Some, None, codes}
+use Rattle.std.specs.Prelude.{IfSome, IfNone}
 use Rattle.std.specs.Borrow.{Bor}
 use Rattle.clap.specs.Words.{Row, Text}
 use Rattle.history.specs.declared.key.Key.{Key}
@@ -7,11 +8,17 @@ use Rattle.command_line.specs.declared.action.Action.{Action}
 use Rattle.command_line.specs.declared.action.Action.TheVariants as action
 use Rattle.command_line.specs.declared.question.RecordWrite.{RecordWrite}
 use Rattle.command_line.specs.Asked.{AsksAt, AsksBetween, AsksDelete, AsksFloor, AsksFormat, AsksGet, AsksHistory, AsksPut, AsksScan, AsksStress, AsksTimes}
-use Rattle.command_line.specs.Asked.{HasKey, HasNumber}
+use Rattle.command_line.specs.Asked.{HasKey, HasNumber, MayHaveNumber}
 
-pub no_slots : (rows : List Row) → ((n : ℕ) → HasNumber 32 (codes "slots") rows n → ⊥) → (a : Action) → AsksFormat rows a → ⊥
-no_slots rows none (action.Format dir slots) asked = none slots asked.1
-no_slots rows none _ asked = asked
+pub no_profile : (rows : List Row) → ((n : ℕ) → HasNumber 8 (codes "profile") rows n → ⊥) → (a : Action) → AsksFormat rows a → ⊥
+no_profile rows none (action.Format dir layout) asked = none asked.1.profile asked.1.of_profile
+no_profile rows none _ asked = asked
+
+-- a number that may be left out
+pub may_have : (bits : ℕ) (id : Text) (rows : List Row) (r : Option ℕ) → IfSome r (HasNumber bits id rows)
+    → IfNone r ((n : ℕ) → HasNumber bits id rows n → ⊥) → MayHaveNumber bits id rows r
+may_have bits id rows None some none = none
+may_have bits id rows (Some n) some none = some
 
 pub no_key : (rows : List Row) → ((k : Key) → HasKey rows k → ⊥) → (a : Action) → AsksAt rows a → ⊥
 no_key rows none (action.At dir key time) asked = none key asked.1

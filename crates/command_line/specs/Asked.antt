@@ -10,6 +10,8 @@ use Rattle.command_line.specs.declared.action.Action.{Action}
 use Rattle.command_line.specs.declared.action.Action.TheVariants as action
 use Rattle.command_line.specs.declared.question.Question.TheVariants as question
 use Rattle.command_line.specs.declared.question.When.TheVariants as when
+use Rattle.command_line.specs.declared.layout.Layout.{Layout}
+use Rattle.command_line.specs.Layouts.{layout_of}
 use Rattle.command_line.specs.Moments.{moment}
 use Rattle.command_line.specs.Questions.{is_set, style_of, records_of, rows_of_key, texts, value_of, when_of}
 
@@ -29,9 +31,23 @@ HasMoment id rows time = (t : Text) × (first_of id rows ≡ Some t) × (time �
 abbrev pub HasKey : List Row → Key → Type 0
 HasKey rows key = HasNumber 16 (codes "REL") rows key.relation × HasNumber 64 (codes "REC") rows key.«record»
 
--- `format` is asked for, in this directory and with this many slots
+-- the argument has a text that spells this number, or none that spells one
+abbrev pub MayHaveNumber : ℕ → Text → List Row → Option ℕ → Type 0
+MayHaveNumber bits id rows number = MatchOption number ((n : ℕ) → HasNumber bits id rows n → ⊥) (λ n. HasNumber bits id rows n)
+
+-- the layout that the words say, by the profile and the size
+pub record HasLayout (rows : List Row) (layout : Option Layout) : Type 0 where
+  pub profile : ℕ
+  pub slots : Option ℕ
+  pub extents : Option ℕ
+  pub of_profile : HasNumber 8 (codes "profile") rows profile
+  pub of_slots : MayHaveNumber 32 (codes "slots") rows slots
+  pub of_extents : MayHaveNumber 32 (codes "extents") rows extents
+  pub is : layout ≡ layout_of profile slots extents
+
+-- `format` is asked for, in this directory and with this layout
 abbrev pub AsksFormat : List Row → Action → Type 0
-AsksFormat rows (action.Format dir slots) = (first_of (codes "DIR") rows ≡ Some dir.now) × HasNumber 32 (codes "slots") rows slots
+AsksFormat rows (action.Format dir layout) = (first_of (codes "DIR") rows ≡ Some dir.now) × HasLayout rows layout
 AsksFormat rows _ = ⊥
 
 -- `run` is asked for, on the store in this directory

@@ -97,14 +97,22 @@ with_forms app = with_rule (with_rule app text_flag) json_flag
 abbrev pub with_styles : App → App
 with_styles app = with_rule (with_forms app) instants_flag
 
--- how many slots a new store has: 1024 unless the option says another number
-abbrev pub slots : Rule
-slots = record (new_rule (codes "slots")) {
-  long = Some (codes "slots");
+-- the profile of a new store: 3 unless the option says 4
+abbrev pub profile : Rule
+profile = record (new_rule (codes "profile")) {
+  long = Some (codes "profile");
   value_names = 1;
-  parser = Some (parser.Signed (pos 0) (pos 4_294_967_295));
-  defaults = codes "1024" ∷ [];
+  parser = Some (parser.Signed (pos 3) (pos 4));
+  defaults = codes "3" ∷ [];
 }
+
+-- how many slots a new store has, which may be left out
+abbrev pub slots : Rule
+slots = record (new_rule (codes "slots")) { long = Some (codes "slots"); value_names = 1; parser = Some (parser.Signed (pos 0) (pos 4_294_967_295)) }
+
+-- how many extents a new store has, which may be left out
+abbrev pub extents : Rule
+extents = record (new_rule (codes "extents")) { long = Some (codes "extents"); value_names = 1; parser = Some (parser.Signed (pos 0) (pos 4_294_967_295)) }
 
 -- how many threads commit: 1 to 8
 abbrev pub writers : Rule
@@ -118,9 +126,9 @@ readers = record (text (codes "READERS")) { parser = Some (parser.Signed (pos 0)
 abbrev pub rounds : Rule
 rounds = record (text (codes "ROUNDS")) { parser = Some (parser.Signed (pos 1) (pos 1000)) }
 
--- `format DIR`: makes an empty store
+-- `format DIR [--profile P] [--slots N] [--extents E]`: makes an empty store
 abbrev pub format : App
-format = with_rule (with_rule (new_app (codes "format")) dir) slots
+format = with_rule (with_rule (with_rule (with_rule (new_app (codes "format")) dir) profile) slots) extents
 
 -- `run DIR`: runs a script on a store
 abbrev pub run : App

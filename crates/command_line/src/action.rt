@@ -1,4 +1,5 @@
 //! What the words of a command line ask for.
+use crate::layout::Layout;
 use crate::question::{Question, RecordWrite};
 use forms::Style;
 use history::Key;
@@ -8,10 +9,11 @@ use history::Key;
 pub enum Action<'a> {
     /// No word: the script of standard input, on a new store of 16 slots in memory.
     Example,
-    /// Makes an empty store of this many slots in a folder.
+    /// Makes an empty store of this layout in a folder, or `None` where the words say a size that is of
+    /// another profile.
     Format {
         dir: &'a str,
-        slots: u32,
+        layout: Option<Layout>,
     },
     /// Runs the script of standard input on the store in a folder.
     Run {

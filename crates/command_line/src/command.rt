@@ -9,7 +9,7 @@ use clap::builder::ValueParser;
 use clap::{Arg, ArgAction, ArgMatches, Command, Error, value_parser};
 use std::alloc::{AllocError, Global};
 
-/// The profile of the files that `format` makes, by which a version is named.
+/// The profile of the files that `format` makes unless another is asked for, by which a version is named.
 const VERSION: &str = "3";
 
 /// The folder of a store.
@@ -165,6 +165,18 @@ fn instants_flag<'a>(alloc: Global) -> Arg<'a>
     )
 }
 
+/// The profile of the store that is made.
+fn profile<'a>(alloc: Global) -> Arg<'a>
+    ensures { told.IsArg result told.profile }
+{
+    Arg::new(alloc, "profile")
+        .long("profile")
+        .value_name("P")
+        .value_parser(ValueParser::Signed(3, 4))
+        .default_value("3")
+        .help("The layout of its files: 3, or 4, which is still being built")
+}
+
 /// How many slots a store is made with.
 fn slots<'a>(alloc: Global) -> Arg<'a>
     ensures { told.IsArg result told.slots }
@@ -173,8 +185,18 @@ fn slots<'a>(alloc: Global) -> Arg<'a>
         .long("slots")
         .value_name("N")
         .value_parser(value_parser!(u32))
-        .default_value("1024")
-        .help("The slots of the store's log, 16 to 65536")
+        .help("Profile 3: the slots of its log, 16 to 65536, or else 1024")
+}
+
+/// How many extents a store is made with.
+fn extents<'a>(alloc: Global) -> Arg<'a>
+    ensures { told.IsArg result told.extents }
+{
+    Arg::new(alloc, "extents")
+        .long("extents")
+        .value_name("E")
+        .value_parser(value_parser!(u32))
+        .help("Profile 4: the extents of its heap, 64 to 1048576 by 16, or else 262144")
 }
 
 /// How many threads write.
@@ -253,7 +275,9 @@ fn format<'a>(alloc: Global) -> Result<Command<'a>, AllocError>
 {
     let command = command(alloc, "format", "Make an empty store", help::FORMAT);
     let command = with_arg(Ok(command), dir(alloc));
-    with_arg(command, slots(alloc))
+    let command = with_arg(command, profile(alloc));
+    let command = with_arg(command, slots(alloc));
+    with_arg(command, extents(alloc))
 }
 
 fn run<'a>(alloc: Global) -> Result<Command<'a>, AllocError>

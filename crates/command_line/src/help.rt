@@ -29,7 +29,12 @@ pub const FORMAT: &str =
 one slot, and so does an archive, a reclaim or a floor; a slot is not used again.
 Each slot takes 512 bytes from the start. A store of 65536 slots takes 65536
 groups, and its heap as many extents of 8 KiB; one that is full answers
-`refused: status full` to each further commit.";
+`refused: status full` to each further commit.
+
+Profile 4 has no slots: its log lies in the heap, and does not end. It is still
+being built. Its bytes may change, and it has no jobs yet: `vacuum`, `floor`,
+`info` and `dump` answer it by `wrong profile`. So is a size refused that is of
+the other profile.";
 
 /// Of `run`.
 pub const RUN: &str = "A line has one command, words parted by one space:

@@ -4,6 +4,7 @@
 mod action;
 mod command;
 mod help;
+mod layout;
 mod moment;
 mod question;
 mod read;
@@ -11,5 +12,6 @@ mod read;
 pub use action::Action;
 pub use command::read_words;
 pub use forms::{Form, Style};
+pub use layout::Layout;
 pub use question::{Question, RecordWrite, When};
 pub use read::action_of;

@@ -11,6 +11,7 @@ ghost use Rattle.command_line.specs.Asked.{AsksPut, AsksDelete, AsksFloor, AsksI
 ghost use Rattle.command_line.specs.Questions.{form_by, is_set, records_of, rows_of_key, style_of, value_of, when_in, when_of};
 
 use crate::action::Action;
+use crate::layout::layout_of;
 use crate::moment::moment;
 use crate::question::{Question, RecordWrite, When};
 use clap::ArgMatches;
@@ -118,9 +119,12 @@ fn format<'m>(matches: &'m ArgMatches<'_>) -> Option<Action<'m>>
     ensures some { IfSome result (AsksFormat (rows_of (found_of matches.now))) }
     ensures none { IfNone result ((a : Asked) → AsksFormat (rows_of (found_of matches.now)) a → ⊥) }
 {
+    let profile = u8_of(matches, "profile")?;
+    let slots = u32_of(matches, "slots");
+    let extents = u32_of(matches, "extents");
     Some(Action::Format {
         dir: text(matches, "DIR")?,
-        slots: u32_of(matches, "slots")?,
+        layout: layout_of(profile, slots, extents),
     })
 }
 

@@ -11,3 +11,4 @@ pub mod Few
 pub mod Opened
 pub mod Reopened
 pub mod Answering
+pub mod Formatted

@@ -6,3 +6,4 @@ pub mod Names
 pub mod Starts
 pub mod Few
 pub mod Opened
+pub mod Formatted

@@ -13,15 +13,10 @@ use Rattle.group.specs.declared.answers.Submitted.{Submitted}
 use Rattle.group.specs.declared.answers.Submitted.TheVariants as submitted
 use Rattle.group.specs.declared.answers.SubmitFault.{SubmitFault}
 use Rattle.timequery.specs.View.{ViewValue}
-use Rattle.store.specs.Archives.{StartsArchive, BeginsRun, refusal_now}
-use Rattle.store.specs.Calls as stores
-use Rattle.store.specs.Floors.{StartsFloor, BeginsFloor, floor_refusal}
-use Rattle.store.specs.Growths.{StartsGrowth, BeginsPiece, refusal_to_grow}
-use Rattle.store.specs.Reclaims.{StartsReclaim, BeginsReclaim, reclaim_refusal}
-use Rattle.store.specs.Values.{StoreValue}
 use Rattle.store.specs.declared.job.StartFault.{StartFault}
-use Rattle.status.specs.GrowthState.{GrowthState}
-use Rattle.status.specs.Growth.{next_piece}
+use Rattle.any_store.specs.Calls as stores
+use Rattle.any_store.specs.Jobs.{StartsArchive, StartsReclaim, StartsFloor, StartsGrowth}
+use Rattle.any_store.specs.Values.{StoreValue, commits_of, disk_of}
 use Rattle.run.specs.declared.calls.Call.{Call}
 use Rattle.run.specs.declared.calls.Call.TheVariants as call
 use Rattle.run.specs.declared.calls.Answer.{Answer}
@@ -59,6 +54,7 @@ use Rattle.law_library.specs.Hosts.{Host, Event, with_event}
 use Rattle.law_library.specs.Moments.{HostMoment, IsHostMoment, held_as}
 use Rattle.law_library.specs.Promise.{HostLink}
 use Rattle.law_library.proofs.Carrying.{SameDisk, by-call, by-world, stays}
+use Rattle.law_library.proofs.Disks.{begin-disk, abort-disk, submit-disk, archive-disk, reclaim-disk, floor-disk, grow-disk}
 use Rattle.law_library.proofs.Numbers as numbers
 
 -- ---- what stops a call
@@ -104,7 +100,7 @@ module _ (e : Event) (m : HostMoment) (new : Host) (is : IsHostMoment m) (areas 
     -- ---- places
 
     keeps-disk : KeepsStore old after → SameDisk old after
-    keeps-disk keeps = record { areas = ap (λ (v : StoreValue). v.disk.areas) keeps.0; state = keeps.1; before = keeps.2 }
+    keeps-disk keeps = record { areas = ap (λ (v : StoreValue). (disk_of v).areas) keeps.0; state = keeps.1; before = keeps.2 }
 
     -- what is held is the same
     same-held : KeepsStore old after → ((n : ℕ) → named after.places n ≡ named old.places n) → HostLink e m new
@@ -143,10 +139,10 @@ module _ (e : Event) (m : HostMoment) (new : Host) (is : IsHostMoment m) (areas 
         by-answer (Ok txn) state before begins tells =
             gives info.a (Transaction txn) (held.Transaction txn) call.Begin (answer.Begin (Ok tt)) refl tells.2
             (begin-goes true old.store after.store xs (Ok txn) begins)
-            (record { areas = ap (λ (d : DiskState). d.areas) begins.rest.disk; state = state; before = before })
+            (record { areas = ap (λ (d : DiskState). d.areas) (begin-disk old.store after.store (Ok txn) begins); state = state; before = before })
         by-answer (Err why) state before begins tells =
             gives-none call.Begin (answer.Begin (Err why)) tells.1.names (begin-goes true old.store after.store xs (Err why) begins)
-            (record { areas = ap (λ (d : DiskState). d.areas) begins.rest.disk; state = state; before = before })
+            (record { areas = ap (λ (d : DiskState). d.areas) (begin-disk old.store after.store (Err why) begins); state = state; before = before })
 
         by-way : TakesTransaction old said info after → HostLink e m new
         by-way (inl out) = same-held out.1.1 out.1.2.names
@@ -166,7 +162,9 @@ module _ (e : Event) (m : HostMoment) (new : Host) (is : IsHostMoment m) (areas 
         let y : TxnValue = record t { writes = ws } in
         let world : IsWorld true old.store (slice_set xs i (held.Transaction y)) w = record {
           stands = is.is.world.stands;
-          places = rewritten-places old.store.transactions m.at.world.machine.published xs m.at.world.places i t ws here is.is.world.places;
+          layout = is.is.world.layout;
+          names = is.is.world.names;
+          places = rewritten-places (commits_of old.store) m.at.world.machine.published xs m.at.world.places i t ws here is.is.world.places;
           views = reads-set true old.store xs m.at.world.places i (held.Transaction y) (Running t.snapshot ws) tt is.is.world.views;
         } in
         by-world e m new is (slice_set xs i (held.Transaction x)) place w refl
@@ -202,7 +200,7 @@ module _ (e : Event) (m : HostMoment) (new : Host) (is : IsHostMoment m) (areas 
         let named_is = numbers.as-transaction (named old.places n) t some in
         spends n (held.Transaction t) (call.Abort (place n)) answer.Abort named_is (subst (λ (p : Places). IsTaken n old.places p) (sym places) taken)
         (abort-goes true old.store after.store xs (place n) t (is.numbers.same n (held.Transaction t) named_is) are aborts)
-        (record { areas = ap (λ (d : DiskState). d.areas) aborts.rest.disk; state = state; before = before })
+        (record { areas = ap (λ (d : DiskState). d.areas) (abort-disk old.store after.store t aborts); state = state; before = before })
 
     pub aborts : (n : ℕ) (said : Code) → AbortsEngine n old said after → HostLink e m new
     aborts n said done = of-number (transaction_under old n) said _ done (λ t some does.
@@ -245,7 +243,12 @@ module _ (e : Event) (m : HostMoment) (new : Host) (is : IsHostMoment m) (areas 
         by-failed t mid some taken are state before true gives_up = aborted n t mid some taken are gives_up.1 state before gives_up.2
         by-failed t mid some taken are state before false acts =
             by-answer t mid acts.0 (numbers.as-transaction (named old.places n) t some) taken are
-            (record { areas = ap (λ (d : DiskState). d.areas) acts.1.rest.disk; state = state; before = before }) acts.1 acts.2
+            (record {
+              areas = ap (λ (d : DiskState). d.areas)
+                  (submit-disk old.store after.store t label now acts.0 acts.1);
+              state = state;
+              before = before;
+            }) acts.1 acts.2
 
     -- ---- tickets and views that are given up
 
@@ -298,63 +301,26 @@ module _ (e : Event) (m : HostMoment) (new : Host) (is : IsHostMoment m) (areas 
 
     starts : (c : Call) (a : Result (Unit {0}) StartFault → Answer) (Starts : StoreValue → Result (Unit {0}) StartFault → StoreValue → Type 0) (said : Code)
         (info : Info)
-        → ((v v' : StoreValue) (r : Result (Unit {0}) StartFault) → Starts v r v' → (v'.disk ≡ v.disk) × Goes true v xs c (a r) v' (xs ++ held.Nothing ∷ []))
+        → ((v v' : StoreValue) (r : Result (Unit {0}) StartFault) → Starts v r v'
+        → (disk_of v' ≡ disk_of v) × Goes true v xs c (a r) v' (xs ++ held.Nothing ∷ []))
         → StartsEngine Starts old said info after → HostLink e m new
     starts c a Starts said info goes done = while-settled said _ done (λ settled does.
         let did = goes old.store after.store does.1.0 does.1.1 in
         gives-none c (a does.1.0) (λ n. ap (λ (p : Places). named p n) does.0.0) did.1
         (record { areas = ap (λ (d : DiskState). d.areas) did.0; state = does.0.1; before = does.0.2 }))
 
-    archive-disk : (v v' : StoreValue) (upto : ℕ) (r : Result (Unit {0}) StartFault) → StartsArchive v upto r v' → v'.disk ≡ v.disk
-    archive-disk v v' upto r starts = by-refusal (refusal_now v upto) r starts
-      where
-        by-refusal : (o : Option StartFault) (r : Result (Unit {0}) StartFault) → MatchOption o (BeginsRun v upto r v') (λ why. (r ≡ Err why) × (v' ≡ v))
-            → v'.disk ≡ v.disk
-        by-refusal None (Ok u) begins = ap (λ (x : StoreValue). x.disk) begins.2.new_is
-        by-refusal None (Err why) refused = ap (λ (x : StoreValue). x.disk) refused.1
-        by-refusal (Some why) r refused = ap (λ (x : StoreValue). x.disk) refused.1
-
     pub archives : (upto : ℕ) (said : Code) (info : Info) → StartsEngine (λ v r v'. StartsArchive v upto r v') old said info after → HostLink e m new
     archives upto said info done = starts (call.Archive upto) (λ r. answer.Archive r) (λ v r v'. StartsArchive v upto r v') said info
         (λ v v' r s. (archive-disk v v' upto r s, start-goes true v v' xs upto r s)) done
-
-    reclaim-disk : (v v' : StoreValue) (r : Result (Unit {0}) StartFault) → StartsReclaim v r v' → v'.disk ≡ v.disk
-    reclaim-disk v v' r starts = by-refusal (reclaim_refusal v) r starts
-      where
-        by-refusal : (o : Option StartFault) (r : Result (Unit {0}) StartFault) → MatchOption o (BeginsReclaim v r v') (λ why. (r ≡ Err why) × (v' ≡ v))
-            → v'.disk ≡ v.disk
-        by-refusal None (Ok u) begins = ap (λ (x : StoreValue). x.disk) begins.1.new_is
-        by-refusal None (Err why) refused = ap (λ (x : StoreValue). x.disk) refused.1
-        by-refusal (Some why) r refused = ap (λ (x : StoreValue). x.disk) refused.1
 
     pub reclaims : (said : Code) (info : Info) → StartsEngine StartsReclaim old said info after → HostLink e m new
     reclaims said info done = starts call.Reclaim (λ r. answer.Reclaim r) StartsReclaim said info
         (λ v v' r s. (reclaim-disk v v' r s, reclaim-goes true v v' xs r s)) done
 
-    floor-disk : (v v' : StoreValue) (scope : Option ℕ) (time : ℕ) (r : Result (Unit {0}) StartFault) → StartsFloor v scope time r v' → v'.disk ≡ v.disk
-    floor-disk v v' scope time r starts = by-refusal (floor_refusal v scope time) r starts
-      where
-        by-refusal : (o : Option StartFault) (r : Result (Unit {0}) StartFault)
-            → MatchOption o (BeginsFloor v scope time r v') (λ why. (r ≡ Err why) × (v' ≡ v)) → v'.disk ≡ v.disk
-        by-refusal None (Ok u) begins = ap (λ (x : StoreValue). x.disk) begins.1
-        by-refusal None (Err why) refused = ap (λ (x : StoreValue). x.disk) refused.2
-        by-refusal (Some why) r refused = ap (λ (x : StoreValue). x.disk) refused.1
-
     pub raises : (scope : Option ℕ) (time : ℕ) (said : Code) (info : Info) → StartsEngine (λ v r v'. StartsFloor v scope time r v') old said info after
         → HostLink e m new
     raises scope time said info done = starts (call.Floor scope time) (λ r. answer.Floor r) (λ v r v'. StartsFloor v scope time r v') said info
         (λ v v' r s. (floor-disk v v' scope time r s, floor-goes true v v' xs scope time r s)) done
-
-    grow-disk : (v v' : StoreValue) (r : Result (Unit {0}) StartFault) → StartsGrowth v r v' → v'.disk ≡ v.disk
-    grow-disk v v' r starts = by-refusal (refusal_to_grow v) starts
-      where
-        by-piece : (o : Option GrowthState) → BeginsPiece v o r v' → v'.disk ≡ v.disk
-        by-piece None refused = ap (λ (x : StoreValue). x.disk) refused.1
-        by-piece (Some growth) begins = ap (λ (x : StoreValue). x.disk) begins.1
-
-        by-refusal : (o : Option StartFault) → MatchOption o (BeginsPiece v (next_piece v.log) r v') (λ why. (r ≡ Err why) × (v' ≡ v)) → v'.disk ≡ v.disk
-        by-refusal None begins = by-piece (next_piece v.log) begins
-        by-refusal (Some why) refused = ap (λ (x : StoreValue). x.disk) refused.1
 
     pub grows : (said : Code) (info : Info) → StartsEngine StartsGrowth old said info after → HostLink e m new
     grows said info done = starts call.Grow (λ r. answer.Grow r) StartsGrowth said info (λ v v' r s. (grow-disk v v' r s, grow-goes true v v' xs r s)) done

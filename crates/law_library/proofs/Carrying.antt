@@ -6,7 +6,7 @@ use Rattle.disk.specs.Within.{LeavesWithin}
 use Rattle.history.specs.Histories.{History, last}
 use Rattle.history.proofs.Runs.{run-shows}
 use Rattle.law_image.specs.Values.{Value, IsValue}
-use Rattle.store.specs.Values.{StoreValue}
+use Rattle.any_store.specs.Values.{StoreValue, disk_of}
 use Rattle.run.specs.declared.calls.Call.{Call}
 use Rattle.run.specs.declared.calls.Answer.{Answer}
 use Rattle.run.specs.declared.held.Held.{Held}
@@ -35,7 +35,7 @@ moved_to m e xs w = record {
 
 -- the disk, and how the engine stands, are as they were
 pub record SameDisk (old new : Engine) : Type 0 where
-  pub areas : new.store.disk.areas ≡ old.store.disk.areas
+  pub areas : (disk_of new.store).areas ≡ (disk_of old.store).areas
   pub state : new.state ≡ old.state
   pub before : new.before ≡ old.before
 
@@ -63,7 +63,8 @@ stage-carried (Asks step) m e xs w same follows st = record {
   was = was-carried m e xs w st.before st.was follows same.before;
   areas = st.areas;
   call = st.call;
-  due = ap (λ (s : EngineState). due_call (due_in s) e.store.disk.areas) same.state ∙ ap (λ (a : Areas). due_call (due_in m.host.engine.state) a) same.areas
+  due = ap (λ (s : EngineState). due_call (due_in s) (disk_of e.store).areas) same.state
+      ∙ ap (λ (a : Areas). due_call (due_in m.host.engine.state) a) same.areas
       ∙ st.due;
   leads = same.areas ∙ st.leads;
   sound = st.sound;
@@ -72,7 +73,7 @@ stage-carried (Asks step) m e xs w same follows st = record {
 stage-carried Failed m e xs w same follows st = record {
   before = st.before;
   was = was-carried m e xs w st.before st.was follows same.before;
-  left = λ image l. subst (λ (a : Areas). LeavesWithin st.before.store.disk.areas a image) (sym same.areas) (st.left image l);
+  left = λ image l. subst (λ (a : Areas). LeavesWithin (disk_of st.before.store).areas a image) (sym same.areas) (st.left image l);
 }
 
 -- the host is at the moment after a call that leaves the disk alone
@@ -126,6 +127,6 @@ pub by-world : (e : Event) (m : HostMoment) (new : Host) → IsHostMoment m → 
     → KeepsStore m.host.engine new.engine → new.areas ≡ m.host.areas → with_event e m.at.done ≡ m.at.done → HostLink e m new
 by-world e m new is ys place w machine world holds keeps areas silent =
     let follows : Follows m.at.world.machine w.machine = subst (λ n. Follows m.at.world.machine n) (sym machine) (no-step m.at.world.machine) in
-    let same : SameDisk m.host.engine new.engine = record { areas = ap (λ (v : StoreValue). v.disk.areas) keeps.0; state = keeps.1; before = keeps.2 } in
+    let same : SameDisk m.host.engine new.engine = record { areas = ap (λ (v : StoreValue). (disk_of v).areas) keeps.0; state = keeps.1; before = keeps.2 } in
     to-moment e m new ys w areas silent follows (carried m is new.engine ys place w same follows
     (subst (λ (v : StoreValue). IsWorld true v ys w) (sym keeps.0) world) holds)

@@ -2,16 +2,13 @@
 use Rattle.std.proofs.Common.{◌≡◌, ℕ, ◌==◌, ◌++◌, Bool, true, false, List, [], ◌∷◌, Some, None, refl, sym, ◌∙◌, ap, subst}
 use Rattle.std.specs.Prelude.{if◌then◌else◌}
 use Rattle.disk.specs.Areas.{AreSound, AreBytes, Image, settled_on}
-use Rattle.disk.specs.Calls.{DiskState, fresh_on}
+use Rattle.disk.specs.Calls.{DiskState}
 use Rattle.disk.specs.declared.area.Area.TheVariants.{Status, Heap, Archive}
-use Rattle.chains.specs.KeyWrites.{IsOrdered}
-use Rattle.history.specs.Machine.{Machine, opened}
+use Rattle.history.specs.Machine.{Machine}
 use Rattle.history.specs.Steps as steps
 use Rattle.law_image.specs.Values.{Value, IsValue}
-use Rattle.law_opening.proofs.Opened.{opened-stands}
-use Rattle.law_refinement.proofs.Growing.{as-still}
-use Rattle.law_refinement.specs.Stands.{Stands, StandsStill}
-use Rattle.store.specs.Values.{StoreValue}
+use Rattle.any_store.specs.Values.{StoreValue, disk_of}
+use Rattle.law_any_store.specs.Standing.{Stands, opened_as}
 use Rattle.run.specs.Moments.{first_moment}
 use Rattle.run.specs.Runs.{Follows}
 use Rattle.run.proofs.Linking.{first-is}
@@ -30,6 +27,7 @@ use Rattle.law_library.specs.Moments.{HostMoment, Holds, IsHostMoment, IsAtStage
 use Rattle.law_library.specs.Promise.{HostLink, EventLeads, OpensAtMoment, LibraryPromise}
 use Rattle.law_library.proofs.Calls.{begins, writes, puts-leave, deletes-leave, submits, aborts, gives-up, ends, views, archives, reclaims, raises, grows}
 use Rattle.law_library.proofs.Carrying.{stays}
+use Rattle.law_library.proofs.Over.{opened-over, opened-areas, over-has}
 use Rattle.law_library.proofs.Redeeming.{redeems}
 use Rattle.law_library.proofs.Steps.{pumps, jobs, makes, refuses}
 use Rattle.law_library.proofs.Stops.{moment-keeps}
@@ -89,29 +87,27 @@ none-held places none = record {
 
 pub opens : OpensAtMoment
 opens status heap archive mark info e header h floors s hp a image opened_so =
-    let o = opened_so.1 in
     let bytes : Image = record { status = status; heap = heap; archive = archive } in
-    let old : DiskState = fresh_on bytes in
-    let disk : DiskState = record { areas = opened_so.0.disk.areas; made = 0; refused = 0 } in
+    let disk : DiskState = record { areas = (disk_of opened_so.0).areas; made = 0; refused = 0 } in
     let sound : AreSound (settled_on bytes) = areas-sound status heap archive s hp a in
-    let ordered : IsOrdered o.recovered.chains = subst (λ (w : StoreValue). IsOrdered w.transactions.versions) o.new_is o.ordered in
-    let still : StandsStill true (record opened_so.0 { disk = disk }) (opened h floors) =
-    subst (λ (w : StoreValue). StandsStill true (record w { disk = disk }) (opened h floors)) (sym o.new_is)
-    (opened-stands old mark disk o.recovered opened_so.0.archive header h floors (o.read refl) o.unread image (o.settled refl) ordered sound true) in
-    let stands : Stands true e.store (opened h floors) = subst (λ (v : StoreValue). Stands true v (opened h floors)) (sym opened_so.2)
-    (as-still true _ (opened h floors) still) in
-    let m : HostMoment = record { host = record { engine = e; areas = settled_on bytes }; at = first_moment e.store (opened h floors); before = None } in
-    let areas : settled_on bytes ≡ e.store.disk.areas = sym (o.settled refl) ∙ sym (ap (λ (v : StoreValue). v.disk.areas) opened_so.2) in (
+    let over = opened-over bytes mark opened_so.0 disk header h floors opened_so.1 refl sound image in
+    let stands : Stands true e.store (opened_as header h floors) =
+    subst (λ (v : StoreValue). Stands true v (opened_as header h floors)) (sym opened_so.2) over in
+    let m : HostMoment = record
+    { host = record { engine = e; areas = settled_on bytes }; at = first_moment e.store (opened_as header h floors); before = None } in
+    let now : (disk_of e.store).areas ≡ settled_on bytes =
+    ap (λ (v : StoreValue). (disk_of v).areas) opened_so.2 ∙ ap (λ (d : DiskState). d.areas) (over-has opened_so.0 disk)
+    ∙ opened-areas bytes mark opened_so.0 opened_so.1 in (
       m,
       refl,
       refl,
       refl,
       record {
         held = [];
-        is = first-is true e.store (opened h floors) stands;
+        is = first-is true e.store (opened_as header h floors) stands;
         place = λ n. n;
         numbers = none-held e.places opened_so.3.places;
-        stage = subst (λ (x : EngineState). IsAtStage x m) (sym opened_so.3.state) (record { none = refl; areas = areas; sound = sound });
+        stage = subst (λ (x : EngineState). IsAtStage x m) (sym opened_so.3.state) (record { none = refl; areas = sym now; sound = sound });
       },
     )
 
@@ -152,8 +148,9 @@ pub promise : LibraryPromise
 promise status heap archive mark info e header h floors events host s hp a image opens_so run =
     let first = opens status heap archive mark info e header h floors s hp a image opens_so in
     let m : HostMoment = first.0 in
-    let follows : Follows (opened h floors) m.at.world.machine = subst (λ n. Follows (opened h floors) n) (sym first.3) (no-step (opened h floors)) in
-    let to = run-reaches events m (opened h floors) host first.4 follows (subst (λ (x : Host). HostRun events x host) (sym first.1) run) in
+    let follows : Follows (opened_as header h floors) m.at.world.machine =
+    subst (λ n. Follows (opened_as header h floors) n) (sym first.3) (no-step (opened_as header h floors)) in
+    let to = run-reaches events m (opened_as header h floors) host first.4 follows (subst (λ (x : Host). HostRun events x host) (sym first.1) run) in
     let keeps = moment-keeps to.moment to.is in
     record {
       moment = to.moment;

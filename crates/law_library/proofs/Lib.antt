@@ -1,4 +1,6 @@
 mod Numbers
+mod Disks
+mod Over
 mod Carrying
 mod Calls
 mod Refusing

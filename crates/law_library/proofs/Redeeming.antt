@@ -14,9 +14,11 @@ use Rattle.law_image.specs.Values.{Value, IsValue}
 use Rattle.group.specs.Tickets.{TicketValue}
 use Rattle.group.specs.declared.answers.Redeemed.{Redeemed}
 use Rattle.group.specs.declared.answers.Redeemed.TheVariants as redeemed
-use Rattle.store.specs.Calls as stores
+use Rattle.any_store.specs.Calls as stores
+use Rattle.any_store.specs.Values.{commits_of, disk_of}
 use Rattle.law_refinement.proofs.Conflicts.{rising-behind}
-use Rattle.law_refinement.proofs.Memory.{published-rises}
+use Rattle.law_commits.proofs.Order.{published-rises}
+use Rattle.law_any_store.proofs.Memory.{memory-stands}
 use Rattle.run.specs.declared.calls.Call.TheVariants as call
 use Rattle.run.specs.declared.calls.Answer.TheVariants as answer
 use Rattle.run.specs.declared.calls.RedeemOutcome.TheVariants as told
@@ -43,6 +45,7 @@ use Rattle.law_library.specs.Hosts.{Host, Event, Calls, with_event}
 use Rattle.law_library.specs.Moments.{HostMoment, Holds, IsAtStage, IsHostMoment, held_as}
 use Rattle.law_library.specs.Promise.{HostLink}
 use Rattle.law_library.proofs.Carrying.{SameDisk, by-call, stays}
+use Rattle.law_library.proofs.Disks.{redeem-disk}
 use Rattle.law_library.proofs.Numbers as numbers
 
 -- a commit that is not later than the last of a front is of the front
@@ -123,8 +126,9 @@ module _ (n : ℕ) (r : Reply) (m : HostMoment) (new : Host) (is : IsHostMoment 
           let more : History Value = st.was.more ++ shown.0 in
           let whole : w.machine.published ≡ b.world.machine.published ++ more = shown.1 ∙ ap (λ (h : History Value). h ++ shown.0) st.was.goes_on
           ∙ append_assoc b.world.machine.published st.was.more shown.0 in
+          let memory = memory-stands true after.store w.machine world.stands in
           let rising : HasRisingTimes 0 (b.world.machine.published ++ more) =
-          subst (λ (h : History Value). HasRisingTimes 0 h) whole (published-rises after.store.transactions w.machine world.stands.memory) in
+          subst (λ (h : History Value). HasRisingTimes 0 h) whole (published-rises (commits_of after.store) w.machine memory.0 memory.1) in
           let early : time ≤ last b.world.machine.published = shown-early old.before b.world.machine.published was st.was.shown in
           let there : HasCommitAt b.world.machine.published time = (
             has.0,
@@ -147,7 +151,7 @@ module _ (n : ℕ) (r : Reply) (m : HostMoment) (new : Host) (is : IsHostMoment 
               shown = subst (λ (o : Option Published). MatchOption o ⊥ (λ (p : Published). p.last ≡ last b.world.machine.published)) (sym same.before)
                   st.was.shown;
             };
-            left = λ image l. subst (λ (a : Areas). LeavesWithin b.store.disk.areas a image) (sym same.areas) (st.left image l);
+            left = λ image l. subst (λ (a : Areas). LeavesWithin (disk_of b.store).areas a image) (sym same.areas) (st.left image l);
           }))
 
   -- ---- each answer
@@ -167,7 +171,12 @@ module _ (n : ℕ) (r : Reply) (m : HostMoment) (new : Host) (is : IsHostMoment 
     by-answer answered (redeemed.Done time) redeems state before tells = by-published (was_published old.state old.before time) refl tells.1
       where
         same : SameDisk old after
-        same = record { areas = ap (λ (d : DiskState). d.areas) redeems.rest.disk; state = state; before = before }
+        same = record {
+          areas = ap (λ (d : DiskState). d.areas) (redeem-disk old.store after.store t
+              (redeemed.Done time) redeems);
+          state = state;
+          before = before;
+        }
 
         by-published : (b : Bool) → was_published old.state old.before time ≡ b
             → MatchBool b ((r.said ≡ code.Ok) × (r.info.a ≡ time)) (r.said ≡ code.InDoubt) → HostLink event m new
@@ -183,7 +192,12 @@ module _ (n : ℕ) (r : Reply) (m : HostMoment) (new : Host) (is : IsHostMoment 
     by-answer answered (redeemed.Waiting back) redeems state before tells = by-failed (is_failed old.state) tells
       where
         same : SameDisk old after
-        same = record { areas = ap (λ (d : DiskState). d.areas) redeems.rest.disk; state = state; before = before }
+        same = record {
+          areas = ap (λ (d : DiskState). d.areas) (redeem-disk old.store after.store t
+              (redeemed.Waiting back) redeems);
+          state = state;
+          before = before;
+        }
 
         by-failed : (b : Bool) → MatchBool b ((r.said ≡ code.InDoubt) × (after.places ≡ mid))
             ((r.said ≡ code.Waiting) × IsKept (Ticket back) r.info.a mid after.places) → HostLink event m new
@@ -202,11 +216,21 @@ module _ (n : ℕ) (r : Reply) (m : HostMoment) (new : Host) (is : IsHostMoment 
     by-answer answered redeemed.InDoubt redeems state before tells =
         by-call event m new is is.held (slice_set is.held i held.Nothing ++ held.Nothing ∷ []) is.is is.place (call.Redeem i) (answer.Redeem told.InDoubt)
         (redeem-goes true old.store after.store is.held i t redeemed.InDoubt here redeems) (out held.Nothing held.Nothing after.places tells.0)
-        (record { areas = ap (λ (d : DiskState). d.areas) redeems.rest.disk; state = state; before = before }) areas (silent code.InDoubt refl tells.1)
+        (record {
+          areas = ap (λ (d : DiskState). d.areas)
+              (redeem-disk old.store after.store t redeemed.InDoubt redeems);
+          state = state;
+          before = before;
+        }) areas (silent code.InDoubt refl tells.1)
     by-answer answered redeemed.Stranger redeems state before tells =
         by-call event m new is is.held (slice_set is.held i held.Nothing ++ held.Nothing ∷ []) is.is is.place (call.Redeem i) (answer.Redeem told.Stranger)
         (redeem-goes true old.store after.store is.held i t redeemed.Stranger here redeems) (out held.Nothing held.Nothing after.places tells.0)
-        (record { areas = ap (λ (d : DiskState). d.areas) redeems.rest.disk; state = state; before = before }) areas (silent code.Stranger refl tells.1)
+        (record {
+          areas = ap (λ (d : DiskState). d.areas)
+              (redeem-disk old.store after.store t redeemed.Stranger redeems);
+          state = state;
+          before = before;
+        }) areas (silent code.Stranger refl tells.1)
 
   pub redeems : RedeemsEngine n old r.said r.info after → HostLink event m new
   redeems done = by-asked (asks old.state) refl done

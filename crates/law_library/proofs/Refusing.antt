@@ -1,11 +1,12 @@
--- A step that was refused, and whose device call was not counted, leaves the areas as they were.
+-- A step that was refused, and whose device call was not counted, leaves the areas as they were, in either layout.
 use Rattle.std.proofs.Common.{◌≡◌, ℕ, ◌==◌, Bool, true, false, List, [], ◌∷◌, Option, Some, None, Result, Ok, Err, MatchBool, MatchOption, refl, sym, ◌∙◌, ap}
 use Rattle.std.proofs.Common.{subst, inl, inr, arith}
-use Rattle.std.specs.Prelude.{is_some, slice_get}
+use Rattle.std.specs.Prelude.{is_some, slice_get, length}
 use Rattle.std.proofs.lemmas.Bool.{eqb-true}
 use Rattle.disk.specs.Calls.{DiskState, Counts, counted, top, refused_answer}
 use Rattle.disk.specs.declared.area.DeviceFault.{DeviceFault}
 use Rattle.group.specs.declared.answers.Did.{Did}
+use Rattle.group.specs.declared.answers.Did.TheVariants as did
 use Rattle.group.specs.declared.answers.PumpFault.{PumpFault}
 use Rattle.group.specs.declared.answers.PumpFault.TheVariants as fault
 use Rattle.group.specs.declared.queued.StoredExtent.{StoredExtent}
@@ -19,7 +20,8 @@ use Rattle.wire.specs.declared.slot.Run.{Run}
 use Rattle.status.specs.TurnState.{TurnState}
 use Rattle.store.specs.Jobs.{PumpsJob, TakesJobStep, Stores, WritesOrSyncs, AnchorsOrSync, BeginsJobSlot, made_ready}
 use Rattle.store.specs.Pumps.{Pumps, TakesStep, WritesExtent, MayBeginSlot, TurnsSlot, started}
-use Rattle.store.specs.Values.{StoreValue, turn_of}
+use Rattle.store.specs.Values.{turn_of}
+use Rattle.store.specs.Values as slots
 use Rattle.store.specs.declared.job.Job.{Job}
 use Rattle.store.specs.declared.job.JobDid.{JobDid}
 use Rattle.store.specs.declared.job.JobDid.TheVariants as job
@@ -27,21 +29,34 @@ use Rattle.store.specs.declared.job.JobStage.{JobStage}
 use Rattle.store.specs.declared.job.JobStage.TheVariants as stages
 use Rattle.store.specs.declared.job.JobWork.{JobWork}
 use Rattle.store.specs.declared.job.JobWork.TheVariants as works
+use Rattle.log_writer.specs.Writer.{WriterState}
+use Rattle.log_store.specs.Pumps as logs
+use Rattle.log_store.specs.Values.{LogStoreValue}
+use Rattle.any_store.specs.declared.engine.Engine.TheVariants.{Slots, Log}
+use Rattle.any_store.specs.Calls as stores
+use Rattle.any_store.specs.Jobs as jobs
+use Rattle.any_store.specs.Values.{StoreValue, disk_of}
 
 at-top : (n : ℕ) → counted n ≡ n → n ≡ top
 at-top n same = omega (arith, same)
 
 -- a call that was not counted changed nothing
-abbrev IfUncounted : StoreValue → StoreValue → Type 0
-IfUncounted old new = (new.disk.made == old.disk.made) ≡ true → new.disk.areas ≡ old.disk.areas
+abbrev IfUncountedOn : DiskState → DiskState → Type 0
+IfUncountedOn old new = (new.made == old.made) ≡ true → new.areas ≡ old.areas
 
-uncounted : (r : Result (Unit {0}) DeviceFault) (old new : StoreValue) → Counts r old.disk new.disk → IfUncounted old new
-uncounted r old new counts same = (counts.full (at-top old.disk.made (sym counts.made ∙ eqb-true new.disk.made old.disk.made same))).1
+abbrev IfUncounted : slots.StoreValue → slots.StoreValue → Type 0
+IfUncounted old new = IfUncountedOn old.disk new.disk
 
-nothing : (old new : StoreValue) → new ≡ old → IfUncounted old new
-nothing old new same is = ap (λ (v : StoreValue). v.disk.areas) same
+uncounted-on : (r : Result (Unit {0}) DeviceFault) (old new : DiskState) → Counts r old new → IfUncountedOn old new
+uncounted-on r old new counts same = (counts.full (at-top old.made (sym counts.made ∙ eqb-true new.made old.made same))).1
 
--- ---- a group
+uncounted : (r : Result (Unit {0}) DeviceFault) (old new : slots.StoreValue) → Counts r old.disk new.disk → IfUncounted old new
+uncounted r old new counts = uncounted-on r old.disk new.disk counts
+
+nothing : (old new : slots.StoreValue) → new ≡ old → IfUncounted old new
+nothing old new same is = ap (λ (v : slots.StoreValue). v.disk.areas) same
+
+-- ---- a group, where the log is slots
 
 abbrev pump_said : PumpFault → Result Did PumpFault
 pump_said why = Err why
@@ -49,7 +64,7 @@ pump_said why = Err why
 abbrev job_said : PumpFault → Result JobDid PumpFault
 job_said why = Err why
 
-step-same : (next : NextStep) (old new : StoreValue) (why : PumpFault) → TakesStep true next old (Err why) new → IfUncounted old new
+step-same : (next : NextStep) (old new : slots.StoreValue) (why : PumpFault) → TakesStep true next old (Err why) new → IfUncounted old new
 step-same step.Idle old new why takes = nothing old new takes.1
 step-same step.WriteExtent old new why takes = by-extent (next_extent old.transactions) takes
   where
@@ -69,46 +84,46 @@ step-same step.AdvanceSlot old new why takes = by-turn old.turn takes
     by-turn None never = absurd never
     by-turn (Some turn) turns = uncounted _ old new turns.call.counts
 
-pub pump-same : (old new : StoreValue) (why : PumpFault) → Pumps true old (Err why) new → IfUncounted old new
-pump-same old new why pumps = by-failed old.transactions.failed pumps
+slots-pump : (old new : slots.StoreValue) (why : PumpFault) → Pumps true old (Err why) new → IfUncounted old new
+slots-pump old new why pumps = by-failed old.transactions.failed pumps
   where
     by-failed : (b : Bool) → MatchBool b ((pump_said why ≡ pump_said fault.Failed) × (new ≡ old))
         (TakesStep true (next_step old.transactions) (started old) (Err why) new) → IfUncounted old new
     by-failed true fails = nothing old new fails.1
     by-failed false takes = step-same (next_step old.transactions) (started old) new why takes
 
--- ---- a job
+-- ---- a job, where the log is slots
 
-run-same : (left : List ℕ) (run : Run) (writer : InWriting) (j : Job) (old new : StoreValue) (why : PumpFault)
+run-same : (left : List ℕ) (run : Run) (writer : InWriting) (j : Job) (old new : slots.StoreValue) (why : PumpFault)
     → WritesOrSyncs true left run writer j old (Err why) new → IfUncounted old new
 run-same [] run writer j old new why syncs = uncounted _ old new syncs.call.counts
 run-same (b ∷ bs) run writer j old new why writes = uncounted _ old new writes.call.counts
 
-anchors-same : (next : Option ℕ) (anchors : Anchors) (source : Sourced) (count : ℕ) (j : Job) (old new : StoreValue) (why : PumpFault)
+anchors-same : (next : Option ℕ) (anchors : Anchors) (source : Sourced) (count : ℕ) (j : Job) (old new : slots.StoreValue) (why : PumpFault)
     → AnchorsOrSync true next anchors source count j old (Err why) new → IfUncounted old new
 anchors-same None anchors source count j old new why syncs = uncounted _ old new syncs.call.counts
 anchors-same (Some number) anchors source count j old new why writes = uncounted _ old new writes.call.counts
 
-work-same : (work : JobWork) (j : Job) (old new : StoreValue) (why : PumpFault) → Stores true work j old (Err why) new → IfUncounted old new
+work-same : (work : JobWork) (j : Job) (old new : slots.StoreValue) (why : PumpFault) → Stores true work j old (Err why) new → IfUncounted old new
 work-same (works.Archive run writer) j old new why stores = run-same writer.left run writer j old new why stores
 work-same (works.Reclaim anchors source count) j old new why stores =
     anchors-same (slice_get old.transactions.reserved count) anchors source count j old new why stores
 work-same (works.Floor scope floor floors) j old new why stores = absurd stores
 work-same (works.Grow g) j old new why grows = uncounted _ old new grows.call.counts
 
-disk-ready : (work : JobWork) (v : StoreValue) → (made_ready work v).disk ≡ v.disk
+disk-ready : (work : JobWork) (v : slots.StoreValue) → (made_ready work v).disk ≡ v.disk
 disk-ready (works.Archive run writer) v = refl
 disk-ready (works.Reclaim anchors source count) v = refl
 disk-ready (works.Floor scope floor floors) v = refl
 disk-ready (works.Grow g) v = refl
 
-slot-same : (j : Job) (old new : StoreValue) (why : PumpFault) → BeginsJobSlot true j old (Err why) new → IfUncounted old new
+slot-same : (j : Job) (old new : slots.StoreValue) (why : PumpFault) → BeginsJobSlot true j old (Err why) new → IfUncounted old new
 slot-same j old new why (inl none) = nothing old new none.2
 slot-same j old new why (inr turns) =
     uncounted refused_answer old new (subst (λ (d : DiskState). Counts {T = Unit {0}} {E = DeviceFault} refused_answer d new.disk) (disk-ready j.work old)
     turns.call.counts)
 
-stage-same : (stage : JobStage) (j : Job) (old new : StoreValue) (why : PumpFault) → TakesJobStep true stage j old (Err why) new → IfUncounted old new
+stage-same : (stage : JobStage) (j : Job) (old new : slots.StoreValue) (why : PumpFault) → TakesJobStep true stage j old (Err why) new → IfUncounted old new
 stage-same stages.Writing j old new why takes = work-same j.work j old new why takes
 stage-same stages.Stored j old new why takes = by-turn (is_some old.turn) takes
   where
@@ -117,8 +132,8 @@ stage-same stages.Stored j old new why takes = by-turn (is_some old.turn) takes
     by-turn false begins = slot-same j old new why begins
 stage-same (stages.Turning turn) j old new why takes = uncounted _ old new takes.call.counts
 
-pub job-same : (old new : StoreValue) (why : PumpFault) → PumpsJob true old (Err why) new → IfUncounted old new
-job-same old new why pumps = by-failed old.transactions.failed pumps
+slots-job : (old new : slots.StoreValue) (why : PumpFault) → PumpsJob true old (Err why) new → IfUncounted old new
+slots-job old new why pumps = by-failed old.transactions.failed pumps
   where
     by-job : (o : Option Job) → MatchOption o ((job_said why ≡ Ok job.Idle) × (new ≡ old)) (λ j. TakesJobStep true j.stage j old (Err why) new)
         → IfUncounted old new
@@ -129,3 +144,49 @@ job-same old new why pumps = by-failed old.transactions.failed pumps
         (MatchOption old.job ((job_said why ≡ Ok job.Idle) × (new ≡ old)) (λ j. TakesJobStep true j.stage j old (Err why) new)) → IfUncounted old new
     by-failed true fails = nothing old new fails.1
     by-failed false takes = by-job old.job takes
+
+-- ---- where the log lies in the heap
+
+log-nothing : (old new : LogStoreValue) → new ≡ old → IfUncountedOn old.disk new.disk
+log-nothing old new same is = ap (λ (v : LogStoreValue). v.disk.areas) same
+
+log-pump : (old new : LogStoreValue) (why : PumpFault) → logs.Pumps true old (Err why) new → IfUncountedOn old.disk new.disk
+log-pump old new why pumps = by-failed old.commits.failed pumps
+  where
+    by-standing : (x : LogStoreValue) (t : Option WriterState) → logs.AdvancesGroup true x t (Err why) new → IfUncountedOn x.disk new.disk
+    by-standing x None never = absurd never
+    by-standing x (Some w) advances = uncounted-on refused_answer x.disk new.disk advances.counts
+
+    begins : logs.BeginsGroup true old (Err why) new → IfUncountedOn old.disk new.disk
+    begins (inl none) = log-nothing old new none.1
+    begins (inr begun) =
+        subst (λ (d : DiskState). IfUncountedOn d new.disk) (ap (λ (v : LogStoreValue). v.disk) begun.1.new_is)
+        (by-standing begun.0 begun.0.turn begun.2)
+
+    by-queue : (b : Bool) → MatchBool b ((pump_said why ≡ Ok did.Idle) × (new ≡ old)) (logs.BeginsGroup true old (Err why) new)
+        → IfUncountedOn old.disk new.disk
+    by-queue true idle = log-nothing old new idle.1
+    by-queue false begun = begins begun
+
+    by-turn : (t : Option WriterState) → logs.TakesStep true old t (Err why) new → IfUncountedOn old.disk new.disk
+    by-turn None takes = by-queue (length old.commits.queue == 0) takes
+    by-turn (Some w) advances = uncounted-on refused_answer old.disk new.disk advances.counts
+
+    by-failed : (b : Bool) → MatchBool b ((pump_said why ≡ pump_said fault.Failed) × (new ≡ old)) (logs.TakesStep true old old.turn (Err why) new)
+        → IfUncountedOn old.disk new.disk
+    by-failed true fails = log-nothing old new fails.1
+    by-failed false takes = by-turn old.turn takes
+
+-- ---- in either
+
+pub pump-same : (old new : StoreValue) (why : PumpFault) → stores.Pumps true old (Err why) new → IfUncountedOn (disk_of old) (disk_of new)
+pump-same (Slots s) (Slots s') why pumps = slots-pump s s' why pumps
+pump-same (Slots s) (Log l') why pumps = absurd pumps
+pump-same (Log l) (Slots s') why pumps = absurd pumps
+pump-same (Log l) (Log l') why pumps = log-pump l l' why pumps
+
+pub job-same : (old new : StoreValue) (why : PumpFault) → jobs.PumpsJob true old (Err why) new → IfUncountedOn (disk_of old) (disk_of new)
+job-same (Slots s) (Slots s') why pumps = slots-job s s' why pumps
+job-same (Slots s) (Log l') why pumps = absurd pumps
+job-same (Log l) (Slots s') why pumps = absurd pumps
+job-same (Log l) (Log l') why pumps = log-nothing l l' pumps.1

@@ -8,11 +8,12 @@ use Rattle.history.proofs.Runs.{run-shows}
 use Rattle.law_image.specs.Values.{IsValue}
 use Rattle.group.specs.declared.answers.Did.{Did}
 use Rattle.group.specs.declared.answers.PumpFault.{PumpFault}
-use Rattle.store.specs.Jobs.{PumpsJob}
-use Rattle.store.specs.Pumps.{Pumps}
-use Rattle.store.specs.Values.{StoreValue}
+use Rattle.any_store.specs.Calls.{Pumps}
+use Rattle.any_store.specs.Jobs.{PumpsJob}
+use Rattle.any_store.specs.Places.{log_area}
+use Rattle.any_store.specs.Values.{StoreValue, disk_of}
 use Rattle.store.specs.declared.job.JobDid.{JobDid}
-use Rattle.law_refinement.proofs.Memory.{last-is}
+use Rattle.law_any_store.proofs.Memory.{last-published}
 use Rattle.run.specs.declared.calls.Call.{Call}
 use Rattle.run.specs.declared.calls.Call.TheVariants as call
 use Rattle.run.specs.declared.calls.Answer.{Answer}
@@ -40,7 +41,8 @@ use Rattle.c_engine.specs.declared.engine.Published.{Published}
 use Rattle.c_engine.specs.declared.places.Places.{Places}
 use Rattle.c_engine.specs.declared.step.Step.{Step}
 use Rattle.c_engine.specs.declared.step.Step.TheVariants.{Group, Job}
-use Rattle.c_engine.proofs.Calling.{LeadsBy, pump-leads, job-leads}
+use Rattle.c_engine.proofs.Calling.{pump-leads, job-leads}
+use Rattle.c_engine.proofs.Leading.{LeadsBy}
 use Rattle.law_library.specs.Calls.{Reply}
 use Rattle.law_library.specs.Hosts.{Host, Event, Makes, Refuses, HostStep, IsRefusedIn, with_event}
 use Rattle.law_library.specs.Moments.{HostMoment, Holds, WasBefore, IsSettled, IsAtStage, IsHostMoment}
@@ -68,8 +70,8 @@ module _ (e : Event) (m : HostMoment) (new : Host) (is : IsHostMoment m) (areas 
   stage = subst (λ (s : EngineState). IsAtStage s m) settled is.stage
 
   -- the host's areas are those of the moment before
-  as-before : m.host.areas ≡ m.at.store.disk.areas
-  as-before = stage.areas ∙ ap (λ (v : StoreValue). v.disk.areas) (sym is.is.store)
+  as-before : m.host.areas ≡ (disk_of m.at.store).areas
+  as-before = stage.areas ∙ ap (λ (v : StoreValue). (disk_of v).areas) (sym is.is.store)
 
   -- the step's call is not made yet
   abbrev step-moment : World → HostMoment
@@ -83,7 +85,7 @@ module _ (e : Event) (m : HostMoment) (new : Host) (is : IsHostMoment m) (areas 
   shows-last : (o : Option Published) → MatchOption o ⊥ (WasPublished old.store)
       → MatchOption o ⊥ (λ (p : Published). p.last ≡ last m.at.world.machine.published)
   shows-last None never = never
-  shows-last (Some p) was = was.1 ∙ last-is old.store.transactions m.at.world.machine is.is.world.stands.memory
+  shows-last (Some p) was = was.1 ∙ last-published true old.store m.at.world.machine is.is.world.stands
 
   was-before : (w : World) → Follows m.at.world.machine w.machine → KeepsPublished old after → WasBefore (step-moment w) m.at
   was-before w follows keeps =
@@ -117,9 +119,9 @@ module _ (e : Event) (m : HostMoment) (new : Host) (is : IsHostMoment m) (areas 
   }
 
   module _ (c : Call) (a : Answer) (goes : Goes true old.store is.held c a after.store ys) (places : after.places ≡ old.places)
-      (sound : AreSound after.store.disk.areas) where
+      (sound : AreSound (disk_of after.store).areas) where
     -- a step that was done
-    done-step : (taken : Step) (due : Option DeviceCall) → call_of taken ≡ due → LeadsBy old.store.disk.areas due after.store.disk.areas
+    done-step : (taken : Step) (due : Option DeviceCall) → call_of taken ≡ due → LeadsBy (disk_of old.store).areas due (disk_of after.store).areas
         → MatchOption due (KeepsState old after) (λ d. (after.state ≡ Asks taken) × KeepsPublished old after) → HostLink e m new
     done-step taken None is_none leads keeps =
         by-call e m new is is.held ys is.is is.place c a goes
@@ -132,15 +134,15 @@ module _ (e : Event) (m : HostMoment) (new : Host) (is : IsHostMoment m) (areas 
           was = was-before did.0 did.2 keeps.1;
           areas = as-before;
           call = leads.0;
-          due = ap (λ (s : EngineState). due_call (due_in s) after.store.disk.areas) keeps.0
-              ∙ ap (λ (o : Option DeviceCall). due_call o after.store.disk.areas) is_due ∙ leads.1;
+          due = ap (λ (s : EngineState). due_call (due_in s) (disk_of after.store).areas) keeps.0
+              ∙ ap (λ (o : Option DeviceCall). due_call o (disk_of after.store).areas) is_due ∙ leads.1;
           leads = leads.2 ∙ ap (λ (b : Areas). made leads.0 b) (sym stage.areas);
           sound = stage.sound;
           sound_after = sound;
         })
 
     -- and one that was refused
-    refused-step : (b : Bool) → (b ≡ true → after.store.disk.areas ≡ old.store.disk.areas)
+    refused-step : (b : Bool) → (b ≡ true → (disk_of after.store).areas ≡ (disk_of old.store).areas)
         → MatchBool b (KeepsState old after) ((after.state ≡ Failed) × KeepsPublished old after) → HostLink e m new
     refused-step true same keeps =
         by-call e m new is is.held ys is.is is.place c a goes
@@ -151,23 +153,24 @@ module _ (e : Event) (m : HostMoment) (new : Host) (is : IsHostMoment m) (areas 
         at-step did.0 did.2 did.3 places Failed keeps.0 (record
         { before = m.at; was = was-before did.0 did.2 keeps.1; left = λ image l. inl (subst (λ b. LeavesImage b image) as-before l) })
 
-  group-step : (said : Code) (info : Info) (o : Result Did PumpFault) → Pumps true old.store o after.store → AreSound after.store.disk.areas
-      → after.places ≡ old.places → AfterStep (of_group o) old said info after → HostLink e m new
+  group-step : (said : Code) (info : Info) (o : Result Did PumpFault) → Pumps true old.store o after.store → AreSound (disk_of after.store).areas
+      → after.places ≡ old.places → AfterStep (of_group (log_area old.store) o) old said info after → HostLink e m new
   group-step said info (Ok what) takes sound places step =
-      done-step call.Pump (answer.Pump (Ok what)) (pump-goes true old.store after.store is.held (Ok what) (λ told. sound) takes) places sound (Group what)
-      (call_of (Group what)) refl (pump-leads old.store after.store what takes) step.2
+      done-step call.Pump (answer.Pump (Ok what)) (pump-goes true old.store after.store is.held (Ok what) (λ told. sound) takes) places sound (Group
+      (log_area old.store) what)
+      (call_of (Group (log_area old.store) what)) refl (pump-leads old.store after.store what takes) step.2
   group-step said info (Err why) takes sound places step =
       refused-step call.Pump (answer.Pump (Err why)) (pump-goes true old.store after.store is.held (Err why) (λ told. sound) takes) places sound
-      (after.store.disk.made == old.store.disk.made) (pump-same old.store after.store why takes) step.1
+      ((disk_of after.store).made == (disk_of old.store).made) (pump-same old.store after.store why takes) step.1
 
-  job-step : (said : Code) (info : Info) (o : Result JobDid PumpFault) → PumpsJob true old.store o after.store → AreSound after.store.disk.areas
-      → after.places ≡ old.places → AfterStep (of_job o) old said info after → HostLink e m new
+  job-step : (said : Code) (info : Info) (o : Result JobDid PumpFault) → PumpsJob true old.store o after.store → AreSound (disk_of after.store).areas
+      → after.places ≡ old.places → AfterStep (of_job (log_area old.store) o) old said info after → HostLink e m new
   job-step said info (Ok what) takes sound places step =
       done-step call.JobPump (answer.JobPump (Ok what)) (pumped-goes true old.store after.store is.held (Ok what) (λ told. sound) takes) places sound
-      (Job what) (call_of (Job what)) refl (job-leads old.store after.store what takes) step.2
+      (Job (log_area old.store) what) (call_of (Job (log_area old.store) what)) refl (job-leads old.store after.store what takes) step.2
   job-step said info (Err why) takes sound places step =
       refused-step call.JobPump (answer.JobPump (Err why)) (pumped-goes true old.store after.store is.held (Err why) (λ told. sound) takes) places sound
-      (after.store.disk.made == old.store.disk.made) (job-same old.store after.store why takes) step.1
+      ((disk_of after.store).made == (disk_of old.store).made) (job-same old.store after.store why takes) step.1
 
 module _ (e : Event) (m : HostMoment) (new : Host) (is : IsHostMoment m) (areas : new.areas ≡ m.host.areas) (silent : with_event e m.at.done ≡ m.at.done)
   where
@@ -175,8 +178,9 @@ module _ (e : Event) (m : HostMoment) (new : Host) (is : IsHostMoment m) (areas 
     pumps said info done = while-settled e m new is areas silent said _ done (λ settled does. by-way settled does)
       where
         by-way : m.host.engine.state ≡ Settled → ((said ≡ code.NoMemory) × (new.engine ≡ m.host.engine))
-            ⊎ ((o : Result Did PumpFault) × Pumps true m.host.engine.store o new.engine.store × AreSound new.engine.store.disk.areas
-            × (new.engine.places ≡ m.host.engine.places) × AfterStep (of_group o) m.host.engine said info new.engine) → HostLink e m new
+            ⊎ ((o : Result Did PumpFault) × Pumps true m.host.engine.store o new.engine.store × AreSound (disk_of new.engine.store).areas
+            × (new.engine.places ≡ m.host.engine.places) × AfterStep (of_group (log_area m.host.engine.store) o) m.host.engine said info new.engine)
+            → HostLink e m new
         by-way settled (inl none) = stays e m new is none.1 areas silent
         by-way settled (inr takes) = group-step e m new is areas silent settled said info takes.0 takes.1 takes.2 takes.3 takes.4
 
@@ -184,8 +188,9 @@ module _ (e : Event) (m : HostMoment) (new : Host) (is : IsHostMoment m) (areas 
     jobs said info done = while-settled e m new is areas silent said _ done (λ settled does. by-way settled does)
       where
         by-way : m.host.engine.state ≡ Settled → ((said ≡ code.NoMemory) × (new.engine ≡ m.host.engine))
-            ⊎ ((o : Result JobDid PumpFault) × PumpsJob true m.host.engine.store o new.engine.store × AreSound new.engine.store.disk.areas
-            × (new.engine.places ≡ m.host.engine.places) × AfterStep (of_job o) m.host.engine said info new.engine) → HostLink e m new
+            ⊎ ((o : Result JobDid PumpFault) × PumpsJob true m.host.engine.store o new.engine.store × AreSound (disk_of new.engine.store).areas
+            × (new.engine.places ≡ m.host.engine.places) × AfterStep (of_job (log_area m.host.engine.store) o) m.host.engine said info new.engine)
+            → HostLink e m new
         by-way settled (inl none) = stays e m new is none.1 areas silent
         by-way settled (inr takes) = job-step e m new is areas silent settled said info takes.0 takes.1 takes.2 takes.3 takes.4
 
@@ -211,16 +216,16 @@ makes r m new is step = by-state m.host.engine.state refl is.stage step.told ste
         → MatchOption (step_in s) ((r.said ≡ code.None) × (new.engine ≡ m.host.engine))
         (λ taken. (new.engine.store ≡ m.host.engine.store) × (new.engine.places ≡ m.host.engine.places)
         × ((r.said ≡ code.Ok) × (r.info ≡ told_step taken) × (new.engine.state ≡ Settled) × (new.engine.before ≡ None)))
-        → MatchOption (due_call (due_in s) m.host.engine.store.disk.areas) (new.areas ≡ m.host.areas) (λ c. new.areas ≡ made c m.host.areas)
+        → MatchOption (due_call (due_in s) (disk_of m.host.engine.store).areas) (new.areas ≡ m.host.areas) (λ c. new.areas ≡ made c m.host.areas)
         → HostLink (Makes r) m new
     by-state Settled same st told done = stays (Makes r) m new is told.1 done refl
     by-state Failed same st told done = stays (Makes r) m new is told.1 done refl
     by-state (Asks taken) same st told done =
-        let due : due_call (call_of taken) m.host.engine.store.disk.areas ≡ Some st.call =
-        ap (λ (s : EngineState). due_call (due_in s) m.host.engine.store.disk.areas) (sym same) ∙ st.due in
+        let due : due_call (call_of taken) (disk_of m.host.engine.store).areas ≡ Some st.call =
+        ap (λ (s : EngineState). due_call (due_in s) (disk_of m.host.engine.store).areas) (sym same) ∙ st.due in
         let is_made : new.areas ≡ made st.call m.host.areas =
         subst (λ (o : Option HostCall). MatchOption o (new.areas ≡ m.host.areas) (λ c. new.areas ≡ made c m.host.areas)) due done in
-        let now : new.areas ≡ new.engine.store.disk.areas = is_made ∙ sym st.leads ∙ ap (λ (v : StoreValue). v.disk.areas) (sym told.0) in
+        let now : new.areas ≡ (disk_of new.engine.store).areas = is_made ∙ sym st.leads ∙ ap (λ (v : StoreValue). (disk_of v).areas) (sym told.0) in
         record {
           after = made-moment m new;
           host = refl;
@@ -238,7 +243,12 @@ makes r m new is step = by-state m.host.engine.state refl is.stage step.told ste
             place = is.place;
             numbers = subst (λ (p : Places). Holds p is.held is.place) (sym told.1) is.numbers;
             stage = subst (λ (s : EngineState). IsAtStage s (made-moment m new)) (sym told.2.2)
-                (record { none = refl; areas = now; sound = subst AreSound (ap (λ (v : StoreValue). v.disk.areas) (sym told.0) ∙ sym now) st.sound_after });
+                (record {
+                  none = refl;
+                  areas = now;
+                  sound = subst AreSound (ap (λ (v : StoreValue). (disk_of v).areas) (sym told.0)
+                      ∙ sym now) st.sound_after;
+                });
           };
         }
 
@@ -249,16 +259,17 @@ refuses r m new is step = by-state m.host.engine.state refl is.stage step.told s
         → MatchOption (step_in s) ((r.said ≡ code.None) × (new.engine ≡ m.host.engine))
         (λ taken. (new.engine.store ≡ m.host.engine.store) × (new.engine.places ≡ m.host.engine.places)
         × ((r.said ≡ code.Failed) × (new.engine.state ≡ Failed) × (new.engine.before ≡ m.host.engine.before)))
-        → MatchOption (due_call (due_in s) m.host.engine.store.disk.areas) (new.areas ≡ m.host.areas) (λ c. IsRefusedIn c m.host.areas new.areas)
+        → MatchOption (due_call (due_in s) (disk_of m.host.engine.store).areas) (new.areas ≡ m.host.areas) (λ c. IsRefusedIn c m.host.areas new.areas)
         → HostLink (Refuses r) m new
     by-state Settled same st told done = stays (Refuses r) m new is told.1 done refl
     by-state Failed same st told done = stays (Refuses r) m new is told.1 done refl
     by-state (Asks taken) same st told done =
-        let due : due_call (call_of taken) m.host.engine.store.disk.areas ≡ Some st.call =
-        ap (λ (s : EngineState). due_call (due_in s) m.host.engine.store.disk.areas) (sym same) ∙ st.due in
+        let due : due_call (call_of taken) (disk_of m.host.engine.store).areas ≡ Some st.call =
+        ap (λ (s : EngineState). due_call (due_in s) (disk_of m.host.engine.store).areas) (sym same) ∙ st.due in
         let in_part : IsRefusedIn st.call m.host.areas new.areas =
         subst (λ (o : Option HostCall). MatchOption o (new.areas ≡ m.host.areas) (λ c. IsRefusedIn c m.host.areas new.areas)) due done in
-        let store_areas : made st.call m.host.areas ≡ new.engine.store.disk.areas = sym st.leads ∙ ap (λ (v : StoreValue). v.disk.areas) (sym told.0) in
+        let store_areas : made st.call m.host.areas ≡ (disk_of new.engine.store).areas = sym st.leads
+        ∙ ap (λ (v : StoreValue). (disk_of v).areas) (sym told.0) in
         record {
           after = refused-moment m new;
           host = refl;
@@ -287,7 +298,7 @@ refuses r m new is step = by-state m.host.engine.state refl is.stage step.told s
                 shown = subst (λ (o : Option Published). MatchOption o ⊥ (λ (p : Published). p.last ≡ last st.before.world.machine.published)) (sym told.2.2)
                     st.was.shown;
               };
-              left = λ image l. subst (λ (a : Areas). LeavesWithin st.before.store.disk.areas a image) store_areas
+              left = λ image l. subst (λ (a : Areas). LeavesWithin (disk_of st.before.store).areas a image) store_areas
                   (subst (λ (a : Areas). LeavesWithin a (made st.call m.host.areas) image) st.areas
                   (refused-leaves st.call m.host.areas new.areas st.sound in_part image l));
             });

@@ -8,6 +8,7 @@ use Rattle.disk.specs.declared.area.Area.{Area}
 use Rattle.disk.specs.declared.area.Area.TheVariants.{Status, Heap, Archive}
 use Rattle.disk.proofs.Stops.{Tears-written}
 use Rattle.disk.proofs.Within.{within-write}
+use Rattle.any_store.specs.Values.{disk_of}
 use Rattle.run.specs.Moments.{Moment}
 use Rattle.run.specs.Promise.{Survives}
 use Rattle.run.proofs.Survival.{moment-leaves}
@@ -64,19 +65,19 @@ refused-leaves (host.Syncs area) old new sound same image left = inl (subst (λ 
 -- ---- moments
 
 -- the store within survives
-at-survives : (m : HostMoment) (is : IsHostMoment m) (image : Image) → LeavesImage m.host.engine.store.disk.areas image → HostSurvives m image
+at-survives : (m : HostMoment) (is : IsHostMoment m) (image : Image) → LeavesImage (disk_of m.host.engine.store).areas image → HostSurvives m image
 at-survives m is image left =
-    inl (moment-leaves true m.host.engine.store is.held m.at is.is refl image (subst (λ v. LeavesImage v.disk.areas image) (sym is.is.store) left))
+    inl (moment-leaves true m.host.engine.store is.held m.at is.is refl image (subst (λ v. LeavesImage (disk_of v).areas image) (sym is.is.store) left))
 
 -- and so does what it was before its step
-was-survives : (m : HostMoment) (b : Moment) → WasBefore m b → (image : Image) → LeavesImage b.store.disk.areas image → HostSurvives m image
+was-survives : (m : HostMoment) (b : Moment) → WasBefore m b → (image : Image) → LeavesImage (disk_of b.store).areas image → HostSurvives m image
 was-survives m b was image left =
     inr (subst (λ (o : Option Moment). MatchOption o ⊥ (λ before. Survives true before image)) (sym was.is_before)
     (moment-leaves true b.store was.held b was.was refl image left))
 
 -- within the call of a step
 within-survives : (m : HostMoment) (is : IsHostMoment m) (b : Moment) → WasBefore m b → (image : Image)
-    → LeavesWithin b.store.disk.areas m.host.engine.store.disk.areas image → HostSurvives m image
+    → LeavesWithin (disk_of b.store).areas (disk_of m.host.engine.store).areas image → HostSurvives m image
 within-survives m is b was image (inl left) = was-survives m b was image left
 within-survives m is b was image (inr left) = at-survives m is image left
 
@@ -95,10 +96,10 @@ due-within m is st image (inl left) = was-survives m st.before st.was image (sub
 due-within m is st image (inr left) = at-survives m is image (subst (λ (a : Areas). LeavesImage a image) (sym st.leads) left)
 
 within-at : (s : EngineState) (m : HostMoment) → m.host.engine.state ≡ s → IsHostMoment m → IsAtStage s m
-    → WithinCall m (due_call (due_in m.host.engine.state) m.host.engine.store.disk.areas)
-within-at Settled m same is st = subst (λ (x : EngineState). WithinCall m (due_call (due_in x) m.host.engine.store.disk.areas)) (sym same) tt
+    → WithinCall m (due_call (due_in m.host.engine.state) (disk_of m.host.engine.store).areas)
+within-at Settled m same is st = subst (λ (x : EngineState). WithinCall m (due_call (due_in x) (disk_of m.host.engine.store).areas)) (sym same) tt
 within-at (Asks step) m same is st = subst (λ (o : Option HostCall). WithinCall m o) (sym st.due) (λ image left. due-within m is st image left)
-within-at Failed m same is st = subst (λ (x : EngineState). WithinCall m (due_call (due_in x) m.host.engine.store.disk.areas)) (sym same) tt
+within-at Failed m same is st = subst (λ (x : EngineState). WithinCall m (due_call (due_in x) (disk_of m.host.engine.store).areas)) (sym same) tt
 
 pub moment-keeps : MomentLeaves
 moment-keeps m is = (leaves-at m.host.engine.state m is is.stage, within-at m.host.engine.state m refl is is.stage)

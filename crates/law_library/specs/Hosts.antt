@@ -2,6 +2,7 @@
 use Rattle.std.specs.Prelude.{ℕ, ◌≡◌, true, false, List, [], ◌∷◌, length, Option, MatchOption}
 use Rattle.disk.specs.Areas.{Areas}
 use Rattle.disk.specs.Calls.{MadeInPart}
+use Rattle.any_store.specs.Values.{disk_of}
 use Rattle.c_engine.specs.Engines.{HasCalled, due_in, due_call}
 use Rattle.c_engine.specs.HostCalls.{HostCall, made, Writes, Syncs}
 use Rattle.c_engine.specs.declared.engine.Engine.{Engine}
@@ -22,7 +23,7 @@ pub data Event : Type 0 where
 
 -- the device call that is due, which ts_call tells
 abbrev pub due_of : Engine → Option HostCall
-due_of e = due_call (due_in e.state) e.store.disk.areas
+due_of e = due_call (due_in e.state) (disk_of e.store).areas
 
 -- a refused call has changed nothing, or a write was made in part
 abbrev pub IsRefusedIn : HostCall → Areas → Areas → Type 0

@@ -4,6 +4,7 @@ use Rattle.disk.specs.Areas.{AreSound, Image, LeavesImage}
 use Rattle.disk.specs.Within.{LeavesWithin}
 use Rattle.history.specs.Histories.{History, last}
 use Rattle.law_image.specs.Values.{Value}
+use Rattle.any_store.specs.Values.{disk_of}
 use Rattle.run.specs.declared.held.Held.{Held}
 use Rattle.run.specs.declared.held.Held.TheVariants as held
 use Rattle.run.specs.Moments.{Moment, IsAtMoment}
@@ -54,7 +55,7 @@ HostLeaves m = (image : Image) → LeavesImage m.host.areas image → HostSurviv
 
 -- and so does whatever it may leave while the host makes the device call that is due
 abbrev pub HostLeavesWithin : HostMoment → Type 0
-HostLeavesWithin m = MatchOption (due_call (due_in m.host.engine.state) m.host.engine.store.disk.areas) (Unit {0})
+HostLeavesWithin m = MatchOption (due_call (due_in m.host.engine.state) (disk_of m.host.engine.store).areas) (Unit {0})
     (λ call. (image : Image) → LeavesWithin m.host.areas (made call m.host.areas) image → HostSurvives m image)
 
 -- ---- what holds at each
@@ -73,25 +74,25 @@ pub record WasBefore (m : HostMoment) (before : Moment) : Type 0 where
 -- the host has made all that the store has
 pub record IsSettled (m : HostMoment) : Type 0 where
   pub none : m.before ≡ None
-  pub areas : m.host.areas ≡ m.host.engine.store.disk.areas
+  pub areas : m.host.areas ≡ (disk_of m.host.engine.store).areas
   pub sound : AreSound m.host.areas
 
 -- a device call is due, which leads from the host's areas to the store's
 pub record IsDue (m : HostMoment) : Type 0 where
   pub before : Moment
   pub was : WasBefore m before
-  pub areas : m.host.areas ≡ before.store.disk.areas
+  pub areas : m.host.areas ≡ (disk_of before.store).areas
   pub call : HostCall
-  pub due : due_call (due_in m.host.engine.state) m.host.engine.store.disk.areas ≡ Some call
-  pub leads : m.host.engine.store.disk.areas ≡ made call m.host.areas
+  pub due : due_call (due_in m.host.engine.state) (disk_of m.host.engine.store).areas ≡ Some call
+  pub leads : (disk_of m.host.engine.store).areas ≡ made call m.host.areas
   pub sound : AreSound m.host.areas
-  pub sound_after : AreSound m.host.engine.store.disk.areas
+  pub sound_after : AreSound (disk_of m.host.engine.store).areas
 
 -- one was refused: a stop leaves what it might have left within it
 pub record HasFailed (m : HostMoment) : Type 0 where
   pub before : Moment
   pub was : WasBefore m before
-  pub left : (image : Image) → LeavesImage m.host.areas image → LeavesWithin before.store.disk.areas m.host.engine.store.disk.areas image
+  pub left : (image : Image) → LeavesImage m.host.areas image → LeavesWithin (disk_of before.store).areas (disk_of m.host.engine.store).areas image
 
 -- by how the engine stands
 abbrev pub IsAtStage : EngineState → HostMoment → Type 0

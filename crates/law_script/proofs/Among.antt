@@ -3,7 +3,7 @@ use Rattle.std.proofs.Common.{◌≡◌, ◌≢◌, ℕ, zero, suc, List, [], �
 use Rattle.std.specs.Prelude.{slice_get, slice_set}
 use Rattle.history.specs.Histories.{History}
 use Rattle.law_image.specs.Values.{Value}
-use Rattle.group.specs.Values.{TransactionsValue}
+use Rattle.commits.specs.Values.{CommitsValue}
 use Rattle.run.specs.declared.held.Held.{Held}
 use Rattle.run.specs.declared.held.Held.TheVariants as held
 use Rattle.run.specs.Places.{Place, place_at, HasNoView, ShowsAs, ArePlaces}
@@ -141,13 +141,13 @@ places-length [] = refl
 places-length (y ∷ ys) = ap suc (places-length ys)
 
 -- a place other than a view's is told by what it holds
-shows-own : (v : TransactionsValue) (h : History Value) (x : Held) (p : Place) → HasNoView (Some x) → ShowsAs v h x p → ShowsAs v h x (place_of x)
+shows-own : (v : CommitsValue) (h : History Value) (x : Held) (p : Place) → HasNoView (Some x) → ShowsAs v h x p → ShowsAs v h x (place_of x)
 shows-own v h held.Nothing p no_view shows = tt
 shows-own v h (held.Transaction t) p no_view shows = (own_transaction v h t p shows, refl, refl)
 shows-own v h (held.Ticket k) p no_view shows = (own_ticket v h k p shows, refl)
 shows-own v h (held.View w) p no_view shows = absurd no_view
 
-pub renumbered : (v : TransactionsValue) (h : History Value) (xs : List Held) (ps : List Place) (ys : List Held)
+pub renumbered : (v : CommitsValue) (h : History Value) (xs : List Held) (ps : List Place) (ys : List Held)
     → ((j : ℕ) (y : Held) → slice_get ys j ≡ Some y → HasNoView (Some y)) → Among ys xs → ArePlaces v h xs ps → ArePlaces v h ys (map place_of ys)
 renumbered v h xs ps ys no_views among are = record {
   many = places-length ys;

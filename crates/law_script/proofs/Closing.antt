@@ -7,19 +7,20 @@ use Rattle.disk.specs.Calls.{DiskState}
 use Rattle.history.specs.Floors.{Raising, raised}
 use Rattle.history.specs.Fronts.{OnFront, OnOpened, OnRaised, with_group}
 use Rattle.history.specs.Histories.{History}
-use Rattle.history.specs.Machine.{Machine, Gate, Shut, Due, MayBeOpen, OfGroup, OfFloor, opened}
+use Rattle.history.specs.Machine.{Machine, Gate, Shut, Due, MayBeOpen, OfGroup, OfFloor}
 use Rattle.law_image.specs.Values.{Value}
 use Rattle.recovery.specs.declared.fault.OpenFault.{OpenFault}
-use Rattle.law_opening.specs.Laws.{IsHeaderLeftBy}
-use Rattle.law_opening.proofs.Opened.{open-header, open-stands}
-use Rattle.law_opening.proofs.Reopened.{closed-left, left-by, reopen-refuses}
+use Rattle.law_any_store.specs.Standing.{AnyHeader, IsImageOf, Stands, opened_as}
+use Rattle.law_any_store.specs.Opened.{IsHeaderLeftBy}
+use Rattle.law_any_store.proofs.Few.{abort-few}
+use Rattle.law_any_store.proofs.Opened.{open-header, open-stands}
+use Rattle.law_any_store.proofs.Reopened.{closed-left, leaves-by, opens-left, refuses-left, reopen-refuses}
 use Rattle.session.specs.Session.{State, AbortsAll, Closes, Reopens, DoesNotReopen, fresh}
 use Rattle.session.specs.declared.names.OpenName.{OpenName}
 use Rattle.session.specs.declared.names.TicketName.{TicketName}
 use Rattle.session.specs.declared.reply.Reply.{Reply}
-use Rattle.law_refinement.specs.OnDisk.{IsImageOf}
-use Rattle.law_refinement.specs.Stands.{Stands}
-use Rattle.store.specs.Values.{StoreValue}
+use Rattle.any_store.specs.declared.engine.Engine.TheVariants.{Slots, Log}
+use Rattle.any_store.specs.Values.{StoreValue, disk_of}
 use Rattle.run.specs.declared.calls.Call.TheVariants as call
 use Rattle.run.specs.declared.calls.Answer.TheVariants as answer
 use Rattle.run.specs.declared.held.Held.{Held}
@@ -35,7 +36,7 @@ use Rattle.law_script.specs.ScriptMoments.{ScriptMoment, held_of, transaction_of
 use Rattle.law_script.specs.Keeps.{Closed, KeepsByOpening, KeepsUnopened}
 use Rattle.law_script.proofs.Among.{Among, all, spent-first}
 use Rattle.law_script.proofs.Names.{held_in}
-use Rattle.law_script.proofs.Leading.{IsScriptMoment, same-few}
+use Rattle.law_script.proofs.Leading.{IsScriptMoment}
 
 -- ---- what is open is aborted
 
@@ -66,7 +67,7 @@ abort-all tells (o ∷ os) ks v v' xs at is among aborts =
     let ys : List Held = slice_set xs i held.Nothing ++ held.Nothing ∷ [] in
     let did =
     links tells v aborts.0 xs ys (call.Abort i) answer.Abort at is (abort-goes tells v aborts.0 xs i o.txn here aborts.1 aborts.2)
-    (same-few v aborts.0 aborts.2.rest.disk) in
+    (abort-few v aborts.0 _ aborts.2) in
     let rest = abort-all tells os ks aborts.0 v' ys did.0 did.2 (spent-first (transaction_of o) (held_in os ks) xs held.Nothing held.Nothing among) aborts.3 in
     record {
       places = i ∷ rest.places;
@@ -84,7 +85,7 @@ pub record ClosedAt (tells : Bool) (m : ScriptMoment) (given : DiskState) : Type
   pub store : StoreValue
   pub held : List Held
   pub is : IsAtMoment tells store held closed.end
-  pub same : given ≡ store.disk
+  pub same : given ≡ disk_of store
 
 pub close-keeps : (tells : Bool) (m : ScriptMoment) → IsScriptMoment tells m → (given : DiskState) → Closes m.state given → ClosedAt tells m given
 close-keeps tells m is given closes =
@@ -95,7 +96,7 @@ close-keeps tells m is given closes =
         each = did.each;
         end = did.end;
         promises = record { first = moment-leaves tells m.state.store (held_of m.state) (moment_of m) is; chain = did.chain };
-        disk = ap (λ (s : StoreValue). s.disk) did.is.store ∙ sym closes.2;
+        disk = ap disk_of did.is.store ∙ sym closes.2;
         done = did.done;
       };
       store = closes.0;
@@ -131,13 +132,18 @@ pub record OpensTo (tells : Bool) (before : ScriptMoment) (state : State) : Type
   pub keeps : KeepsByOpening tells before after
   pub is : IsScriptMoment tells after
 
-opened-moment : (tells : Bool) (v : StoreValue) (h : History Value) (floors : ℕ → ℕ) (done : List ℕ) → Stands tells v (opened h floors)
-    → AllByRecursion (HasCommitAt h) done → IsScriptMoment tells (record { state = fresh v; machine = opened h floors; done = done })
-opened-moment tells v h floors done stands has = record { store = refl; places = refl; world = started-world tells v (opened h floors) stands; published = has }
+opened-moment : (tells : Bool) (v : StoreValue) (machine : Machine Value) (done : List ℕ) → Stands tells v machine
+    → AllByRecursion (HasCommitAt machine.published) done → IsScriptMoment tells (record { state = fresh v; machine = machine; done = done })
+opened-moment tells v machine done stands has = record { store = refl; places = refl; world = started-world tells v machine stands; published = has }
 
-pub first-script : (tells : Bool) (v : StoreValue) (h : History Value) (floors : ℕ → ℕ) → Stands tells v (opened h floors)
-    → IsScriptMoment tells (record { state = fresh v; machine = opened h floors; done = [] })
-first-script tells v h floors stands = opened-moment tells v h floors [] stands tt
+pub first-script : (tells : Bool) (v : StoreValue) (machine : Machine Value) → Stands tells v machine
+    → IsScriptMoment tells (record { state = fresh v; machine = machine; done = [] })
+first-script tells v machine stands = opened-moment tells v machine [] stands tt
+
+-- the machine on an image has published the history that the image stands for
+on-published : (header : AnyHeader) (h : History Value) (floors : ℕ → ℕ) → (opened_as header h floors).published ≡ h
+on-published (Slots header) h floors = refl
+on-published (Log roots) h floors = refl
 
 pub reopen-keeps : (tells : Bool) → IsTrue tells → (m : ScriptMoment) → IsScriptMoment tells m → (r : Reply) (new : State) → Reopens tells m.state r new
     → OpensTo tells m new
@@ -145,39 +151,40 @@ reopen-keeps tells told m is r new reopens =
     let c = close-keeps tells m is reopens.given reopens.closes in
     let given = reopens.given in
     let machine = c.closed.end.world.machine in
-    let left : LeavesImage c.store.disk.areas (image_of given.areas) = closed-left c.store given c.same (reopens.sound told) in
-    let on = (c.is.world.stands.disk told).leaves (image_of given.areas) left in
+    let left : LeavesImage (disk_of c.store).areas (image_of given.areas) = closed-left c.store given c.same (reopens.sound told) in
+    let on = leaves-by tells c.store machine c.is.world.stands told (image_of given.areas) left in
     let published : AllByRecursion (HasCommitAt machine.published) m.done =
     subst (λ (times : List ℕ). AllByRecursion (HasCommitAt machine.published) times) c.closed.done c.is.published in
-    at-front (IsImageOf on.found (image_of given.areas)) machine m.done published (λ h floors image has into.
-    let stands = open-stands tells given 1 reopens.opened on.found h floors reopens.opens told (reopens.sound told) image in
-    let after : ScriptMoment = record { state = fresh reopens.opened; machine = opened h floors; done = m.done } in
-    let at = opened-moment tells reopens.opened h floors m.done stands has in
+    at-front (IsImageOf on.0 (image_of given.areas)) machine m.done published (λ h floors image has into.
+    let to = opened_as on.0 h floors in
+    let stands = open-stands tells given 1 reopens.opened on.0 h floors reopens.opens told (reopens.sound told) image in
+    let after : ScriptMoment = record { state = fresh reopens.opened; machine = to; done = m.done } in
+    let at = opened-moment tells reopens.opened to m.done stands
+    (subst (λ (published : History Value). AllByRecursion (HasCommitAt published) m.done) (sym (on-published on.0 h floors)) has) in
     record {
       after = after;
       is_state = sym reopens.names;
       keeps = record {
         given = given;
         closed = c.closed;
-        stops = reopens.opens.left told;
+        stops = opens-left tells given 1 reopens.opened reopens.opens told;
         header = (
-          on.found,
-          subst (λ (s : StoreValue). IsHeaderLeftBy s on.found) (sym c.is.store)
-              (left-by c.store machine (c.is.world.stands.disk told) on.found on.is_found),
-          open-header tells given 1 reopens.opened on.found h floors reopens.opens told image,
+          on.0,
+          subst (λ (s : StoreValue). IsHeaderLeftBy s on.0) (sym c.is.store) on.1,
+          open-header tells given 1 reopens.opened on.0 h floors reopens.opens told image,
         );
-        front = into (λ h' floors'. (opened h floors ≡ opened h' floors') × AllByRecursion (HasCommitAt h') m.done) (refl, has);
+        front = into (λ h' floors'. (to ≡ opened_as on.0 h' floors') × AllByRecursion (HasCommitAt h') m.done) (refl, has);
         done = refl;
         leaves = moment-leaves tells reopens.opened [] (moment_of after) at;
       };
       is = at;
     })
-    on.front
+    on.2
 
 pub unopened-keeps : (tells : Bool) → IsTrue tells → (m : ScriptMoment) → IsScriptMoment tells m → (why : OpenFault) (disk : DiskState)
     → DoesNotReopen tells m.state why disk → KeepsUnopened tells m why disk
 unopened-keeps tells told m is why disk refused =
     let c = close-keeps tells m is refused.given refused.closes in
-    let left : LeavesImage c.store.disk.areas (image_of refused.given.areas) = closed-left c.store refused.given c.same (refused.sound told) in
+    let left : LeavesImage (disk_of c.store).areas (image_of refused.given.areas) = closed-left c.store refused.given c.same (refused.sound told) in
     let said = reopen-refuses tells c.store c.closed.end.world.machine refused.given disk why c.is.world.stands told left refused.refuses in
-    record { given = refused.given; closed = c.closed; fault = said.0; stops = refused.refuses.left told }
+    record { given = refused.given; closed = c.closed; fault = said.0; stops = refuses-left tells refused.given disk why refused.refuses told }

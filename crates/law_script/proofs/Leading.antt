@@ -4,7 +4,8 @@ use Rattle.script.specs.declared.line.Line.{Line}
 use Rattle.session.specs.Session.{State}
 use Rattle.session.specs.Session as session
 use Rattle.session.specs.declared.reply.Reply.{Reply}
-use Rattle.store.specs.Values.{StoreValue}
+use Rattle.any_store.specs.Values.{StoreValue, is_log, commits_of, disk_of}
+use Rattle.law_any_store.specs.Names.{names_from}
 use Rattle.run.specs.declared.calls.Call.{Call}
 use Rattle.run.specs.declared.calls.Answer.{Answer}
 use Rattle.run.specs.declared.held.Held.{Held}
@@ -43,10 +44,17 @@ pub settled : (tells : Bool) (v : StoreValue) (xs : List Held) (end : Moment) (n
 settled tells v xs end new at same among = record {
   store = refl;
   places = refl;
-  world = subst (λ (s : StoreValue). IsWorld tells s (held_of new) (record { machine = end.world.machine; places = map place_of (held_of new) })) (sym same)
+  world = subst (λ (s : StoreValue). IsWorld tells s (held_of new) (record {
+        machine = end.world.machine;
+        in_heap = is_log s;
+        names_from = names_from s;
+        places = map place_of (held_of new);
+      })) (sym same)
       (record {
         stands = at.world.stands;
-        places = renumbered v.transactions end.world.machine.published xs end.world.places (held_of new) (held-no_view new.opened new.tickets) among
+        layout = refl;
+        names = refl;
+        places = renumbered (commits_of v) end.world.machine.published xs end.world.places (held_of new) (held-no_view new.opened new.tickets) among
             at.world.places;
         views = record { each = λ i x there. read-plain tells v x (held-no_view new.opened new.tickets i x there) (place_at (map place_of (held_of new)) i) };
       });
@@ -75,7 +83,7 @@ by-chain tells m is l r made says end chain v xs at acknowledges new same among 
 
 pub by-call : (tells : Bool) (m : ScriptMoment) → IsScriptMoment tells m → (l : Line) (r : Reply) (c : Call) (a : Answer) → Says m l (one_call c a) r
     → with_answer a m.done ≡ with_reply r m.done
-    → (v : StoreValue) (ys : List Held) → Goes tells m.state.store (held_of m.state) c a v ys → v.disk.made ≤ m.state.store.disk.made + 1 → (new : State)
+    → (v : StoreValue) (ys : List Held) → Goes tells m.state.store (held_of m.state) c a v ys → (disk_of v).made ≤ (disk_of m.state.store).made + 1 → (new : State)
     → new.store ≡ v → Among (held_of new) ys → LeadsTo tells l r m new
 by-call tells m is l r c a says acknowledges v ys goes few new same among =
     let did = links tells m.state.store v (held_of m.state) ys c a (moment_of m) is goes few in
@@ -102,5 +110,6 @@ pub by-name : (tells : Bool) (m : ScriptMoment) → IsScriptMoment tells m
 by-name tells m is l r new None Made Step says step some = by-refusal tells m is l r new (says no_call) step
 by-name tells m is l r new (Some i) Made Step says step some = some i says step
 
-pub same-few : (v v' : StoreValue) → v'.disk ≡ v.disk → v'.disk.made ≤ v.disk.made + 1
-same-few v v' same = let made : v'.disk.made ≡ v.disk.made = ap (λ d. d.made) same in omega (arith, made)
+-- nothing is called
+pub same-few : (v : StoreValue) → (disk_of v).made ≤ (disk_of v).made + 1
+same-few v = omega arith

@@ -21,8 +21,9 @@ use Rattle.session.specs.Texts.{Text}
 use Rattle.session.specs.declared.fault.Fault.TheVariants as fault
 use Rattle.session.specs.declared.reply.Reply.{Reply}
 use Rattle.session.specs.declared.reply.Reply.TheVariants as reply
-use Rattle.store.specs.Values.{StoreValue}
-use Rattle.store.specs.Calls as stores
+use Rattle.any_store.specs.Values.{StoreValue, disk_of}
+use Rattle.any_store.specs.Queries as stores
+use Rattle.law_any_store.proofs.Few.{pump-few, start-few, reclaim-few, floor-few, grow-few, pumped-few, at-few, scan_at-few, between-few}
 use Rattle.store.specs.declared.job.JobDid.{JobDid}
 use Rattle.store.specs.declared.job.JobDid.TheVariants as job_did
 use Rattle.store.specs.declared.job.StartFault.{StartFault}
@@ -35,11 +36,11 @@ use Rattle.run.specs.declared.held.Held.TheVariants as held
 use Rattle.run.specs.Moments.{Moment, IsAtMoment, with_answer}
 use Rattle.run.specs.Promise.{Chain}
 use Rattle.run.specs.Runs.{Goes}
-use Rattle.run.proofs.Archiving.{start-goes, reclaim-goes, start-few, reclaim-few, pumped-goes, pumped-few}
-use Rattle.run.proofs.FloorCalls.{floor-goes, floor-few}
-use Rattle.run.proofs.GrowCalls.{grow-goes, grow-few}
-use Rattle.run.proofs.Pumping.{pump-goes, pump-few}
-use Rattle.run.proofs.Views.{asked-few, view-goes, at-goes, scan_at-goes, between-goes, end-goes, times-goes}
+use Rattle.run.proofs.Archiving.{start-goes, reclaim-goes, pumped-goes}
+use Rattle.run.proofs.FloorCalls.{floor-goes}
+use Rattle.run.proofs.GrowCalls.{grow-goes}
+use Rattle.run.proofs.Pumping.{pump-goes}
+use Rattle.run.proofs.Views.{view-goes, at-goes, scan_at-goes, between-goes, end-goes, times-goes}
 use Rattle.run.proofs.Linking.{links}
 use Rattle.law_script.specs.ScriptMoments.{ScriptMoment, held_of, moment_of, with_reply}
 use Rattle.law_script.specs.Says.{Exchange, Says, LacksView, by_view}
@@ -263,7 +264,7 @@ lacks-view : (tells : Bool) (m : ScriptMoment) → IsScriptMoment tells m → (l
 lacks-view tells m is l r new says replied same names =
     by-call tells m is l r call.View (answer.View (Err alloc_error)) (says _ (alloc_error, refl, replied)) (silent r _ m.done replied refl)
     m.state.store (held_of m.state ++ held.Nothing
-    ∷ []) (view-goes tells m.state.store (held_of m.state) (Err alloc_error) tt) (same-few m.state.store m.state.store refl) new same
+    ∷ []) (view-goes tells m.state.store (held_of m.state) (Err alloc_error) tt) (same-few m.state.store) new same
     (kept-more m new names)
 
 -- a view is taken, asked and ended
@@ -271,7 +272,7 @@ by-a-view : (tells : Bool) (m : ScriptMoment) → IsScriptMoment tells m → (l 
     → Says m l (by_view (length (held_of m.state)) c a) r → m.done ≡ with_reply r m.done
     → with_answer a m.done ≡ m.done → stores.IsViewOf m.state.store view
     → Goes tells m.state.store (held_of m.state ++ held.View view ∷ []) c a new.store ((held_of m.state ++ held.View view ∷ []) ++ held.Nothing ∷ [])
-    → new.store.disk.made ≤ m.state.store.disk.made + 1 → KeepsNames m.state new → LeadsTo tells l r m new
+    → (disk_of new.store).made ≤ (disk_of m.state.store).made + 1 → KeepsNames m.state new → LeadsTo tells l r m new
 by-a-view tells m is l r new view c a says acknowledges quiet of goes asked names =
     let v = m.state.store in
     let after = new.store in
@@ -281,11 +282,11 @@ by-a-view tells m is l r new view c a says acknowledges quiet of goes asked name
     let zs : List Held = ys ++ held.Nothing ∷ [] in
     let ws : List Held = slice_set zs n held.Nothing ++ held.Nothing ∷ [] in
     let there = get-front ys n (held.View view) held.Nothing (get-end xs (held.View view)) in
-    let few = same-few v v refl in
+    let few = same-few v in
     let one = links tells v v xs ys call.View (answer.View (Ok tt)) (moment_of m) is (view-goes tells v xs (Ok view) of) few in
     let two = links tells v after ys zs c a one.0 one.2 goes asked in
     let three =
-    links tells after after zs ws (call.End n) answer.End two.0 two.2 (end-goes tells after after zs n view there refl) (same-few after after refl) in
+    links tells after after zs ws (call.End n) answer.End two.0 two.2 (end-goes tells after after zs n view there refl) (same-few after) in
     let done_one : one.0.done ≡ m.done = one.1.acknowledges in
     let done_two : two.0.done ≡ m.done = two.1.acknowledges ∙ ap (λ (times : List ℕ). with_answer a times) done_one ∙ quiet in
     by-chain tells m is l r (by_view n c a) says three.0 (one.0, one.1, (two.0, two.1, (three.0, three.1, refl))) after ws three.2 (three.1.acknowledges
@@ -323,7 +324,7 @@ at-line tells m is key time r new step names = by-taken step.1.0 step.1.1
         )) (silent r _ m.done step.2 (found-silent step.0 m.done)) refl asks.0
         (at-goes tells m.state.store new.store (xs ++ held.View view
         ∷ []) (length xs) key time view step.0 (get-end xs (held.View view)) asks.1)
-        (asked-few tells m.state.store new.store view time _ _ _ _ step.0 asks.1) names
+        (at-few tells m.state.store new.store view key time step.0 asks.1) names
 
 pub scan-line : (tells : Bool) (m : ScriptMoment) → IsScriptMoment tells m → (relation time : ℕ) (r : Reply) (new : State)
     → ScanStep tells m.state.store relation time r new.store → KeepsNames m.state new → LeadsTo tells (line.Scan relation time) r m new
@@ -345,7 +346,7 @@ scan-line tells m is relation time r new step names = by-taken step.1.0 step.1.1
         )) (silent r _ m.done step.2 (records-silent step.0 m.done)) refl asks.0
         (scan_at-goes tells m.state.store new.store (xs ++ held.View view
         ∷ []) (length xs) relation time view step.0 (get-end xs (held.View view)) asks.1)
-        (asked-few tells m.state.store new.store view time _ _ _ _ step.0 asks.1) names
+        (scan_at-few tells m.state.store new.store view relation time step.0 asks.1) names
 
 pub between-line : (tells : Bool) (m : ScriptMoment) → IsScriptMoment tells m → (key : Key) (a b : ℕ) (r : Reply) (new : State)
     → BetweenStep tells m.state.store key a b r new.store → KeepsNames m.state new → LeadsTo tells (line.Between key a b) r m new
@@ -365,7 +366,7 @@ between-line tells m is key a b r new step names = by-taken step.1.0 step.1.1
           (refl, step.2),
         )) (silent r _ m.done step.2 (rows-silent step.0 m.done)) refl asks.0
         (between-goes tells m.state.store new.store (xs ++ held.View view
-        ∷ []) (length xs) key a b view step.0 (get-end xs (held.View view)) asks.1) (asked-few tells m.state.store new.store view a _ _ _ _ step.0 asks.1)
+        ∷ []) (length xs) key a b view step.0 (get-end xs (held.View view)) asks.1) (between-few tells m.state.store new.store view key a b step.0 asks.1)
         names
 
 -- ---- labels
@@ -385,14 +386,14 @@ times-line tells m is label r new step same = subst (λ (s : State). LeadsTo tel
           is_refused,
         ) (silent r _ m.done is_refused refl)
         m.state.store (xs ++ held.Nothing
-        ∷ []) (times-goes tells m.state.store xs label (Err alloc_error) tt) (same-few m.state.store m.state.store refl) m.state refl
+        ∷ []) (times-goes tells m.state.store xs label (Err alloc_error) tt) (same-few m.state.store) m.state refl
         (front-of xs (held.Nothing ∷ []))
 
     by-reply : (r : Reply) → TimesStep m.state.store label r → LeadsTo tells (line.Times label) r m m.state
     by-reply (reply.Times times) of =
         by-call tells m is (line.Times label) (reply.Times times) (call.TimesOf label) (answer.TimesOf (Ok times)) (Ok times, refl, refl) refl
         m.state.store (xs ++ held.Nothing
-        ∷ []) (times-goes tells m.state.store xs label (Ok times) of) (same-few m.state.store m.state.store refl) m.state refl (front-of xs (held.Nothing
+        ∷ []) (times-goes tells m.state.store xs label (Ok times) of) (same-few m.state.store) m.state refl (front-of xs (held.Nothing
         ∷ []))
     by-reply (reply.Snapshot x) of = refused _ of
     by-reply reply.Ok of = refused _ of

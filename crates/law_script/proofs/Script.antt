@@ -3,7 +3,8 @@ use Rattle.std.proofs.Common.{◌≡◌, ℕ, ◌+◌, ◌++◌, ◌⊎◌, inl,
 use Rattle.std.proofs.Common.{refl, sym, subst}
 use Rattle.disk.specs.Calls.{DiskState}
 use Rattle.recovery.specs.declared.fault.OpenFault.{OpenFault}
-use Rattle.law_opening.proofs.Opened.{open-stands}
+use Rattle.law_any_store.specs.Standing.{opened_as}
+use Rattle.law_any_store.proofs.Opened.{open-stands}
 use Rattle.script.specs.Lines.{said}
 use Rattle.script.specs.declared.line.Line.{Line}
 use Rattle.script.specs.declared.line.Line.TheVariants as line
@@ -171,4 +172,4 @@ script-keeps tells told n m is (text ∷ rest) out end (inr run) =
 
 pub promise : ScriptPromise
 promise tells disk store header h floors n lines out end told sound is opens run =
-    script-keeps tells told n _ (first-script tells store h floors (open-stands tells disk 1 store header h floors opens told sound is)) lines out end run
+    script-keeps tells told n _ (first-script tells store (opened_as header h floors) (open-stands tells disk 1 store header h floors opens told sound is)) lines out end run

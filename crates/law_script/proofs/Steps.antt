@@ -22,8 +22,9 @@ use Rattle.session.specs.declared.names.OpenName.{OpenName}
 use Rattle.session.specs.declared.names.TicketName.{TicketName}
 use Rattle.session.specs.declared.reply.Reply.{Reply}
 use Rattle.session.specs.declared.reply.Reply.TheVariants as reply
-use Rattle.law_refinement.proofs.GrowingCalls.{begin-stands}
-use Rattle.store.specs.Calls as stores
+use Rattle.law_any_store.proofs.Calls.{begin-stands}
+use Rattle.any_store.specs.Calls as stores
+use Rattle.law_any_store.proofs.Few.{begin-few, abort-few, submit-few, redeem-few}
 use Rattle.run.specs.declared.calls.Call.TheVariants as call
 use Rattle.run.specs.declared.calls.Answer.TheVariants as answer
 use Rattle.run.specs.declared.calls.SubmitOutcome.TheVariants as outcome
@@ -64,12 +65,12 @@ begin-some tells m is name r new says step = by-answer step.0 step.1 step.2 step
               ∙ ap (λ (time : ℕ). reply.Snapshot time) snapshot,
         )) (silent r _ m.done replied refl)
         new.store (xs ++ held.Transaction txn
-        ∷ []) (begin-goes tells m.state.store new.store xs (Ok txn) begins) (same-few m.state.store new.store begins.rest.disk)
+        ∷ []) (begin-goes tells m.state.store new.store xs (Ok txn) begins) (begin-few m.state.store new.store _ begins)
         new refl (as-state new (m.state.opened ++ e ∷ []) m.state.tickets (xs ++ held.Transaction txn
         ∷ []) opened tickets (open-added m.state.opened m.state.tickets e))
     by-answer (Err why) begins replied opened tickets =
         by-call tells m is (line.Begin name) r call.Begin (answer.Begin (Err why)) (says _ (Err why, refl, replied)) (silent r _ m.done replied refl)
-        new.store (xs ++ held.Nothing ∷ []) (begin-goes tells m.state.store new.store xs (Err why) begins) (same-few m.state.store new.store begins.rest.disk)
+        new.store (xs ++ held.Nothing ∷ []) (begin-goes tells m.state.store new.store xs (Err why) begins) (begin-few m.state.store new.store _ begins)
         new refl (as-state new m.state.opened m.state.tickets (xs ++ held.Nothing ∷ []) opened tickets (wider xs xs (held.Nothing ∷ []) (all xs)))
 
 pub begin-line : (tells : Bool) (m : ScriptMoment) → IsScriptMoment tells m → (name : Text) (r : Reply) (new : State)
@@ -145,7 +146,7 @@ put-some tells m is name key fields r new i says step = by-way step.4
         (says _ (inr (parts, step.2, bor-all-now fields, refl, step.5))) (silent r _ m.done step.5 (done-silent step.2 m.done))
         s.store (slice_set xs i (held.Transaction step.1) ++ held.Nothing
         ∷ []) (put-goes tells s.store xs i key parts e.txn step.1 step.2 here is_put.ok is_put.missing is_put.too_many is_put.bad is_put.err)
-        (same-few s.store s.store refl)
+        (same-few s.store)
         new step.3.1 (rewritten s i e step.1 new step.3)
 
 pub put-line : (tells : Bool) (m : ScriptMoment) → IsScriptMoment tells m → (name : Text) (key : Key) (fields : List Text) (r : Reply) (new : State)
@@ -172,7 +173,7 @@ delete-line tells m is name key r new step =
       deletes.5,
     )) (silent r _ m.done deletes.5 (done-silent deletes.2 m.done))
     s.store (slice_set xs i (held.Transaction deletes.1) ++ held.Nothing
-    ∷ []) (delete-goes tells s.store xs i key deletes.0.txn deletes.1 deletes.2 here d.ok d.missing d.too_many d.bad d.err) (same-few s.store s.store refl)
+    ∷ []) (delete-goes tells s.store xs i key deletes.0.txn deletes.1 deletes.2 here d.ok d.missing d.too_many d.bad d.err) (same-few s.store)
     new deletes.3.1 (rewritten s i deletes.0 deletes.1 new deletes.3))
 
 -- ---- get
@@ -195,7 +196,7 @@ get-line tells m is name key r new step =
       refl,
       gets.4,
     )) (silent r _ m.done gets.4 (seen-silent gets.1 m.done))
-    s.store (xs ++ held.Nothing ∷ []) (get-goes tells s.store xs i key gets.0.txn gets.1 here gets.3) (same-few s.store s.store refl)
+    s.store (xs ++ held.Nothing ∷ []) (get-goes tells s.store xs i key gets.0.txn gets.1 here gets.3) (same-few s.store)
     s refl (wider xs xs (held.Nothing ∷ []) (all xs))))
 
 -- ---- abort and submit
@@ -215,7 +216,7 @@ abort-line tells m is name r new step =
     let here = open-held s.opened s.tickets i aborts.0 aborts.1 in
     by-call tells m is (line.Abort name) r (call.Abort i) answer.Abort (says _ (refl, aborts.4)) (silent r _ m.done aborts.4 refl)
     new.store (slice_set xs i held.Nothing ++ held.Nothing
-    ∷ []) (abort-goes tells s.store new.store xs i aborts.0.txn here aborts.2 aborts.3) (same-few s.store new.store aborts.3.rest.disk)
+    ∷ []) (abort-goes tells s.store new.store xs i aborts.0.txn here aborts.2 aborts.3) (abort-few s.store new.store _ aborts.3)
     new refl (as-state new (remove s.opened i) s.tickets (slice_set xs i held.Nothing ++ held.Nothing
     ∷ []) aborts.5 aborts.6 (taken-off s i aborts.0 held.Nothing aborts.1)))
 
@@ -243,7 +244,7 @@ submit-some tells m is name label now r new i says step = by-answer step.1 step.
         (says _ (Ok (outcome.ReadOnly time), refl, replied)) (silent r _ m.done replied refl)
         new.store (slice_set xs i held.Nothing ++ held.Nothing
         ∷ []) (submit-goes tells s.store new.store xs i e.txn label now (Ok (submitted.ReadOnly time)) here step.3 step.4 submits)
-        (same-few s.store new.store submits.rest.disk)
+        (submit-few s.store new.store _ _ _ _ submits)
         new refl (as-state new (remove s.opened i) s.tickets (slice_set xs i held.Nothing ++ held.Nothing
         ∷ []) step.7 tickets (taken-off s i e held.Nothing step.2))
     by-answer (Ok (submitted.Queued ticket)) submits replied tickets =
@@ -255,7 +256,7 @@ submit-some tells m is name label now r new i says step = by-answer step.1 step.
         )) (silent r _ m.done replied refl)
         new.store (slice_set xs i held.Nothing ++ held.Ticket ticket
         ∷ []) (submit-goes tells s.store new.store xs i e.txn label now (Ok (submitted.Queued ticket)) here step.3 step.4 submits)
-        (same-few s.store new.store submits.rest.disk)
+        (submit-few s.store new.store _ _ _ _ submits)
         new refl (as-state new (remove s.opened i) (s.tickets ++ k ∷ []) (slice_set xs i held.Nothing ++ held.Ticket ticket ∷ []) step.7 tickets
         (ticket-added (remove s.opened i) s.tickets k (slice_set xs i held.Nothing) (open-removed s.opened s.tickets i e held.Nothing step.2)))
     by-answer (Err why) submits replied tickets =
@@ -265,7 +266,7 @@ submit-some tells m is name label now r new i says step = by-answer step.1 step.
           replied,
         )) (silent r _ m.done replied refl)
         new.store (slice_set xs i held.Nothing ++ held.Nothing
-        ∷ []) (submit-goes tells s.store new.store xs i e.txn label now (Err why) here step.3 step.4 submits) (same-few s.store new.store submits.rest.disk)
+        ∷ []) (submit-goes tells s.store new.store xs i e.txn label now (Err why) here step.3 step.4 submits) (submit-few s.store new.store _ _ _ _ submits)
         new refl (as-state new (remove s.opened i) s.tickets (slice_set xs i held.Nothing ++ held.Nothing
         ∷ []) step.7 tickets (taken-off s i e held.Nothing step.2))
 
@@ -313,7 +314,7 @@ redeem-some tells m is name r new j says step = by-answer step.1 step.3 step.4 s
           replied,
         )) (sym (ap (λ (x : Reply). with_reply x m.done) replied))
         new.store (slice_set xs i held.Nothing ++ held.Nothing
-        ∷ []) (redeem-goes tells s.store new.store xs i e.ticket (redeemed.Done time) here redeems) (same-few s.store new.store redeems.rest.disk) new refl
+        ∷ []) (redeem-goes tells s.store new.store xs i e.ticket (redeemed.Done time) here redeems) (redeem-few s.store new.store _ _ redeems) new refl
         (spent tickets)
     by-answer (redeemed.Waiting ticket) redeems replied tickets =
         let k : TicketName = record { name = e.name; ticket = ticket } in
@@ -323,7 +324,7 @@ redeem-some tells m is name r new j says step = by-answer step.1 step.3 step.4 s
           replied,
         )) (silent r _ m.done replied refl)
         new.store (slice_set xs i (held.Ticket ticket) ++ held.Nothing
-        ∷ []) (redeem-goes tells s.store new.store xs i e.ticket (redeemed.Waiting ticket) here redeems) (same-few s.store new.store redeems.rest.disk)
+        ∷ []) (redeem-goes tells s.store new.store xs i e.ticket (redeemed.Waiting ticket) here redeems) (redeem-few s.store new.store _ _ redeems)
         new refl (as-state new s.opened (remove s.tickets j ++ k ∷ []) (slice_set xs i (held.Ticket ticket) ++ held.Nothing ∷ []) step.6 tickets
         (wider (held_in s.opened (remove s.tickets j ++ k ∷ [])) (slice_set xs i (held.Ticket ticket)) (held.Nothing
         ∷ []) (ticket-changed s.opened s.tickets j e k step.2)))
@@ -334,7 +335,7 @@ redeem-some tells m is name r new j says step = by-answer step.1 step.3 step.4 s
           replied,
         )) (silent r _ m.done replied refl)
         new.store (slice_set xs i held.Nothing ++ held.Nothing
-        ∷ []) (redeem-goes tells s.store new.store xs i e.ticket redeemed.InDoubt here redeems) (same-few s.store new.store redeems.rest.disk) new refl
+        ∷ []) (redeem-goes tells s.store new.store xs i e.ticket redeemed.InDoubt here redeems) (redeem-few s.store new.store _ _ redeems) new refl
         (spent tickets)
     by-answer redeemed.Stranger redeems replied tickets =
         by-call tells m is (line.Redeem name) r (call.Redeem i) (answer.Redeem told.Stranger) (says _ (
@@ -343,7 +344,7 @@ redeem-some tells m is name r new j says step = by-answer step.1 step.3 step.4 s
           replied,
         )) (silent r _ m.done replied refl)
         new.store (slice_set xs i held.Nothing ++ held.Nothing
-        ∷ []) (redeem-goes tells s.store new.store xs i e.ticket redeemed.Stranger here redeems) (same-few s.store new.store redeems.rest.disk) new refl
+        ∷ []) (redeem-goes tells s.store new.store xs i e.ticket redeemed.Stranger here redeems) (redeem-few s.store new.store _ _ redeems) new refl
         (spent tickets)
 
 pub redeem-line : (tells : Bool) (m : ScriptMoment) → IsScriptMoment tells m → (name : Text) (r : Reply) (new : State)

@@ -4,11 +4,11 @@ use Rattle.std.specs.List.{AllByRecursion}
 use Rattle.disk.specs.Areas.{LeavesNoMore}
 use Rattle.disk.specs.Calls.{DiskState}
 use Rattle.history.specs.Fronts.{OnFront}
-use Rattle.history.specs.Machine.{opened}
 use Rattle.recovery.specs.Faults.{IsReadFault}
 use Rattle.recovery.specs.declared.fault.OpenFault.{OpenFault}
-use Rattle.status.specs.declared.header.Header.{Header}
-use Rattle.law_opening.specs.Laws.{IsHeaderLeftBy, IsOfHeader}
+use Rattle.any_store.specs.Values.{disk_of}
+use Rattle.law_any_store.specs.Standing.{AnyHeader, opened_as}
+use Rattle.law_any_store.specs.Opened.{IsHeaderLeftBy, IsOfHeader}
 use Rattle.script.specs.declared.line.Line.{Line}
 use Rattle.script.specs.declared.line.Line.TheVariants as line
 use Rattle.session.specs.Session.{Step}
@@ -39,7 +39,7 @@ pub record Closed (tells : Bool) (before : ScriptMoment) (given : DiskState) : T
   pub each : length places ≡ length before.state.opened
   pub end : Moment
   pub promises : Promises tells (map call.Abort places) (map (λ (place : ℕ). answer.Abort) places) (moment_of before) end
-  pub disk : end.store.disk ≡ given
+  pub disk : disk_of end.store ≡ given
   pub done : end.done ≡ before.done
 
 -- It is closed and opened again, with the slots that there were or those of a piece in the making too, on a history that has every commit of which `done` was
@@ -47,9 +47,9 @@ pub record Closed (tells : Bool) (before : ScriptMoment) (given : DiskState) : T
 pub record KeepsByOpening (tells : Bool) (before after : ScriptMoment) : Type 0 where
   pub given : DiskState
   pub closed : Closed tells before given
-  pub stops : LeavesNoMore given.areas after.state.store.disk.areas
-  pub header : (header : Header) × IsHeaderLeftBy closed.end.store header × IsOfHeader after.state.store header
-  pub front : OnFront (λ h floors. (after.machine ≡ opened h floors) × AllByRecursion (HasCommitAt h) before.done) closed.end.world.machine
+  pub stops : LeavesNoMore given.areas (disk_of after.state.store).areas
+  pub header : (header : AnyHeader) × IsHeaderLeftBy closed.end.store header × IsOfHeader after.state.store header
+  pub front : OnFront (λ h floors. (after.machine ≡ opened_as header.0 h floors) × AllByRecursion (HasCommitAt h) before.done) closed.end.world.machine
   pub done : after.done ≡ before.done
   pub leaves : Leaves tells (moment_of after)
 

@@ -3,9 +3,7 @@ use Rattle.std.specs.Prelude.{ℕ, ◌≡◌, ◌+◌, ◌++◌, ◌⊎◌, Bool
 use Rattle.disk.specs.Areas.{AreSound, image_of}
 use Rattle.disk.specs.Calls.{DiskState}
 use Rattle.history.specs.Histories.{History}
-use Rattle.history.specs.Machine.{opened}
 use Rattle.law_image.specs.Values.{Value}
-use Rattle.status.specs.declared.header.Header.{Header}
 use Rattle.recovery.specs.declared.fault.OpenFault.{OpenFault}
 use Rattle.script.specs.Lines.{said}
 use Rattle.script.specs.declared.line.Line.{Line}
@@ -15,9 +13,9 @@ use Rattle.session.specs.Streams.{IsFront}
 use Rattle.session.specs.Texts.{Text, bad_line, open_line, text_of}
 use Rattle.session.specs.declared.ending.Ending.TheVariants as ending
 use Rattle.session.specs.declared.reply.Reply.{Reply}
-use Rattle.store.specs.Values.{StoreValue}
-use Rattle.store.specs.Opens.{Opens}
-use Rattle.law_refinement.specs.OnDisk.{IsImageOf}
+use Rattle.any_store.specs.Values.{StoreValue}
+use Rattle.any_store.specs.Opens.{Opens}
+use Rattle.law_any_store.specs.Standing.{AnyHeader, IsImageOf, opened_as}
 use Rattle.law_script.specs.ScriptMoments.{ScriptMoment, first_script_moment}
 use Rattle.law_script.specs.Keeps.{LineKeeps, Closed, KeepsUnopened}
 
@@ -56,7 +54,7 @@ ScriptKeeps tells n before (text ∷ rest) out end =
 -- The promise: for every script on a store opened on an image that stands for some history, from its first moment, however it ends.
 abbrev pub ScriptPromise : Type 0
 ScriptPromise =
-    (tells : Bool) (disk : DiskState) (store : StoreValue) (header : Header) (h : History Value) (floors : ℕ
+    (tells : Bool) (disk : DiskState) (store : StoreValue) (header : AnyHeader) (h : History Value) (floors : ℕ
     → ℕ) (n : ℕ) (lines : List Text) (out : Text) (end : End)
     → IsTrue tells → AreSound disk.areas → IsImageOf header (image_of disk.areas) h floors → Opens tells disk 1 store → Run tells n (fresh store) lines out end
-    → ScriptKeeps tells n (first_script_moment store (opened h floors)) lines out end
+    → ScriptKeeps tells n (first_script_moment store (opened_as header h floors)) lines out end

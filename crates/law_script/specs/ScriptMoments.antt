@@ -7,7 +7,8 @@ use Rattle.session.specs.declared.names.OpenName.{OpenName}
 use Rattle.session.specs.declared.names.TicketName.{TicketName}
 use Rattle.session.specs.declared.reply.Reply.{Reply}
 use Rattle.session.specs.declared.reply.Reply.TheVariants as reply
-use Rattle.store.specs.Values.{StoreValue}
+use Rattle.any_store.specs.Values.{StoreValue, is_log}
+use Rattle.law_any_store.specs.Names.{names_from}
 use Rattle.run.specs.declared.held.Held.{Held}
 use Rattle.run.specs.declared.held.Held.TheVariants as held
 use Rattle.run.specs.Places.{Place, Free, Running, Waits}
@@ -44,8 +45,17 @@ place_of (held.View view) = Free
 
 -- the moment of the calls before a line
 abbrev pub moment_of : ScriptMoment → Moment
-moment_of m =
-    record { store = m.state.store; held = held_of m.state; world = record { machine = m.machine; places = map place_of (held_of m.state) }; done = m.done }
+moment_of m = record {
+  store = m.state.store;
+  held = held_of m.state;
+  world = record {
+    machine = m.machine;
+    in_heap = is_log m.state.store;
+    names_from = names_from m.state.store;
+    places = map place_of (held_of m.state);
+  };
+  done = m.done;
+}
 
 -- what is acknowledged once this is written too: `done` names the time of its commit
 abbrev pub with_reply : Reply → List ℕ → List ℕ

@@ -5,11 +5,11 @@ use Rattle.status.specs.declared.header.Header.{Header}
 use Rattle.status.specs.Header.{IsFront}
 use Rattle.log_roots.specs.declared.roots.Roots.{Roots}
 use Rattle.log_roots.specs.Roots.{HasRoots, IsHeapSize, roots_bytes}
-use Rattle.disk.specs.Calls.{DiskState}
+use Rattle.disk.specs.Calls.{DiskState, counted}
 use Rattle.floors.specs.Floors.{no_floors}
 use Rattle.recovery.specs.declared.fault.FormatFault.{FormatFault}
 use Rattle.recovery.specs.declared.fault.FormatFault.TheVariants as faults
-use Rattle.recovery.specs.Format.{refusals_after}
+use Rattle.recovery.specs.Format.{CountsFirst, refusals_after}
 use Rattle.log_space.specs.Uses.{with_use}
 use Rattle.log_store.specs.Values.{LogStoreValue}
 
@@ -50,6 +50,20 @@ pub record HasLogHeader (status : List ℕ) : Type 0 where
 -- A format that the disk cut short: the status area is as it was, or the first extent is zeros already.
 abbrev pub FormatStops : Areas → Areas → Type 0
 FormatStops old new = (new ≡ record old { heap = new.heap }) ⊎ (new ≡ record old { heap = zeroed old.heap; status = new.status })
+
+-- What the device's refusal leaves: before the first write nothing has changed. From then on the archive is as it was, and the status area too, or the first
+-- extent is zeros.
+pub record LeavesOff (tells : Bool) (old new : DiskState) : Type 0 where
+  pub first : CountsFirst old new
+  pub refused : new.refused ≡ counted old.refused
+  pub stop : IsTrue tells → FormatStops old.areas new.areas
+
+-- what a refused format leaves; all other refusals come before the first write, and none is for want of memory
+abbrev pub FormatRefuses : Bool → DiskState → FormatFault → DiskState → Type 0
+FormatRefuses tells old faults.BadSlots new = new ≡ old
+FormatRefuses tells old faults.Occupied new = new ≡ old
+FormatRefuses tells old faults.Device new = LeavesOff tells old new
+FormatRefuses tells old faults.NoMemory new = ⊥
 
 -- ---- a new store
 

@@ -1,9 +1,9 @@
 //! Making the image of a new store.
-ghost use Rattle.std.specs.Prelude.{◌≡◌, ◌↔◌, IsTrue, IfOk, OnOk, OnErr, Err};
+ghost use Rattle.std.specs.Prelude.{◌≡◌, ◌↔◌, IsTrue, IfOk, IfErr, OnOk, OnErr, Err};
 ghost use Rattle.disk.specs.Calls.{looked, refusals};
-ghost use Rattle.recovery.specs.Format.{IsTakenAnswer, refusals_after};
+ghost use Rattle.recovery.specs.Format.{IsTakenAnswer, CountsFirst, refusals_after};
 ghost use Rattle.log_roots.specs.Roots.{IsHeapSize};
-ghost use Rattle.log_store.specs.Formats.{IsLogHeader, HasLogHeader, IsAnyHeader, IsOccupied, new_roots, zeroed, headed, formatted, FormatStops};
+ghost use Rattle.log_store.specs.Formats.{IsLogHeader, HasLogHeader, IsAnyHeader, IsOccupied, new_roots, zeroed, headed, formatted, FormatStops, FormatRefuses};
 
 use deltas::EXTENT_LEN;
 use disk::{Area, DeviceFault, Disk};
@@ -65,6 +65,7 @@ pub fn has_log_header<D: Disk>(disk: &mut D) -> Result<bool, DeviceFault>
 fn zero_first<D: Disk>(disk: &mut D) -> Result<(), DeviceFault>
     ensures zeroed { IsTrue D.tells → OnOk result ((D.state disk.new).areas ≡ record (D.state disk.old).areas { heap = zeroed (D.state disk.old).areas.heap }) }
     ensures stop { IsTrue D.tells → (D.state disk.new).areas ≡ record (D.state disk.old).areas { heap = (D.state disk.new).areas.heap } }
+    ensures first { CountsFirst (D.state disk.old) (D.state disk.new) }
     ensures refused { (D.state disk.new).refused ≡ refusals result (D.state disk.old).refused }
 {
     disk.write_at(Area::Heap, 0, &[0; EXTENT_LEN])?;
@@ -89,6 +90,7 @@ fn put_header<D: Disk>(disk: &mut D, extents: u32) -> Result<(), DeviceFault>
     ensures headed { IsTrue D.tells → OnOk result ((D.state disk.new).areas
         ≡ record (D.state disk.old).areas { status = headed extents (D.state disk.old).areas.status }) }
     ensures stop { IsTrue D.tells → (D.state disk.new).areas ≡ record (D.state disk.old).areas { status = (D.state disk.new).areas.status } }
+    ensures first { CountsFirst (D.state disk.old) (D.state disk.new) }
     ensures refused { (D.state disk.new).refused ≡ refusals result (D.state disk.old).refused }
 {
     disk.write_at(Area::Status, 0, &encode(&new_roots(extents)))?;
@@ -100,6 +102,7 @@ fn put_header<D: Disk>(disk: &mut D, extents: u32) -> Result<(), DeviceFault>
 fn write_store<D: Disk>(disk: &mut D, extents: u32) -> Result<(), DeviceFault>
     ensures formatted { IsTrue D.tells → OnOk result ((D.state disk.new).areas ≡ formatted extents (D.state disk.old).areas) }
     ensures stop { IsTrue D.tells → OnErr result (FormatStops (D.state disk.old).areas (D.state disk.new).areas) }
+    ensures first { CountsFirst (D.state disk.old) (D.state disk.new) }
     ensures refused { (D.state disk.new).refused ≡ refusals result (D.state disk.old).refused }
 {
     zero_first(disk)?;
@@ -110,7 +113,8 @@ fn write_store<D: Disk>(disk: &mut D, extents: u32) -> Result<(), DeviceFault>
 /// Makes the image of a new store whose heap has so many extents. The archive stays as it is, and so does what follows the
 /// first extent and the header.
 ///
-/// A stop within a format leaves the first 512 bytes of the status area as they were, or the first extent zeros.
+/// A stop within a format leaves the first 512 bytes of the status area as they were, or the first extent zeros. Where it is refused
+/// before its first write, nothing has changed.
 ///
 /// # Errors
 ///
@@ -122,6 +126,7 @@ pub fn format<D: Disk>(disk: &mut D, extents: u32) -> Result<(), FormatFault>
     ensures free { IsTrue D.tells → IsOccupied (D.state disk.old).areas.status.bytes → IsTakenAnswer result }
     ensures formatted { IsTrue D.tells → OnOk result ((D.state disk.new).areas ≡ formatted extents (D.state disk.old).areas) }
     ensures stop { IsTrue D.tells → OnErr result (FormatStops (D.state disk.old).areas (D.state disk.new).areas) }
+    ensures refuses { IfErr result (λ fault. FormatRefuses D.tells (D.state disk.old) fault (D.state disk.new)) }
     ensures refused { (D.state disk.new).refused ≡ refusals_after result (D.state disk.old).refused }
 {
     if !is_heap_size(extents) {

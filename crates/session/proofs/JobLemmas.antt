@@ -1,4 +1,4 @@
--- Each step of a job makes one device call, and the calls that are left grow fewer.
+-- Where the log is slots, each step of a job or a group makes one device call, and the calls that are left grow fewer.
 use Rattle.std.proofs.Common.{◌≡◌, ◌≢◌, ◌<◌, ◌+◌, ◌-◌, ℕ, Bool, true, false, List, [], ◌∷◌, is_some, Option, Some, None, Result, Ok, Err, MatchBool}
 use Rattle.std.proofs.Common.{MatchOption, nat_lt, if◌then◌else◌, slice_get, arith, inl, inr}
 use Rattle.std.proofs.lemmas.Bool.Decides.{nat_tests}
@@ -25,16 +25,18 @@ use Rattle.store.specs.declared.job.JobStage.TheVariants as stages
 use Rattle.store.specs.declared.job.JobDid.{JobDid}
 use Rattle.store.specs.declared.job.JobDid.TheVariants as did
 
-abbrev left_of : ℕ → ℕ → ℕ
+-- how many calls are left where so many were made
+abbrev pub left_of : ℕ → ℕ → ℕ
 left_of t made = if nat_lt t made then t + 1 else t - made
 
 fewer : (t a b : ℕ) → b ≡ min (a + 1) t → a ≢ t → left_of t b < left_of t a
 fewer t a b next room = grind (arith, nat_tests)
 
-abbrev IsFewer : DiskState → DiskState → Type 0
+-- fewer are left
+abbrev pub IsFewer : DiskState → DiskState → Type 0
 IsFewer old new = left_of top new.made < left_of top old.made
 
-counted-fewer : (old new : DiskState) → Counts {T = Unit {0}} {E = DeviceFault} (Ok tt) old new → IsFewer old new
+pub counted-fewer : (old new : DiskState) → Counts {T = Unit {0}} {E = DeviceFault} (Ok tt) old new → IsFewer old new
 counted-fewer old new counts = fewer top old.made new.made counts.made (λ full. let no = (counts.full full).0 in cc)
 
 run-fewer : (tells : Bool) (left : List ℕ) (run : Run) (writer : InWriting) (job : Job) (old new : StoreValue) (what : JobDid)
@@ -88,11 +90,11 @@ works-fewer : (tells b : Bool) (old new : StoreValue) (what : JobDid)
 works-fewer tells true old new what pumps some = absurd (let is = pumps.0 in cc)
 works-fewer tells false old new what pumps some = job-fewer tells old.job old new what pumps some
 
-pub pump-fewer : (tells : Bool) (old new : StoreValue) (what : JobDid) → PumpsJob tells old (Ok what) new → what ≢ did.Idle
-    → (if nat_lt top new.disk.made then top + 1 else top - new.disk.made) < (if nat_lt top old.disk.made then top + 1 else top - old.disk.made)
-pump-fewer tells old new what pumps some = works-fewer tells old.transactions.failed old new what pumps some
+-- so it is where the log is slots
+pub slots-fewer : (tells : Bool) (old new : StoreValue) (what : JobDid) → PumpsJob tells old (Ok what) new → what ≢ did.Idle → IsFewer old.disk new.disk
+slots-fewer tells old new what pumps some = works-fewer tells old.transactions.failed old new what pumps some
 
--- so it is of the steps of a group
-pub group-fewer : (tells : Bool) (old new : StoreValue) (what : Did) → Pumps tells old (Ok what) new → what ≢ group.Idle
-    → (if nat_lt top new.disk.made then top + 1 else top - new.disk.made) < (if nat_lt top old.disk.made then top + 1 else top - old.disk.made)
-group-fewer tells old new what pumps some = let one = pump-one tells old new what pumps some in fewer top old.disk.made new.disk.made one.made one.room
+-- and of the steps of a group there
+pub group-slots-fewer : (tells : Bool) (old new : StoreValue) (what : Did) → Pumps tells old (Ok what) new → what ≢ group.Idle → IsFewer old.disk new.disk
+group-slots-fewer tells old new what pumps some =
+    let one = pump-one tells old new what pumps some in fewer top old.disk.made new.disk.made one.made one.room

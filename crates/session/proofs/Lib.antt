@@ -1,3 +1,4 @@
+mod FewerLemmas
 mod HexLemmas
 mod JobLemmas
 mod LineLemmas

@@ -1,15 +1,15 @@
 -- Steps of either work, one by one until the last.
-use Rattle.std.proofs.Common.{◌≢◌, ◌<◌, ◌+◌, ◌-◌, Bool, IsTrue, [], ◌∷◌, Result, Ok, Err, nat_lt, if◌then◌else◌, refl}
-use Rattle.disk.specs.Calls.{top}
+use Rattle.std.proofs.Common.{◌≢◌, Bool, IsTrue, [], ◌∷◌, Result, Ok, Err, refl}
 use Rattle.group.specs.declared.answers.Did.TheVariants as did
 use Rattle.group.specs.declared.answers.PumpFault.{PumpFault}
-use Rattle.store.specs.Values.{StoreValue}
+use Rattle.any_store.specs.Values.{StoreValue, disk_of}
 use Rattle.store.specs.declared.job.JobDid.TheVariants as job_did
 use Rattle.session.specs.Session.{IsLast, StepsGroup, StepsJob, TakesOne, TakesAll, StepsWork, EndsWork, pumped, worked}
 use Rattle.session.specs.declared.reply.Reply.{Reply}
 use Rattle.session.specs.declared.stepping.Work.{Work}
 use Rattle.session.specs.declared.stepping.Work.TheVariants as work
-use Rattle.session.proofs.JobLemmas.{group-fewer, pump-fewer}
+use Rattle.session.proofs.JobLemmas.{IsFewer}
+use Rattle.session.proofs.FewerLemmas.{group-fewer, pump-fewer}
 
 -- what a step did that was not the last
 step-of : {S : Type 0} (takes : StoreValue → Result S PumpFault → StoreValue → Type 0) (idle : S) (old mid : StoreValue) (answer : Result S PumpFault)
@@ -51,7 +51,7 @@ work-goes_on tells work.Job old mid new s r last not one rest = goes-on (StepsJo
 
 -- it made a device call, and those that are left are fewer
 pub work-fewer : (tells : Bool) (w : Work) (old mid : StoreValue) (s : Reply) (last : Bool) → (IsTrue last → ⊥) → StepsWork tells w old s last mid
-    → (if nat_lt top mid.disk.made then top + 1 else top - mid.disk.made) < (if nat_lt top old.disk.made then top + 1 else top - old.disk.made)
+    → IsFewer (disk_of old) (disk_of mid)
 work-fewer tells work.Commits old mid s last not one = let step =
     step-of (StepsGroup tells) did.Idle old mid one.0 one.1 (λ ends. not (one.3.1 ends)) in group-fewer tells old mid step.0 step.1.is step.2
 work-fewer tells work.Job old mid s last not one = let step =

@@ -26,18 +26,14 @@ use Rattle.timequery.specs.View.{ViewValue}
 use Rattle.timequery.specs.declared.fault.QueryFault.{QueryFault}
 use Rattle.timequery.specs.declared.fault.QueryFault.TheVariants as query
 use Rattle.recovery.specs.declared.fault.OpenFault.{OpenFault}
-use Rattle.store.specs.Values.{StoreValue}
-use Rattle.store.specs.Pumps.{Pumps}
-use Rattle.store.specs.Archives.{StartsArchive}
-use Rattle.store.specs.Reclaims.{StartsReclaim}
-use Rattle.store.specs.Floors.{StartsFloor}
-use Rattle.store.specs.Growths.{StartsGrowth}
-use Rattle.store.specs.Jobs.{PumpsJob}
 use Rattle.store.specs.declared.job.StartFault.{StartFault}
 use Rattle.store.specs.declared.job.JobDid.{JobDid}
 use Rattle.store.specs.declared.job.JobDid.TheVariants as job_did
-use Rattle.store.specs.Opens.{Opens, OpenRefuses}
-use Rattle.store.specs.Calls as store
+use Rattle.any_store.specs.Values.{StoreValue, disk_of}
+use Rattle.any_store.specs.Calls as stores
+use Rattle.any_store.specs.Queries.{IsViewOf, AnswersAtView, AnswersScanAt, AnswersRows}
+use Rattle.any_store.specs.Jobs.{StartsArchive, StartsReclaim, StartsFloor, StartsGrowth, PumpsJob}
+use Rattle.any_store.specs.Opens.{Opens, OpenRefuses}
 use Rattle.script.specs.declared.line.Line.{Line}
 use Rattle.script.specs.declared.line.Line.TheVariants as line
 use Rattle.session.specs.declared.fault.Fault.TheVariants as fault
@@ -108,7 +104,7 @@ with_begun name opened (Err f) = opened
 
 -- `begin` with a free name: the store begins a transaction, which stands under the name from then on
 abbrev pub BeginStep : State → Text → Reply → State → Type 0
-BeginStep old name r new = (answer : Result TxnValue BeginFault) × store.Begins old.store answer new.store × (r ≡ begun answer)
+BeginStep old name r new = (answer : Result TxnValue BeginFault) × stores.Begins old.store answer new.store × (r ≡ begun answer)
     × (new.opened ≡ with_begun name old.opened answer) × (new.tickets ≡ old.tickets)
 
 -- what a transaction answers to a put
@@ -171,7 +167,7 @@ GetStep old i key r new = (e : OpenName) × (answer : Result (Option (List Text)
 
 -- `abort`: the store gives up the transaction at this place of the list, and its name is free
 abbrev pub AbortStep : State → ℕ → Reply → State → Type 0
-AbortStep old i r new = (e : OpenName) × (slice_get old.opened i ≡ Some e) × IsTxn e.txn × store.Aborts old.store e.txn new.store × (r ≡ reply.Ok)
+AbortStep old i r new = (e : OpenName) × (slice_get old.opened i ≡ Some e) × IsTxn e.txn × stores.Aborts old.store e.txn new.store × (r ≡ reply.Ok)
     × (new.opened ≡ remove old.opened i) × (new.tickets ≡ old.tickets)
 
 -- the answer to `submit`: queued, or that it only reads, or why it is refused
@@ -189,7 +185,7 @@ with_submitted name tickets (Err f) = tickets
 -- `submit`: the store takes the transaction at this place, which is open no more whatever is answered
 abbrev pub SubmitStep : State → ℕ → ℕ → ℕ → Reply → State → Type 0
 SubmitStep old i label now r new = (e : OpenName) × (answer : Result Submitted SubmitFault) × (slice_get old.opened i ≡ Some e) × IsTxn e.txn × (label < 2 ^ 64)
-    × store.Submits old.store e.txn label now answer new.store × (r ≡ submitted answer)
+    × stores.Submits old.store e.txn label now answer new.store × (r ≡ submitted answer)
     × (new.opened ≡ remove old.opened i) × (new.tickets ≡ with_submitted e.name old.tickets answer)
 
 -- the answer to `redeem`: done at a time, waiting, in doubt, or refused as a stranger
@@ -209,7 +205,7 @@ with_redeemed name tickets redeemed_as.Stranger = tickets
 -- `redeem`: the ticket at this place of the list is redeemed, and stays under its name only while it waits
 abbrev pub RedeemStep : State → ℕ → Reply → State → Type 0
 RedeemStep old i r new = (e : TicketName) × (answer : Redeemed) × (slice_get old.tickets i ≡ Some e)
-    × store.Redeems old.store e.ticket answer new.store × (r ≡ redeemed answer)
+    × stores.Redeems old.store e.ticket answer new.store × (r ≡ redeemed answer)
     × (new.tickets ≡ with_redeemed e.name (remove old.tickets i) answer) × (new.opened ≡ old.opened)
 
 -- a step is the last: it found nothing to do, or was refused
@@ -245,8 +241,8 @@ pumped (Err f) = reply.Refused (fault.Pump f)
 
 -- the store takes a step of the commits that are queued, and a disk that tells its bytes is sound after it
 pub record StepsGroup (tells : Bool) (old : StoreValue) (answer : Result Did PumpFault) (new : StoreValue) : Type 0 where
-  pub is : Pumps tells old answer new
-  pub sound : IsTrue tells → AreSound new.disk.areas
+  pub is : stores.Pumps tells old answer new
+  pub sound : IsTrue tells → AreSound (disk_of new).areas
 
 -- `pump`: the store takes one step of the commits that are queued
 abbrev pub PumpStep : Bool → StoreValue → Reply → StoreValue → Type 0
@@ -285,7 +281,7 @@ worked (Err f) = reply.Refused (fault.Pump f)
 -- the store takes a step of its job, and a disk that tells its bytes is sound after it
 pub record StepsJob (tells : Bool) (old : StoreValue) (answer : Result JobDid PumpFault) (new : StoreValue) : Type 0 where
   pub is : PumpsJob tells old answer new
-  pub sound : IsTrue tells → AreSound new.disk.areas
+  pub sound : IsTrue tells → AreSound (disk_of new).areas
 
 -- `job`: the store takes one step of its job
 abbrev pub JobStep : Bool → StoreValue → Reply → StoreValue → Type 0
@@ -308,7 +304,7 @@ EndsWork tells work.Job old r new = Finishes tells old r new
 -- a view is taken, asked and ended; without memory for the view nothing is asked
 abbrev pub Asks : Bool → StoreValue → Key → ℕ → Result (Option (List Text)) QueryFault → StoreValue → Type 0
 Asks tells old key time answer new = (taken : Option ViewValue) × MatchOption taken ((answer ≡ Err query.NoMemory) × (new ≡ old))
-    (λ view. store.IsViewOf old view × store.AnswersAtView tells old view key time answer new)
+    (λ view. IsViewOf old view × AnswersAtView tells old view key time answer new)
 
 -- the answer to `at`: the value or none, or why the query is refused
 abbrev pub found : Result (Option (List Text)) QueryFault → Reply
@@ -322,7 +318,7 @@ AtStep tells old key time r new = (answer : Result (Option (List Text)) QueryFau
 -- so for a scan at a time
 abbrev pub AsksScan : Bool → StoreValue → ℕ → ℕ → Result (Vec (ℕ × List Text) Global) QueryFault → StoreValue → Type 0
 AsksScan tells old relation time answer new = (taken : Option ViewValue) × MatchOption taken ((answer ≡ Err query.NoMemory) × (new ≡ old))
-    (λ view. store.IsViewOf old view × store.AnswersScanAt tells old view relation time answer new)
+    (λ view. IsViewOf old view × AnswersScanAt tells old view relation time answer new)
 
 -- the answer to `scan`: the records with their values, or why the query is refused
 abbrev pub records_found : Result (Vec (ℕ × List Text) Global) QueryFault → Reply
@@ -337,7 +333,7 @@ ScanStep tells old relation time r new =
 -- and for the rows of an interval
 abbrev pub AsksRows : Bool → StoreValue → Key → ℕ → ℕ → Result (Vec (Version (List Text)) Global) QueryFault → StoreValue → Type 0
 AsksRows tells old key a b answer new = (taken : Option ViewValue) × MatchOption taken ((answer ≡ Err query.NoMemory) × (new ≡ old))
-    (λ view. store.IsViewOf old view × store.AnswersRows tells old view key a b answer new)
+    (λ view. IsViewOf old view × AnswersRows tells old view key a b answer new)
 
 -- the answer to `between`: the rows, or why the query is refused
 abbrev pub rows_found : Result (Vec (Version (List Text)) Global) QueryFault → Reply
@@ -351,7 +347,7 @@ BetweenStep tells old key a b r new =
 
 -- the times of a label, or no memory for them
 abbrev pub TimesStep : StoreValue → ℕ → Reply → Type 0
-TimesStep s label (reply.Times times) = store.IsTimesOf s label times.items
+TimesStep s label (reply.Times times) = stores.IsTimesOf s label times.items
 TimesStep s label r = r ≡ reply.Refused fault.NoMemory
 
 -- a step of the store alone
@@ -361,16 +357,17 @@ KeepsNames old new = (new.opened ≡ old.opened) × (new.tickets ≡ old.tickets
 -- each open transaction is aborted, in the order of the list
 abbrev pub AbortsAll : StoreValue → List OpenName → StoreValue → Type 0
 AbortsAll old [] new = new ≡ old
-AbortsAll old (e ∷ rest) new = (mid : StoreValue) × IsTxn e.txn × store.Aborts old e.txn mid × AbortsAll mid rest new
+AbortsAll old (e ∷ rest) new = (mid : StoreValue) × IsTxn e.txn × stores.Aborts old e.txn mid × AbortsAll mid rest new
 
 -- what is open is aborted, tickets are given up, and the store is closed
 abbrev pub Closes : State → DiskState → Type 0
-Closes old given = (end : StoreValue) × AbortsAll old.store old.opened end × (given ≡ end.disk)
+Closes old given = (end : StoreValue) × AbortsAll old.store old.opened end × (given ≡ disk_of end)
 
 -- what is said of a store that is open: its last commit and its floor, or how many relations have one where each has its own
 abbrev pub opened_reply : StoreValue → Reply
 opened_reply v =
-    if v.log.profile == 3 then reply.OpenedByRelation (store.last v) (length (store.floors v).own) else reply.Opened (store.last v) (store.floors v).every
+    if stores.has_own_floors v then reply.OpenedByRelation (stores.last v) (length (stores.floors v).own)
+    else reply.Opened (stores.last v) (stores.floors v).every
 
 -- what is open is aborted, and the store is closed and opened again
 pub record Reopens (tells : Bool) (old : State) (r : Reply) (new : State) : Type 0 where

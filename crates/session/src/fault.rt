@@ -1,5 +1,5 @@
 //! What a line or a command is refused with.
-use store::{
+use any_store::{
     BeginFault, FormatFault, OpenFault, PumpFault, QueryFault, StartFault, SubmitFault, TxnFault,
 };
 use thiserror::Error;

@@ -3,9 +3,9 @@ ghost use Rattle.std.specs.Prelude.{◌≡◌, ◌<◌, ◌+◌, ◌++◌, ◌�
 ghost use Rattle.session.specs.Session as told;
 
 use crate::session::Session;
+use any_store::{Ticket, Txn};
 use disk::Disk;
 use script::Name;
-use store::{Ticket, Txn};
 
 /// At most so many names are in use.
 pub(crate) const MAX_NAMES: usize = 64;

@@ -9,10 +9,10 @@ ghost use Rattle.session.specs.Texts as told;
 use crate::refused::Refused;
 use crate::reply::{Reply, spell_line};
 use crate::text::{spell_bad_line, spell_count, spell_numbered, spell_record, spell_row};
+use any_store::SharedValue;
 use history::Version;
 use std::alloc::Global;
 use std::io::{ErrorKind, Write};
-use store::SharedValue;
 
 /// Writes a front of a text, and says what is left of it. Of none where the writer was interrupted.
 fn write_front<'a, W: Write>(writer: &mut W, text: &'a [u8]) -> Result<&'a [u8], Refused>

@@ -4,9 +4,9 @@ ghost use Rattle.session.specs.Session as told;
 use crate::fault::Fault;
 use crate::reply::Reply;
 use crate::session::Session;
+use any_store::{QueryFault, SharedValue, Store};
 use disk::Disk;
 use history::{Key, Version};
-use store::{QueryFault, SharedValue, Store};
 
 /// Asks for a key's value at a time by a view of now.
 fn value_at<D: Disk>(

@@ -7,10 +7,10 @@ use crate::fault::Fault;
 use crate::text::{
     spell_times, spell_value, write_job_step, write_refusal, write_step, write_words,
 };
+use any_store::{Did, JobDid, SharedValue};
 use history::Version;
 use std::io;
 use std::io::Write;
-use store::{Did, JobDid, SharedValue};
 
 /// The answer to a line. Times are microseconds since 1970.
 #[derive(Drop)]

@@ -5,11 +5,11 @@ ghost use Rattle.session.specs.Session as told;
 
 use crate::names::{MAX_NAMES, OpenName, TicketName};
 use crate::reply::Reply;
+use any_store::{OpenFault, Store};
 use disk::Disk;
 use script::Line;
 use std::alloc::Global;
 use std::marker::Model;
-use store::{OpenFault, Store};
 
 /// The mark of a session's store.
 pub const MARK: u64 = 1;
@@ -134,7 +134,7 @@ impl<D: Disk> Session<D> {
     {
         let last = self.store.last();
         let floors = self.store.floors();
-        if self.store.profile().has_own_floors() {
+        if self.store.has_own_floors() {
             Reply::OpenedByRelation(last, floors.relations())
         } else {
             Reply::Opened(last, floors.every())

@@ -4,8 +4,8 @@ ghost use Rattle.session.specs.Session as told;
 use crate::fault::Fault;
 use crate::reply::Reply;
 use crate::session::Session;
+use any_store::{Did, JobDid, Store};
 use disk::Disk;
-use store::{Did, JobDid, Store};
 
 /// What a store takes steps of.
 #[derive(Clone, Copy)]

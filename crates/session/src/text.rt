@@ -6,16 +6,16 @@ ghost use Rattle.session.specs.Texts as told;
 
 use crate::digits::spell_hex;
 use crate::fault::Fault;
+use any_store::{
+    BeginFault, Did, FormatFault, JobDid, OpenFault, PumpFault, QueryFault, SharedValue,
+    StartFault, SubmitFault, TxnFault,
+};
 use disk::Area;
 use history::Version;
 use itoa::Buffer;
 use std::alloc::AllocError;
 use std::io;
 use std::io::Write;
-use store::{
-    BeginFault, Did, FormatFault, JobDid, OpenFault, PumpFault, QueryFault, SharedValue,
-    StartFault, SubmitFault, TxnFault,
-};
 
 /// Spells a field: its bytes in hexadecimal, the empty field as `-`.
 fn spell_field(text: &mut Vec<u8>, field: &[u8]) -> Result<(), AllocError>

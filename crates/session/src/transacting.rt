@@ -7,11 +7,11 @@ use crate::fault::Fault;
 use crate::names::{OpenName, TicketName};
 use crate::reply::Reply;
 use crate::session::Session;
+use any_store::{Redeemed, SharedValue, Submitted, Txn, TxnFault};
 use disk::Disk;
 use history::Key;
 use script::{Fields, Name};
 use std::alloc::{AllocError, Global};
-use store::{Redeemed, SharedValue, Submitted, Txn, TxnFault};
 
 /// Puts the value of these fields; memory for their bytes may be refused too.
 fn put_fields(txn: &mut Txn, alloc: Global, key: Key, fields: Fields<'_>) -> Result<(), TxnFault>

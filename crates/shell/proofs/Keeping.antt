@@ -14,25 +14,29 @@ use Rattle.law_image.specs.Values.{Value}
 use Rattle.history.specs.Machine as machine
 use Rattle.history.specs.Machine.{Machine}
 use Rattle.floors.specs.Floors.{floor_at}
-use Rattle.law_opening.proofs.Formatted.{formatted-leaves, formatted-stands}
-use Rattle.status.specs.declared.header.Header.{Header}
-use Rattle.status.specs.Header.{new_header}
-use Rattle.law_refinement.specs.OnDisk.{IsImageOf}
-use Rattle.law_refinement.specs.Homes.{IsSure}
+use Rattle.law_refinement.specs.Homes.{IsSure, ViewStands}
 use Rattle.law_refinement.specs.Laws.{Says, SaysAt, SaysScanAt}
-use Rattle.law_refinement.specs.Standing.{StandsInMemory}
-use Rattle.law_refinement.proofs.Answering.{times-of_label}
-use Rattle.law_refinement.proofs.Memory.{last-is}
-use Rattle.law_refinement.specs.Stands.{Stands}
-use Rattle.law_refinement.proofs.Views.{at-answered, between-answered, scan_at-answered, view-of-history}
-use Rattle.law_opening.proofs.Opened.{image-header, open-stands}
-use Rattle.law_opening.proofs.Reopened.{open-refuses}
+use Rattle.any_store.specs.declared.engine.Engine.TheVariants as engine
+use Rattle.any_store.specs.declared.formatting.Layout.TheVariants.{Slots}
+use Rattle.any_store.specs.Calls as stores
+use Rattle.any_store.specs.Opens.{Opens}
+use Rattle.any_store.specs.Queries as queries
+use Rattle.any_store.specs.Queries.{IsViewOf}
+use Rattle.any_store.specs.Values.{StoreValue}
+use Rattle.law_any_store.specs.Formatted.{header_of}
+use Rattle.law_any_store.proofs.Formatted.{formatted-leaves, formatted-stands}
+use Rattle.law_any_store.specs.Names.{AreTimesFrom, names_from}
+use Rattle.law_any_store.specs.Opened.{IsOfHeader}
+use Rattle.law_any_store.specs.Standing.{AnyHeader, IsImageOf, Stands, ViewReads, opened_as, opened_in}
+use Rattle.law_any_store.proofs.Memory.{last-published, memory-stands}
+use Rattle.law_any_store.proofs.Names.{times-are}
+use Rattle.law_any_store.proofs.Opened.{image-header, open-header, open-stands}
+use Rattle.law_any_store.proofs.Reopened.{open-refuses}
+use Rattle.law_any_store.proofs.Views.{at-answered, between-answered, scan_at-answered, view-of-history}
 use Rattle.run.proofs.Survival.{kept-as}
 use Rattle.timequery.specs.View.{ViewValue}
 use Rattle.timequery.specs.declared.fault.QueryFault.{QueryFault}
 use Rattle.timequery.specs.declared.fault.QueryFault.TheVariants as query
-use Rattle.store.specs.Calls as stores
-use Rattle.store.specs.Values.{StoreValue}
 use Rattle.script.specs.declared.line.Line.{Line}
 use Rattle.script.specs.declared.line.Line.TheVariants as line
 use Rattle.session.specs.Session as session
@@ -50,6 +54,7 @@ use Rattle.law_script.proofs.Leading.{IsScriptMoment, LeadsTo}
 use Rattle.law_script.proofs.Lines.{pump-line, flush-line, archive-line, reclaim-line, floor-line, grow-line, job-line, finish-line, at-line, scan-line}
 use Rattle.law_script.proofs.Lines.{between-line, times-line}
 use Rattle.law_script.proofs.Steps.{begin-line, put-line, delete-line, get-line, abort-line, submit-line, redeem-line}
+use Rattle.law_script.specs.Promise.{ScriptKeeps}
 use Rattle.law_script.proofs.Script.{promise}
 use Rattle.command_line.specs.declared.question.Question.{Question}
 use Rattle.command_line.specs.declared.question.Question.TheVariants as question
@@ -63,6 +68,9 @@ use Rattle.forms.specs.Styles.{plain}
 use Rattle.forms.specs.declared.style.Style.{Style}
 use Rattle.shell.specs.Acts.{Raises, RaisesStore, SaysSlots, SaysVacuum, Tells, Vacuums, VacuumsStore, Writes, WritesStore}
 use Rattle.shell.specs.Asking.{end_asked, line_asked, time_asked}
+use Rattle.command_line.specs.declared.layout.Layout.{Layout}
+use Rattle.shell.specs.Layouts.{store_layout}
+use Rattle.shell.specs.Acts.{IfSlots, RefusesProfile}
 use Rattle.shell.specs.Keeps.{LineLeads, LinesKeep, RunKeeps, NewRunKeeps, KeepsPromise, VacuumKeeps, VacuumingKeeps, GrowthKeeps}
 use Rattle.shell.specs.Keeps.{GrowingKeeps, MakingKeeps, IsValueReply, IsRowsReply, OrGaveOut, AskingKeeps}
 use Rattle.shell.specs.Keeps.{FloorKeeps, RaisingKeeps}
@@ -73,7 +81,38 @@ use Rattle.shell.specs.Writing.{AnswersInTurn, IsNotAnswered, write_lines}
 use Rattle.shell.specs.declared.vacuuming.Vacuumed.{Vacuumed}
 use Rattle.shell.specs.declared.vacuuming.Vacuumed.TheVariants as vacuumed
 
-lines-keep : (tells : Bool) (old new : DiskState) (input : Input) (output : Output) (header : Header) (h : History Value) (floors : ℕ → ℕ) → IsTrue tells
+-- the machine on an image is that of the store which opened on it
+opened-same : (store : StoreValue) (header : AnyHeader) (h : History Value) (floors : ℕ → ℕ) → IsOfHeader store header → opened_as header h floors
+    ≡ opened_in store h floors
+opened-same (engine.Slots s) (engine.Slots header) h floors of = refl
+opened-same (engine.Slots s) (engine.Log roots) h floors of = absurd of
+opened-same (engine.Log l) (engine.Slots header) h floors of = absurd of
+opened-same (engine.Log l) (engine.Log roots) h floors of = refl
+
+stands-in : (tells : Bool) (old : DiskState) (store : StoreValue) (header : AnyHeader) (h : History Value) (floors : ℕ → ℕ) → Opens tells old 1 store
+    → IsTrue tells → AreSound old.areas → IsImageOf header (image_of old.areas) h floors → Stands tells store (opened_in store h floors)
+stands-in tells old store header h floors opens told sound image =
+    subst (Stands tells store) (opened-same store header h floors (open-header tells old 1 store header h floors opens told image))
+    (open-stands tells old 1 store header h floors opens told sound image)
+
+-- it has published the history, with these floors
+published-in : (store : StoreValue) (h : History Value) (floors : ℕ → ℕ) → (opened_in store h floors).published ≡ h
+published-in (engine.Slots s) h floors = refl
+published-in (engine.Log l) h floors = refl
+
+floors-in : (store : StoreValue) (h : History Value) (floors : ℕ → ℕ) → (opened_in store h floors).floors ≡ floors
+floors-in (engine.Slots s) h floors = refl
+floors-in (engine.Log l) h floors = refl
+
+-- a view of now is of that history
+view-in : (tells : Bool) (store : StoreValue) (view : ViewValue) (h : History Value) (floors : ℕ → ℕ) → Stands tells store (opened_in store h floors)
+    → IsViewOf store view → ViewStands view h floors × ViewReads tells store view h floors
+view-in tells store view h floors stands of =
+    subst (λ (h' : History Value). ViewStands view h' floors × ViewReads tells store view h' floors) (published-in store h floors)
+    (subst (λ (f : ℕ → ℕ). ViewStands view (opened_in store h floors).published f × ViewReads tells store view (opened_in store h floors).published f)
+    (floors-in store h floors) (view-of-history tells store view (opened_in store h floors) stands of))
+
+lines-keep : (tells : Bool) (old new : DiskState) (input : Input) (output : Output) (header : AnyHeader) (h : History Value) (floors : ℕ → ℕ) → IsTrue tells
     → AreSound old.areas → IsImageOf header (image_of old.areas) h floors
     → (runs : Runs tells old input output new) → LinesKeep tells h floors runs.opened input output new
 lines-keep tells old new input output header h floors told sound image runs = record {
@@ -81,11 +120,13 @@ lines-keep tells old new input output header h floors told sound image runs = re
   are = runs.are;
   out = runs.out;
   end = runs.end;
-  keeps = promise tells old runs.opened header h floors _ runs.lines runs.out (runs.end, new) told sound image runs.opens runs.run;
+  keeps = subst (λ (m : Machine Value). ScriptKeeps tells _ (first_script_moment runs.opened m) runs.lines runs.out (runs.end, new))
+      (opened-same runs.opened header h floors (open-header tells old 1 runs.opened header h floors runs.opens told image))
+      (promise tells old runs.opened header h floors _ runs.lines runs.out (runs.end, new) told sound image runs.opens runs.run);
   said = runs.said;
 }
 
-run-keeps : (tells : Bool) (old new : DiskState) (input : Input) (output : Output) (header : Header) (h : History Value) (floors : ℕ → ℕ) → IsTrue tells
+run-keeps : (tells : Bool) (old new : DiskState) (input : Input) (output : Output) (header : AnyHeader) (h : History Value) (floors : ℕ → ℕ) → IsTrue tells
     → AreSound old.areas → IsImageOf header (image_of old.areas) h floors
     → RunsScript tells old input output new → RunKeeps tells h floors old input output new
 run-keeps tells old new input output header h floors told sound image (inl refused) = inl (refused.0, refused.1)
@@ -98,8 +139,8 @@ new-keeps : (tells : Bool) (old new : DiskState) (input : Input) (output : Outpu
 new-keeps tells old new input output told runs = record {
   made = runs.made;
   formatted = runs.formatted told;
-  keeps = run-keeps tells runs.made new input output (new_header 3 16) [] (λ relation. 0) told (runs.sound told)
-      (formatted-stands 16 old.areas runs.made.areas (runs.formatted told)) runs.runs;
+  keeps = run-keeps tells runs.made new input output (header_of (Slots 16)) [] (λ relation. 0) told (runs.sound told)
+      (formatted-stands (Slots 16) old.areas runs.made.areas (runs.formatted told)) runs.runs;
 }
 
 example-keeps : (tells : Bool) (old new : DiskState) (input : Input) (output : Output) → IsTrue tells → RunsNew tells old input output new
@@ -268,12 +309,12 @@ said-holds tells upto given new (vacuumed.Archived refusal) o (inr lacks) = ap (
 said-holds tells upto given new vacuumed.Both o (inl said) = ap (λ (s : DiskState). s.areas) said.1.3
 said-holds tells upto given new vacuumed.Both o (inr lacks) = ap (λ (s : DiskState). s.areas) lacks.1.1 ∙ read-holds lacks.0 given
 
-store-vacuum-keeps : (tells : Bool) (old new : DiskState) (upto : ℕ) (output : Output) (header : Header) (h : History Value) (floors : ℕ → ℕ) → IsTrue tells
+store-vacuum-keeps : (tells : Bool) (old new : DiskState) (upto : ℕ) (output : Output) (header : AnyHeader) (h : History Value) (floors : ℕ → ℕ) → IsTrue tells
     → AreSound old.areas → IsImageOf header (image_of old.areas) h floors
     → (did : VacuumsStore tells old upto output new) → VacuumKeeps tells h floors did.opened upto output new
 store-vacuum-keeps tells old new upto output header h floors told sound image did =
-    let first = first-script tells did.opened h floors (open-stands tells old 1 did.opened header h floors did.opens told sound image) in
-    let to = vacuum-led tells upto (first_script_moment did.opened (machine.opened h floors)) first did.done did.asked did.does in
+    let first = first-script tells did.opened (opened_in did.opened h floors) (stands-in tells old did.opened header h floors did.opens told sound image) in
+    let to = vacuum-led tells upto (first_script_moment did.opened (opened_in did.opened h floors)) first did.done did.asked did.does in
     record {
       done = did.done;
       after = to.after;
@@ -322,12 +363,12 @@ grown-holds : (tells : Bool) (given new : DiskState) (refused : Option Reply) (o
 grown-holds tells given new None o said = slots-holds tells given new o said
 grown-holds tells given new (Some refusal) o said = ap (λ (s : DiskState). s.areas) said.0
 
-store-growth-keeps : (tells : Bool) (old new : DiskState) (output : Output) (header : Header) (h : History Value) (floors : ℕ → ℕ) → IsTrue tells
+store-growth-keeps : (tells : Bool) (old new : DiskState) (output : Output) (header : AnyHeader) (h : History Value) (floors : ℕ → ℕ) → IsTrue tells
     → AreSound old.areas → IsImageOf header (image_of old.areas) h floors
     → (did : GrowsStore tells old output new) → GrowthKeeps tells h floors did.opened output new
 store-growth-keeps tells old new output header h floors told sound image did =
-    let first = first-script tells did.opened h floors (open-stands tells old 1 did.opened header h floors did.opens told sound image) in
-    let to = growth-led tells (first_script_moment did.opened (machine.opened h floors)) first did.refused did.asked did.does in
+    let first = first-script tells did.opened (opened_in did.opened h floors) (stands-in tells old did.opened header h floors did.opens told sound image) in
+    let to = growth-led tells (first_script_moment did.opened (opened_in did.opened h floors)) first did.refused did.asked did.does in
     record {
       refused = did.refused;
       after = to.after;
@@ -347,16 +388,22 @@ growth-keeps tells old new output told sound (inr (inr did)) =
 
 -- ---- format
 
-making-keeps : (tells : Bool) (old new : DiskState) (slots : ℕ) (output : Output) → IsTrue tells → Makes tells old slots output new
-    → MakingKeeps tells old slots new
-making-keeps tells old new slots output told (inl made) =
+make-keeps : (tells : Bool) (old new : DiskState) (layout : Layout) (output : Output) → IsTrue tells → Makes tells old layout output new
+    → MakingKeeps tells old (store_layout layout) new
+make-keeps tells old new layout output told (inl made) =
     inl (record {
-      kept = λ image left. kept-as tells (new_header 3 slots) image [] (λ relation. 0) told
-          (formatted-leaves slots old.areas new.areas image (made.formatted told) left);
-      has = λ image left. image-header tells (new_header 3 slots) image [] (λ relation. 0) told
-          (formatted-leaves slots old.areas new.areas image (made.formatted told) left);
+      kept = λ image left. kept-as tells (header_of (store_layout layout)) image [] (λ relation. 0) told
+          (formatted-leaves (store_layout layout) old.areas new.areas image (made.formatted told) left);
+      has = λ image left. image-header tells (header_of (store_layout layout)) image [] (λ relation. 0) told
+          (formatted-leaves (store_layout layout) old.areas new.areas image (made.formatted told) left);
     })
-making-keeps tells old new slots output told (inr refused) = inr (refused.0, refused.1)
+make-keeps tells old new layout output told (inr refused) = inr (refused.0, refused.1)
+
+making-keeps : (tells : Bool) (old new : DiskState) (layout : Option Layout) (output : Output) → IsTrue tells
+    → MatchOption layout (RefusesProfile old output new) (λ l. Makes tells old l output new)
+    → MatchOption layout (new ≡ old) (λ l. MakingKeeps tells old (store_layout l) new)
+making-keeps tells old new None output told refused = refused.0
+making-keeps tells old new (Some l) output told makes = make-keeps tells old new l output told makes
 
 -- ---- one question
 
@@ -414,50 +461,50 @@ between-led tells key a b m is r new step =
     }
 
 at-says : (tells : Bool) (store new : StoreValue) (h : History Value) (floors : ℕ → ℕ) (key : Key) (time : ℕ) (r : Reply) → IsTrue tells
-    → Stands tells store (machine.opened h floors) → AtStep tells store key time r new → OrGaveOut (IsValueReply (at_answer h floors key time)) r
+    → Stands tells store (opened_in store h floors) → AtStep tells store key time r new → OrGaveOut (IsValueReply (at_answer h floors key time)) r
 at-says tells store new h floors key time r told stands step =
     subst (OrGaveOut (IsValueReply (at_answer h floors key time))) (sym step.2) (by-taken step.1.0 step.1.1)
   where
     by-taken : (o : Option ViewValue)
-        → MatchOption o ((step.0 ≡ Err query.NoMemory) × (new ≡ store)) (λ view. stores.IsViewOf store view
-        × stores.AnswersAtView tells store view key time step.0 new)
+        → MatchOption o ((step.0 ≡ Err query.NoMemory) × (new ≡ store)) (λ view. queries.IsViewOf store view
+        × queries.AnswersAtView tells store view key time step.0 new)
         → OrGaveOut (IsValueReply (at_answer h floors key time)) (session.found step.0)
     by-taken None lacks = inr (inl (ap session.found lacks.0))
     by-taken (Some view) asks =
-        let of = view-of-history tells store view (machine.opened h floors) stands asks.0 in
+        let of = view-in tells store view h floors stands asks.0 in
         value-says (IsSure tells view.reclaimed time) (inl told) (at_answer h floors key time) step.0
-        (at-answered tells store new (machine.opened h floors) view h floors key time step.0 stands of.0 of.1 asks.1)
+        (at-answered tells store new (opened_in store h floors) view h floors key time step.0 stands of.0 of.1 asks.1)
 
 between-says : (tells : Bool) (store new : StoreValue) (h : History Value) (floors : ℕ → ℕ) (key : Key) (a b : ℕ) (r : Reply) → IsTrue tells
-    → Stands tells store (machine.opened h floors) → BetweenStep tells store key a b r new
+    → Stands tells store (opened_in store h floors) → BetweenStep tells store key a b r new
     → OrGaveOut (IsRowsReply (between_answer h floors key a b)) r
 between-says tells store new h floors key a b r told stands step =
     subst (OrGaveOut (IsRowsReply (between_answer h floors key a b))) (sym step.2) (by-taken step.1.0 step.1.1)
   where
     by-taken : (o : Option ViewValue)
-        → MatchOption o ((step.0 ≡ Err query.NoMemory) × (new ≡ store)) (λ view. stores.IsViewOf store view
-        × stores.AnswersRows tells store view key a b step.0 new)
+        → MatchOption o ((step.0 ≡ Err query.NoMemory) × (new ≡ store)) (λ view. queries.IsViewOf store view
+        × queries.AnswersRows tells store view key a b step.0 new)
         → OrGaveOut (IsRowsReply (between_answer h floors key a b)) (session.rows_found step.0)
     by-taken None lacks = inr (inl (ap session.rows_found lacks.0))
     by-taken (Some view) asks =
-        let of = view-of-history tells store view (machine.opened h floors) stands asks.0 in
+        let of = view-in tells store view h floors stands asks.0 in
         rows-says (IsSure tells view.reclaimed a) (inl told) (between_answer h floors key a b) step.0
-        (between-answered tells store new (machine.opened h floors) view h floors key a b step.0 stands of.0 of.1 asks.1)
+        (between-answered tells store new (opened_in store h floors) view h floors key a b step.0 stands of.0 of.1 asks.1)
 
 -- a question is asked of a store that stands for the image's history
-asking-keeps : (tells : Bool) (style : Style) (old new : DiskState) (asks : StoreValue → Line) (Is : History Value → (ℕ → ℕ) → Reply → Type 0)
+asking-keeps : (tells : Bool) (style : Style) (old new : DiskState) (asks : StoreValue → Line) (Is : StoreValue → History Value → (ℕ → ℕ) → Reply → Type 0)
     (output : Output) → IsTrue tells
     → AreSound old.areas → ((store : StoreValue) → Led tells (asks store))
-    → ((store : StoreValue) (h : History Value) (floors : ℕ → ℕ) (r : Reply) (asked : State) → Stands tells store (machine.opened h floors)
-    → Step tells (fresh store) (asks store) r asked → OrGaveOut (Is h floors) r)
+    → ((store : StoreValue) (h : History Value) (floors : ℕ → ℕ) (r : Reply) (asked : State) → Stands tells store (opened_in store h floors)
+    → Step tells (fresh store) (asks store) r asked → OrGaveOut (Is store h floors) r)
     → Asks tells style old asks output new → AskingKeeps tells style old asks Is output new
 asking-keeps tells style old new asks Is output told sound led says (inl refused) =
     λ header h floors image. inl (refused.0, refused.1, (open-refuses tells old new refused.0 header h floors refused.1 told image).0, refused.2)
 asking-keeps tells style old new asks Is output told sound led says (inr (inl lacks)) = λ header h floors image. inr (lacks.0, lacks.1, inl (lacks.2, lacks.3))
 asking-keeps tells style old new asks Is output told sound led says (inr (inr did)) = λ header h floors image.
-    let stands = open-stands tells old 1 did.opened header h floors did.opens told sound image in
-    let to = led did.opened (first_script_moment did.opened (machine.opened h floors))
-    (first-script tells did.opened h floors stands) did.answer did.asked did.step in
+    let stands = stands-in tells old did.opened header h floors did.opens told sound image in
+    let to = led did.opened (first_script_moment did.opened (opened_in did.opened h floors))
+    (first-script tells did.opened (opened_in did.opened h floors) stands) did.answer did.asked did.step in
     inr (
       did.opened,
       did.opens,
@@ -473,10 +520,10 @@ asking-keeps tells style old new asks Is output told sound led says (inr (inr di
 
 at-keeps : (tells : Bool) (old new : DiskState) (key : Key) (time : Option ℕ) (output : Output) → IsTrue tells → AreSound old.areas
     → MatchOption time (RefusesTime old output new) (λ t. Asks tells plain old (λ store. line.At key t) output new)
-    → MatchOption time (new ≡ old) (λ t. AskingKeeps tells plain old (λ store. line.At key t) (λ h floors. IsValueReply (at_answer h floors key t)) output new)
+    → MatchOption time (new ≡ old) (λ t. AskingKeeps tells plain old (λ store. line.At key t) (λ store h floors. IsValueReply (at_answer h floors key t)) output new)
 at-keeps tells old new key None output told sound refused = refused.0
 at-keeps tells old new key (Some t) output told sound asks =
-    asking-keeps tells plain old new (λ store. line.At key t) (λ h floors. IsValueReply (at_answer h floors key t)) output told sound
+    asking-keeps tells plain old new (λ store. line.At key t) (λ store h floors. IsValueReply (at_answer h floors key t)) output told sound
     (λ store. at-led tells key t)
     (λ store h floors r asked stands step. at-says tells store asked.store h floors key t r told stands step.0) asks
 
@@ -485,11 +532,11 @@ between-keeps : (tells : Bool) (old new : DiskState) (key : Key) (from to : Opti
     (λ store. line.Between key a b) output new))
     → MatchOption from (new
     ≡ old) (λ a. MatchOption to (new
-    ≡ old) (λ b. AskingKeeps tells plain old (λ store. line.Between key a b) (λ h floors. IsRowsReply (between_answer h floors key a b)) output new))
+    ≡ old) (λ b. AskingKeeps tells plain old (λ store. line.Between key a b) (λ store h floors. IsRowsReply (between_answer h floors key a b)) output new))
 between-keeps tells old new key None to output told sound refused = refused.0
 between-keeps tells old new key (Some a) None output told sound refused = refused.0
 between-keeps tells old new key (Some a) (Some b) output told sound asks =
-    asking-keeps tells plain old new (λ store. line.Between key a b) (λ h floors. IsRowsReply (between_answer h floors key a b)) output told sound
+    asking-keeps tells plain old new (λ store. line.Between key a b) (λ store h floors. IsRowsReply (between_answer h floors key a b)) output told sound
     (λ store. between-led tells key a b)
     (λ store h floors r asked stands step. between-says tells store asked.store h floors key a b r told stands step.0) asks
 
@@ -509,56 +556,70 @@ records-says Sure sure h floors relation time (Err query.NeedsDisk) says = absur
 records-says Sure sure h floors relation time (Err query.Stranger) says = absurd says
 
 scan-says : (tells : Bool) (store new : StoreValue) (h : History Value) (floors : ℕ → ℕ) (relation time : ℕ) (r : Reply) → IsTrue tells
-    → Stands tells store (machine.opened h floors) → ScanStep tells store relation time r new → OrGaveOut (IsRecordsReply h floors relation time) r
+    → Stands tells store (opened_in store h floors) → ScanStep tells store relation time r new → OrGaveOut (IsRecordsReply h floors relation time) r
 scan-says tells store new h floors relation time r told stands step =
     subst (OrGaveOut (IsRecordsReply h floors relation time)) (sym step.2) (by-taken step.1.0 step.1.1)
   where
     by-taken : (o : Option ViewValue)
-        → MatchOption o ((step.0 ≡ Err query.NoMemory) × (new ≡ store)) (λ view. stores.IsViewOf store view
-        × stores.AnswersScanAt tells store view relation time step.0 new)
+        → MatchOption o ((step.0 ≡ Err query.NoMemory) × (new ≡ store)) (λ view. queries.IsViewOf store view
+        × queries.AnswersScanAt tells store view relation time step.0 new)
         → OrGaveOut (IsRecordsReply h floors relation time) (session.records_found step.0)
     by-taken None lacks = inr (inl (ap session.records_found lacks.0))
     by-taken (Some view) asks =
-        let of = view-of-history tells store view (machine.opened h floors) stands asks.0 in
+        let of = view-in tells store view h floors stands asks.0 in
         records-says (IsSure tells view.reclaimed time) (inl told) h floors relation time step.0
-        (scan_at-answered tells store new (machine.opened h floors) view h floors relation time step.0 stands of.0 of.1 asks.1)
+        (scan_at-answered tells store new (opened_in store h floors) view h floors relation time step.0 stands of.0 of.1 asks.1)
 
-times-says : (store : StoreValue) (m : Machine Value) (label : ℕ) (r : Reply) → StandsInMemory store.transactions m → session.TimesStep store label r
-    → OrGaveOut (IsTimesReply (times_of m.published label)) r
-times-says store m label (reply.Times times) stands of = inl (inl (times, of ∙ times-of_label store.transactions m label stands, refl))
-times-says store m label (reply.Snapshot x) stands of = inl (inr of)
-times-says store m label reply.Ok stands of = inl (inr of)
-times-says store m label (reply.Found x) stands of = inl (inr of)
-times-says store m label reply.Queued stands of = inl (inr of)
-times-says store m label (reply.ReadOnly x) stands of = inl (inr of)
-times-says store m label (reply.Done x) stands of = inl (inr of)
-times-says store m label reply.Waiting stands of = inl (inr of)
-times-says store m label reply.InDoubt stands of = inl (inr of)
-times-says store m label (reply.Did x) stands of = inl (inr of)
-times-says store m label reply.Started stands of = inl (inr of)
-times-says store m label (reply.JobDid x) stands of = inl (inr of)
-times-says store m label (reply.Rows x) stands of = inl (inr of)
-times-says store m label (reply.Records x) stands of = inl (inr of)
-times-says store m label (reply.Opened x y) stands of = inl (inr of)
-times-says store m label (reply.OpenedByRelation x y) stands of = inl (inr of)
-times-says store m label (reply.Refused x) stands of = inl (inr of)
+times-says : (tells : Bool) (store : StoreValue) (h : History Value) (floors : ℕ → ℕ) (label : ℕ) (r : Reply) → Stands tells store (opened_in store h floors)
+    → session.TimesStep store label r → OrGaveOut (IsTimesReply (names_from store) (times_of h label)) r
+times-says tells store h floors label (reply.Times times) stands of =
+    let are = times-are tells store (opened_in store h floors) label times.items stands of in
+    inl (inl (
+      times,
+      subst (λ (h' : History Value). AreTimesFrom (names_from store) times.items (times_of h' label)) (published-in store h floors) are,
+      refl,
+    ))
+times-says tells store h floors label (reply.Snapshot x) stands of = inl (inr of)
+times-says tells store h floors label reply.Ok stands of = inl (inr of)
+times-says tells store h floors label (reply.Found x) stands of = inl (inr of)
+times-says tells store h floors label reply.Queued stands of = inl (inr of)
+times-says tells store h floors label (reply.ReadOnly x) stands of = inl (inr of)
+times-says tells store h floors label (reply.Done x) stands of = inl (inr of)
+times-says tells store h floors label reply.Waiting stands of = inl (inr of)
+times-says tells store h floors label reply.InDoubt stands of = inl (inr of)
+times-says tells store h floors label (reply.Did x) stands of = inl (inr of)
+times-says tells store h floors label reply.Started stands of = inl (inr of)
+times-says tells store h floors label (reply.JobDid x) stands of = inl (inr of)
+times-says tells store h floors label (reply.Rows x) stands of = inl (inr of)
+times-says tells store h floors label (reply.Records x) stands of = inl (inr of)
+times-says tells store h floors label (reply.Opened x y) stands of = inl (inr of)
+times-says tells store h floors label (reply.OpenedByRelation x y) stands of = inl (inr of)
+times-says tells store h floors label (reply.Refused x) stands of = inl (inr of)
 
 -- the store's last commit and floors are those of the history
-time-same : (tells : Bool) (store : StoreValue) (h : History Value) (floors : ℕ → ℕ) (relation : ℕ) (w : When) → Stands tells store (machine.opened h floors)
-    → time_asked (floor_at (stores.floors store) relation) (stores.last store) w ≡ time_asked (floors relation) (last h) w
-time-same tells store h floors relation when.First stands = stands.memory.floors relation
-time-same tells store h floors relation (when.At t) stands = refl
-time-same tells store h floors relation when.Now stands = last-is store.transactions (machine.opened h floors) stands.memory
+last-is : (tells : Bool) (store : StoreValue) (h : History Value) (floors : ℕ → ℕ) → Stands tells store (opened_in store h floors) → stores.last store ≡ last h
+last-is tells store h floors stands = last-published tells store (opened_in store h floors) stands ∙ ap last (published-in store h floors)
 
-end-same : (tells : Bool) (store : StoreValue) (h : History Value) (floors : ℕ → ℕ) (relation : ℕ) (w : When) → Stands tells store (machine.opened h floors)
+floors-are : (tells : Bool) (store : StoreValue) (h : History Value) (floors : ℕ → ℕ) (relation : ℕ) → Stands tells store (opened_in store h floors)
+    → floor_at (stores.floors store) relation ≡ floors relation
+floors-are tells (engine.Slots s) h floors relation stands = stands.memory.floors relation
+floors-are tells (engine.Log l) h floors relation stands = (memory-stands tells (engine.Log l) (opened_in (engine.Log l) h floors) stands).0.floors relation
+
+time-same : (tells : Bool) (store : StoreValue) (h : History Value) (floors : ℕ → ℕ) (relation : ℕ) (w : When) → Stands tells store (opened_in store h floors)
+    → time_asked (floor_at (stores.floors store) relation) (stores.last store) w ≡ time_asked (floors relation) (last h) w
+time-same tells store h floors relation when.First stands = floors-are tells store h floors relation stands
+time-same tells store h floors relation (when.At t) stands = refl
+time-same tells store h floors relation when.Now stands = last-is tells store h floors stands
+
+end-same : (tells : Bool) (store : StoreValue) (h : History Value) (floors : ℕ → ℕ) (relation : ℕ) (w : When) → Stands tells store (opened_in store h floors)
     → end_asked (floor_at (stores.floors store) relation) (stores.last store) w ≡ end_asked (floors relation) (last h) w
-end-same tells store h floors relation when.First stands = stands.memory.floors relation
+end-same tells store h floors relation when.First stands = floors-are tells store h floors relation stands
 end-same tells store h floors relation (when.At t) stands = refl
 end-same tells store h floors relation when.Now stands =
-    ap (λ (n : ℕ). end_asked 0 n when.Now) (last-is store.transactions (machine.opened h floors) stands.memory)
+    ap (λ (n : ℕ). end_asked 0 n when.Now) (last-is tells store h floors stands)
 
 question-says : (tells : Bool) (store : StoreValue) (asked : State) (h : History Value) (floors : ℕ → ℕ) (q : Question) (r : Reply) → IsTrue tells
-    → Stands tells store (machine.opened h floors) → Step tells (fresh store) (line_asked q store) r asked → OrGaveOut (IsReplyTo q h floors) r
+    → Stands tells store (opened_in store h floors) → Step tells (fresh store) (line_asked q store) r asked → OrGaveOut (IsReplyTo q store h floors) r
 question-says tells store asked h floors (question.Value key time) r told stands step =
     let before = time_asked (floor_at (stores.floors store) key.relation) (stores.last store) time in
     subst (λ (t : ℕ). OrGaveOut (IsValueReply (at_answer h floors key t)) r) (time-same tells store h floors key.relation time stands)
@@ -575,7 +636,7 @@ question-says tells store asked h floors (question.Rows key from to) r told stan
     (subst (λ (t : ℕ). OrGaveOut (IsRowsReply (between_answer h floors key t b)) r) (time-same tells store h floors key.relation from stands)
     (between-says tells store asked.store h floors key a b r told stands step.0))
 question-says tells store asked h floors (question.Times label) r told stands step =
-    times-says store (machine.opened h floors) label r stands.memory step.0
+    times-says tells store h floors label r stands step.0
 
 ask-keeps : (tells : Bool) (style : Style) (old new : DiskState) (asked : Option Question) (output : Output) → IsTrue tells → AreSound old.areas
     → MatchOption asked (RefusesTime old output new) (λ q. Asks tells style old (line_asked q) output new)
@@ -616,12 +677,12 @@ in_turn-led tells told before (text ∷ rest) m is state same r new does =
     by-refusal mid mid_is mid_same go_on true ends = record { after = mid; is_state = mid_same ∙ sym ends.1; leads = (ends.0, refl); is = mid_is }
     by-refusal mid mid_is mid_same go_on false more = go_on more
 
-store-write-keeps : (tells : Bool) (old new : DiskState) (lines : List Text) (output : Output) (header : Header) (h : History Value) (floors : ℕ → ℕ)
+store-write-keeps : (tells : Bool) (old new : DiskState) (lines : List Text) (output : Output) (header : AnyHeader) (h : History Value) (floors : ℕ → ℕ)
     → IsTrue tells → AreSound old.areas → IsImageOf header (image_of old.areas) h floors
     → (did : WritesStore tells old lines output new) → WriteKeeps tells h floors did.opened lines output new
 store-write-keeps tells old new lines output header h floors told sound image did =
-    let first = first-script tells did.opened h floors (open-stands tells old 1 did.opened header h floors did.opens told sound image) in
-    let to = in_turn-led tells told reply.Ok lines (first_script_moment did.opened (machine.opened h floors)) first (fresh did.opened) refl did.answer did.asked
+    let first = first-script tells did.opened (opened_in did.opened h floors) (stands-in tells old did.opened header h floors did.opens told sound image) in
+    let to = in_turn-led tells told reply.Ok lines (first_script_moment did.opened (opened_in did.opened h floors)) first (fresh did.opened) refl did.answer did.asked
     did.does in
     record {
       answer = did.answer;
@@ -647,6 +708,13 @@ dump-holds tells old new output (inl (inr none)) = ap (λ (s : DiskState). s.are
 dump-holds tells old new output (inr (inl dumped)) = ap (λ (s : DiskState). s.areas) dumped.same
 dump-holds tells old new output (inr (inr lacks)) = ap (λ (s : DiskState). s.areas) lacks.0
 
+-- what is shown where the log is slots
+shown-holds : (tells : Bool) (old new : DiskState) (o : Output) (Shows : Type 0) → (Shows → new.areas ≡ old.areas) → IfSlots tells old o new Shows
+    → new.areas ≡ old.areas
+shown-holds tells old new o Shows by (inl shown) = by shown.1
+shown-holds tells old new o Shows by (inr (inl in_heap)) = ap (λ (s : DiskState). s.areas) in_heap.1.0
+shown-holds tells old new o Shows by (inr (inr lacks)) = ap (λ (s : DiskState). s.areas) lacks.0
+
 -- ---- floor
 
 raised-led : (tells : Bool) (relation time : ℕ) (m : ScriptMoment) → IsTrue tells → IsScriptMoment tells m → (refused : Option Reply) (new : State)
@@ -657,12 +725,12 @@ raised-led tells relation time m told is None new does =
 raised-led tells relation time m told is (Some refusal) new does =
     part-led tells (line.Floor (Some relation) time) (line-led tells told (line.Floor (Some relation) time)) m is m.state new refl refusal does
 
-store-floor-keeps : (tells : Bool) (old new : DiskState) (relation time : ℕ) (output : Output) (header : Header) (h : History Value) (floors : ℕ → ℕ)
+store-floor-keeps : (tells : Bool) (old new : DiskState) (relation time : ℕ) (output : Output) (header : AnyHeader) (h : History Value) (floors : ℕ → ℕ)
     → IsTrue tells → AreSound old.areas → IsImageOf header (image_of old.areas) h floors
     → (did : RaisesStore tells old relation time output new) → FloorKeeps tells h floors did.opened relation time output new
 store-floor-keeps tells old new relation time output header h floors told sound image did =
-    let first = first-script tells did.opened h floors (open-stands tells old 1 did.opened header h floors did.opens told sound image) in
-    let to = raised-led tells relation time (first_script_moment did.opened (machine.opened h floors)) told first did.refused did.asked did.does in
+    let first = first-script tells did.opened (opened_in did.opened h floors) (stands-in tells old did.opened header h floors did.opens told sound image) in
+    let to = raised-led tells relation time (first_script_moment did.opened (opened_in did.opened h floors)) told first did.refused did.asked did.does in
     record {
       refused = did.refused;
       after = to.after;
@@ -700,7 +768,7 @@ pub keeps-acts : (tells : Bool) (a : Action) (old new : DiskState) (input : Inpu
 keeps-acts tells action.Example old new input output told sound acts = example-keeps tells old new input output told acts
 keeps-acts tells (action.Run dir) old new input output told sound acts =
     λ header h floors image. run-keeps tells old new input output header h floors told sound image acts
-keeps-acts tells (action.Format dir slots) old new input output told sound acts = making-keeps tells old new slots output told acts
+keeps-acts tells (action.Format dir layout) old new input output told sound acts = making-keeps tells old new layout output told acts
 keeps-acts tells (action.At dir key time) old new input output told sound acts = at-keeps tells old new key time output told sound acts
 keeps-acts tells (action.Between dir key from to) old new input output told sound acts = between-keeps tells old new key from to output told sound acts
 keeps-acts tells (action.Ask dir asked style) old new input output told sound acts = ask-keeps tells style old new asked output told sound acts
@@ -708,6 +776,6 @@ keeps-acts tells (action.Write dir write) old new input output told sound acts =
 keeps-acts tells (action.Vacuum dir time) old new input output told sound acts = upto-keeps tells old new time output told sound acts
 keeps-acts tells (action.Grow dir) old new input output told sound acts = growth-keeps tells old new output told sound acts
 keeps-acts tells (action.Floor dir relation time) old new input output told sound acts = raise-keeps tells old new relation time output told sound acts
-keeps-acts tells (action.Info dir json) old new input output told sound acts = info-holds tells old new json output acts
-keeps-acts tells (action.Dump dir) old new input output told sound acts = dump-holds tells old new output acts
+keeps-acts tells (action.Info dir json) old new input output told sound acts = shown-holds tells old new output (Tells tells old json output new) (info-holds tells old new json output) acts
+keeps-acts tells (action.Dump dir) old new input output told sound acts = shown-holds tells old new output (Dumps tells old output new) (dump-holds tells old new output) acts
 keeps-acts tells (action.Stress writers readers rounds) old new input output told sound acts = acts.0

@@ -15,13 +15,17 @@ use Rattle.session.specs.declared.reply.Reply.TheVariants as reply
 use Rattle.forms.specs.Styles.{is_plain, plain}
 use Rattle.forms.specs.declared.style.Style.{Style}
 use Rattle.shell.specs.Styled.{IsTextOf}
-use Rattle.store.specs.Values.{StoreValue}
+use Rattle.any_store.specs.Values.{StoreValue}
+use Rattle.any_store.specs.declared.formatting.Layout.{Layout as StoreLayout}
+use Rattle.any_store.specs.declared.formatting.Layout.TheVariants.{Slots}
+use Rattle.command_line.specs.declared.layout.Layout.{Layout}
 use Rattle.command_line.specs.declared.question.Question.{Question}
 use Rattle.command_line.specs.declared.question.RecordWrite.{RecordWrite}
 use Rattle.command_line.specs.declared.action.Action.{Action}
 use Rattle.command_line.specs.declared.action.Action.TheVariants as action
-use Rattle.shell.specs.Acts.{Acts, Asks, Dumps, DoesNotOpen, GivesOut, Grows, HasNoMemory, HasStatusOf, Input, IsRefused, IsSaid, IsTold, Makes, Output}
-use Rattle.shell.specs.Acts.{RefusesTime, RefusesToMake, RunsNew, RunsScript, SaysAll, SaysArchived, SaysBoth, SaysFront, SaysGrown, SaysSlots}
+use Rattle.shell.specs.Acts.{Acts, Asks, Dumps, DoesNotOpen, GivesOut, Grows, IfSlots, HasNoMemory, HasStatusOf, Input, IsRefused, IsSaid, IsTold, Makes, Output}
+use Rattle.shell.specs.Layouts.{store_layout}
+use Rattle.shell.specs.Acts.{RefusesProfile, RefusesTime, RefusesToMake, RunsNew, RunsScript, SaysAll, SaysArchived, SaysBoth, SaysFront, SaysGrown, SaysSlots}
 use Rattle.shell.specs.Acts.{IsToldAs, IsToldIn, Raises, SaysRaised, SaysSo, SaysVacuum, Tells, Vacuums, Writes}
 use Rattle.shell.specs.Asking.{line_asked}
 use Rattle.shell.specs.Vacuums.{is_refusal}
@@ -144,17 +148,26 @@ runs-kept tells old new input o v gives (inr (inr runs)) = inr (inr (record {
   status = status-kept runs.end o v gives runs.status;
 }))
 
-unmade-kept : (tells : Bool) (old new : DiskState) (slots : ℕ) (o v : Output) → GivesOut o v → RefusesToMake tells old slots o new
-    → RefusesToMake tells old slots v new
-unmade-kept tells old new slots o v gives refused = (refused.0, refused.1, refused-kept o v _ gives refused.2)
+unmade-kept : (tells : Bool) (old new : DiskState) (layout : StoreLayout) (o v : Output) → GivesOut o v → RefusesToMake tells old layout o new
+    → RefusesToMake tells old layout v new
+unmade-kept tells old new layout o v gives refused = (refused.0, refused.1, refused-kept o v _ gives refused.2)
 
-makes-kept : (tells : Bool) (old new : DiskState) (slots : ℕ) (o v : Output) → GivesOut o v → Makes tells old slots o new → Makes tells old slots v new
-makes-kept tells old new slots o v gives (inl made) = inl (record { count = made.count; formatted = made.formatted; said = said-kept o v _ gives made.said })
-makes-kept tells old new slots o v gives (inr refused) = inr (unmade-kept tells old new slots o v gives refused)
+made-kept : (tells : Bool) (old new : DiskState) (layout : Layout) (o v : Output) → GivesOut o v → Makes tells old layout o new
+    → Makes tells old layout v new
+made-kept tells old new layout o v gives (inl made) = inl (record { size = made.size; formatted = made.formatted; said = said-kept o v _ gives made.said })
+made-kept tells old new layout o v gives (inr refused) = inr (unmade-kept tells old new (store_layout layout) o v gives refused)
+
+profile-kept : (old new : DiskState) (o v : Output) → GivesOut o v → RefusesProfile old o new → RefusesProfile old v new
+profile-kept old new o v gives refused = (refused.0, refused-kept o v _ gives refused.1)
+
+makes-kept : (tells : Bool) (old new : DiskState) (layout : Option Layout) (o v : Output) → GivesOut o v
+    → MatchOption layout (RefusesProfile old o new) (λ l. Makes tells old l o new) → MatchOption layout (RefusesProfile old v new) (λ l. Makes tells old l v new)
+makes-kept tells old new None o v gives refused = profile-kept old new o v gives refused
+makes-kept tells old new (Some l) o v gives makes = made-kept tells old new l o v gives makes
 
 runs_new-kept : (tells : Bool) (old new : DiskState) (input : Input) (o v : Output) → GivesOut o v → RunsNew tells old input o new
     → RunsNew tells old input v new
-runs_new-kept tells old new input o v gives (inl refused) = inl (unmade-kept tells old new 16 o v gives refused)
+runs_new-kept tells old new input o v gives (inl refused) = inl (unmade-kept tells old new (Slots 16) o v gives refused)
 runs_new-kept tells old new input o v gives (inr runs) =
     inr (record { made = runs.made; formatted = runs.formatted; sound = runs.sound; runs = runs-kept tells runs.made new input o v gives runs.runs })
 
@@ -337,10 +350,17 @@ tells-kept tells old new json o v gives (inr (inl done)) =
     }))
 tells-kept tells old new json o v gives (inr (inr lacks)) = inr (inr (lacks.0, refused-kept o v _ gives lacks.1))
 
+-- what is shown where the log is slots
+shown-kept : (tells : Bool) (old new : DiskState) (o v : Output) (Shows Shows' : Type 0) → GivesOut o v → (Shows → Shows') → IfSlots tells old o new Shows
+    → IfSlots tells old v new Shows'
+shown-kept tells old new o v Shows Shows' gives by (inl shown) = inl (shown.0, by shown.1)
+shown-kept tells old new o v Shows Shows' gives by (inr (inl in_heap)) = inr (inl (in_heap.0, profile-kept old new o v gives in_heap.1))
+shown-kept tells old new o v Shows Shows' gives by (inr (inr lacks)) = inr (inr (lacks.0, refused-kept o v _ gives lacks.1))
+
 pub acts-kept : (tells : Bool) (a : Action) (old new : DiskState) (input : Input) (o v : Output) → GivesOut o v → Acts tells a old input o new
     → Acts tells a old input v new
 acts-kept tells action.Example old new input o v gives acts = runs_new-kept tells old new input o v gives acts
-acts-kept tells (action.Format dir slots) old new input o v gives acts = makes-kept tells old new slots o v gives acts
+acts-kept tells (action.Format dir layout) old new input o v gives acts = makes-kept tells old new layout o v gives acts
 acts-kept tells (action.Run dir) old new input o v gives acts = runs-kept tells old new input o v gives acts
 acts-kept tells (action.At dir key time) old new input o v gives acts = at-kept tells old new time (λ t. line.At key t) o v gives acts
 acts-kept tells (action.Between dir key from to) old new input o v gives acts = between-kept tells old new from to (λ s t. line.Between key s t) o v gives acts
@@ -349,6 +369,8 @@ acts-kept tells (action.Write dir write) old new input o v gives acts = writes-k
 acts-kept tells (action.Vacuum dir time) old new input o v gives acts = upto-kept tells old new time o v gives acts
 acts-kept tells (action.Grow dir) old new input o v gives acts = grows-kept tells old new o v gives acts
 acts-kept tells (action.Floor dir relation time) old new input o v gives acts = raise-kept tells old new relation time o v gives acts
-acts-kept tells (action.Info dir json) old new input o v gives acts = tells-kept tells old new json o v gives acts
-acts-kept tells (action.Dump dir) old new input o v gives acts = dumps-kept tells old new o v gives acts
+acts-kept tells (action.Info dir json) old new input o v gives acts =
+    shown-kept tells old new o v (Tells tells old json o new) (Tells tells old json v new) gives (tells-kept tells old new json o v gives) acts
+acts-kept tells (action.Dump dir) old new input o v gives acts =
+    shown-kept tells old new o v (Dumps tells old o new) (Dumps tells old v new) gives (dumps-kept tells old new o v gives) acts
 acts-kept tells (action.Stress writers readers rounds) old new input o v gives acts = (acts.0, refused-kept o v [] gives acts.1)

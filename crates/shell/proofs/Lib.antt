@@ -2,4 +2,5 @@ pub mod DumpLemmas
 pub mod Kept
 pub mod Keeping
 pub mod Said
+mod Sizes
 mod Turns

@@ -19,11 +19,13 @@ use Rattle.session.specs.declared.reply.Reply.TheVariants as reply
 use Rattle.forms.specs.Styles.{is_plain, plain}
 use Rattle.forms.specs.declared.style.Style.{Style}
 use Rattle.shell.specs.Styled.{IsTextOf}
-use Rattle.store.specs.Values.{StoreValue}
+use Rattle.any_store.specs.Values.{StoreValue}
 use Rattle.command_line.specs.declared.question.Question.{Question}
 use Rattle.command_line.specs.declared.question.RecordWrite.{RecordWrite}
 use Rattle.command_line.specs.declared.action.Action.{Action}
 use Rattle.command_line.specs.declared.action.Action.TheVariants as action
+use Rattle.command_line.specs.declared.layout.Layout.{Layout}
+use Rattle.shell.specs.Acts.{Dumps, IfSlots, RefusesProfile}
 use Rattle.shell.specs.Acts.{Acts, Asks, Grows, HasStatusOf, Input, IsRefused, IsSaid, IsTold, Makes, Output, RefusesTime, RunsNew, RunsScript, SaysAll}
 use Rattle.shell.specs.Acts.{IsToldAs, IsToldIn, Raises, SaysRaised, SaysSo, Tells}
 use Rattle.shell.specs.Acts.{SaysFront, SaysGrown, SaysSlots, SaysVacuum, Vacuums, Writes}
@@ -149,9 +151,14 @@ ended-status : (end : Ending) (o : Output) → HasStatusOf end o → o.status �
 ended-status end o (inl done) = zero-least o.status done.0
 ended-status end o (inr failed) = one-least o.status failed.0
 
-makes-status : (tells : Bool) (old new : DiskState) (slots : ℕ) (o : Output) → Makes tells old slots o new → o.status ≤ 1
-makes-status tells old new slots o (inl made) = said-status o _ made.said
-makes-status tells old new slots o (inr refused) = refused-status o _ refused.2
+made-status : (tells : Bool) (old new : DiskState) (layout : Layout) (o : Output) → Makes tells old layout o new → o.status ≤ 1
+made-status tells old new layout o (inl made) = said-status o _ made.said
+made-status tells old new layout o (inr refused) = refused-status o _ refused.2
+
+makes-status : (tells : Bool) (old new : DiskState) (layout : Option Layout) (o : Output)
+    → MatchOption layout (RefusesProfile old o new) (λ l. Makes tells old l o new) → o.status ≤ 1
+makes-status tells old new None o refused = refused-status o _ refused.1
+makes-status tells old new (Some l) o makes = made-status tells old new l o makes
 
 runs-status : (tells : Bool) (old new : DiskState) (input : Input) (o : Output) → RunsScript tells old input o new → o.status ≤ 1
 runs-status tells old new input o (inl refused) = refused-status o _ refused.2
@@ -242,9 +249,21 @@ tells-status tells old new json o (inl (inr lacks)) = refused-status o _ lacks.s
 tells-status tells old new json o (inr (inl done)) = said-status o _ done.said
 tells-status tells old new json o (inr (inr lacks)) = refused-status o _ lacks.1
 
+dumps-status : (tells : Bool) (old new : DiskState) (o : Output) → Dumps tells old o new → o.status ≤ 1
+dumps-status tells old new o (inl (inl lacks)) = refused-status o _ lacks.said
+dumps-status tells old new o (inl (inr lacks)) = refused-status o _ lacks.said
+dumps-status tells old new o (inr (inl done)) = said-status o done.text done.said
+dumps-status tells old new o (inr (inr lacks)) = refused-status o _ lacks.1
+
+-- what is shown where the log is slots
+shown-status : (tells : Bool) (old new : DiskState) (o : Output) (Shows : Type 0) → (Shows → o.status ≤ 1) → IfSlots tells old o new Shows → o.status ≤ 1
+shown-status tells old new o Shows by (inl shown) = by shown.1
+shown-status tells old new o Shows by (inr (inl in_heap)) = refused-status o _ in_heap.1.1
+shown-status tells old new o Shows by (inr (inr lacks)) = refused-status o _ lacks.1
+
 pub acts-status : (tells : Bool) (a : Action) (old new : DiskState) (input : Input) (o : Output) → Acts tells a old input o new → o.status ≤ 1
 acts-status tells action.Example old new input o acts = runs_new-status tells old new input o acts
-acts-status tells (action.Format dir slots) old new input o acts = makes-status tells old new slots o acts
+acts-status tells (action.Format dir layout) old new input o acts = makes-status tells old new layout o acts
 acts-status tells (action.Run dir) old new input o acts = runs-status tells old new input o acts
 acts-status tells (action.At dir key time) old new input o acts = at-status tells old new time (λ t. line.At key t) o acts
 acts-status tells (action.Between dir key from to) old new input o acts = between-status tells old new from to (λ s t. line.Between key s t) o acts
@@ -253,9 +272,7 @@ acts-status tells (action.Write dir write) old new input o acts = writes-status 
 acts-status tells (action.Vacuum dir time) old new input o acts = upto-status tells old new time o acts
 acts-status tells (action.Grow dir) old new input o acts = grows-status tells old new o acts
 acts-status tells (action.Floor dir relation time) old new input o acts = raise-status tells old new relation time o acts
-acts-status tells (action.Info dir json) old new input o acts = tells-status tells old new json o acts
-acts-status tells (action.Dump dir) old new input o (inl (inl lacks)) = refused-status o _ lacks.said
-acts-status tells (action.Dump dir) old new input o (inl (inr lacks)) = refused-status o _ lacks.said
-acts-status tells (action.Dump dir) old new input o (inr (inl done)) = said-status o done.text done.said
-acts-status tells (action.Dump dir) old new input o (inr (inr lacks)) = refused-status o _ lacks.1
+acts-status tells (action.Info dir json) old new input o acts =
+    shown-status tells old new o (Tells tells old json o new) (tells-status tells old new json o) acts
+acts-status tells (action.Dump dir) old new input o acts = shown-status tells old new o (Dumps tells old o new) (dumps-status tells old new o) acts
 acts-status tells (action.Stress writers readers rounds) old new input o acts = refused-status o [] acts.1

@@ -3,9 +3,8 @@ use Rattle.std.specs.Prelude.{[], ◌≡◌, ◌≢◌, ◌⊎◌, ◌+◌, ℕ,
 use Rattle.std.specs.Fmt.{decimal}
 use Rattle.std.specs.Io.KnownBytes.{Appends, Keeps}
 use Rattle.disk.specs.Areas.{AreSound}
-use Rattle.disk.specs.Calls.{DiskState}
+use Rattle.disk.specs.Calls.{DiskState, looked, refused_answer}
 use Rattle.disk.specs.declared.area.Area.TheVariants as area
-use Rattle.recovery.specs.Format.{IsSlotCount, IsFormatted, FormatRefuses}
 use Rattle.recovery.specs.declared.fault.FormatFault.{FormatFault}
 use Rattle.recovery.specs.declared.fault.OpenFault.{OpenFault}
 use Rattle.recovery.specs.declared.fault.OpenFault.TheVariants as opening
@@ -15,8 +14,13 @@ use Rattle.status.specs.declared.fault.LogFault.TheVariants as log
 use Rattle.status.specs.declared.header.Header.{Header}
 use Rattle.status.specs.Header.{total}
 use Rattle.wire.specs.declared.slot.Slot.{Slot}
-use Rattle.store.specs.Values.{StoreValue}
-use Rattle.store.specs.Opens.{Opens, OpenRefuses}
+use Rattle.any_store.specs.Values.{StoreValue, disk_of}
+use Rattle.log_store.specs.Formats.{HasLogHeader}
+use Rattle.any_store.specs.Opens.{Opens, OpenRefuses}
+use Rattle.any_store.specs.Formats.{IsSize, IsFormatted, FormatRefuses}
+use Rattle.any_store.specs.declared.formatting.Layout.{Layout as StoreLayout}
+use Rattle.any_store.specs.declared.formatting.Layout.TheVariants.{Slots}
+use Rattle.store.specs.declared.job.StartFault.TheVariants as start
 use Rattle.script.specs.declared.line.Line.{Line}
 use Rattle.script.specs.declared.line.Line.TheVariants as line
 use Rattle.session.specs.Lines.{AreLines}
@@ -34,7 +38,9 @@ use Rattle.session.specs.declared.reply.Reply.TheVariants as reply
 use Rattle.forms.specs.Styles.{is_plain, plain}
 use Rattle.log_facts.specs.Texts.{info_text}
 use Rattle.forms.specs.declared.style.Style.{Style}
+use Rattle.command_line.specs.declared.layout.Layout.{Layout}
 use Rattle.shell.specs.Asking.{line_asked}
+use Rattle.shell.specs.Layouts.{formatted_line, size_of, store_layout}
 use Rattle.shell.specs.Styled.{IsTextOf}
 use Rattle.shell.specs.Dump.{IsDump}
 use Rattle.shell.specs.Vacuums.{DoesJob, DoesVacuum, HasLog, HasNoHeaderFor, LacksLog, archived_line, is_refusal, reclaimed_line}
@@ -90,19 +96,23 @@ GivesOut old new =
 
 -- ---- format
 
--- an empty store is made, and its slots are said
-pub record MakesStore (tells : Bool) (old : DiskState) (slots : ℕ) (output : Output) (new : DiskState) : Type 0 where
-  pub count : IsSlotCount slots
-  pub formatted : IsTrue tells → IsFormatted slots old.areas new.areas
-  pub said : IsSaid output (codes "formatted " ++ (decimal slots ++ codes "\n"))
+-- an empty store is made, and its size is said
+pub record MakesStore (tells : Bool) (old : DiskState) (layout : Layout) (output : Output) (new : DiskState) : Type 0 where
+  pub size : IsSize (store_layout layout)
+  pub formatted : IsTrue tells → IsFormatted (store_layout layout) old.areas new.areas
+  pub said : IsSaid output (formatted_line (size_of layout))
 
 -- no store is made, and why is said
-abbrev pub RefusesToMake : Bool → DiskState → ℕ → Output → DiskState → Type 0
-RefusesToMake tells old slots output new = (f : FormatFault) × FormatRefuses tells slots old f new × IsRefused output (refusal_line (fault.Format f))
+abbrev pub RefusesToMake : Bool → DiskState → StoreLayout → Output → DiskState → Type 0
+RefusesToMake tells old layout output new = (f : FormatFault) × FormatRefuses tells layout old f new × IsRefused output (refusal_line (fault.Format f))
 
 -- `format`: an empty store is made, or refused
-abbrev pub Makes : Bool → DiskState → ℕ → Output → DiskState → Type 0
-Makes tells old slots output new = MakesStore tells old slots output new ⊎ RefusesToMake tells old slots output new
+abbrev pub Makes : Bool → DiskState → Layout → Output → DiskState → Type 0
+Makes tells old layout output new = MakesStore tells old layout output new ⊎ RefusesToMake tells old (store_layout layout) output new
+
+-- what is not of the profile is refused, and the disk is as it was
+abbrev pub RefusesProfile : DiskState → Output → DiskState → Type 0
+RefusesProfile old output new = (new ≡ old) × IsRefused output (refusal_line (fault.Start start.WrongProfile))
 
 -- ---- scripts
 
@@ -112,7 +122,7 @@ DoesNotOpen tells old output new = (f : OpenFault) × OpenRefuses tells old f ne
 
 -- the store opens, but no session can begin for want of memory, which is said
 abbrev pub HasNoMemory : Bool → DiskState → Output → DiskState → Type 0
-HasNoMemory tells old output new = (store : StoreValue) × Opens tells old 1 store × (new ≡ store.disk) × IsRefused output (refusal_line fault.NoMemory)
+HasNoMemory tells old output new = (store : StoreValue) × Opens tells old 1 store × (new ≡ disk_of store) × IsRefused output (refusal_line fault.NoMemory)
 
 -- status 0 where the script ran to its end and all was given out, and only there
 abbrev pub HasStatusOf : Ending → Output → Type 0
@@ -142,14 +152,14 @@ RunsScript tells old input output new = DoesNotOpen tells old output new ⊎ (Ha
 -- an empty store of 16 slots is made, and the script runs on it
 pub record RunsOnNew (tells : Bool) (old : DiskState) (input : Input) (output : Output) (new : DiskState) : Type 0 where
   pub made : DiskState
-  pub formatted : IsTrue tells → IsFormatted 16 old.areas made.areas
+  pub formatted : IsTrue tells → IsFormatted (Slots 16) old.areas made.areas
   -- a disk that tells its bytes is sound
   pub sound : IsTrue tells → AreSound made.areas
   pub runs : RunsScript tells made input output new
 
 -- the example: a script runs on an empty store that is made for it, or none is made
 abbrev pub RunsNew : Bool → DiskState → Input → Output → DiskState → Type 0
-RunsNew tells old input output new = RefusesToMake tells old 16 output new ⊎ RunsOnNew tells old input output new
+RunsNew tells old input output new = RefusesToMake tells old (Slots 16) output new ⊎ RunsOnNew tells old input output new
 
 -- ---- one question
 
@@ -374,13 +384,28 @@ abbrev pub Tells : Bool → DiskState → Bool → Output → DiskState → Type
 Tells tells old json output new =
     (HasNoHeader tells old output new ⊎ HasNoLog tells old output new) ⊎ (TellsLog tells old json output new ⊎ LacksText old output new)
 
+-- ---- a log in the heap, of which nothing is shown yet
+
+-- its header stands there, and it is refused
+abbrev pub LiesInHeap : Bool → DiskState → Output → DiskState → Type 0
+LiesInHeap tells old output new = (IsTrue tells → HasLogHeader old.areas.status.bytes) × RefusesProfile old output new
+
+-- the header can't be read
+abbrev pub LacksFront : DiskState → Output → DiskState → Type 0
+LacksFront old output new = (new ≡ looked refused_answer old) × IsRefused output (open_line opening.Device)
+
+-- so it is where the log is slots, and one in the heap is refused
+abbrev pub IfSlots : Bool → DiskState → Output → DiskState → Type 0 → Type 0
+IfSlots tells old output new Shows =
+    ((IsTrue tells → ¬ HasLogHeader old.areas.status.bytes) × Shows) ⊎ (LiesInHeap tells old output new ⊎ LacksFront old output new)
+
 -- ---- actions
 
 -- With status 0 it is done and said in full. With status 1 the store, the input or the output was refused, which is said as far as the output took it, and the
 -- disk is as this says.
 abbrev pub Acts : Bool → Action → DiskState → Input → Output → DiskState → Type 0
 Acts tells action.Example old input output new = RunsNew tells old input output new
-Acts tells (action.Format dir slots) old input output new = Makes tells old slots output new
+Acts tells (action.Format dir layout) old input output new = MatchOption layout (RefusesProfile old output new) (λ l. Makes tells old l output new)
 Acts tells (action.Run dir) old input output new = RunsScript tells old input output new
 Acts tells (action.At dir key time) old input output new = MatchOption time (RefusesTime old output new) (λ t. Asks tells plain old
     (λ store. line.At key t) output new)
@@ -393,6 +418,6 @@ Acts tells (action.Write dir write) old input output new = Writes tells old writ
 Acts tells (action.Vacuum dir time) old input output new = MatchOption time (RefusesTime old output new) (λ t. Vacuums tells old t output new)
 Acts tells (action.Grow dir) old input output new = Grows tells old output new
 Acts tells (action.Floor dir relation time) old input output new = MatchOption time (RefusesTime old output new) (λ t. Raises tells old relation t output new)
-Acts tells (action.Info dir json) old input output new = Tells tells old json output new
-Acts tells (action.Dump dir) old input output new = Dumps tells old output new
+Acts tells (action.Info dir json) old input output new = IfSlots tells old output new (Tells tells old json output new)
+Acts tells (action.Dump dir) old input output new = IfSlots tells old output new (Dumps tells old output new)
 Acts tells (action.Stress writers readers rounds) old input output new = DoesNothing old output new

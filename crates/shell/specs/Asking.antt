@@ -1,8 +1,8 @@
 -- The line of a script that asks a question.
 use Rattle.std.specs.Prelude.{ℕ, ◌+◌, ◌-◌, ◌^◌, min}
 use Rattle.floors.specs.Floors.{floor_at}
-use Rattle.store.specs.Calls as stores
-use Rattle.store.specs.Values.{StoreValue}
+use Rattle.any_store.specs.Calls as stores
+use Rattle.any_store.specs.Values.{StoreValue}
 use Rattle.script.specs.declared.line.Line.{Line}
 use Rattle.script.specs.declared.line.Line.TheVariants as line
 use Rattle.command_line.specs.declared.question.Question.{Question}

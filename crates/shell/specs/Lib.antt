@@ -4,5 +4,6 @@ pub mod Writing
 pub mod Dump
 pub mod Styled
 pub mod Acts
+pub mod Layouts
 pub mod Needs
 pub mod Keeps

@@ -1,18 +1,23 @@
 -- Which folder an action needs.
-use Rattle.std.specs.Prelude.{ℕ, Bool, ◌&&◌, is_some, nat_le, if◌then◌else◌}
+use Rattle.std.specs.Prelude.{◌&&◌, Option, Some, None, is_some, if◌then◌else◌}
+use Rattle.std.specs.Borrow.{Bor}
 use Rattle.command_line.specs.declared.action.Action.{Action}
 use Rattle.command_line.specs.declared.action.Action.TheVariants as action
+use Rattle.command_line.specs.declared.layout.Layout.{Layout}
+use Rattle.session.specs.Texts.{Text}
+use Rattle.shell.specs.Layouts.{is_size}
 use Rattle.shell.specs.declared.needs.Need.{Need}
 use Rattle.shell.specs.declared.needs.Need.TheVariants as need
 
--- a store has this many slots, or there is none
-abbrev pub is_slot_count : ℕ → Bool
-is_slot_count slots = nat_le 16 slots && nat_le slots 65_536
+-- the folder, where a store is to be made in it that there can be
+abbrev pub make_if : Option Layout → Bor Text → Need
+make_if None dir = need.Nothing
+make_if (Some layout) dir = if is_size layout then need.Make dir else need.Nothing
 
--- none for the example, for a count of slots that no store has, and for a time that is none
+-- none for the example, for a size that no store has or not one of its profile, and for a time that is none
 abbrev pub need_of : Action → Need
 need_of action.Example = need.Nothing
-need_of (action.Format dir slots) = if is_slot_count slots then need.Make dir else need.Nothing
+need_of (action.Format dir layout) = make_if layout dir
 need_of (action.Run dir) = need.Change dir
 need_of (action.At dir key time) = if is_some time then need.Change dir else need.Nothing
 need_of (action.Between dir key from to) = if is_some from && is_some to then need.Change dir else need.Nothing

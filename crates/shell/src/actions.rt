@@ -1,17 +1,17 @@
 //! What an action does.
-ghost use Rattle.std.specs.Prelude.{◌++◌, codes, ◌≡◌, ◌≢◌, ◌≤◌, ◌⊎◌, Option, IfOk, IsTrue, MatchOption, MatchResult};
-ghost use Rattle.std.specs.Fmt.{decimal};
+ghost use Rattle.std.specs.Prelude.{◌++◌, ◌≡◌, ◌≢◌, ◌≤◌, ◌⊎◌, Option, IfOk, IsTrue, MatchOption, MatchResult};
 ghost use Rattle.script.specs.declared.line.Line.TheVariants.{At, Between, Grow};
 ghost use Rattle.session.specs.Streams.{Says, is_output_refused, text_said};
 ghost use Rattle.session.specs.Texts.{Text, open_line, refusal_line, text_of};
 ghost use Rattle.session.specs.declared.ending.Ending.TheVariants.{Whole};
-ghost use Rattle.shell.specs.Acts.{Acts, Asks, Dumps, GivesOut, Grows, IsRefused, IsTold, Makes, RefusesTime, RunsNew, RunsScript, SaysArchived, SaysBoth};
+ghost use Rattle.shell.specs.Acts.{Acts, Asks, Dumps, GivesOut, Grows, IfSlots, IsRefused, IsTold, Makes, RefusesTime, RunsNew, RunsScript, SaysArchived, SaysBoth};
 ghost use Rattle.shell.specs.Acts.{SaysGrown, SaysSlots, SaysVacuum, Vacuums, given, open_fault_of, told};
 ghost use Rattle.forms.specs.Styles.{plain};
-ghost use Rattle.shell.specs.Acts.{IsSaid, IsToldAs, IsToldIn, Raises, SaysRaised, Tells, Writes};
+ghost use Rattle.shell.specs.Acts.{IsSaid, IsToldAs, IsToldIn, Raises, RefusesProfile, SaysRaised, Tells, Writes};
 ghost use Rattle.shell.specs.Asking.{line_asked};
 ghost use Rattle.shell.specs.Dump.{IsDump};
 ghost use Rattle.shell.specs.Keeps.{KeepsPromise};
+ghost use Rattle.shell.specs.Layouts.{formatted_line, size_of, store_layout};
 ghost use Rattle.shell.specs.Vacuums.{archived_line, reclaimed_line};
 
 use crate::asking::line_asked;
@@ -19,10 +19,12 @@ use crate::dump::{DumpFault, write_dump};
 use crate::styled::{found_lines, record_lines, row_lines, time_lines};
 use crate::vacuuming::{Job, Vacuumed, answer, do_job, do_jobs, is_refusal, log_of, records_in};
 use crate::writing::{answer_write, lines_of};
-use command_line::{Action, Question, RecordWrite, Style, When};
+use any_store::{OpenFault, StartFault, Store, format};
+use command_line::{Action, Layout, Question, RecordWrite, Style, When};
 use disk::{Area, Disk};
 use history::Key;
 use log_facts::info_text;
+use log_store::has_log_header;
 use script::Line;
 use session::{
     Answers, Ending, Fault, LineInput, Lines, MARK, Refused, Reply, Session, answer_lines,
@@ -31,7 +33,6 @@ use session::{
 use status::{Header, LogFault, read_header, read_log};
 use std::alloc::{AllocError, Global};
 use std::io::Write;
-use store::{OpenFault, Store, format};
 use wire::Slot;
 
 /// The status of what was done and said in full.
@@ -40,8 +41,8 @@ const DONE: u8 = 0;
 /// The status of what was refused, or could not be said.
 const REFUSED: u8 = 1;
 
-/// The slots of the store in memory.
-const EXAMPLE_SLOTS: u32 = 16;
+/// The layout of the store in memory.
+const EXAMPLE: any_store::Layout = any_store::Layout::Slots(16);
 
 /// The status of what was done, where it was said.
 fn status_of(said: Result<(), Refused>) -> u8
@@ -59,6 +60,13 @@ fn refuse<W: Write>(output: &mut Answers<W>, fault: Fault) -> u8
 {
     let _ = write_reply(output, &Reply::Refused(fault));
     REFUSED
+}
+
+/// Says that what is asked for is not of this profile.
+fn refuse_profile<W: Write>(output: &mut Answers<W>) -> u8
+    ensures { IsRefused (told W.contents result output.old output.new) (refusal_line (Fault.Start StartFault.WrongProfile)) }
+{
+    refuse(output, Fault::Start(StartFault::WrongProfile))
 }
 
 /// The status of a script that ended so.
@@ -92,25 +100,65 @@ fn run_script<D: Disk, R: LineInput, W: Write>(
     (status_of_ending(ending), disk)
 }
 
-/// Says that an empty store was made.
-fn say_formatted<W: Write>(output: &mut Answers<W>, slots: u32) -> Result<(), Refused>
-    ensures { Says (text_said W.contents output.old) (codes "formatted " ++ (decimal slots ++ codes "\n")) result (text_said W.contents output.new)
-        (is_output_refused output.new) }
+/// The layout in the words of the store.
+fn store_layout(layout: Layout) -> any_store::Layout
+    ensures { result ≡ store_layout layout }
 {
-    write_numbered(output, "formatted ", u64::from(slots))
+    match layout {
+        Layout::Slots(slots) => any_store::Layout::Slots(slots),
+        Layout::Extents(extents) => any_store::Layout::Log(extents),
+    }
+}
+
+/// How many slots or extents there are.
+fn size_of(layout: Layout) -> u32
+    ensures { result ≡ size_of layout }
+{
+    match layout {
+        Layout::Slots(slots) => slots,
+        Layout::Extents(extents) => extents,
+    }
+}
+
+/// Says that an empty store of this size was made.
+fn say_formatted<W: Write>(output: &mut Answers<W>, size: u32) -> Result<(), Refused>
+    ensures { Says (text_said W.contents output.old) (formatted_line size) result (text_said W.contents output.new) (is_output_refused output.new) }
+{
+    write_numbered(output, "formatted ", u64::from(size))
 }
 
 /// Makes an empty store.
-fn make<D: Disk, W: Write>(alloc: Global, disk: D, slots: u32, output: &mut Answers<W>) -> (u8, D)
-    ensures { Makes D.tells (D.state disk) slots (told W.contents result.0 output.old output.new) (D.state result.1) }
+fn make<D: Disk, W: Write>(
+    alloc: Global,
+    disk: D,
+    layout: Layout,
+    output: &mut Answers<W>,
+) -> (u8, D)
+    ensures { Makes D.tells (D.state disk) layout (told W.contents result.0 output.old output.new) (D.state result.1) }
 {
     let mut disk = disk;
-    match format(alloc, &mut disk, slots) {
+    match format(alloc, &mut disk, store_layout(layout)) {
         Ok(()) => {
-            let said = say_formatted(output, slots);
+            let said = say_formatted(output, size_of(layout));
             (status_of(said), disk)
         }
         Err(fault) => (refuse(output, Fault::Format(fault)), disk),
+    }
+}
+
+/// Makes an empty store, if the words say a size of its profile.
+fn make_if<D: Disk, W: Write>(
+    alloc: Global,
+    disk: D,
+    layout: Option<Layout>,
+    output: &mut Answers<W>,
+) -> (u8, D)
+    ensures { MatchOption layout (RefusesProfile (D.state disk) (told W.contents result.0 output.old output.new) (D.state result.1))
+        (λ l. Makes D.tells (D.state disk) l (told W.contents result.0 output.old output.new) (D.state result.1)) }
+{
+    match layout {
+        Some(layout) => make(alloc, disk, layout, output),
+        None => (refuse_profile(output), disk),
     }
 }
 
@@ -124,7 +172,7 @@ fn run_example<D: Disk, R: LineInput, W: Write>(
     ensures { RunsNew D.tells (D.state disk) (given R.remaining input.old input.new) (told W.contents result.0 output.old output.new) (D.state result.1) }
 {
     let mut disk = disk;
-    match format(alloc, &mut disk, EXAMPLE_SLOTS) {
+    match format(alloc, &mut disk, EXAMPLE) {
         Ok(()) => run_script(alloc, disk, input, output),
         Err(fault) => (refuse(output, Fault::Format(fault)), disk),
     }
@@ -529,7 +577,7 @@ fn raise_upto<D: Disk, W: Write>(
     }
 }
 
-/// Says what the log of a store tells, which is not opened for it.
+/// Says what the slots of a store tell, which is not opened for it.
 fn info<D: Disk, W: Write>(alloc: Global, disk: D, json: bool, output: &mut Answers<W>) -> (u8, D)
     ensures { Tells D.tells (D.state disk) json (told W.contents result.0 output.old output.new) (D.state result.1) }
 {
@@ -548,6 +596,24 @@ fn info<D: Disk, W: Write>(alloc: Global, disk: D, json: bool, output: &mut Answ
     }
 }
 
+/// Says what the log of a store tells, if it is slots. Of a log in the heap nothing is told yet.
+fn info_if_slots<D: Disk, W: Write>(
+    alloc: Global,
+    disk: D,
+    json: bool,
+    output: &mut Answers<W>,
+) -> (u8, D)
+    ensures { IfSlots D.tells (D.state disk) (told W.contents result.0 output.old output.new) (D.state result.1)
+        (Tells D.tells (D.state disk) json (told W.contents result.0 output.old output.new) (D.state result.1)) }
+{
+    let mut disk = disk;
+    match has_log_header(&mut disk) {
+        Ok(false) => info(alloc, disk, json, output),
+        Ok(true) => (refuse_profile(output), disk),
+        Err(_) => (refuse(output, Fault::Open(OpenFault::Device)), disk),
+    }
+}
+
 /// The text of a log. It is made whole before any of it is said, so that no refusal follows a part of it.
 fn dump_text(alloc: Global, header: &Header, slots: &[Slot]) -> Result<Vec<u8>, DumpFault>
     ensures { IfOk result (λ text. IsDump header.now slots.now text.items) }
@@ -557,7 +623,7 @@ fn dump_text(alloc: Global, header: &Header, slots: &[Slot]) -> Result<Vec<u8>, 
     Ok(text)
 }
 
-/// Writes the log of a store, which is not opened for it.
+/// Writes the slots of a store, which is not opened for it.
 fn dump<D: Disk, W: Write>(alloc: Global, disk: D, output: &mut Answers<W>) -> (u8, D)
     ensures { Dumps D.tells (D.state disk) (told W.contents result.0 output.old output.new) (D.state result.1) }
 {
@@ -576,6 +642,19 @@ fn dump<D: Disk, W: Write>(alloc: Global, disk: D, output: &mut Answers<W>) -> (
     }
 }
 
+/// Writes the log of a store, if it is slots. Of a log in the heap nothing is shown yet.
+fn dump_if_slots<D: Disk, W: Write>(alloc: Global, disk: D, output: &mut Answers<W>) -> (u8, D)
+    ensures { IfSlots D.tells (D.state disk) (told W.contents result.0 output.old output.new) (D.state result.1)
+        (Dumps D.tells (D.state disk) (told W.contents result.0 output.old output.new) (D.state result.1)) }
+{
+    let mut disk = disk;
+    match has_log_header(&mut disk) {
+        Ok(false) => dump(alloc, disk, output),
+        Ok(true) => (refuse_profile(output), disk),
+        Err(_) => (refuse(output, Fault::Open(OpenFault::Device)), disk),
+    }
+}
+
 /// Does what the words asked for. What was said may still be in the writer.
 fn perform<D: Disk, R: LineInput, W: Write>(
     alloc: Global,
@@ -589,7 +668,7 @@ fn perform<D: Disk, R: LineInput, W: Write>(
 {
     match action {
         Action::Example => run_example(alloc, disk, input, output),
-        Action::Format { dir: _, slots } => make(alloc, disk, slots, output),
+        Action::Format { dir: _, layout } => make_if(alloc, disk, layout, output),
         Action::Run { dir: _ } => run_script(alloc, disk, input, output),
         Action::At { dir: _, key, time } => ask_at(alloc, disk, key, time, output),
         Action::Between {
@@ -614,8 +693,8 @@ fn perform<D: Disk, R: LineInput, W: Write>(
             relation,
             time,
         } => raise_upto(alloc, disk, relation, time, output),
-        Action::Info { dir: _, json } => info(alloc, disk, json, output),
-        Action::Dump { dir: _ } => dump(alloc, disk, output),
+        Action::Info { dir: _, json } => info_if_slots(alloc, disk, json, output),
+        Action::Dump { dir: _ } => dump_if_slots(alloc, disk, output),
         // It is of no disk: the program runs it in threads of its own.
         Action::Stress {
             writers: _,

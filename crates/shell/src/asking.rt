@@ -3,10 +3,10 @@ ghost use Rattle.std.specs.Prelude.{◌≡◌, ◌≢◌};
 ghost use Rattle.script.specs.declared.line.Line.TheVariants.{Reopen};
 ghost use Rattle.shell.specs.Asking as told;
 
+use any_store::Store;
 use command_line::{Question, When};
 use disk::Disk;
 use script::Line;
-use store::Store;
 
 /// The time that is asked about, by the floor of the relation and the last commit.
 fn time_asked(floor: u64, last: u64, when: When) -> u64

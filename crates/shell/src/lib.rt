@@ -11,7 +11,9 @@ mod vacuuming;
 mod writing;
 
 pub use actions::{act, refuse_folder};
-pub use command_line::{Action, Form, Question, RecordWrite, Style, When, action_of, read_words};
+pub use command_line::{
+    Action, Form, Layout, Question, RecordWrite, Style, When, action_of, read_words,
+};
 pub use dump::{DumpFault, write_dump};
 pub use needs::{Need, folder_need};
 pub use recovery::OpenFault;

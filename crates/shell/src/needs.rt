@@ -1,9 +1,11 @@
 //! Which folder an action needs.
 ghost use Rattle.std.specs.Prelude.{◌≡◌, if◌then◌else◌};
-ghost use Rattle.shell.specs.declared.needs.Need.TheVariants.{Change, Make, Nothing};
-ghost use Rattle.shell.specs.Needs.{is_slot_count, need_of};
+ghost use Rattle.shell.specs.declared.needs.Need.TheVariants.{Change, Nothing};
+ghost use Rattle.shell.specs.Layouts.{is_size};
+ghost use Rattle.shell.specs.Needs.{make_if, need_of};
 
-use command_line::Action;
+use command_line::{Action, Layout};
+use log_roots::{LEAST_EXTENTS, MOST_EXTENTS};
 use status::{LEAST_SLOTS, MOST_SLOTS};
 
 /// What an action needs of the files of a folder.
@@ -19,10 +21,16 @@ pub enum Need<'a> {
     Read(&'a str),
 }
 
-fn is_slot_count(slots: u32) -> bool
-    ensures { result ≡ is_slot_count slots }
+/// Whether a store has this size.
+fn is_size(layout: Layout) -> bool
+    ensures { result ≡ is_size layout }
 {
-    slots >= LEAST_SLOTS && slots <= MOST_SLOTS
+    match layout {
+        Layout::Slots(slots) => slots >= LEAST_SLOTS && slots <= MOST_SLOTS,
+        Layout::Extents(extents) => {
+            extents >= LEAST_EXTENTS && extents <= MOST_EXTENTS && extents % 16 == 0
+        }
+    }
 }
 
 /// The folder, where what is asked of its store can be.
@@ -36,13 +44,13 @@ fn change_if<'a>(can_be: bool, dir: &'a str) -> Need<'a>
     }
 }
 
-fn make_if<'a>(can_be: bool, dir: &'a str) -> Need<'a>
-    ensures { result ≡ (if can_be then Make dir.entry else Nothing) }
+/// The folder, where a store is to be made in it that there can be.
+fn make_if<'a>(layout: Option<Layout>, dir: &'a str) -> Need<'a>
+    ensures { result ≡ make_if layout dir.entry }
 {
-    if can_be {
-        Need::Make(dir)
-    } else {
-        Need::Nothing
+    match layout {
+        Some(layout) if is_size(layout) => Need::Make(dir),
+        _ => Need::Nothing,
     }
 }
 
@@ -52,7 +60,7 @@ pub fn folder_need<'a>(action: &Action<'a>) -> Need<'a>
 {
     match *action {
         Action::Example => Need::Nothing,
-        Action::Format { dir, slots } => make_if(is_slot_count(slots), dir),
+        Action::Format { dir, layout } => make_if(layout, dir),
         Action::Run { dir } => Need::Change(dir),
         Action::At { dir, key: _, time } => change_if(time.is_some(), dir),
         Action::Between {

@@ -6,6 +6,7 @@ ghost use Rattle.session.specs.declared.reply.Reply.TheVariants as reply;
 ghost use Rattle.shell.specs.Writing as told;
 
 use crate::vacuuming::is_refusal;
+use any_store::TxnFault;
 use command_line::RecordWrite;
 use disk::Disk;
 use forms::{field_of, spell_hex_field};
@@ -13,7 +14,6 @@ use session::{Fault, Reply, Session};
 use std::alloc::{AllocError, Global};
 use std::io;
 use std::io::Write;
-use store::TxnFault;
 
 /// The two lines of a write that are not the same for every write.
 #[derive(Drop)]

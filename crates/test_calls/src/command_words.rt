@@ -1,6 +1,8 @@
 //! Words of the command line: what they ask for, and the texts of help and usage faults.
 use clap::{ArgMatches, Error};
-use command_line::{Action, Form, Question, RecordWrite, Style, When, action_of, read_words};
+use command_line::{
+    Action, Form, Layout, Question, RecordWrite, Style, When, action_of, read_words,
+};
 use history::Key;
 use std::alloc::Global;
 use std::test::Fail;
@@ -41,21 +43,64 @@ const ASKED: &[(&[&str], Action<'static>)] = &[
         &["timestore", "format", "d"],
         Action::Format {
             dir: "d",
-            slots: 1024,
+            layout: Some(Layout::Slots(1024)),
         },
     ),
     (
         &["timestore", "format", "d", "--slots", "16"],
         Action::Format {
             dir: "d",
-            slots: 16,
+            layout: Some(Layout::Slots(16)),
         },
     ),
     (
         &["timestore", "format", "--slots=4294967295", "d"],
         Action::Format {
             dir: "d",
-            slots: u32::MAX,
+            layout: Some(Layout::Slots(u32::MAX)),
+        },
+    ),
+    (
+        &["timestore", "format", "d", "--profile", "3"],
+        Action::Format {
+            dir: "d",
+            layout: Some(Layout::Slots(1024)),
+        },
+    ),
+    (
+        &["timestore", "format", "d", "--profile", "4"],
+        Action::Format {
+            dir: "d",
+            layout: Some(Layout::Extents(262_144)),
+        },
+    ),
+    (
+        &[
+            "timestore",
+            "format",
+            "d",
+            "--extents",
+            "64",
+            "--profile",
+            "4",
+        ],
+        Action::Format {
+            dir: "d",
+            layout: Some(Layout::Extents(64)),
+        },
+    ),
+    (
+        &["timestore", "format", "d", "--extents", "64"],
+        Action::Format {
+            dir: "d",
+            layout: None,
+        },
+    ),
+    (
+        &["timestore", "format", "d", "--profile=4", "--slots=64"],
+        Action::Format {
+            dir: "d",
+            layout: None,
         },
     ),
     (
@@ -343,6 +388,18 @@ const FAULTS: &[(&str, &[&str])] = &[
         "slots that are no number",
         &["timestore", "format", "d", "--slots", "many"],
     ),
+    (
+        "extents that are no number",
+        &["timestore", "format", "d", "--extents", "many"],
+    ),
+    (
+        "a profile that is not made",
+        &["timestore", "format", "d", "--profile", "2"],
+    ),
+    (
+        "no such profile",
+        &["timestore", "format", "d", "--profile", "5"],
+    ),
     ("two folders", &["timestore", "format", "d", "e"]),
     ("run without a folder", &["timestore", "run"]),
     ("at without a time", &["timestore", "at", "d", "1", "7"]),
@@ -504,7 +561,16 @@ fn help_names_the_commands_and_the_limits(rt: HostRuntime) -> Result<(), Fail> {
 const HELP: &[(&str, &[&str])] = &[
     (
         "format",
-        &["<DIR>", "--slots <N>", "[default: 1024]", "16 to 65536"],
+        &[
+            "<DIR>",
+            "--profile <P>",
+            "[default: 3]",
+            "--slots <N>",
+            "16 to 65536",
+            "--extents <E>",
+            "64 to 1048576",
+            "wrong profile",
+        ],
     ),
     (
         "run",

@@ -1,11 +1,13 @@
 //! The calls of a store, each by itself.
 use crate::examples::NEW;
 use crate::machine::{KEY, Machine, PROFILES};
+use any_store::{
+    Did, QueryFault, Redeemed, SharedValue, Store, SubmitFault, Submitted, Ticket, Txn,
+};
 use disk::{Area, Disk, FaultDisk};
 use history::Key;
 use std::alloc::Global;
 use std::test::Fail;
-use store::{Did, QueryFault, Redeemed, SharedValue, Store, SubmitFault, Submitted, Ticket, Txn};
 
 /// The store of the examples, and its mark.
 pub type Opened = Store<FaultDisk>;

@@ -1,6 +1,6 @@
 //! Commits, one after another and beside each other.
 use crate::examples::{Example, FOUR_COMMITS, each_goes};
-use crate::machine::Profiles::Each;
+use crate::machine::Profiles::{Each, Every};
 use crate::steps::Step;
 use crate::steps::Step::{Extents, New, Says, Spells};
 use disk::Area;
@@ -67,7 +67,7 @@ times 9 | times 100
     },
     Example {
         name: "commit_times_rise",
-        profiles: Each,
+        profiles: Every,
         steps: &[
             New(16),
             Says(
@@ -95,7 +95,7 @@ at 1 7 102 | value 63
     },
     Example {
         name: "no_commit_is_later_than_the_last_time",
-        profiles: Each,
+        profiles: Every,
         steps: &[
             New(16),
             Says(
@@ -127,7 +127,7 @@ reopen | last 9223372036854775807 floors 0
     },
     Example {
         name: "the_first_of_two_writers_wins",
-        profiles: Each,
+        profiles: Every,
         steps: &[
             New(16),
             Says(
@@ -149,7 +149,7 @@ times 2 | times
     },
     Example {
         name: "a_conflict_names_the_least_key",
-        profiles: Each,
+        profiles: Every,
         steps: &[
             New(16),
             Says(
@@ -172,7 +172,7 @@ at 1 3 110 | none
     },
     Example {
         name: "a_deletion_conflicts",
-        profiles: Each,
+        profiles: Every,
         steps: &[
             New(16),
             Says(FOUR_COMMITS),
@@ -194,7 +194,7 @@ at 1 7 131 | none
     },
     Example {
         name: "write_skew_stands",
-        profiles: Each,
+        profiles: Every,
         steps: &[
             New(16),
             Says(
@@ -223,7 +223,7 @@ times 2 | times 101 102
     },
     Example {
         name: "what_is_absent_is_not_deleted",
-        profiles: Each,
+        profiles: Every,
         steps: &[
             New(16),
             Says(FOUR_COMMITS),
@@ -248,7 +248,7 @@ submit t 5 150 | readonly 140
     },
     Example {
         name: "what_stood_at_each_time",
-        profiles: Each,
+        profiles: Every,
         steps: &[
             New(16),
             Says(FOUR_COMMITS),
@@ -272,7 +272,7 @@ times 5 | times
     },
     Example {
         name: "a_transaction_reads_what_is_published",
-        profiles: Each,
+        profiles: Every,
         steps: &[
             New(16),
             Says(FOUR_COMMITS),

@@ -9,7 +9,7 @@ use crate::deeds::{Call, Deed, Example, each_goes};
 use crate::machine::{KEY, NEWEST};
 use disk::Area;
 use disk_file::Access::{Change, Make, Read};
-use shell::Action;
+use shell::{Action, Layout};
 use std::test::Fail;
 
 /// What is written in each area, and synced.
@@ -142,7 +142,10 @@ const READ_ONLY: &[Deed] = &[
 /// What is done to a store of files, each time with the files opened once more.
 const FORMAT: Deed = Does(
     Make,
-    Action::Format { dir: "", slots: 16 },
+    Action::Format {
+        dir: "",
+        layout: Some(Layout::Slots(16)),
+    },
     "",
     "formatted 16\n",
 );

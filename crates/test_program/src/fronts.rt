@@ -64,7 +64,7 @@ redeem f | done 122
 ";
 
 /// All that is to be had of the store once so many of the groups are published.
-const FRONTS: &[&[Step]] = &[
+pub const FRONTS: &[&[Step]] = &[
     &[Says(
         "reopen | last 0 floors 0
 between 1 7 0 1 | rows 0

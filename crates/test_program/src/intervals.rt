@@ -1,6 +1,6 @@
 //! Rows of an interval, and scans at a time.
 use crate::examples::{Example, FOUR_COMMITS, each_goes};
-use crate::machine::Profiles::Each;
+use crate::machine::Profiles::Every;
 use crate::steps::Step;
 use crate::steps::Step::{New, Rows, Runs, Says};
 use std::test::Fail;
@@ -90,22 +90,22 @@ const ASKED: &[Step] = &[
 const EXAMPLES: &[Example] = &[
     Example {
         name: "a_scan_shows_what_stood_at_its_time",
-        profiles: Each,
+        profiles: Every,
         steps: SCANS,
     },
     Example {
         name: "rows_are_cut_to_their_interval",
-        profiles: Each,
+        profiles: Every,
         steps: CUT,
     },
     Example {
         name: "rows_of_four_commits",
-        profiles: Each,
+        profiles: Every,
         steps: OF_FOUR,
     },
     Example {
         name: "a_command_asks_for_rows",
-        profiles: Each,
+        profiles: Every,
         steps: ASKED,
     },
 ];

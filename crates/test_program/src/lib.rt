@@ -23,6 +23,8 @@ mod deeds;
 #[cfg(test)]
 mod dumps;
 #[cfg(test)]
+mod endless;
+#[cfg(test)]
 mod examples;
 #[cfg(test)]
 mod files;

@@ -18,15 +18,22 @@ pub const KEY: Key = Key {
 /// The script of the input, on the store of a folder.
 pub const SCRIPT: Action<'static> = Action::Run { dir: "" };
 
-/// The profiles of stores, byte 8 of their headers: the newest, which `format` makes, and all.
+/// The profiles of stores whose log is slots, byte 8 of their headers: the newest, which `format` makes, and all.
 pub const NEWEST: u8 = 3;
 
 pub const PROFILES: &[u8] = &[1, 2, 3];
 
+/// The profile whose log lies in the heap, which is still being built.
+pub const ENDLESS: u8 = 4;
+
 /// Of which profiles the stores of an example are.
 #[derive(Clone, Copy)]
 pub enum Profiles {
+    /// Of each whose log is slots.
     Each,
+    /// Of these and of that whose log lies in the heap.
+    Every,
+    Endless,
     /// Their stores have one floor for all relations.
     Older,
     First,
@@ -40,6 +47,8 @@ impl Profiles {
     pub fn all(self) -> &'static [u8] {
         match self {
             Profiles::Each => PROFILES,
+            Profiles::Every => &[1, 2, NEWEST, ENDLESS],
+            Profiles::Endless => &[ENDLESS],
             Profiles::Older => &[1, 2],
             Profiles::First => &[1],
             Profiles::Growing => &[2, NEWEST],

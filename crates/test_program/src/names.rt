@@ -1,6 +1,6 @@
 //! Names of a script.
 use crate::examples::{Example, each_goes};
-use crate::machine::Profiles::Each;
+use crate::machine::Profiles::Every;
 use crate::steps::Step::{New, Parts, Says};
 use std::test::Fail;
 
@@ -8,7 +8,7 @@ use std::test::Fail;
 const EXAMPLES: &[Example] = &[
     Example {
         name: "sixty_four_names_are_in_use",
-        profiles: Each,
+        profiles: Every,
         steps: &[
             New(16),
             Parts(&[
@@ -34,7 +34,7 @@ begin n1 | snapshot 100
     },
     Example {
         name: "a_name_stands_for_one_thing",
-        profiles: Each,
+        profiles: Every,
         steps: &[
             New(16),
             Says(

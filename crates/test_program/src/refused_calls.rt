@@ -6,7 +6,7 @@ use crate::refusals::Then::{Left, Made, NotMade, Nothing, Still};
 use crate::refusals::{Calls, Outcome, Refusals, UNOPENED, each_refusal_goes};
 use crate::steps::Step;
 use crate::steps::Step::{At, New, Runs, Says, Stops, Tries};
-use shell::Action;
+use shell::{Action, Layout};
 use std::test::Fail;
 
 /// A commit, and what is asked for behind it.
@@ -184,7 +184,10 @@ const FORMAT: &[Refusals] = &[Refusals {
 }];
 
 /// A format to 16 slots.
-const FORMAT_16: Action<'static> = Action::Format { dir: "", slots: 16 };
+const FORMAT_16: Action<'static> = Action::Format {
+    dir: "",
+    layout: Some(Layout::Slots(16)),
+};
 
 /// What is said of it where the sync after the gate is refused.
 const GATE_IN_DOUBT: &str = "snapshot 130

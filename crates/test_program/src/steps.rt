@@ -1,19 +1,19 @@
 //! Steps: what is done to a disk, and what must come of it.
 use crate::again::{Reached, stops_at_each};
 use crate::bytes::{bytes_of, change, has_bytes, has_extents, has_parts, is_long, put};
-use crate::machine::{KEY, Machine, NEWEST, NO_FAULT, SCRIPT};
+use crate::machine::{ENDLESS, KEY, Machine, NEWEST, NO_FAULT, SCRIPT};
 use crate::second_stops::again_behind;
 use crate::write_sets::Written;
 use disk::{Area, Disk, Fault, FaultDisk, MemDisk};
 use history::Key;
 use script::read_time;
-use shell::{Action, Form, Question, RecordWrite, Style};
+use shell::{Action, Form, Layout, Question, RecordWrite, Style};
 use std::alloc::{AllocError, Global};
 
 /// What is done to a disk, and what must come of it. Lines and bytes are those of the newest profile.
 pub enum Step {
     /// A new store of this many slots takes its place, of the profile in which the steps are taken, as
-    /// `format` made it when that was the newest.
+    /// `format` made it when that was the newest. Where its log lies in the heap, one of 64 extents.
     New(u32),
     /// A script whose lines are answered as the dialogue says.
     Says(&'static str),
@@ -172,6 +172,15 @@ fn kept(machine: &mut Machine, area: Area, len: usize) -> Option<MemDisk> {
     Some(MemDisk::with_bytes(status, heap, archive))
 }
 
+/// The layout of a new store of a profile.
+fn layout_of(profile: u8, slots: u32) -> Layout {
+    if profile == ENDLESS {
+        Layout::Extents(64)
+    } else {
+        Layout::Slots(slots)
+    }
+}
+
 impl Machine {
     /// A disk takes the place of the machine's, and has this fault. Whether there is one.
     fn gets(&mut self, disk: Option<MemDisk>, fault: Fault) -> bool {
@@ -199,9 +208,10 @@ impl Machine {
     /// A new store takes the place of the disk.
     fn starts(&mut self, slots: u32) -> bool {
         self.gets(Some(MemDisk::new(self.alloc)), NO_FAULT);
-        self.does(Action::Format { dir: "", slots }, "");
-        let is_newest = self.profile == NEWEST;
-        self.status == 0 && (is_newest || change(&mut self.disk, Area::Status, 8, self.profile))
+        let layout = Some(layout_of(self.profile, slots));
+        self.does(Action::Format { dir: "", layout }, "");
+        let is_made = self.profile >= NEWEST;
+        self.status == 0 && (is_made || change(&mut self.disk, Area::Status, 8, self.profile))
     }
 
     /// The log is this text, and nothing is written meanwhile, or synced.
@@ -290,7 +300,8 @@ impl Machine {
         match *step {
             Step::Does(action, input, lines, status) => self.says(action, input, lines, status),
             Step::Formats(slots, line, status) => {
-                self.says(Action::Format { dir, slots }, "", line, status)
+                let layout = Some(Layout::Slots(slots));
+                self.says(Action::Format { dir, layout }, "", line, status)
             }
             Step::Vacuums(time, lines, status) => self.says(vacuum(time), "", lines, status),
             Step::Rows(from, to, lines, status) => self.says(rows(from, to), "", lines, status),

@@ -10,8 +10,11 @@ use crate::stress::run_stress;
 use clap::{ArgMatches, Error};
 use disk::MemDisk;
 use disk_file::{Access, FileDisk, FolderFault};
+use log_store::has_log_header;
 use session::{Answers, LineInput, Lines};
-use shell::{Action, Need, OpenFault, act, action_of, folder_need, read_words, refuse_folder};
+use shell::{
+    Action, Layout, Need, OpenFault, act, action_of, folder_need, read_words, refuse_folder,
+};
 use status::{LogFault, read_header};
 use std::alloc::{AllocError, Global};
 use std::env::Args;
@@ -51,6 +54,12 @@ fn open_fault(fault: &FolderFault) -> OpenFault
     }
 }
 
+/// Whether the disk has the header of no store.
+fn is_no_store(disk: &mut FileDisk) -> bool {
+    matches!(read_header(disk), Err(LogFault::NotAStore))
+        && matches!(has_log_header(disk), Ok(false))
+}
+
 /// Says on standard error what the answers say too little of: which call the system refused, and
 /// that a file is no store's. Nothing depends on whether this can be written.
 fn explain(rt: &impl Eprint, dir: &str, disk: &mut FileDisk, status: u8) {
@@ -58,8 +67,24 @@ fn explain(rt: &impl Eprint, dir: &str, disk: &mut FileDisk, status: u8) {
         let _ = eprintln!(rt; "timestore: {dir}/{trouble}");
         return;
     }
-    if status != 0 && matches!(read_header(disk), Err(LogFault::NotAStore)) {
+    if status != 0 && is_no_store(disk) {
         let _ = eprintln!(rt; "timestore: {dir}/status: not the log of a store, or a part of one");
+    }
+}
+
+/// Says on standard error of a new store of profile 4 what it is not yet to be used for.
+fn warn(rt: &impl Eprint, action: &Action<'_>, status: u8) {
+    if status != 0 {
+        return;
+    }
+    if let Action::Format {
+        dir: _,
+        layout: Some(Layout::Extents(_)),
+    } = action
+    {
+        let _ = eprintln!(rt;
+            "timestore: profile 4 is still being built: its bytes may change, and no later version need read them"
+        );
     }
 }
 
@@ -76,6 +101,7 @@ fn act_in<R: Files<File = File> + AllocGlobal + Eprint, I: LineInput, W: Write>(
         Ok(disk) => {
             let (status, mut disk) = act(rt.alloc(), action, disk, input, output);
             explain(rt, dir, &mut disk, status);
+            warn(rt, &action, status);
             status
         }
         Err(fault) => {

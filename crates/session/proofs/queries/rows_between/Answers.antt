@@ -1,6 +1,6 @@
 use Rattle.std.proofs.Common.{Some, sym, subst}
-use Rattle.store.specs.Calls.{AnswersRows}
-use Rattle.store.specs.Values.{StoreValue}
+use Rattle.any_store.specs.Queries.{AnswersRows}
+use Rattle.any_store.specs.Values.{StoreValue}
 use Rattle.session.proofs.queries.rows_between.Goals as goal
 
 pub returns : goal.returns

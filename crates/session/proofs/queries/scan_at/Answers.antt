@@ -1,6 +1,6 @@
 use Rattle.std.proofs.Common.{Some, sym, subst}
-use Rattle.store.specs.Calls.{AnswersScanAt}
-use Rattle.store.specs.Values.{StoreValue}
+use Rattle.any_store.specs.Queries.{AnswersScanAt}
+use Rattle.any_store.specs.Values.{StoreValue}
 use Rattle.session.proofs.queries.scan_at.Goals as goal
 
 pub returns : goal.returns

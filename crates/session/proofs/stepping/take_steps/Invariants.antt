@@ -1,7 +1,8 @@
-use Rattle.std.proofs.Common.{◌+◌, ◌-◌, nat_lt, if◌then◌else◌}
 use Rattle.disk.specs.Calls.{top}
+use Rattle.any_store.specs.Values.{disk_of}
 use Rattle.session.specs.Session as told
 use Rattle.session.specs.declared.reply.Reply.{Reply}
+use Rattle.session.proofs.JobLemmas.{left_of}
 use Rattle.session.proofs.stepping.take_steps.Given as goal
 
 -- what takes the rest has taken all
@@ -11,4 +12,4 @@ invariant-loop-work g l =
 
 -- each step makes a device call, and there are not so many
 abbrev pub decreases-loop-work : goal.decreases-loop-work
-decreases-loop-work g l = if nat_lt top l.store.disk.made then top + 1 else top - l.store.disk.made
+decreases-loop-work g l = left_of top (disk_of l.store).made

@@ -1,7 +1,7 @@
 use Rattle.std.proofs.Common.{ap, subst, inl, inr, ◌∙◌}
 use Rattle.script.specs.declared.line.Line.{Line}
 use Rattle.session.specs.Session.{State, Step}
-use Rattle.store.specs.Values.{StoreValue}
+use Rattle.any_store.specs.Values.{disk_of}
 use Rattle.shell.specs.Asking.{line_asked}
 use Rattle.shell.proofs.actions.ask.Goals as goal
 
@@ -10,7 +10,7 @@ returns-in-Err g c = inl (c.in-Err.fault, c.in-Err.ensures.err, c.refuse.ensures
 
 pub returns-in-Err-new : goal.returns-in-Err-new
 returns-in-Err-new g c =
-    inr (inl (c.in-Ok.store, c.in-Ok.ensures.ok, c.close.ensures ∙ ap (λ (s : StoreValue). s.disk) c.in-Err-new.ensures.err, c.refuse-in-Err-new.ensures))
+    inr (inl (c.in-Ok.store, c.in-Ok.ensures.ok, c.close.ensures ∙ ap disk_of c.in-Err-new.ensures.err, c.refuse-in-Err-new.ensures))
 
 pub returns : goal.returns
 returns g c = inr (inr (record {

@@ -1,0 +1,62 @@
+-- Each step of a group or a job makes one device call, whatever the layout, and the calls that are left grow fewer.
+use Rattle.std.proofs.Common.{◌≡◌, ◌≢◌, Bool, true, false, ℕ, length, Option, Some, None, Result, Ok, Err, MatchBool, ap, subst, inl, inr}
+use Rattle.std.specs.Prelude.{◌==◌}
+use Rattle.disk.specs.Calls.{DiskState}
+use Rattle.group.specs.declared.answers.Did.{Did}
+use Rattle.group.specs.declared.answers.Did.TheVariants as group
+use Rattle.group.specs.declared.answers.PumpFault.{PumpFault}
+use Rattle.group.specs.declared.answers.PumpFault.TheVariants as fault
+use Rattle.log_writer.specs.Writer.{WriterState}
+use Rattle.log_store.specs.Values.{LogStoreValue}
+use Rattle.log_store.specs.Pumps as log
+use Rattle.store.specs.declared.job.JobDid.{JobDid}
+use Rattle.store.specs.declared.job.JobDid.TheVariants as did
+use Rattle.any_store.specs.Values.{StoreValue, disk_of}
+use Rattle.any_store.specs.Calls.{Pumps}
+use Rattle.any_store.specs.Jobs.{PumpsJob, PumpsNone}
+use Rattle.any_store.specs.declared.engine.Engine.TheVariants.{Slots, Log}
+use Rattle.session.proofs.JobLemmas.{IsFewer, counted-fewer, slots-fewer, group-slots-fewer}
+
+chain-fewer : (tells : Bool) (o : Option WriterState) (old new : LogStoreValue) (what : Did) → log.AdvancesGroup tells old o (Ok what) new
+    → IsFewer old.disk new.disk
+chain-fewer tells None old new what takes = absurd takes
+chain-fewer tells (Some w) old new what takes = counted-fewer old.disk new.disk takes.counts
+
+begun-fewer : (tells b : Bool) (old new : LogStoreValue) (what : Did)
+    → MatchBool b (Path (Result Did PumpFault) (Ok what) (Ok group.Idle) × (new ≡ old)) (log.BeginsGroup tells old (Ok what) new)
+    → what ≢ group.Idle → IsFewer old.disk new.disk
+begun-fewer tells true old new what takes some = absurd (some (let is = takes.0 in cc))
+begun-fewer tells false old new what (inl short) some = absurd (let is = short.0 in cc)
+begun-fewer tells false old new what (inr (begun, begins, takes)) some =
+    subst (λ (d : DiskState). IsFewer d new.disk) (ap (λ (v : LogStoreValue). v.disk) begins.new_is) (chain-fewer tells begun.turn begun new what takes)
+
+step-fewer : (tells : Bool) (o : Option WriterState) (old new : LogStoreValue) (what : Did) → log.TakesStep tells old o (Ok what) new → what ≢ group.Idle
+    → IsFewer old.disk new.disk
+step-fewer tells None old new what takes some = begun-fewer tells (length old.commits.queue == 0) old new what takes some
+step-fewer tells (Some w) old new what takes some = counted-fewer old.disk new.disk takes.counts
+
+log-fewer : (tells b : Bool) (old new : LogStoreValue) (what : Did)
+    → MatchBool b (Path (Result Did PumpFault) (Ok what) (Err fault.Failed) × (new ≡ old)) (log.TakesStep tells old old.turn (Ok what) new)
+    → what ≢ group.Idle → IsFewer old.disk new.disk
+log-fewer tells true old new what pumps some = absurd (let is = pumps.0 in cc)
+log-fewer tells false old new what pumps some = step-fewer tells old.turn old new what pumps some
+
+none-fewer : (b : Bool) (what : JobDid) → MatchBool b (Path (Result JobDid PumpFault) (Ok what) (Err fault.Failed)) (Path (Result JobDid PumpFault)
+    (Ok what) (Ok did.Idle)) → what ≢ did.Idle → ⊥
+none-fewer true what is some = cc
+none-fewer false what is some = some cc
+
+pub pump-fewer : (tells : Bool) (old new : StoreValue) (what : JobDid) → PumpsJob tells old (Ok what) new → what ≢ did.Idle
+    → IsFewer (disk_of old) (disk_of new)
+pump-fewer tells (Slots s) (Slots t) what pumps some = slots-fewer tells s t what pumps some
+pump-fewer tells (Slots s) (Log m) what pumps some = absurd pumps
+pump-fewer tells (Log l) (Slots t) what pumps some = absurd pumps
+pump-fewer tells (Log l) (Log m) what pumps some = absurd (none-fewer l.commits.failed what pumps.0 some)
+
+-- so it is of the steps of a group
+pub group-fewer : (tells : Bool) (old new : StoreValue) (what : Did) → Pumps tells old (Ok what) new → what ≢ group.Idle
+    → IsFewer (disk_of old) (disk_of new)
+group-fewer tells (Slots s) (Slots t) what pumps some = group-slots-fewer tells s t what pumps some
+group-fewer tells (Slots s) (Log m) what pumps some = absurd pumps
+group-fewer tells (Log l) (Slots t) what pumps some = absurd pumps
+group-fewer tells (Log l) (Log m) what pumps some = log-fewer tells l.commits.failed l m what pumps some
