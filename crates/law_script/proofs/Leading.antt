@@ -45,11 +45,11 @@ settled tells v xs end new at same among = record {
   store = refl;
   places = refl;
   world = subst (λ (s : StoreValue). IsWorld tells s (held_of new) (record {
-        machine = end.world.machine;
-        in_heap = is_log s;
-        names_from = names_from s;
-        places = map place_of (held_of new);
-      })) (sym same)
+    machine = end.world.machine;
+    in_heap = is_log s;
+    names_from = names_from s;
+    places = map place_of (held_of new);
+  })) (sym same)
       (record {
         stands = at.world.stands;
         layout = refl;

@@ -24,4 +24,4 @@ formatted_line size = codes "formatted " ++ (decimal size ++ codes "\n")
 -- a store has this size, or there is none
 abbrev pub is_size : Layout → Bool
 is_size (layout.Slots slots) = nat_le 16 slots && nat_le slots 65_536
-is_size (layout.Extents extents) = nat_le 64 extents && (nat_le extents 1_048_576 && (extents % 16 == 0))
+is_size (layout.Extents extents) = nat_le 64 extents && nat_le extents 1_048_576 && (extents % 16 == 0)

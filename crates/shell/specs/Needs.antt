@@ -10,14 +10,14 @@ use Rattle.shell.specs.declared.needs.Need.{Need}
 use Rattle.shell.specs.declared.needs.Need.TheVariants as need
 
 -- the folder, where a store is to be made in it that there can be
-abbrev pub make_if : Option Layout → Bor Text → Need
-make_if None dir = need.Nothing
-make_if (Some layout) dir = if is_size layout then need.Make dir else need.Nothing
+abbrev pub make_in : Option Layout → Bor Text → Need
+make_in None dir = need.Nothing
+make_in (Some layout) dir = if is_size layout then need.Make dir else need.Nothing
 
 -- none for the example, for a size that no store has or not one of its profile, and for a time that is none
 abbrev pub need_of : Action → Need
 need_of action.Example = need.Nothing
-need_of (action.Format dir layout) = make_if layout dir
+need_of (action.Format dir layout) = make_in layout dir
 need_of (action.Run dir) = need.Change dir
 need_of (action.At dir key time) = if is_some time then need.Change dir else need.Nothing
 need_of (action.Between dir key from to) = if is_some from && is_some to then need.Change dir else need.Nothing

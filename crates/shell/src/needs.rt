@@ -1,8 +1,8 @@
 //! Which folder an action needs.
 ghost use Rattle.std.specs.Prelude.{◌≡◌, if◌then◌else◌};
-ghost use Rattle.shell.specs.declared.needs.Need.TheVariants.{Change, Nothing};
+ghost use Rattle.shell.specs.declared.needs.Need.TheVariants.{Change, Make, Nothing};
 ghost use Rattle.shell.specs.Layouts.{is_size};
-ghost use Rattle.shell.specs.Needs.{make_if, need_of};
+ghost use Rattle.shell.specs.Needs.{make_in, need_of};
 
 use command_line::{Action, Layout};
 use log_roots::{LEAST_EXTENTS, MOST_EXTENTS};
@@ -44,13 +44,23 @@ fn change_if<'a>(can_be: bool, dir: &'a str) -> Need<'a>
     }
 }
 
+fn make_if<'a>(can_be: bool, dir: &'a str) -> Need<'a>
+    ensures { result ≡ (if can_be then Make dir.entry else Nothing) }
+{
+    if can_be {
+        Need::Make(dir)
+    } else {
+        Need::Nothing
+    }
+}
+
 /// The folder, where a store is to be made in it that there can be.
-fn make_if<'a>(layout: Option<Layout>, dir: &'a str) -> Need<'a>
-    ensures { result ≡ make_if layout dir.entry }
+fn make_in<'a>(layout: Option<Layout>, dir: &'a str) -> Need<'a>
+    ensures { result ≡ make_in layout dir.entry }
 {
     match layout {
-        Some(layout) if is_size(layout) => Need::Make(dir),
-        _ => Need::Nothing,
+        Some(layout) => make_if(is_size(layout), dir),
+        None => Need::Nothing,
     }
 }
 
@@ -60,7 +70,7 @@ pub fn folder_need<'a>(action: &Action<'a>) -> Need<'a>
 {
     match *action {
         Action::Example => Need::Nothing,
-        Action::Format { dir, layout } => make_if(layout, dir),
+        Action::Format { dir, layout } => make_in(layout, dir),
         Action::Run { dir } => Need::Change(dir),
         Action::At { dir, key: _, time } => change_if(time.is_some(), dir),
         Action::Between {

@@ -1,11 +1,11 @@
 //! Lists of calls over a disk in memory, with their answers.
 use crate::list_answers::{Want, is_answer};
 use crate::list_calls::{Ask, Rows, answers_to, call_of, calls_of, first_wrong, is_spent, opened};
+use any_store::{Did, JobDid, PumpFault, QueryFault, StartFault, Store};
 use disk::MemDisk;
 use run::{Call, Held, RedeemOutcome, close, give_back, run, run_on, step};
 use std::alloc::{AllocError, Global};
 use std::test::Fail;
-use store::{Did, JobDid, PumpFault, QueryFault, StartFault, Store};
 
 /// Record 7 is put at 100, by calls in places 0 to 8.
 const COMMIT: Rows = &[

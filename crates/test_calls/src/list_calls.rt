@@ -1,11 +1,11 @@
 //! Calls of a list over a disk in memory, as tables have them, and how they are answered.
 use crate::list_answers::{Want, is_answer};
 use crate::published::SEVEN;
+use any_store::Store;
 use disk::MemDisk;
 use run::{Answer, Call, Held, close, format, open, run_on};
 use std::alloc::{AllocError, Global};
 use std::test::Fail;
-use store::Store;
 
 /// A call of a list. All are of `SEVEN` and relation 1; a number is first the place of the call that
 /// gave the transaction, the ticket or the view.
