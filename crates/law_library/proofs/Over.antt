@@ -11,6 +11,7 @@ use Rattle.law_image.specs.Values.{Value}
 use Rattle.law_image.specs.Reading.{Reading}
 use Rattle.log_store.specs.Values.{LogStoreValue, IsInStep}
 use Rattle.log_writer.specs.Writer.{WriterState}
+use Rattle.status.specs.declared.header.Header.{Header}
 use Rattle.store.specs.Opens as slot_opens
 use Rattle.store.specs.Values as slots
 use Rattle.any_store.specs.declared.engine.Engine.TheVariants.{Slots, Log}
@@ -117,7 +118,7 @@ pub opened-areas : (bytes : Image) (mark : ℕ) (v : StoreValue) → Opens true 
 opened-areas bytes mark (Slots s) opens = opens.engine.settled refl
 opened-areas bytes mark (Log l) opens = opens.engine.settled refl
 
-slots-over : (bytes : Image) (mark : ℕ) (s : slots.StoreValue) (disk : DiskState) (header : _) (h : History Value) (floors : ℕ → ℕ)
+slots-over : (bytes : Image) (mark : ℕ) (s : slots.StoreValue) (disk : DiskState) (header : Header) (h : History Value) (floors : ℕ → ℕ)
     → slot_opens.Opens true (fresh_on bytes) mark s → disk.areas ≡ s.disk.areas → AreSound (settled_on bytes) → slot_images.IsImageOf header bytes h floors
     → slot_stands.Stands true (record s { disk = disk }) (opened h floors)
 slots-over bytes mark s disk header h floors o same sound image =

@@ -41,7 +41,8 @@ use Rattle.c_engine.specs.declared.engine.Published.{Published}
 use Rattle.c_engine.specs.declared.places.Places.{Places}
 use Rattle.c_engine.specs.declared.step.Step.{Step}
 use Rattle.c_engine.specs.declared.step.Step.TheVariants.{Group, Job}
-use Rattle.c_engine.proofs.Calling.{LeadsBy, pump-leads, job-leads}
+use Rattle.c_engine.proofs.Calling.{pump-leads, job-leads}
+use Rattle.c_engine.proofs.Leading.{LeadsBy}
 use Rattle.law_library.specs.Calls.{Reply}
 use Rattle.law_library.specs.Hosts.{Host, Event, Makes, Refuses, HostStep, IsRefusedIn, with_event}
 use Rattle.law_library.specs.Moments.{HostMoment, Holds, WasBefore, IsSettled, IsAtStage, IsHostMoment}
