@@ -13,7 +13,7 @@ BUDGET = 200
 test:
 	@command -v rt >/dev/null || { echo "the Rattle kit's command rt is not on PATH" >&2; exit 1; }
 	@for it in crates/*/out/rlib; do [ -e "$$it/stamp" ] || rm -rf "$$it"; done # rt ci would put back what an earlier one left
-	.ci/ci_cost.py --limit $(BUDGET) $(if $(TABLE),--table $(TABLE)) $(if $(PROOFS),--proofs $(PROOFS)) rt ci
+	.ci/ci_cost.py --limit $(BUDGET) $(if $(TABLE),--table $(TABLE)) $(if $(PROOFS),--proofs $(PROOFS)) .ci/rt_once.py ci
 	$(MAKE) torture-short
 
 more-edits:
@@ -21,12 +21,12 @@ more-edits:
 
 build:
 	@command -v rt >/dev/null || { echo "the Rattle kit's command rt is not on PATH" >&2; exit 1; }
-	cd crates/timestore && rt run < stdin > /dev/null
+	cd crates/timestore && ../../.ci/rt_once.py run < stdin > /dev/null
 
 try:
 	@command -v rt >/dev/null || { echo "the Rattle kit's command rt is not on PATH" >&2; exit 1; }
 	@echo "The example script on a store in memory. Nothing is proved here: make demo proves it first."
-	cd crates/timestore && rt try < stdin
+	cd crates/timestore && ../../.ci/rt_once.py try < stdin
 
 demo: build
 	@dir=$$(mktemp -d) && set -x && \
@@ -59,7 +59,7 @@ torture-short:
 
 # Many threads over one store for some minutes, and then all that they were told compared with a small machine. FOLDER=DIR makes the store there.
 soak: build
-	cd crates/bench && rt run > /dev/null
+	cd crates/bench && ../../.ci/rt_once.py run > /dev/null
 	torture/soak.py $(BENCH) $(PROGRAM) --minutes $(or $(MINUTES),10) --seed $(or $(SEED),1) $(if $(FOLDER),--folder $(FOLDER))
 
 # Each call of the system refused in turn; each check of opening broken, and pairs of them; each byte of a small store; a job with commits
@@ -73,7 +73,7 @@ hostile: build
 # The kit refuses the Nth growth of the example script on the store in memory (docs/TORTURE.md); a newer kit takes N=1.. for each one, and
 # HOW=--fail-io or HOW=--short-io for its input and output.
 try-refused:
-	cd crates/timestore && rt try $(or $(HOW),--fail-alloc) $(or $(N),1) < stdin
+	cd crates/timestore && ../../.ci/rt_once.py try $(or $(HOW),--fail-alloc) $(or $(N),1) < stdin
 
 # Faults planted one at a time in a copy of the sources, and the test that finds each.
 planted:
@@ -99,7 +99,7 @@ pages:
 
 # All that is measured, in one command, for a machine at rest. FOLDER=DIR measures the disk of DIR.
 bench: build
-	cd crates/bench && rt run > /dev/null
+	cd crates/bench && ../../.ci/rt_once.py run > /dev/null
 	bench/store_bench.py $(BENCH) --program $(PROGRAM) $(if $(FOLDER),--folder $(FOLDER))
 	bench/shared_bench.py $(BENCH) $(if $(FOLDER),--folder $(FOLDER))
 	bench/program_bench.py $(PROGRAM) $(FOLDER)

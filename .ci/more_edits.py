@@ -27,8 +27,6 @@ import collections
 import contextlib
 import dataclasses
 import hashlib
-import importlib.machinery
-import importlib.util
 import json
 import os
 import pathlib
@@ -42,6 +40,7 @@ import threading
 import time
 
 import ci_cost
+import rt_once
 
 ROOT = pathlib.Path(os.path.realpath(__file__)).parents[1]
 TABLE = ROOT / ".ci/edits_tried.tsv"
@@ -62,11 +61,7 @@ BY_NAMES_ALONE = "only because a proof file names what the edit took away"
 
 def kit():
     """The kit's command rt as a module, with the repository's crates in it, lowest first."""
-    sys.dont_write_bytecode = True
-    page = subprocess.run(["rt", "doc"], capture_output=True, text=True, check=True).stdout.strip()
-    loader = importlib.machinery.SourceFileLoader("rt", f"{os.path.dirname(page)}/bin/rt")
-    made = importlib.util.module_from_spec(importlib.util.spec_from_loader("rt", loader))
-    loader.exec_module(made)
+    made = rt_once.kit()
     # (its first call sets a signal's handler, which only the main thread may)
     made.rtlib.guarded()
     made.Crate.allowed = made.handles_of(str(ROOT))

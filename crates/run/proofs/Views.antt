@@ -206,17 +206,16 @@ end-leads tells v v' xs i view here unchanged w is =
 
 times-leads : (tells : Bool) (v : StoreValue) (xs : List Held) (label : ℕ) (r : Result (Vec ℕ Global) AllocError)
     → IfOk r (λ times. stores.IsTimesOf v label times.items) → Leads tells v xs (call.TimesOf label) (answer.TimesOf r) v (xs ++ held.Nothing ∷ [])
-times-leads tells v xs label (Ok times) of w is =
-    (
-      same w,
-      (
-        subst (λ (from : ℕ). AreTimesFrom from times.items (answers.times_of w.machine.published label)) (sym is.names)
-            (times-are tells v w.machine label times.items is.stands of),
-        refl,
-      ),
-      no-step w.machine,
-      same-world tells v xs w is,
-    )
+times-leads tells v xs label (Ok times) of w is = (
+  same w,
+  (
+    subst (λ (from : ℕ). AreTimesFrom from times.items (answers.times_of w.machine.published label)) (sym is.names)
+        (times-are tells v w.machine label times.items is.stands of),
+    refl,
+  ),
+  no-step w.machine,
+  same-world tells v xs w is,
+)
 times-leads tells v xs label (Err why) of w is = (same w, (tt, refl), no-step w.machine, same-world tells v xs w is)
 
 -- ---- as the store's own clauses say
