@@ -1,7 +1,7 @@
 -- An opening of lent bytes is not refused by their disk: they refuse no read, and it makes too few calls to come to the greatest count.
-use Rattle.std.proofs.Common.{◌≡◌, ℕ, ◌+◌, ◌≤◌, true, List, [], ◌∷◌, Option, None, Some, inl, inr, refl, ap, ◌∙◌, arith}
+use Rattle.std.proofs.Common.{◌≡◌, ℕ, ◌+◌, ◌≤◌, true, List, [], ◌∷◌, Option, None, Some, inl, inr, refl, ap, sym, ◌∙◌, arith}
 use Rattle.std.specs.Prelude.{Result, Ok, Err}
-use Rattle.disk.specs.Areas.{Areas, Image, settled_on, area_of, with_area, synced, while_written}
+use Rattle.disk.specs.Areas.{Areas, Image, image_of, settled_on, area_of, with_area, synced, while_written}
 use Rattle.disk.specs.Calls.{DiskState, Syncs, counted, fresh_on}
 use Rattle.disk.specs.declared.area.Area.{Area}
 use Rattle.disk.specs.declared.area.Area.TheVariants.{Status, Heap, Archive}
@@ -9,8 +9,9 @@ use Rattle.disk.specs.declared.area.DeviceFault.{DeviceFault}
 use Rattle.recovery.specs.Settling.{Settles, AreSyncs, CountsAtMost, last_moment}
 use Rattle.recovery.specs.declared.fault.OpenFault.{OpenFault}
 use Rattle.recovery.specs.declared.fault.OpenFault.TheVariants.{Device, NoMemory}
-use Rattle.any_store.specs.Opens.{OpenRefuses}
-use Rattle.any_store.specs.Values.{StoreValue, OfEngine}
+use Rattle.any_store.specs.Calls.{last, floors}
+use Rattle.any_store.specs.Opens.{Opens, OpenRefuses}
+use Rattle.any_store.specs.Values.{StoreValue, OfEngine, disk_of, with_disk}
 use Rattle.any_store.specs.declared.engine.Engine.TheVariants.{Slots, Log}
 use Rattle.log_store.specs.Formats.{HasLogHeader}
 use Rattle.c_engine.specs.Engines.{IsImageFault}
@@ -81,3 +82,26 @@ pub short_of_memory : (image : Image) (v : StoreValue) → OfEngine (λ s. ¬ Ha
     → IsImageFault image NoMemory
 short_of_memory image (Slots s) none = inl (none, tt)
 short_of_memory image (Log l) has = inr (has, tt)
+
+-- the store that is opened from lent bytes has them settled
+opened_settled : (image : Image) (mark : ℕ) (v : StoreValue) → Opens true (fresh_on image) mark v → (disk_of v).areas ≡ settled_on image
+opened_settled image mark (Slots s) opens = opens.engine.settled refl
+opened_settled image mark (Log l) opens = opens.engine.settled refl
+
+-- and the noted areas begin as it has them
+pub noted_afresh : (image : Image) (mark : ℕ) (v : StoreValue) (seen : DiskState) → Opens true (fresh_on image) mark v → seen ≡ disk_of v
+    → fresh_on (image_of seen.areas) ≡ record { areas = (disk_of v).areas; made = 0; refused = 0 }
+noted_afresh image mark v seen opens is =
+    let settled : (disk_of v).areas ≡ settled_on image = opened_settled image mark v opens in
+    ap (λ (d : DiskState). fresh_on (image_of d.areas)) is
+    ∙ ap (λ (a : Areas). fresh_on (image_of a)) settled
+    ∙ ap (λ (a : Areas). record { areas = a; made = 0; refused = 0 }) (sym settled)
+
+-- the store's times do not depend on its disk
+pub last_over : (v : StoreValue) (disk : DiskState) → last (with_disk v disk) ≡ last v
+last_over (Slots s) disk = refl
+last_over (Log l) disk = refl
+
+pub floors_over : (v : StoreValue) (disk : DiskState) → floors (with_disk v disk) ≡ floors v
+floors_over (Slots s) disk = refl
+floors_over (Log l) disk = refl

@@ -1,7 +1,7 @@
 //! One caller, over a store of either layout.
 use crate::on_disk::ONE_EXTENT;
 use crate::queries::is_value;
-use any_store::{Did, JobDid, Redeemed, StartFault, Store, Submitted, format};
+use any_store::{Did, JobDid, Layout, Redeemed, StartFault, Store, Submitted, format};
 use disk::{Disk, MemDisk};
 use history::Key;
 use std::alloc::Global;
@@ -101,7 +101,7 @@ fn keeps_red(rt: &impl Abort, alloc: Global, disk: MemDisk, profile: u32, steps:
 #[test]
 fn a_store_of_slots_keeps_what_is_committed(rt: HostRuntime) -> Result<(), Fail> {
     let mut disk = MemDisk::new(rt.alloc());
-    format(rt.alloc(), &mut disk, 16)?;
+    format(rt.alloc(), &mut disk, Layout::Slots(16))?;
     keeps_red(&rt, rt.alloc(), disk, 3, ONE_SLOT);
     Ok(())
 }
@@ -109,7 +109,7 @@ fn a_store_of_slots_keeps_what_is_committed(rt: HostRuntime) -> Result<(), Fail>
 #[test]
 fn a_store_with_its_log_in_the_heap_keeps_it(rt: HostRuntime) -> Result<(), Fail> {
     let mut disk = MemDisk::new(rt.alloc());
-    log_store::format(&mut disk, 64)?;
+    format(rt.alloc(), &mut disk, Layout::Log(64))?;
     keeps_red(&rt, rt.alloc(), disk, 4, ONE_EXTENT);
     Ok(())
 }
