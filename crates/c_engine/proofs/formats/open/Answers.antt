@@ -49,6 +49,6 @@ returns-in-Ok-new-clause-opened c =
       subst (IsNew c.args.mark) (sym made) c.new-in-Ok.ensures.is_new,
       c.last-info.ensures ∙ sym (ap last over ∙ last_over c.in-Ok.store (relay_state c.new-relay.result)),
       c.every-info.ensures
-      ∙ ap (λ (f : FloorsValue). f.every)
-      (c.floors.ensures ∙ sym (ap floors over ∙ floors_over c.in-Ok.store (relay_state c.new-relay.result))),
+          ∙ ap (λ (f : FloorsValue). f.every)
+          (c.floors.ensures ∙ sym (ap floors over ∙ floors_over c.in-Ok.store (relay_state c.new-relay.result))),
     )
