@@ -17,8 +17,6 @@ mod bytes;
 #[cfg(test)]
 mod calls;
 #[cfg(test)]
-mod commits;
-#[cfg(test)]
 mod deeds;
 #[cfg(test)]
 mod dumps;
@@ -66,6 +64,8 @@ mod refused_floors;
 mod second_stops;
 #[cfg(test)]
 mod sessions;
+#[cfg(test)]
+mod several_commits;
 #[cfg(test)]
 mod steps;
 #[cfg(test)]
