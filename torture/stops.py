@@ -90,10 +90,12 @@ def is_of(call: Call, shown: Call) -> bool:
 
 
 def opens_by(calls: list[Call]) -> bool:
-    """Whether these are the calls of an opening: a sync of each area, and then reads."""
-    syncs, reads = calls[: len(AREAS)], calls[len(AREAS):]
+    """Whether these are the calls of an opening: a read of the header, which tells the layout, then
+    a sync of each area, and then reads."""
+    header, syncs, reads = calls[:1], calls[1 : 1 + len(AREAS)], calls[1 + len(AREAS):]
     is_synced = {it.area for it in syncs} == {*AREAS} and {it.kind for it in syncs} == {"sync"}
-    return is_synced and all(it.kind == "read" for it in reads)
+    is_read = all(it.kind == "read" for it in reads)
+    return header == [Call("read", "status", 0, 512)] and is_synced and is_read
 
 
 class Traced(Session):
@@ -107,7 +109,7 @@ class Traced(Session):
         calls = self.calls()
         if self.trace and not opens_by(calls):
             raise self.failure(
-                f"opening makes the calls {calls}, and not three syncs before it reads", None, []
+                f"opening makes the calls {calls}, and not a read of the header and three syncs", None, []
             )
 
     def times(self) -> list[str]:
