@@ -109,7 +109,7 @@ class Traced(Session):
         calls = self.calls()
         if self.trace and not opens_by(calls):
             raise self.failure(
-                f"opening makes the calls {calls}, and not a read of the header and three syncs", None, []
+                f"opening makes the calls {calls}, and not the header and three syncs", None, []
             )
 
     def times(self) -> list[str]:
