@@ -88,8 +88,8 @@ pub known : {a b c : ArchiveSeen} → b ≡ a → IsArchiveLater a c → IsArchi
 known {a} {b} {c} is later = subst (λ (x : ArchiveSeen). IsArchiveLater x c) (sym is) later
 
 -- what is out is open, by another name
-still-open : (a b : Tokens) (opened : List (Option ℕ)) → b ≡ a → AreOpen a.out opened → AreOpen b.out opened
-still-open a b opened is are = subst (λ (x : Tokens). AreOpen x.out opened) (sym is) are
+still-open : (a b : Tokens) (places : List (Option ℕ)) → b ≡ a → AreOpen a.out places → AreOpen b.out places
+still-open a b places is are = subst (λ (x : Tokens). AreOpen x.out places) (sym is) are
 
 open-still : (out : List Token) (a b : List (Option ℕ)) → b ≡ a → AreOpen out a → AreOpen out b
 open-still out a b is are = subst (λ (x : List (Option ℕ)). AreOpen out x) (sym is) are
@@ -160,9 +160,9 @@ quiet : (tells : Bool) (start : Machine Value) (brand : ℕ) (table : TableId) (
     → Stands tells new after → GoesOn tells old new → Reached start after → seen_of after ≡ seen_of h.state → new.transactions.mark ≡ old.transactions.mark
     → new.transactions.heads ≡ old.transactions.heads → new.transactions.opened ≡ old.transactions.opened
     → IsShared tells start brand table new shares at pass
-quiet tells start brand table old new shares at pass h after stands goes reached same mark heads opened =
+quiet tells start brand table old new shares at pass h after stands goes reached same mark heads places =
     rested tells start brand table old new shares at at pass pass h after stands goes reached same mark heads refl h.writes refl refl
-    (open-still pass.tokens.out old.transactions.opened new.transactions.opened opened h.given)
+    (open-still pass.tokens.out old.transactions.opened new.transactions.opened places h.given)
 
 -- ---- opening
 

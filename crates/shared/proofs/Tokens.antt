@@ -72,16 +72,14 @@ free-apart (t ∷ ts) number token free (inr more) = free-apart ts number token 
 -- nor does it go with those of another number
 pub among-without : (out : List Token) (number : ℕ) (token : Token) → IsAmong out token → token.number ≢ number → IsAmong (without number out) token
 among-without [] number token is apart = absurd is
-among-without (t ∷ ts) number token is apart = by-test (t.number == number) refl
+among-without (t ∷ ts) number token is apart = by-test (λ more. among-without ts number token more apart) (t.number == number) refl
   where
-    later : IsAmong ts token → IsAmong (without number ts) token
-    later more = among-without ts number token more apart
-
-    by-test : (b : Bool) → (t.number == number) ≡ b → IsAmong (cond b (without number ts) (t ∷ without number ts)) token
-    by-test true test = ⊎_elim (λ (same : t ≡ token).
+    by-test : (IsAmong ts token → IsAmong (without number ts) token) → (b : Bool) → (t.number == number) ≡ b
+        → IsAmong (cond b (without number ts) (t ∷ without number ts)) token
+    by-test later true test = ⊎_elim (λ (same : t ≡ token).
         let one : t.number ≡ number = grind (arith, nat_tests) in
         absurd (apart (ap (λ (x : Token). x.number) (sym same) ∙ one))) later is
-    by-test false test = ⊎_elim (λ same. inl same) (λ more. inr (later more)) is
+    by-test later false test = ⊎_elim (λ same. inl same) (λ more. inr (later more)) is
 
 -- what is out is open, with its snapshot
 found-open : (out : List Token) (opened : List (Option ℕ)) (token : Token) → AreOpen out opened → IsAmong out token
@@ -114,14 +112,12 @@ given-open out opened token are free within = (opened-here opened token.number t
 -- and once one was taken back that is open no more
 pub taken-open : (out : List Token) (opened : List (Option ℕ)) (number : ℕ) → AreOpen out opened → AreOpen (without number out) (with_closed opened number)
 taken-open [] opened number are = tt
-taken-open (t ∷ ts) opened number are = by-test (t.number == number) refl
+taken-open (t ∷ ts) opened number are = by-test (taken-open ts opened number are.1) (t.number == number) refl
   where
-    later : AreOpen (without number ts) (with_closed opened number)
-    later = taken-open ts opened number are.1
-
-    by-test : (b : Bool) → (t.number == number) ≡ b → AreOpen (cond b (without number ts) (t ∷ without number ts)) (with_closed opened number)
-    by-test true test = later
-    by-test false test =
+    by-test : AreOpen (without number ts) (with_closed opened number) → (b : Bool) → (t.number == number) ≡ b
+        → AreOpen (cond b (without number ts) (t ∷ without number ts)) (with_closed opened number)
+    by-test later true test = later
+    by-test later false test =
         let apart : t.number ≢ number = grind (arith, nat_tests) in
         (set-other opened number t.number None apart ∙ are.0, later)
 

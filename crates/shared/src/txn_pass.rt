@@ -57,8 +57,7 @@ impl<L: Opening> TxnPass<L> {
             × ((cell_view writer.new).seen ≡ (cell_view writer.old).seen) × ((cell_view writer.new).archive ≡ (cell_view writer.old).archive)
             × ((cell_view writer.new).tokens.out ≡ record { number = number; snapshot = snapshot } ∷ (cell_view writer.old).tokens.out) }
     {
-        let _ = (number, snapshot);
-        give_out::<Brand, R>(rt, cell, writer);
+        give_out::<Brand, R>(rt, cell, writer, number, snapshot);
         TxnPass::of(cell.split_pass::<Hand>(writer))
     }
 
@@ -78,13 +77,20 @@ impl<L: Opening> TxnPass<L> {
     }
 }
 
-// The writer has the token of one transaction more.
-fn give_out<K: Given, R: Wait>(rt: &R, cell: &PublishedCell, writer: &mut WriterPass)
+// The writer has the token of one transaction more, of this number and this snapshot.
+fn give_out<K: Given, R: Wait>(
+    rt: &R,
+    cell: &PublishedCell,
+    writer: &mut WriterPass,
+    number: u64,
+    snapshot: u64,
+)
     requires cell { writer.old.table_id ≡ cell.now.table.shared.table_id }
     requires writes { (cell_view writer.old).writes ≡ true }
     requires fresh { IsFree K.token.number (cell_view writer.old).tokens.out }
     ensures cell { writer.new.table_id ≡ writer.old.table_id }
     ensures view { cell_view writer.new ≡ record (cell_view writer.old) { tokens = record { out = K.token ∷ (cell_view writer.old).tokens.out; own = Some K.token } } }
 {
+    let _ = (number, snapshot);
     cell.load_as::<GiveOut<K>, R>(rt, writer);
 }
