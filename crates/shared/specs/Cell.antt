@@ -9,8 +9,8 @@ use Rattle.shared.specs.Tokens.{Token, no_tokens, IsOut, AreApart, taken_back}
 use Rattle.shared.specs.Seen.{Seen, nothing, nothing_known, order_of, known_by, IsLater, IsMore, SightValue}
 
 -- One view, the writer's, has seen all commits, which are a history, and the floors, and the word is the last published time. Each other view has seen a front
--- of them and no later floors, and knows an earlier archive. The transactions whose tokens go with the passes are out, by the writer's view, and each token goes
--- with one pass alone.
+-- of them and no later floors, and knows an earlier archive. The transactions whose tokens go with the passes are out, by the writer's view, and each token
+-- goes with one pass alone.
 pub record IsPublished (words : List ℕ) (views : List SightValue) : Type 0 where
   pub writer : ℕ
   pub own : SightValue

@@ -89,7 +89,8 @@ fn give_out<K: Given, R: Wait>(
     requires writes { (cell_view writer.old).writes ≡ true }
     requires fresh { IsFree K.token.number (cell_view writer.old).tokens.out }
     ensures cell { writer.new.table_id ≡ writer.old.table_id }
-    ensures view { cell_view writer.new ≡ record (cell_view writer.old) { tokens = record { out = K.token ∷ (cell_view writer.old).tokens.out; own = Some K.token } } }
+    ensures view { cell_view writer.new
+        ≡ record (cell_view writer.old) { tokens = record { out = K.token ∷ (cell_view writer.old).tokens.out; own = Some K.token } } }
 {
     let _ = (number, snapshot);
     cell.load_as::<GiveOut<K>, R>(rt, writer);

@@ -21,7 +21,8 @@ returns-clause-ok g c =
 
 pub returns-clause-by_key : goal.returns-clause-by_key
 returns-clause-by_key g c =
-    sees-after c.delete.result _ _ c.self.inside.txn c.delete.new.self c.self.inside.pass.seen c.args.self.now (writes_after_delete c.self.inside.txn c.args.key)
+    sees-after c.delete.result _ _ c.self.inside.txn c.delete.new.self c.self.inside.pass.seen c.args.self.now
+    (writes_after_delete c.self.inside.txn c.args.key)
     (λ (q : Key). same_key c.args.key q) None
     c.self.view_is c.self.invariant.0 c.delete.ensures.ok c.delete.ensures.by_key
 
@@ -38,4 +39,5 @@ returns-clause-too_many g c =
     ↔ (IsSome o × IsFullFor c.self.inside.txn.writes c.args.key)) c.self.view_is c.self.invariant.0 c.delete.ensures.too_many)
 
 pub returns-clause-err : goal.returns-clause-err
-returns-clause-err g c = kept-err c.delete.result c.self.inside.txn c.delete.new.self c.self.inside.pass.seen c.args.self.now c.self.view_is c.delete.ensures.err
+returns-clause-err g c = kept-err c.delete.result c.self.inside.txn c.delete.new.self c.self.inside.pass.seen c.args.self.now c.self.view_is
+    c.delete.ensures.err

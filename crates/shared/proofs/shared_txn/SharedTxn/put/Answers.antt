@@ -15,7 +15,8 @@ invariant_of-self g c =
 pub returns-clause-ok : goal.returns-clause-ok
 returns-clause-ok g c =
     let value = map (λ field. field.now) c.args.fields.now in
-    changed-ok c.put.result c.self.inside.txn c.put.new.self c.self.inside.pass.seen c.args.self.now (λ (t : TxnValue). with_put t c.args.key value) c.self.view_is
+    changed-ok c.put.result c.self.inside.txn c.put.new.self c.self.inside.pass.seen c.args.self.now (λ (t : TxnValue). with_put t c.args.key value)
+    c.self.view_is
     c.put.ensures.ok
 
 pub returns-clause-by_key : goal.returns-clause-by_key
