@@ -26,7 +26,10 @@ pub enum LogItem {
     /// A floor of the base.
     BaseFloor(RelationFloor),
     /// A group, which begins at the extent `head` and has so many.
-    Group { head: u32, extents: usize },
+    Group {
+        head: u32,
+        extents: usize,
+    },
     /// A commit of a group, and how many records it has.
     Commit {
         label: u64,
@@ -34,9 +37,15 @@ pub enum LogItem {
         records: usize,
     },
     /// A run, whose chain is the extent `head`.
-    Run { head: u32, run: Archive },
+    Run {
+        head: u32,
+        run: Archive,
+    },
     /// A floor, whose chain is the extent `head`.
-    Floor { head: u32, floor: RelationFloor },
+    Floor {
+        head: u32,
+        floor: RelationFloor,
+    },
 }
 
 fn push_members(items: &mut Vec<LogItem>, members: &[Member]) -> Result<(), AllocError>
@@ -153,10 +162,7 @@ pub(crate) fn items_of(alloc: Global, chains: &[LogChain]) -> Result<Vec<LogItem
 }
 
 /// What the first of these chains says.
-pub(crate) fn items_of_first(
-    alloc: Global,
-    chains: &[LogChain],
-) -> Result<Vec<LogItem>, AllocError>
+pub(crate) fn items_of_first(alloc: Global, chains: &[LogChain]) -> Result<Vec<LogItem>, AllocError>
     ensures { IfOk result (λ items. items.items ≡ items_of (take 1 chains.now)) }
 {
     let mut items = Vec::new(alloc);
