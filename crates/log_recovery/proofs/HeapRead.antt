@@ -105,8 +105,8 @@ module _ (most root : ℕ) (heap : List ℕ) (chains : List PlacedChain) (next :
   pub named_fail : (place : ℕ) → IsFirstOf place (first_names chains) → HasNoAnchors most (mark_of chains) heap flags (first_names chains)
       → FailsAnchors most (mark_of chains) heap (numbers_of chains) (anchor_names chains) place
   named_fail place first none =
-      let name = first_named chains place first in
-      record { name = name.0; names_are = names ∙ name.1; none = none_right none; place_is = name.2 }
+      let found = first_named chains place first in
+      record { name = found.0; names_are = names ∙ found.1; none = none_right none; place_is = found.2 }
     where
       named_in : (e : Entry) (p : ℕ) → IsFirstOf p (anchors_in e) → (name : AnchorName) × (anchors_in e ≡ name ∷ []) × (p ≡ name.first)
       named_in (Group members) p is = absurd is

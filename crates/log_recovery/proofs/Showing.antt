@@ -1,7 +1,10 @@
 -- What is shown of the heap, check by check.
-use Rattle.std.proofs.Common.{◌≡◌, ℕ, ◌+◌, Bool, false, List, [], ◌∷◌, ◌++◌, length, refl, sym, ◌∙◌, ap, subst, take, length-append}
+use Rattle.std.proofs.Common.{◌≡◌, ℕ, suc, ◌+◌, ◌<◌, ◌≤◌, Bool, true, false, if◌then◌else◌, List, [], ◌∷◌, ◌++◌, length, get_or, take, drop}
+use Rattle.std.proofs.Common.{refl, sym, ◌∙◌, ap, subst, add-one, append_assoc, length-append, drop-cons}
 use Rattle.std.specs.Prelude.{replicate}
 use Rattle.std.specs.List.{AllByRecursion}
+use Rattle.std.proofs.lemmas.List.{append-nil, drop_all, take_more}
+use Rattle.std.proofs.lemmas.Grind.{flat_map-append}
 use Rattle.disk.specs.declared.area.Area.{Area}
 use Rattle.disk.specs.declared.area.Area.TheVariants.{Status, Heap, Archive}
 use Rattle.recovery.specs.declared.fault.OpenFault.TheVariants.{Damaged}
@@ -14,7 +17,7 @@ use Rattle.log_recovery.specs.Rules.{mark_of}
 use Rattle.log_recovery.specs.Anchored.{first_names, IsAnchorsFault}
 use Rattle.log_recovery.specs.Members.{values_of, IsMembersFault}
 use Rattle.log_recovery.specs.Opening.{KeepsRules, HoldsAnchors, FailsHeap, AtAnchors, AtMembers}
-use Rattle.log_recovery.specs.Shown.{items_of, items_before, shown_at, IsHeapShown}
+use Rattle.log_recovery.specs.Shown.{chain_items, items_of, begins_at, items_before, shown_at, IsHeapShown}
 use Rattle.log_recovery.specs.declared.shown.LogItem.{LogItem}
 use Rattle.log_recovery.specs.declared.opening.ShownEnd.{ShownEnd}
 use Rattle.log_recovery.specs.declared.opening.ShownEnd.TheVariants as ends
@@ -27,8 +30,8 @@ IsShownAt most root heap place items = (fails : FailsHeap most root heap place) 
 -- so it is shown of the heap
 pub shown_damaged : (most root : ℕ) (heap : List ℕ) (place : ℕ) (items shown : List LogItem) (end : ShownEnd) → IsShownAt most root heap place shown
     → items ≡ shown → end ≡ ends.Damaged place → IsHeapShown most root heap items end
-shown_damaged most root heap place items shown end at same end_is =
-    subst (IsHeapShown most root heap items) (sym end_is) (at.0, same ∙ at.1)
+shown_damaged most root heap place items shown end is same end_is =
+    subst (IsHeapShown most root heap items) (sym end_is) (is.0, same ∙ is.1)
 
 -- where the anchors fail the base is shown
 pub anchors_shown : (most root : ℕ) (heap : List ℕ) (chains : List PlacedChain) (next : ℕ) (flags : List Bool) (area : Area) (place : ℕ)
@@ -56,3 +59,42 @@ used_is_live most root heap chains next a flags used holds range flags_are used_
     ∙ ap used_count (flags_are ∙ sym (used_in_turn (replicate most false) (numbers_of chains) a.numbers))
     ∙ used_are_counted most (numbers_of chains ++ a.numbers) range holds.anchors.apart
     ∙ length-append (numbers_of chains) a.numbers
+
+-- ---- what is said
+
+-- one chain more
+pub items_more : (chains : List PlacedChain) (i : ℕ) (c : PlacedChain) → i < length chains → c ≡ get_or chains i c
+    → items_of (take (i + 1) chains) ≡ items_of (take i chains) ++ chain_items c
+items_more chains i c lt is =
+    ap items_of (take_more chains i c lt ∙ ap (λ (d : PlacedChain). take i chains ++ d ∷ []) (sym is))
+    ∙ flat_map-append chain_items (take i chains) (c ∷ [])
+    ∙ ap (λ (l : List LogItem). items_of (take i chains) ++ l) (append-nil (chain_items c))
+
+-- up to this item no chain begins at the place
+abbrev pub IsUpTo : ℕ → List LogItem → ℕ → Type 0
+IsUpTo place items i = items_before place items ≡ take i items ++ items_before place (drop i items)
+
+-- what stands there, by whether such a chain begins with the item
+there : (place : ℕ) (items : List LogItem) (i : ℕ) (d : LogItem) (begins : Bool) → i < length items → begins_at place (get_or items i d) ≡ begins
+    → IsUpTo place items i
+    → items_before place items ≡ take i items ++ (if begins then [] else get_or items i d ∷ items_before place (drop (i + 1) items))
+there place items i d begins lt is before =
+    before
+    ∙ ap (λ (l : List LogItem). take i items ++ items_before place l) (drop-cons items i d lt)
+    ∙ ap (λ (b : Bool). take i items ++ (if b then [] else get_or items i d ∷ items_before place (drop (suc i) items))) is
+    ∙ ap (λ (n : ℕ). take i items ++ (if begins then [] else get_or items i d ∷ items_before place (drop n items))) (sym (add-one i))
+
+pub front_more : (place : ℕ) (items : List LogItem) (i : ℕ) (d : LogItem) → i < length items → begins_at place (get_or items i d) ≡ false
+    → IsUpTo place items i → IsUpTo place items (i + 1)
+front_more place items i d lt other before =
+    there place items i d false lt other before
+    ∙ sym (append_assoc (take i items) (get_or items i d ∷ []) (items_before place (drop (i + 1) items)))
+    ∙ ap (λ (l : List LogItem). l ++ items_before place (drop (i + 1) items)) (sym (take_more items i d lt))
+
+pub front_stops : (place : ℕ) (items : List LogItem) (i : ℕ) (d : LogItem) → i < length items → begins_at place (get_or items i d) ≡ true
+    → IsUpTo place items i → take i items ≡ items_before place items
+front_stops place items i d lt same before = sym (there place items i d true lt same before ∙ append-nil (take i items))
+
+pub front_ends : (place : ℕ) (items : List LogItem) (i : ℕ) → length items ≤ i → IsUpTo place items i → take i items ≡ items_before place items
+front_ends place items i past before =
+    sym (before ∙ ap (λ (l : List LogItem). take i items ++ items_before place l) (drop_all i items past) ∙ append-nil (take i items))
