@@ -85,10 +85,17 @@ IsItemText (says.Floor head floor) text = text ≡ floor_line head floor
 abbrev pub header_line : Roots → Text
 header_line r = codes "header extents " ++ (decimal r.extents ++ (codes " root " ++ (decimal (root_of r) ++ codes "\n")))
 
--- where the log goes on, and how many extents are in use of so many; nothing where a check fails
+-- where the log goes on
+abbrev pub next_line : ℕ → Text
+next_line next = codes "next " ++ (decimal next ++ codes "\n")
+
+-- how many extents are in use of so many
+abbrev pub used_line : ℕ → ℕ → Text
+used_line used most = codes "used " ++ (decimal used ++ (codes " of " ++ (decimal most ++ codes "\n")))
+
+-- both of these; nothing where a check fails
 abbrev pub end_text : ℕ → ShownEnd → Text
-end_text most (ends.Right extents) =
-    codes "next " ++ (decimal extents.next ++ codes "\n") ++ (codes "used " ++ (decimal extents.used ++ (codes " of " ++ (decimal most ++ codes "\n"))))
+end_text most (ends.Right extents) = next_line extents.next ++ used_line extents.used most
 end_text most (ends.Damaged place) = []
 
 -- the header, a line for each thing that the log says, and its end

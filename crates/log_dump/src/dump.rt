@@ -31,10 +31,11 @@ fn write_end<W: Write>(output: &mut W, most: u32, end: &ShownEnd) -> io::Result<
     match *end {
         ShownEnd::Right(extents) => {
             writeln!(output, "next {}", extents.next)?;
-            writeln!(output, "used {} of {most}", extents.used)
+            writeln!(output, "used {} of {most}", extents.used)?;
         }
-        ShownEnd::Damaged(_) => Ok(()),
+        ShownEnd::Damaged(_) => {}
     }
+    Ok(())
 }
 
 /// Writes what is shown of a log: its header, what it says, and where it goes on if all is right.

@@ -166,9 +166,10 @@ pub(crate) fn items_of_first(alloc: Global, chains: &[LogChain]) -> Result<Vec<L
     ensures { IfOk result (λ items. items.items ≡ items_of (take 1 chains.now)) }
 {
     let mut items = Vec::new(alloc);
-    if let [first, ..] = chains {
-        push_chain(&mut items, first)?;
-    }
+    let [first, ..] = chains else {
+        return Ok(items);
+    };
+    push_chain(&mut items, first)?;
     Ok(items)
 }
 
