@@ -1,5 +1,5 @@
 -- Each action keeps the promise.
-use Rattle.std.proofs.Common.{ℕ, ◌≡◌, ◌⊎◌, inl, inr, Bool, true, false, IsTrue, List, [], ◌∷◌}
+use Rattle.std.proofs.Common.{ℕ, ◌≡◌, ◌+◌, ◌⊎◌, inl, inr, Bool, true, false, IsTrue, List, [], ◌∷◌}
 use Rattle.std.proofs.Common.{Option, Some, None, Result, Ok, Err, Vec, ap, refl, sym, subst, ◌∙◌}
 use Rattle.std.specs.declared.alloc.Global.{Global}
 use Rattle.std.specs.Prelude.{MatchBool, MatchOption}
@@ -120,7 +120,7 @@ lines-keep tells old new input output header h floors told sound image runs = re
   are = runs.are;
   out = runs.out;
   end = runs.end;
-  keeps = subst (λ (m : Machine Value). ScriptKeeps tells _ (first_script_moment runs.opened m) runs.lines runs.out (runs.end, new))
+  keeps = subst (λ (m : Machine Value). ScriptKeeps tells (input.read + 1) (first_script_moment runs.opened m) runs.lines runs.out (runs.end, new))
       (opened-same runs.opened header h floors (open-header tells old 1 runs.opened header h floors runs.opens told image))
       (promise tells old runs.opened header h floors _ runs.lines runs.out (runs.end, new) told sound image runs.opens runs.run);
   said = runs.said;
