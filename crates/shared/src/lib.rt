@@ -22,7 +22,6 @@ mod shared;
 mod shared_txn;
 mod shared_view;
 mod signals;
-mod txn_pass;
 mod vacuuming;
 
 pub use cell::{PublishedCell, PublishedTime, Sight, WriterPass};

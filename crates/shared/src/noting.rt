@@ -33,7 +33,6 @@ fn queue_commit<R: Wait>(
     ensures writes { (cell_view writer.new).writes ≡ true }
     ensures seen { (cell_view writer.new).seen ≡ queued_seen (cell_view writer.old).seen (record { time = time; label = label; writes = writes }) }
     ensures archive { (cell_view writer.new).archive ≡ (cell_view writer.old).archive }
-    ensures tokens { (cell_view writer.new).tokens ≡ (cell_view writer.old).tokens }
 {
     queue_next(rt, cell, writer, time, label);
 }
@@ -54,7 +53,6 @@ pub(crate) fn note_queued<R: Wait>(
     ensures writes { (cell_view writer.new).writes ≡ true }
     ensures seen { (cell_view writer.new).seen ≡ noted submitted.now (cell_view writer.old).seen label writes }
     ensures archive { (cell_view writer.new).archive ≡ (cell_view writer.old).archive }
-    ensures tokens { (cell_view writer.new).tokens ≡ (cell_view writer.old).tokens }
 {
     match submitted {
         Ok(Submitted::Queued(ticket)) => queue_commit(rt, cell, writer, ticket.time(), label),
@@ -79,7 +77,6 @@ pub(crate) fn note_published<R: Wait>(
     ensures writes { (cell_view writer.new).writes ≡ true }
     ensures seen { (cell_view writer.new).seen ≡ published_seen (cell_view writer.old).seen (count_in did.now) }
     ensures archive { (cell_view writer.new).archive ≡ (cell_view writer.old).archive }
-    ensures tokens { (cell_view writer.new).tokens ≡ (cell_view writer.old).tokens }
 {
     let count = published_in(did);
     if count > 0 {
@@ -104,7 +101,6 @@ pub(crate) fn note_job<R: Wait>(
     ensures writes { (cell_view writer.new).writes ≡ true }
     ensures seen { (cell_view writer.new).seen ≡ done_seen did.now raising (cell_view writer.old).seen }
     ensures archive { (cell_view writer.new).archive ≡ (cell_view writer.old).archive }
-    ensures tokens { (cell_view writer.new).tokens ≡ (cell_view writer.old).tokens }
 {
     if is_done(did) {
         see_next(rt, cell, writer);
@@ -125,7 +121,6 @@ pub(crate) fn note_failed<R: Wait>(
     ensures writes { (cell_view writer.new).writes ≡ true }
     ensures seen { (cell_view writer.new).seen ≡ failed_seen failed (cell_view writer.old).seen }
     ensures archive { (cell_view writer.new).archive ≡ (cell_view writer.old).archive }
-    ensures tokens { (cell_view writer.new).tokens ≡ (cell_view writer.old).tokens }
 {
     if failed {
         see_failure(rt, cell, writer);
@@ -141,7 +136,6 @@ fn see_failure<R: Wait>(rt: &R, cell: &PublishedCell, writer: &mut WriterPass)
     ensures writes { (cell_view writer.new).writes ≡ true }
     ensures seen { (cell_view writer.new).seen ≡ record (cell_view writer.old).seen { failed = true } }
     ensures archive { (cell_view writer.new).archive ≡ (cell_view writer.old).archive }
-    ensures tokens { (cell_view writer.new).tokens ≡ (cell_view writer.old).tokens }
 {
     see_next(rt, cell, writer);
 }
@@ -160,7 +154,6 @@ pub(crate) fn note_archive<D: Disk, R: Wait>(
     ensures writes { (cell_view writer.new).writes ≡ true }
     ensures seen { (cell_view writer.new).seen ≡ (cell_view writer.old).seen }
     ensures archive { (cell_view writer.new).archive ≡ archive_seen D.tells store.now }
-    ensures tokens { (cell_view writer.new).tokens ≡ (cell_view writer.old).tokens }
 {
     go_on::<Brand, D, R>(rt, cell, writer, store);
 }

@@ -520,7 +520,8 @@ asking-keeps tells style old new asks Is output told sound led says (inr (inr di
 
 at-keeps : (tells : Bool) (old new : DiskState) (key : Key) (time : Option ℕ) (output : Output) → IsTrue tells → AreSound old.areas
     → MatchOption time (RefusesTime old output new) (λ t. Asks tells plain old (λ store. line.At key t) output new)
-    → MatchOption time (new ≡ old) (λ t. AskingKeeps tells plain old (λ store. line.At key t) (λ store h floors. IsValueReply (at_answer h floors key t)) output new)
+    → MatchOption time (new ≡ old)
+    (λ t. AskingKeeps tells plain old (λ store. line.At key t) (λ store h floors. IsValueReply (at_answer h floors key t)) output new)
 at-keeps tells old new key None output told sound refused = refused.0
 at-keeps tells old new key (Some t) output told sound asks =
     asking-keeps tells plain old new (λ store. line.At key t) (λ store h floors. IsValueReply (at_answer h floors key t)) output told sound
@@ -682,7 +683,8 @@ store-write-keeps : (tells : Bool) (old new : DiskState) (lines : List Text) (ou
     → (did : WritesStore tells old lines output new) → WriteKeeps tells h floors did.opened lines output new
 store-write-keeps tells old new lines output header h floors told sound image did =
     let first = first-script tells did.opened (opened_in did.opened h floors) (stands-in tells old did.opened header h floors did.opens told sound image) in
-    let to = in_turn-led tells told reply.Ok lines (first_script_moment did.opened (opened_in did.opened h floors)) first (fresh did.opened) refl did.answer did.asked
+    let to = in_turn-led tells told reply.Ok lines (first_script_moment did.opened (opened_in did.opened h floors)) first (fresh did.opened) refl did.answer
+    did.asked
     did.does in
     record {
       answer = did.answer;
@@ -776,6 +778,8 @@ keeps-acts tells (action.Write dir write) old new input output told sound acts =
 keeps-acts tells (action.Vacuum dir time) old new input output told sound acts = upto-keeps tells old new time output told sound acts
 keeps-acts tells (action.Grow dir) old new input output told sound acts = growth-keeps tells old new output told sound acts
 keeps-acts tells (action.Floor dir relation time) old new input output told sound acts = raise-keeps tells old new relation time output told sound acts
-keeps-acts tells (action.Info dir json) old new input output told sound acts = shown-holds tells old new output (Tells tells old json output new) (info-holds tells old new json output) acts
-keeps-acts tells (action.Dump dir) old new input output told sound acts = shown-holds tells old new output (Dumps tells old output new) (dump-holds tells old new output) acts
+keeps-acts tells (action.Info dir json) old new input output told sound acts =
+    shown-holds tells old new output (Tells tells old json output new) (info-holds tells old new json output) acts
+keeps-acts tells (action.Dump dir) old new input output told sound acts =
+    shown-holds tells old new output (Dumps tells old output new) (dump-holds tells old new output) acts
 keeps-acts tells (action.Stress writers readers rounds) old new input output told sound acts = acts.0

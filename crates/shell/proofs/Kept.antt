@@ -23,7 +23,8 @@ use Rattle.command_line.specs.declared.question.Question.{Question}
 use Rattle.command_line.specs.declared.question.RecordWrite.{RecordWrite}
 use Rattle.command_line.specs.declared.action.Action.{Action}
 use Rattle.command_line.specs.declared.action.Action.TheVariants as action
-use Rattle.shell.specs.Acts.{Acts, Asks, Dumps, DoesNotOpen, GivesOut, Grows, IfSlots, HasNoMemory, HasStatusOf, Input, IsRefused, IsSaid, IsTold, Makes, Output}
+use Rattle.shell.specs.Acts.{Acts, Asks, Dumps, DoesNotOpen, GivesOut, Grows, IfSlots, HasNoMemory, HasStatusOf, Input, IsRefused, IsSaid, IsTold, Makes}
+use Rattle.shell.specs.Acts.{Output}
 use Rattle.shell.specs.Layouts.{store_layout}
 use Rattle.shell.specs.Acts.{RefusesProfile, RefusesTime, RefusesToMake, RunsNew, RunsScript, SaysAll, SaysArchived, SaysBoth, SaysFront, SaysGrown, SaysSlots}
 use Rattle.shell.specs.Acts.{IsToldAs, IsToldIn, Raises, SaysRaised, SaysSo, SaysVacuum, Tells, Vacuums, Writes}
@@ -161,7 +162,8 @@ profile-kept : (old new : DiskState) (o v : Output) → GivesOut o v → Refuses
 profile-kept old new o v gives refused = (refused.0, refused-kept o v _ gives refused.1)
 
 makes-kept : (tells : Bool) (old new : DiskState) (layout : Option Layout) (o v : Output) → GivesOut o v
-    → MatchOption layout (RefusesProfile old o new) (λ l. Makes tells old l o new) → MatchOption layout (RefusesProfile old v new) (λ l. Makes tells old l v new)
+    → MatchOption layout (RefusesProfile old o new) (λ l. Makes tells old l o new)
+    → MatchOption layout (RefusesProfile old v new) (λ l. Makes tells old l v new)
 makes-kept tells old new None o v gives refused = profile-kept old new o v gives refused
 makes-kept tells old new (Some l) o v gives makes = made-kept tells old new l o v gives makes
 

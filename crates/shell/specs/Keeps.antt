@@ -251,7 +251,8 @@ KeepsPromise tells (action.Run dir) old input output new =
     (header : AnyHeader) (h : History Value) (floors : ℕ → ℕ) → IsImageOf header (image_of old.areas) h floors → RunKeeps tells h floors old input output new
 KeepsPromise tells (action.Format dir layout) old input output new = MatchOption layout (new ≡ old) (λ l. MakingKeeps tells old (store_layout l) new)
 KeepsPromise tells (action.At dir key time) old input output new =
-    MatchOption time (new ≡ old) (λ t. AskingKeeps tells plain old (λ store. line.At key t) (λ store h floors. IsValueReply (at_answer h floors key t)) output new)
+    MatchOption time (new ≡ old)
+    (λ t. AskingKeeps tells plain old (λ store. line.At key t) (λ store h floors. IsValueReply (at_answer h floors key t)) output new)
 KeepsPromise tells (action.Between dir key from to) old input output new =
     MatchOption from (new
     ≡ old) (λ a. MatchOption to (new

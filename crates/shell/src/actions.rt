@@ -4,7 +4,8 @@ ghost use Rattle.script.specs.declared.line.Line.TheVariants.{At, Between, Grow}
 ghost use Rattle.session.specs.Streams.{Says, is_output_refused, text_said};
 ghost use Rattle.session.specs.Texts.{Text, open_line, refusal_line, text_of};
 ghost use Rattle.session.specs.declared.ending.Ending.TheVariants.{Whole};
-ghost use Rattle.shell.specs.Acts.{Acts, Asks, Dumps, GivesOut, Grows, IfSlots, IsRefused, IsTold, Makes, RefusesTime, RunsNew, RunsScript, SaysArchived, SaysBoth};
+ghost use Rattle.shell.specs.Acts.{Acts, Asks, Dumps, GivesOut, Grows, IfSlots, IsRefused, IsTold, Makes, RefusesTime, RunsNew, RunsScript, SaysArchived};
+ghost use Rattle.shell.specs.Acts.{SaysBoth};
 ghost use Rattle.shell.specs.Acts.{SaysGrown, SaysSlots, SaysVacuum, Vacuums, given, open_fault_of, told};
 ghost use Rattle.forms.specs.Styles.{plain};
 ghost use Rattle.shell.specs.Acts.{IsSaid, IsToldAs, IsToldIn, Raises, RefusesProfile, SaysRaised, Tells, Writes};
