@@ -5,39 +5,41 @@ ghost use Rattle.history.specs.Fronts.{OnFront};
 ghost use Rattle.history.specs.Histories.{History};
 ghost use Rattle.history.specs.Machine.{Machine};
 ghost use Rattle.law_image.specs.Values.{Value};
-ghost use Rattle.status.specs.Header.{new_header};
 ghost use Rattle.recovery.specs.Faults.{IsReadFault};
-ghost use Rattle.recovery.specs.Format.{IsSlotCount, IsOccupied, IsTakenAnswer, FormatRefuses};
+ghost use Rattle.recovery.specs.Format.{IsTakenAnswer};
 ghost use Rattle.recovery.specs.Settling.{Settles, CountsMore, CountsAtMost};
-ghost use Rattle.any_store.specs.declared.engine.Engine.TheVariants.{Slots};
+ghost use Rattle.any_store.specs.Formats.{IsSize, HasStore, IsOccupied, FormatRefuses};
 ghost use Rattle.any_store.specs.Values.{disk_of};
 ghost use Rattle.any_store.specs.Opens.{Opens, OpenRefuses};
+ghost use Rattle.law_any_store.specs.Formatted.{header_of};
 ghost use Rattle.law_any_store.specs.Standing.{Stands, AnyHeader, IsImageOf, opened_in};
 ghost use Rattle.law_any_store.specs.Opened.{LeavesFronts};
 ghost use Rattle.run.specs.Promise.{Promise};
 
-use any_store::{FormatFault, OpenFault, Store};
+use any_store::{FormatFault, Layout, OpenFault, Store};
 use disk::Disk;
 use std::alloc::Global;
 
-/// Makes the status area that of a new store with this many slots, 16 to 65,536.
+/// Makes the disk that of a new store of this layout, where no store of either layout stands.
 ///
 /// # Errors
 ///
-/// Those of `recovery::format`.
-pub fn format<D: Disk>(alloc: Global, disk: &mut D, slots: u32) -> Result<(), FormatFault>
+/// Those of `any_store::format`. Where a store stands, nothing changes.
+pub fn format<D: Disk>(alloc: Global, disk: &mut D, layout: Layout) -> Result<(), FormatFault>
     // Whatever a stop may leave of a formatted disk is an image of the empty history.
     ensures stands { IsTrue D.tells → OnOk result ((image : Image) → LeavesImage (D.state disk.new).areas image
-        → IsImageOf (Slots (new_header 3 slots)) image [] (λ relation. 0)) }
+        → IsImageOf (header_of layout) image [] (λ relation. 0)) }
     // So is what is read of it, which is what `open` speaks of.
-    ensures reads { IsTrue D.tells → OnOk result (IsImageOf (Slots (new_header 3 slots)) (image_of (D.state disk.new).areas) [] (λ relation. 0)) }
-    ensures bad_slots { (result ≡ Err FormatFault.BadSlots) ↔ ¬ IsSlotCount slots }
-    ensures occupied { IsTrue D.tells → result ≡ Err FormatFault.Occupied → IsOccupied (D.state disk.old).areas.status.bytes }
-    ensures free { IsTrue D.tells → IsOccupied (D.state disk.old).areas.status.bytes → IsTakenAnswer result }
+    ensures reads { IsTrue D.tells → OnOk result (IsImageOf (header_of layout) (image_of (D.state disk.new).areas) [] (λ relation. 0)) }
+    ensures bad_size { (result ≡ Err FormatFault.BadSlots) ↔ ¬ IsSize layout }
+    ensures occupied { IsTrue D.tells → result ≡ Err FormatFault.Occupied → IsOccupied layout (D.state disk.old).areas.status.bytes }
+    // A store that stands there, in either layout, is kept as it is.
+    ensures free { IsTrue D.tells → HasStore (D.state disk.old).areas.status.bytes
+        → IsTakenAnswer result × ((D.state disk.new).areas ≡ (D.state disk.old).areas) }
     // Before its first write a refused format has changed nothing; later, a next call goes by what the status area holds.
-    ensures refuses { IfErr result (λ fault. FormatRefuses D.tells slots (D.state disk.old) fault (D.state disk.new)) }
+    ensures refuses { IfErr result (λ fault. FormatRefuses D.tells layout (D.state disk.old) fault (D.state disk.new)) }
 {
-    recovery::format(alloc, disk, slots)
+    any_store::format(alloc, disk, layout)
 }
 
 /// Opens the store that the disk holds, with a mark of the caller's.

@@ -1,9 +1,9 @@
 //! Lists of calls over a disk in memory, with their answers.
 use crate::list_answers::{Want, is_answer};
 use crate::list_calls::{Ask, Rows, answers_to, call_of, calls_of, first_wrong, is_spent, opened};
-use any_store::{Did, JobDid, PumpFault, QueryFault, StartFault, Store};
-use disk::MemDisk;
-use run::{Call, Held, RedeemOutcome, close, give_back, run, run_on, step};
+use any_store::{Did, FormatFault, JobDid, Layout, PumpFault, QueryFault, StartFault, Store};
+use disk::{Area, MemDisk};
+use run::{Call, Held, RedeemOutcome, close, format, give_back, open, run, run_on, step};
 use std::alloc::{AllocError, Global};
 use std::test::Fail;
 
@@ -341,5 +341,19 @@ fn a_step_is_one_call(rt: HostRuntime) -> Result<(), Fail> {
     give_back(places);
     let _disk = close(store);
     assert!(rt; right && began?.len() == 3);
+    Ok(())
+}
+
+#[test]
+fn no_slots_are_formatted_over_a_log_in_the_heap(rt: HostRuntime) -> Result<(), Fail> {
+    let alloc = rt.alloc();
+    let mut disk = MemDisk::new(alloc);
+    format(alloc, &mut disk, Layout::Log(64))?;
+    assert_eq!(rt; format(alloc, &mut disk, Layout::Slots(16)), Err(FormatFault::Occupied));
+    assert_eq!(rt; format(alloc, &mut disk, Layout::Log(64)), Err(FormatFault::Occupied));
+    match open(alloc, disk, 1) {
+        Ok(store) => assert_eq!(rt; store.log_area(), Area::Heap),
+        Err((fault, _)) => panic!(rt; "{fault:?}"),
+    }
     Ok(())
 }

@@ -1,5 +1,6 @@
 //! The examples of the pages `CALLING.md` of `store`, `run`, `disk` and `clock`.
 use crate::published::SEVEN;
+use any_store::Layout;
 use clock::{LAST_TIME, read_instant, show_instant};
 use disk::{Area, DeviceFault, Disk, MemDisk};
 use history::Key;
@@ -81,7 +82,7 @@ fn a_list_of_calls_is_answered_in_its_order(rt: HostRuntime) -> Result<(), Fail>
         record: 7,
     };
     let mut disk = MemDisk::new(alloc);
-    run::format(alloc, &mut disk, 16)?;
+    run::format(alloc, &mut disk, Layout::Slots(16))?;
     let mut store = match run::open(alloc, disk, 1) {
         Ok(store) => store,
         Err((fault, _)) => panic!(rt; "{fault:?}"),

@@ -1,7 +1,7 @@
 //! Calls of a list over a disk in memory, as tables have them, and how they are answered.
 use crate::list_answers::{Want, is_answer};
 use crate::published::SEVEN;
-use any_store::Store;
+use any_store::{Layout, Store};
 use disk::MemDisk;
 use run::{Answer, Call, Held, close, format, open, run_on};
 use std::alloc::{AllocError, Global};
@@ -151,7 +151,7 @@ pub fn first_wrong(answers: &[Answer], rows: &[(Ask, Want)]) -> Option<usize> {
 /// An empty store, opened.
 pub fn opened(alloc: Global) -> Result<Store<MemDisk>, Fail> {
     let mut disk = MemDisk::new(alloc);
-    if format(alloc, &mut disk, 16).is_err() {
+    if format(alloc, &mut disk, Layout::Slots(16)).is_err() {
         return Err(Fail::from("not formatted"));
     }
     match open(alloc, disk, 5) {
