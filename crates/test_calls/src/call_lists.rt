@@ -349,8 +349,14 @@ fn no_slots_are_formatted_over_a_log_in_the_heap(rt: HostRuntime) -> Result<(), 
     let alloc = rt.alloc();
     let mut disk = MemDisk::new(alloc);
     format(alloc, &mut disk, Layout::Log(64))?;
-    assert_eq!(rt; format(alloc, &mut disk, Layout::Slots(16)), Err(FormatFault::Occupied));
-    assert_eq!(rt; format(alloc, &mut disk, Layout::Log(64)), Err(FormatFault::Occupied));
+    assert_eq!(rt;
+        format(alloc, &mut disk, Layout::Slots(16)),
+        Err(FormatFault::Occupied)
+    );
+    assert_eq!(rt;
+        format(alloc, &mut disk, Layout::Log(64)),
+        Err(FormatFault::Occupied)
+    );
     match open(alloc, disk, 1) {
         Ok(store) => assert_eq!(rt; store.log_area(), Area::Heap),
         Err((fault, _)) => panic!(rt; "{fault:?}"),
