@@ -83,7 +83,8 @@ by-chain tells m is l r made says end chain v xs at acknowledges new same among 
 
 pub by-call : (tells : Bool) (m : ScriptMoment) → IsScriptMoment tells m → (l : Line) (r : Reply) (c : Call) (a : Answer) → Says m l (one_call c a) r
     → with_answer a m.done ≡ with_reply r m.done
-    → (v : StoreValue) (ys : List Held) → Goes tells m.state.store (held_of m.state) c a v ys → (disk_of v).made ≤ (disk_of m.state.store).made + 1 → (new : State)
+    → (v : StoreValue) (ys : List Held) → Goes tells m.state.store (held_of m.state) c a v ys → (disk_of v).made ≤ (disk_of m.state.store).made + 1
+    → (new : State)
     → new.store ≡ v → Among (held_of new) ys → LeadsTo tells l r m new
 by-call tells m is l r c a says acknowledges v ys goes few new same among =
     let did = links tells m.state.store v (held_of m.state) ys c a (moment_of m) is goes few in

@@ -172,4 +172,5 @@ script-keeps tells told n m is (text ∷ rest) out end (inr run) =
 
 pub promise : ScriptPromise
 promise tells disk store header h floors n lines out end told sound is opens run =
-    script-keeps tells told n _ (first-script tells store (opened_as header h floors) (open-stands tells disk 1 store header h floors opens told sound is)) lines out end run
+    let first = first-script tells store (opened_as header h floors) (open-stands tells disk 1 store header h floors opens told sound is) in
+    script-keeps tells told n _ first lines out end run

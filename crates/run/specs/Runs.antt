@@ -220,8 +220,8 @@ ListsTimes w label said next = IfOk said (λ times. AreTimesFrom w.names_from ti
 
 -- ---- archives
 
--- An archive begins up to a time that is published, and changes nothing of the machine's; which marks and slots there are the machine does not know. The store's
--- profile is never one without archives where the log is slots.
+-- An archive begins up to a time that is published, and changes nothing of the machine's; which marks and slots there are the machine does not know. Where the
+-- log is slots, no profile is without archives.
 abbrev pub Archives : World → ℕ → Result (Unit {0}) StartFault → World → Type 0
 Archives w upto (Ok u) next = (w.machine.failed ≡ false) × (upto ≤ last w.machine.published) × (next ≡ same w)
 Archives w upto (Err start.Failed) next = (w.machine.failed ≡ true) × (next ≡ same w)

@@ -52,7 +52,8 @@ pub fn open<D: Disk>(alloc: Global, disk: D, mark: u64) -> Result<Store<D>, (Ope
     ensures err { IfErr result (λ e. OpenRefuses D.tells (D.state disk) e.0 (D.state e.1)) }
     // On an image that stands for a history the store stands for it. Nothing but the device or memory refuses it, and then the disk still holds the image.
     ensures stands { (header : AnyHeader) (h : History Value) (floors : ℕ → ℕ) → IsTrue D.tells → IsImageOf header (image_of (D.state disk).areas) h floors
-        → MatchResult result (λ s. Stands D.tells s (opened_in s h floors)) (λ e. IsReadFault e.0 × (image_of (D.state e.1).areas ≡ image_of (D.state disk).areas)) }
+        → MatchResult result (λ s. Stands D.tells s (opened_in s h floors))
+        (λ e. IsReadFault e.0 × (image_of (D.state e.1).areas ≡ image_of (D.state disk).areas)) }
     // It makes three syncs and no write, or, where it is refused, at most three.
     ensures made { MatchResult result (λ s. CountsMore 3 (D.state disk) (disk_of s)) (λ e. CountsAtMost 3 (D.state disk) (D.state e.1)) }
     // A stop while it opens, refused or not, leaves nothing that it might not have left before.

@@ -18,4 +18,5 @@ returns-clause-goes g c =
 
 pub returns-clause-made : goal.returns-clause-made
 returns-clause-made g c =
-    scan_between-few g.D.Disk.tells c.args.store.now c.scan_between.new.self c.in-Some.asked.now c.args.relation c.args.a c.args.b c.scan_between.result c.scan_between.ensures
+    scan_between-few g.D.Disk.tells c.args.store.now c.scan_between.new.self c.in-Some.asked.now c.args.relation c.args.a c.args.b c.scan_between.result
+    c.scan_between.ensures
