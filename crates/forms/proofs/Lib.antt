@@ -1,3 +1,4 @@
 pub mod EachLemmas
 pub mod EscapeLemmas
 pub mod TextLemmas
+pub mod CellLemmas
