@@ -4,6 +4,8 @@ standard error with status 2, and a time that is none refused with status 1.
 
     tests/command_line.py PROGRAM
 """
+import csv
+import io
 import json
 import os
 import sys
@@ -87,6 +89,29 @@ def one_record(program, folder):
     assert run(program, ["del", folder, "1", "7"]) == (1, "refused: missing\n", "")
 
 
+def tables(program, folder):
+    """CSV, as a reader of another making has it; a field that is no text is in hexadecimal."""
+    store = os.path.join(folder, "tables")
+    os.mkdir(store)
+    assert run(program, ["format", store, "--slots", "16"])[0] == 0
+    for record, fields in (("8", ["a,b", "\"", ""]), ("9", ["\\\\x61", "c\\r\\nd"])):
+        assert run(program, ["put", store, "2", record, "--text", *fields])[0] == 0
+    read = {}
+    for words in (["get", "2", "8"], ["scan", "2"], ["history", "2", "9"], ["history", "2", "10"], ["times", "7"]):
+        status, said, told = run(program, [words[0], store, *words[1:], "--csv"])
+        assert (status, told) == (0, "") and said.replace("\r\n", "").count("\r") == 0, (words, said)
+        read[tuple(words)] = list(csv.reader(io.StringIO(said, newline=""), strict=True))
+    names = ["fields", "field1", "field2", "field3"]
+    assert read["get", "2", "8"] == [names, ["3", "a,b", "\"", ""]], read
+    assert read["scan", "2"] == [["record", *names], ["8", "3", "a,b", "\"", ""], ["9", "2", "\\x5c783631", "c\r\nd", ""]], read
+    (*head, _, _, _), (begin, end, *row) = read["history", "2", "9"]
+    assert head == ["from", "to"] and int(begin) + 1 == int(end) and row == ["2", "\\x5c783631", "c\r\nd"], read
+    assert (read["history", "2", "10"], read["times", "7"]) == ([["from", "to", "fields"]], [["time"]]), read
+    status, said, _ = run(program, ["get", store, "2", "8", "2300-01-01", "--csv"])
+    assert status == 1 and said.startswith("refused: not yet "), (status, said)
+    assert run(program, ["put", store, "2", "8", "61", "--csv"])[0] == 2
+
+
 def forms(program, folder):
     """Fields as text and in JSON, those that are no text too; times as instants; what the log tells."""
     store = os.path.join(folder, "forms")
@@ -161,6 +186,7 @@ def main():
         says_version(program)
         one_record(program, folder)
         forms(program, folder)
+        tables(program, folder)
         endless(program, folder)
     print("command line: ok")
 

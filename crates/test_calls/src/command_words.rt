@@ -31,6 +31,11 @@ const JSON: Style = Style {
     instants: false,
 };
 
+const CSV: Style = Style {
+    form: Form::Csv,
+    instants: false,
+};
+
 const TEXT_MOMENTS: Style = Style {
     form: Form::Text,
     instants: true,
@@ -277,6 +282,22 @@ const ASKED: &[(&[&str], Action<'static>)] = &[
         Action::Ask {
             dir: "d",
             question: Some(Question::Records(1, When::Now)),
+            style: JSON,
+        },
+    ),
+    (
+        &["timestore", "scan", "d", "1", "--text", "--csv"],
+        Action::Ask {
+            dir: "d",
+            question: Some(Question::Records(1, When::Now)),
+            style: CSV,
+        },
+    ),
+    (
+        &["timestore", "times", "d", "3", "--csv", "--json"],
+        Action::Ask {
+            dir: "d",
+            question: Some(Question::Times(3)),
             style: JSON,
         },
     ),
@@ -634,12 +655,14 @@ const HELP: &[(&str, &[&str])] = &[
     (
         "get",
         &[
-            "<DIR>", "<REL>", "<REC>", "[TIME]", "`now`", "--text", "--json",
+            "<DIR>", "<REL>", "<REC>", "[TIME]", "`now`", "--text", "--json", "--csv",
         ],
     ),
     (
         "scan",
-        &["<DIR>", "<REL>", "[TIME]", "`now`", "--text", "--json"],
+        &[
+            "<DIR>", "<REL>", "[TIME]", "`now`", "--text", "--json", "--csv",
+        ],
     ),
     (
         "history",
@@ -651,12 +674,20 @@ const HELP: &[(&str, &[&str])] = &[
             "[TO]",
             "--text",
             "--json",
+            "--csv",
             "--instants",
         ],
     ),
     (
         "times",
-        &["<DIR>", "<LABEL>", "--text", "--json", "--instants"],
+        &[
+            "<DIR>",
+            "<LABEL>",
+            "--text",
+            "--json",
+            "--csv",
+            "--instants",
+        ],
     ),
     (
         "put",
