@@ -1,7 +1,20 @@
 //! What help says below the lists of commands and arguments.
 
-/// The limits of a store, and what its full slots or heap mean.
-pub const LIMITS: &str = "Limits:
+/// What to begin with, the limits of a store, and what its full slots or heap mean.
+pub const LIMITS: &str = "What to do:
+  make a store          mkdir DIR && timestore format DIR
+  write a record        timestore put DIR 1 7 Ada London --text
+  read it               timestore get DIR 1 7 --text
+  see its past          timestore history DIR 1 7 --text --instants
+  list a relation       timestore scan DIR 1 --csv
+  write much at once    timestore run DIR < SCRIPT, where SCRIPT has the lines
+                        of `timestore run --help`
+  see what is left      timestore info DIR
+  have more slots       timestore grow DIR
+  give back space       timestore vacuum DIR TIME
+  let the past go       timestore floor DIR REL TIME
+
+Limits:
   slots      16 to 65536, chosen when the store is made. A group of 1 to 16
              commits takes one, an archive, a reclaim or a floor takes one,
              none is used again

@@ -535,6 +535,8 @@ fn missing<'a>(
 
 /// What help names: each command, and the limits of a store.
 const NAMED: &[&str] = &[
+    "\nWhat to do:\n",
+    "timestore put DIR 1 7 Ada London --text",
     "\n  format ",
     "\n  run ",
     "\n  at ",
