@@ -5,7 +5,8 @@ ghost use Rattle.command_line.specs.Advice as told;
 use clap::error::ErrorKind;
 
 /// By which numbers a store is asked.
-const NUMBERS: &str = "REL is a number from 0 to 65535, REC and LABEL one from 0 to 18446744073709551615";
+const NUMBERS: &str =
+    "REL is a number from 0 to 65535, REC and LABEL one from 0 to 18446744073709551615";
 
 /// Whether a command takes relations, records or labels, which are numbers.
 fn takes_numbers(name: &str) -> bool

@@ -1,7 +1,7 @@
 //! Words of the command line: what they ask for, and the texts of help and usage faults.
 use clap::{ArgMatches, Error};
 use command_line::{
-    Action, Form, Layout, Question, RecordWrite, Style, When, action_of, read_words,
+    Action, Form, Layout, Question, RecordWrite, Style, When, action_of, read_words, words_advice,
 };
 use history::Key;
 use std::alloc::Global;
@@ -764,5 +764,32 @@ fn a_number_out_of_range_is_named(rt: HostRuntime) -> Result<(), Fail> {
     let error = usage(rt.alloc(), &words)?;
     let text = format!(in rt.alloc(); "{error}")?;
     assert!(rt; text.as_str() == NAMES_THE_RANGE);
+    Ok(())
+}
+
+/// What is said of numbers.
+const NUMBERS: Option<&str> = Some(
+    "REL is a number from 0 to 65535, REC and LABEL one from 0 to 18446744073709551615",
+);
+
+/// Words that are refused, and what is to be done.
+const ADVICE: &[(&[&str], Option<&str>)] = &[
+    (&["timestore", "get", "d", "users", "7"], NUMBERS),
+    (&["timestore", "put", "d", "1", "Ada", "61"], NUMBERS),
+    (&["timestore", "scan", "d", "65536"], NUMBERS),
+    (&["timestore", "times", "d", "many"], NUMBERS),
+    (&["timestore", "format", "d", "--slots", "many"], None),
+    (&["timestore", "stress", "9", "1", "1"], None),
+    (&["timestore", "get", "d", "1"], None),
+    (&["timestore", "forget", "users"], None),
+    (&["timestore", "--help"], None),
+];
+
+#[test]
+fn a_number_that_is_none_is_advised(rt: HostRuntime) -> Result<(), Fail> {
+    for (words, advice) in ADVICE {
+        let error = usage(rt.alloc(), words)?;
+        assert_eq!(rt; words_advice(error.kind(), words), *advice);
+    }
     Ok(())
 }

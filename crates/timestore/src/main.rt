@@ -14,7 +14,8 @@ use disk_file::{Access, FileDisk, FolderFault};
 use log_store::has_log_header;
 use session::{Answers, LineInput, Lines};
 use shell::{
-    Action, Layout, Need, OpenFault, act, action_of, advice, folder_need, read_words, refuse_folder, words_advice,
+    Action, Layout, Need, OpenFault, act, action_of, advice, folder_need, read_words,
+    refuse_folder, words_advice,
 };
 use status::{LogFault, read_header};
 use std::alloc::{AllocError, Global};
@@ -48,11 +49,7 @@ fn advise(rt: &impl Eprint, advice: Option<&str>) {
 
 /// Prints what `clap` has to say: help with status 0, a fault on standard error with status 2, and what to
 /// do about it.
-fn print_usage(
-    rt: &(impl Print + Eprint),
-    error: &Error,
-    words: &[&str],
-) -> io::Result<ExitCode> {
+fn print_usage(rt: &(impl Print + Eprint), error: &Error, words: &[&str]) -> io::Result<ExitCode> {
     error.print(rt)?;
     advise(rt, words_advice(error.kind(), words));
     Ok(if error.exit_code() == 0 {
