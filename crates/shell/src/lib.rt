@@ -2,7 +2,7 @@
 #![tactic(auto)]
 
 mod actions;
-mod advice;
+mod advising;
 mod asking;
 mod dump;
 mod needs;
@@ -12,7 +12,7 @@ mod vacuuming;
 mod writing;
 
 pub use actions::{act, refuse_folder};
-pub use advice::advice;
+pub use advising::advice;
 pub use command_line::{
     Action, Form, Layout, Question, RecordWrite, Style, When, action_of, read_words, words_advice,
 };
