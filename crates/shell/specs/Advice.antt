@@ -1,5 +1,5 @@
 -- What to do about words that no store can answer.
-use Rattle.std.specs.Prelude.{ℕ, ◌%◌, ◌==◌, ◌&&◌, ◌||◌, Bool, not, is_none, length, List, Option, Some, None, codes, if◌then◌else◌, map, nat_le, nat_lt}
+use Rattle.std.specs.Prelude.{ℕ, ◌%◌, ◌==◌, ◌&&◌, ◌||◌, Bool, not, is_none, length, List, Option, Some, None, codes, if◌then◌else◌, nat_le, nat_lt}
 use Rattle.std.specs.Borrow.{Bor}
 use Rattle.std.specs.List.{list_all}
 use Rattle.std.specs.Str.{bytes_eq}
@@ -7,7 +7,6 @@ use Rattle.command_line.specs.declared.action.Action.{Action}
 use Rattle.command_line.specs.declared.action.Action.TheVariants as action
 use Rattle.command_line.specs.declared.layout.Layout.{Layout}
 use Rattle.command_line.specs.declared.question.RecordWrite.{RecordWrite}
-use Rattle.command_line.specs.Questions.{texts}
 use Rattle.shell.specs.Layouts.{is_size}
 
 abbrev pub Text : Type 0
@@ -57,12 +56,12 @@ are_digits bytes = list_all is_digit bytes
 abbrev pub is_field : Text → Bool
 is_field word = bytes_eq word (codes "-") || (nat_lt 0 (length word) && (length word % 2 == 0) && are_digits word)
 
-abbrev pub are_fields : List Text → Bool
-are_fields words = list_all is_field words
+abbrev pub are_fields : List (Bor Text) → Bool
+are_fields words = list_all (λ (word : Bor Text). is_field word.now) words
 
 -- a word that is to be in hexadecimal is not
 abbrev pub fields_advice : Bool → Option (Bor (List (Bor Text))) → Option Text
-fields_advice is_text (Some words) = advice_if (not is_text && not (are_fields (texts words))) field
+fields_advice is_text (Some words) = advice_if (not is_text && not (are_fields words.now)) field
 fields_advice is_text None = None
 
 abbrev pub write_advice : RecordWrite → Option Text

@@ -1,7 +1,6 @@
 //! What to do about words that no store can answer.
-ghost use Rattle.std.specs.Prelude.{◌≡◌, Option, Some, None, if◌then◌else◌, map, not, option_map};
+ghost use Rattle.std.specs.Prelude.{◌≡◌, option_map};
 ghost use Rattle.shell.specs.Advice as told;
-ghost use Rattle.shell.specs.Advice.{Text};
 
 use crate::needs::is_size;
 use command_line::{Action, Layout, RecordWrite};
@@ -67,14 +66,9 @@ fn is_field(word: &str) -> bool
 
 /// Whether each word is one.
 fn are_fields(words: &[&str]) -> bool
-    ensures { result ≡ told.are_fields (map (λ w. w.now) words.now) }
+    ensures { result ≡ told.are_fields words.now }
 {
-    for word in words {
-        if !is_field(word) {
-            return false;
-        }
-    }
-    true
+    words.iter().all(|word| is_field(word))
 }
 
 /// Of a record that is to be written.
