@@ -357,9 +357,12 @@ fn no_slots_are_formatted_over_a_log_in_the_heap(rt: HostRuntime) -> Result<(), 
         format(alloc, &mut disk, Layout::Log(64)),
         Err(FormatFault::Occupied)
     );
-    match open(alloc, disk, 1) {
-        Ok(store) => assert_eq!(rt; store.log_area(), Area::Heap),
+    let store = match open(alloc, disk, 1) {
+        Ok(store) => store,
         Err((fault, _)) => panic!(rt; "{fault:?}"),
-    }
+    };
+    let area = store.log_area();
+    let _disk = close(store);
+    assert_eq!(rt; area, Area::Heap);
     Ok(())
 }
