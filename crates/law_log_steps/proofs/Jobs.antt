@@ -23,7 +23,8 @@ use Rattle.law_image.specs.Values.{Value, IsValue}
 use Rattle.snapshot.specs.OpenTable.{least_open}
 use Rattle.group.specs.declared.answers.PumpFault.{PumpFault}
 use Rattle.group.specs.declared.answers.PumpFault.TheVariants as pump
-use Rattle.log_writer.specs.Turns.{Stage, Writing, Syncing, Opening, Settling, Done, stage_after}
+use Rattle.log_entries.specs.Spelling.{entry_bytes}
+use Rattle.log_writer.specs.Turns.{Stage, Writing, Syncing, Opening, Settling, Done, stage_after, chain_turn}
 use Rattle.log_writer.specs.Writer.{WriterState, IsOnItsWay, with_stage}
 use Rattle.log_writer.specs.Writer as writers
 use Rattle.log_room.specs.Rooms.{has_entry_room}
@@ -32,7 +33,7 @@ use Rattle.commits.specs.Calls.{oldest}
 use Rattle.log_store.specs.Values.{LogStoreValue, IsInStep, IsBeside, IsStageBeside}
 use Rattle.log_store.specs.Pumps.{with_failure}
 use Rattle.log_store.specs.Jobs.{PumpsJob, StepsJob, StepsAt, StepsReady, Enters, AdvancesEntry, AdvancesAt, Advances, BeginsEntry, at_stage, with_entry, after_call}
-use Rattle.log_store.specs.Jobs.{did_of, with_work, with_floor, StartsFloor, BeginsFloor, floor_refusal, floor_refusal_of, refusal_for_use}
+use Rattle.log_store.specs.Jobs.{did_of, entry_of, with_work, with_floor, StartsFloor, BeginsFloor, floor_refusal, floor_refusal_of, refusal_for_use}
 use Rattle.log_store.specs.declared.job.Job.{Job}
 use Rattle.log_store.specs.declared.job.JobDid.{JobDid}
 use Rattle.log_store.specs.declared.job.JobDid.TheVariants as did
@@ -90,6 +91,20 @@ record Gone (m : Machine Value) (events : List (Event Value)) (after : Machine V
   gate : after.failed ≡ false → after.gate ≡ gate_of new.turn new.job
   left : after.failed ≡ true → after.gate ≡ gate_left new.turn new.job
   fresh : AreFresh new.commits
+
+-- where it went: to a machine with the same history and these floors
+record Went (m : Machine Value) (events : List (Event Value)) (floors : ℕ → ℕ) (fails : Bool) (new : LogStoreValue) : Type 0 where
+  after : Machine Value
+  gone : Gone m events after new
+  published : after.published ≡ m.published
+  queue : after.queue ≡ m.queue
+  floors-are : after.floors ≡ floors
+  failed : after.failed ≡ fails
+
+-- by the answer of a call of the entry of this work
+abbrev Calls : Machine Value → LogStoreValue → JobWork → Result JobDid PumpFault → Type 0
+Calls m new work (Ok what) = Went m (floor_events what (raising_with work)) (floors_by work what m.floors) false new
+Calls m new work (Err why) = (why ≡ pump.Failed) × Went m (job_breaks_in m.gate) m.floors true new
 
 -- a call of the entry's chain of a store that works
 module _ (tells : Bool) (job : Job) (w : WriterState) (old new : LogStoreValue) (m : Machine Value) (on : IsOnItsWay w.stage) (works : m.failed ≡ false)
@@ -245,3 +260,179 @@ module _ (tells : Bool) (job : Job) (w : WriterState) (old new : LogStoreValue) 
       by-stage Done e =
           let open : m.gate ≡ MayBeOpen OfFloor = gate ∙ ap (gate_at OfFloor) e in
           only (MayBeOpen OfFloor) refl open (open ∙ ap (gate_behind OfFloor) (sym e))
+
+  -- ---- how the machine went
+
+  went : (what : JobDid) → Gone m (floor_events what r) (after what) new → Went m (floor_events what r) (floors_by job.work what m.floors) false new
+  went did.Idle gone = record { after = after did.Idle; gone = gone; published = refl; queue = refl; floors-are = refl; failed = works }
+  went did.WroteEntry gone = record { after = after did.WroteEntry; gone = gone; published = refl; queue = refl; floors-are = refl; failed = works }
+  went did.GateClosed gone = record { after = after did.GateClosed; gone = gone; published = refl; queue = refl; floors-are = refl; failed = works }
+  went did.HeapSynced gone = record { after = after did.HeapSynced; gone = gone; published = refl; queue = refl; floors-are = refl; failed = works }
+  went did.GateWritten gone = record { after = after did.GateWritten; gone = gone; published = refl; queue = refl; floors-are = refl; failed = works }
+  went did.JobDone gone =
+      record { after = after did.JobDone; gone = gone; published = refl; queue = refl; floors-are = raised-with job.work; failed = works }
+    where
+      raised-with : (work : JobWork) → raised (raising_with work).scope (raising_with work).floor m.floors ≡ floors_with work m.floors
+      raised-with (Floor floor kept) = refl
+
+  goes-by : (answer : Result JobDid PumpFault) → Advances tells job w old answer new → Calls m new job.work answer
+  goes-by (Ok what) advances = went what (goes what advances)
+  goes-by (Err why) advances =
+      let broken = breaks why advances in (
+        advances.answer.0,
+        record {
+          after = broken.0;
+          gone = broken.5;
+          published = broken.2;
+          queue = broken.3;
+          floors-are = broken.4;
+          failed = broken.1;
+        },
+      )
+
+-- ---- a step of a job
+
+-- the store stands for where the machine went
+runs-so : (tells : Bool) (old new : LogStoreValue) (m : Machine Value) (events : List (Event Value)) (floors : ℕ → ℕ) (failed : Bool)
+    → IsStoreOf tells old m → Went m events floors failed new
+    → (IsTrue tells → MatchBool failed (StopsOnHeap new m.published m.queue floors) (StandsOnHeap new m.published m.queue floors)) → Runs tells m events new
+runs-so tells old new m events floors failed is went disk = record {
+  after = went.after;
+  run = went.gone.run;
+  stands = record {
+    memory = went.gone.memory;
+    machine = run-machine IsValue m went.after events is.machine went.gone.run;
+    writing = record {
+      most = went.gone.most ∙ is.writing.most;
+      group = went.gone.group;
+      raising = went.gone.raising;
+      made = went.gone.made;
+      gate = went.gone.gate;
+      left = went.gone.left;
+    };
+    fresh = went.gone.fresh;
+    disk = λ told. subst (λ (b : Bool). OnDiskAs b went.after.published went.after.queue went.after.floors)
+        (sym (went.gone.memory.failed ∙ went.failed))
+        (subst (λ (h : History Value). OnDiskAs failed h went.after.queue went.after.floors) (sym went.published)
+        (subst (λ (q : History Value). OnDiskAs failed m.published q went.after.floors) (sym went.queue)
+        (subst (λ (f : ℕ → ℕ). OnDiskAs failed m.published m.queue f) (sym went.floors-are) (disk told))));
+  };
+}
+  where
+    abbrev OnDiskAs : Bool → History Value → History Value → (ℕ → ℕ) → Type 0
+    OnDiskAs b h queue f = MatchBool b (StopsOnHeap new h queue f) (StandsOnHeap new h queue f)
+
+no-idle : (o : Option Raising) → [] ≡ floor_ends did.Idle o
+no-idle None = refl
+no-idle (Some r) = refl
+
+module _ (tells : Bool) (old new : LogStoreValue) (answer : Result JobDid PumpFault) (m : Machine Value) (step : IsInStep old)
+    (sound : IsTrue tells → AreSound new.disk.areas) (is : IsStoreOf tells old m) where
+  -- a store that works
+  module _ (works : old.commits.failed ≡ false) (pumps : PumpsJob tells old answer new) where
+    works-here : m.failed ≡ false
+    works-here = sym is.memory.failed ∙ works
+
+    steps-to : IsTrue tells → JobStepsTo answer old new m.published m.queue m.floors
+    steps-to told =
+        job-steps tells old new answer m.published m.queue m.floors told works step
+        (subst (λ (b : Bool). MatchBool b (StopsOnHeap old m.published m.queue m.floors) (StandsOnHeap old m.published m.queue m.floors)) works
+        (is.disk told)) pumps (sound told)
+
+    same : new ≡ old → Runs tells m [] new
+    same new-is = record { after = m; run = refl; stands = subst (λ (v : LogStoreValue). IsStoreOf tells v m) (sym new-is) is }
+
+    called : (job : Job) → old.job ≡ Some job → (a : Result JobDid PumpFault) → Calls m new job.work a
+        → (IsTrue tells → JobStepsTo a old new m.published m.queue m.floors) → Runs tells m (job_events_in m a) new
+    called job is-job (Ok what) calls steps-to =
+        subst (λ (o : Option Raising). Runs tells m (floor_ends what o) new) (sym (is.writing.raising ∙ ap raising_of is-job))
+        (runs-so tells old new m (floor_events what (raising_with job.work)) (floors_by job.work what m.floors) false is calls
+        (λ told. subst (λ (j : Option Job). StandsOnHeap new m.published m.queue (floors_after j what m.floors)) is-job (steps-to told)))
+    called job is-job (Err why) calls steps-to =
+        subst (λ (f : PumpFault). Runs tells m (job_events_in m (Err f)) new) (sym calls.0)
+        (subst (λ (es : List (Event Value)). Runs tells m es new) (ap (λ (b : Bool). cond b [] (job_breaks_in m.gate)) (sym works-here))
+        (runs-so tells old new m (job_breaks_in m.gate) m.floors true is calls.1
+        (λ told. (subst (λ (f : PumpFault). JobStepsTo (Err f) old new m.published m.queue m.floors) calls.0 (steps-to told)).stops)))
+
+    raising-is : (job : Job) → old.job ≡ Some job → m.raising ≡ Some (raising_with job.work)
+    raising-is job is-job = is.writing.raising ∙ ap raising_of is-job
+
+    made-is : (job : Job) → old.job ≡ Some job → HasMade old.commits.floors job.work
+    made-is job is-job = subst (λ (j : Option Job). HasAllMade old.commits.floors j) is-job is.writing.made
+
+    gate-is : (job : Job) → old.job ≡ Some job → old.turn ≡ None → m.gate ≡ gate_on job.stage
+    gate-is job is-job at_rest = is.writing.gate works-here ∙ (λ i. gate_of (at_rest i) (is-job i))
+
+    -- an entry begins, and its first call is made
+    begun : (job : Job) (waited : Bool) → old.job ≡ Some job → job.stage ≡ Ready waited → old.turn ≡ None → (there : LogStoreValue)
+        → (b : BeginsEntry old job there) → AdvancesEntry tells there.job there answer new → Calls m new job.work answer
+    begun job waited is-job e at_rest there b advances =
+        let writer : WriterState = record {
+          numbers = b.numbers;
+          link = b.link;
+          content = entry_bytes (entry_of job.work);
+          stage = Writing [] (chain_turn b.numbers b.link (entry_bytes (entry_of job.work))).parts;
+        } in
+        let target : LogStoreValue = record (at_stage old job (Entering writer)) { room = b.room } in
+        (goes-by tells (record job { stage = Entering writer }) writer target new m tt works-here at_rest is.memory is.fresh is.machine is.writing.group
+        (raising-is job is-job) (made-is job is-job) (gate-is job is-job at_rest ∙ ap gate_on e) refl answer
+        (subst (λ (x : LogStoreValue). AdvancesEntry tells x.job x answer new) b.new_is advances))
+
+    by-turn : (job : Job) (waited : Bool) → old.job ≡ Some job → job.stage ≡ Ready waited → (t : Option WriterState) → old.turn ≡ t
+        → StepsReady tells job t old answer new → Runs tells m (job_events_in m answer) new
+    by-turn job waited is-job e None at_rest (inl none) = subst (λ (a : Result JobDid PumpFault). Runs tells m (job_events_in m a) new) (sym none.0)
+        (same none.1)
+    by-turn job waited is-job e None at_rest (inr enters) =
+        called job is-job answer (begun job waited is-job e at_rest enters.0 enters.1 enters.2) steps-to
+    by-turn job waited is-job e (Some w) standing busy =
+        subst (λ (a : Result JobDid PumpFault). Runs tells m (job_events_in m a) new) (sym busy.0)
+        (runs-so tells old new m [] m.floors false is (record {
+          after = m;
+          gone = record {
+            run = refl;
+            memory = subst (λ (v : LogStoreValue). StandsInMemory v.commits m) (sym busy.1) is.memory;
+            group = is.writing.group ∙ ap (λ (v : LogStoreValue). v.commits.group) (sym busy.1);
+            most = refl;
+            raising = raising-is job is-job ∙ ap (λ (v : LogStoreValue). raising_of v.job) (sym busy.1);
+            made = subst (λ (v : LogStoreValue). HasAllMade v.commits.floors v.job) (sym busy.1) (made-is job is-job);
+            gate = λ on. is.writing.gate on ∙ ap (λ (t : Option WriterState). gate_of t old.job) standing
+                ∙ ap (λ (t : Option WriterState). gate_of t (Some (record job { stage = Ready true }))) (sym standing)
+                ∙ ap (λ (v : LogStoreValue). gate_of v.turn v.job) (sym busy.1);
+            left = λ fails. absurd (let no : false ≡ true = sym works-here ∙ fails in cc);
+            fresh = subst (λ (v : LogStoreValue). AreFresh v.commits) (sym busy.1) is.fresh;
+          };
+          published = refl;
+          queue = refl;
+          floors-are = refl;
+          failed = works-here;
+        }) (λ told. subst (λ (a : Result JobDid PumpFault). JobStepsTo a old new m.published m.queue m.floors) busy.0 (steps-to told)))
+
+    by-stage : (job : Job) → old.job ≡ Some job → (k : JobStage) → job.stage ≡ k → StepsAt tells job k old answer new
+        → Runs tells m (job_events_in m answer) new
+    by-stage job is-job (Ready waited) e so = by-turn job waited is-job e old.turn refl so
+    by-stage job is-job (Entering w) e so =
+        let beside = subst (λ (k : JobStage). IsStageBeside old.turn k) e (subst (λ (j : Option Job). IsBeside old.turn j) is-job step.beside) in
+        called job is-job answer
+        ((goes-by tells job w old new m beside.1 works-here beside.0 is.memory is.fresh is.machine is.writing.group (raising-is job is-job)
+        (made-is job is-job) (gate-is job is-job beside.0 ∙ ap gate_on e) (is-job ∙ ap (λ (k : JobStage). Some (record job { stage = k })) e) answer so)
+        steps-to
+
+    by-job : (j : Option Job) → old.job ≡ j → StepsJob tells j old answer new → Runs tells m (job_events_in m answer) new
+    by-job None none so =
+        subst (λ (a : Result JobDid PumpFault). Runs tells m (job_events_in m a) new) (sym so.0)
+        (subst (λ (es : List (Event Value)). Runs tells m es new) (no-idle m.raising) (same so.1))
+    by-job (Some job) is-job so = by-stage job is-job job.stage refl so
+
+  pub job-stands : PumpsJob tells old answer new → Runs tells m (job_events_in m answer) new
+  job-stands pumps = by-failed old.commits.failed refl pumps
+    where
+      by-failed : (b : Bool) → old.commits.failed ≡ b → PumpsJob tells old answer new → Runs tells m (job_events_in m answer) new
+      by-failed true failed is-so =
+          let rests = subst (λ (b : Bool). MatchBool b ((answer ≡ Err pump.Failed) × (new ≡ old)) (StepsJob tells old.job old answer new)) failed is-so in
+          let fails : m.failed ≡ true = sym is.memory.failed ∙ failed in
+          subst (λ (a : Result JobDid PumpFault). Runs tells m (job_events_in m a) new) (sym rests.0)
+          (subst (λ (es : List (Event Value)). Runs tells m es new) (ap (λ (b : Bool). cond b [] (job_breaks_in m.gate)) (sym fails))
+          (record { after = m; run = refl; stands = subst (λ (v : LogStoreValue). IsStoreOf tells v m) (sym rests.1) is }))
+      by-failed false works is-so =
+          by-job works is-so old.job refl
+          (subst (λ (b : Bool). MatchBool b ((answer ≡ Err pump.Failed) × (new ≡ old)) (StepsJob tells old.job old answer new)) works is-so)

@@ -1,5 +1,6 @@
 -- Calls that change only which transactions are open and which commits are awaited.
 use Rattle.std.proofs.Common.{◌≡◌, ℕ, Bool, true, false, List, Result, Ok, Err, refl, ap, sym, subst, ◌∙◌}
+use Rattle.std.proofs.Common.{Option}
 use Rattle.std.specs.Prelude.{MatchBool}
 use Rattle.history.specs.Histories.{History}
 use Rattle.history.specs.Machine.{Machine, IsMachine}

@@ -5,3 +5,4 @@ pub mod Resting
 pub mod Opening
 pub mod Fronts
 pub mod InStep
+pub mod Jobs

@@ -1,5 +1,6 @@
 -- A store that was opened on an image which stands for a history stands for a machine that is opened on it.
 use Rattle.std.proofs.Common.{◌≡◌, ℕ, ◌+◌, ◌<◌, ◌≤◌, ◌^◌, nat_lt, Bool, true, false, cond, IsTrue, List, [], ◌∷◌, ◌++◌, length, map, filter, refl, arith, ap}
+use Rattle.std.proofs.Common.{Option}
 use Rattle.std.proofs.Common.{sym, subst, ◌∙◌, ⊎_elim, length-append}
 use Rattle.std.specs.Prelude.{if◌then◌else◌}
 use Rattle.std.specs.List.{AllByRecursion}

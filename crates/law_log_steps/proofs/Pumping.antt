@@ -363,9 +363,9 @@ has-writer old begun none some b = record {
 -- ---- what a step of a group leaves of a job
 
 -- neither the job that runs nor the floors
-record LeavesJob (old new : LogStoreValue) : Type 0 where
-  job : new.job ≡ old.job
-  floors : new.commits.floors ≡ old.commits.floors
+pub record LeavesJob (old new : LogStoreValue) : Type 0 where
+  pub job : new.job ≡ old.job
+  pub floors : new.commits.floors ≡ old.commits.floors
 
 advance-leaves : (tells : Bool) (w : WriterState) (old new : LogStoreValue) (answer : Result Did PumpFault) → Advances tells w old answer new
     → LeavesJob old new
