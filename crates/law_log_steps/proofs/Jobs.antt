@@ -55,7 +55,7 @@ use Rattle.law_log_steps.specs.Store.{HasAllMade, IsWriting, IsStoreOf}
 use Rattle.law_log_steps.specs.Laws.{floor_events, floor_ends, job_events_in, Runs, StartsOn}
 
 -- what memory says of a machine it says of it with another floor in the making and another gate
-making-memory : (v : CommitsValue) (m : Machine Value) (raising : Option Raising) (gate : Gate) → StandsInMemory v m
+pub making-memory : (v : CommitsValue) (m : Machine Value) (raising : Option Raising) (gate : Gate) → StandsInMemory v m
     → StandsInMemory v (record m { raising = raising; gate = gate })
 making-memory v m raising gate stands = record {
   names = stands.names;
@@ -413,7 +413,7 @@ module _ (tells : Bool) (old new : LogStoreValue) (answer : Result JobDid PumpFa
     by-stage job is-job (Entering w) e so =
         let beside = subst (λ (k : JobStage). IsStageBeside old.turn k) e (subst (λ (j : Option Job). IsBeside old.turn j) is-job step.beside) in
         called job is-job answer
-        ((goes-by tells job w old new m beside.1 works-here beside.0 is.memory is.fresh is.machine is.writing.group (raising-is job is-job)
+        (goes-by tells job w old new m beside.1 works-here beside.0 is.memory is.fresh is.machine is.writing.group (raising-is job is-job)
         (made-is job is-job) (gate-is job is-job beside.0 ∙ ap gate_on e) (is-job ∙ ap (λ (k : JobStage). Some (record job { stage = k })) e) answer so)
         steps-to
 

@@ -6,3 +6,4 @@ pub mod Opening
 pub mod Fronts
 pub mod InStep
 pub mod Jobs
+pub mod FloorStarts
