@@ -2,6 +2,8 @@
 #![tactic(auto)]
 
 #[cfg(test)]
+mod floors;
+#[cfg(test)]
 mod groups;
 #[cfg(test)]
 mod images;
