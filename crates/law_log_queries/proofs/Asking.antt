@@ -15,11 +15,15 @@ use Rattle.timequery.specs.declared.fault.QueryFault.{QueryFault}
 use Rattle.timequery.specs.declared.fault.QueryFault.TheVariants as query
 use Rattle.log_writer.specs.Writer.{WriterState}
 use Rattle.log_store.specs.Values.{LogStoreValue}
+use Rattle.log_store.specs.declared.job.Job.{Job}
+use Rattle.log_store.specs.declared.job.JobStage.{JobStage}
+use Rattle.log_store.specs.declared.job.JobStage.TheVariants.{Ready, Entering}
+use Rattle.log_store.specs.declared.job.JobWork.{JobWork}
 use Rattle.log_store.specs.Queries.{in_log_store}
 use Rattle.law_refinement.proofs.Asking.{after-is, own-front}
 use Rattle.law_refinement.proofs.RunsKept.{up_to-same}
 use Rattle.law_refinement.proofs.RunsStep.{front-ends}
-use Rattle.law_log_store.specs.Standing.{StandsOnHeap, HasTurn}
+use Rattle.law_log_store.specs.Standing.{StandsOnHeap, HasTurn, HasJob, HasStage}
 use Rattle.law_log_store.specs.Calls.{KeepsDisk}
 use Rattle.law_log_steps.specs.Store.{IsStoreOf}
 use Rattle.law_log_steps.proofs.Keeping.{store-keeps, itself}
@@ -50,10 +54,19 @@ module _ (v : LogStoreValue) (archive : ArchiveValue) (refused : ℕ) where
     };
     anchors = s.anchors;
     turn = by-turn v.turn s.turn;
+    job = s.job;
   }
     where
+      by-stage : (work : JobWork) (k : JobStage) → HasStage v s.l s.reading work k → HasStage asked s.l s.reading work k
+      by-stage work (Ready waited) is = record { log = is.log; room = is.room }
+      by-stage work (Entering w) is = record { content = is.content; joins = is.joins; shares = is.shares; at = is.at; room = is.room }
+
+      by-job : (j : Option Job) → HasJob v s.l s.reading j → HasJob asked s.l s.reading j
+      by-job None is = record { log = is.log; room = is.room }
+      by-job (Some job) is = by-stage job.work job.stage is
+
       by-turn : (t : Option WriterState) → HasTurn v queue s.l s.reading h t → HasTurn asked queue s.l s.reading h t
-      by-turn None is = record { log = is.log; room = is.room }
+      by-turn None is = by-job v.job is
       by-turn (Some w) is = record {
         group = is.group;
         told = is.told;
@@ -63,6 +76,7 @@ module _ (v : LogStoreValue) (archive : ArchiveValue) (refused : ℕ) where
         shares = is.shares;
         at = is.at;
         room = is.room;
+        alone = is.alone;
       }
 
   asked-keeps : KeepsDisk v asked
