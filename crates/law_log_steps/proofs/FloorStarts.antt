@@ -65,7 +65,7 @@ record MayBegin (v : LogStoreValue) (relation floor : ℕ) : Type 0 where
   room : IsTrue (has_entry_room v.room)
 
 room-left : (b : Bool) → Path (Option StartFault) (cond b None (Some start.HeapFull)) None → IsTrue b
-room-left true is = tt
+room-left true is = refl
 room-left false is = absurd cc
 
 unused-is : (o : Option ℕ) (floor : ℕ) (room : Bool) → refusal_for_use o floor room ≡ None → (below o floor ≡ None) × IsTrue room
@@ -225,7 +225,7 @@ pub floor-starts : (tells : Bool) (old new : LogStoreValue) (scope : Option ℕ)
     → IsStoreOf tells old m → StartsFloor old scope floor answer new → StartsOn tells m (raising_to scope floor) answer new
 floor-starts tells old new None floor answer m is starts = by-failed old.commits.failed refl starts
   where
-    abbrev r : Raising
+    r : Raising
     r = raising_to None floor
 
     refused : (why : StartFault) → StartsOn tells m r (Err why) old → (answer ≡ Err why) × (new ≡ old) → StartsOn tells m r answer new
@@ -240,7 +240,7 @@ floor-starts tells old new None floor answer m is starts = by-failed old.commits
     by-failed false works said = refused start.WrongProfile (refl, is) said
 floor-starts tells old new (Some relation) floor answer m is starts = by-refusal (floor_refusal old (Some relation) floor) refl starts
   where
-    abbrev r : Raising
+    r : Raising
     r = raising_to (Some relation) floor
 
     by-answer : (a : Result (Unit {0}) StartFault) → floor_refusal old (Some relation) floor ≡ None → BeginsFloor old (Some relation) floor a new
@@ -249,7 +249,7 @@ floor-starts tells old new (Some relation) floor answer m is starts = by-refusal
         subst (λ (v : LogStoreValue). StartsOn tells m r (Ok done) v) (sym begun.1) (begins tells old m is relation floor none begun.0)
     by-answer (Err why) none memory =
         subst (λ (f : StartFault). StartsOn tells m r (Err f) new) (sym memory.0)
-        (subst (λ (v : LogStoreValue). StartsOn tells m r (Err start.NoMemory) v) (sym memory.1) (tt, is))
+        (subst (λ (v : LogStoreValue). StartsOn tells m r (Err start.NoMemory) v) (sym memory.1) (refl, is))
 
     by-refusal : (o : Option StartFault) → floor_refusal old (Some relation) floor ≡ o
         → MatchOption o (BeginsFloor old (Some relation) floor answer new) (λ why. (answer ≡ Err why) × (new ≡ old)) → StartsOn tells m r answer new

@@ -138,8 +138,8 @@ module _ (tells : Bool) (job : Job) (w : WriterState) (old new : LogStoreValue) 
   -- the entry is the log's
   ended : m.gate ≡ MayBeOpen OfFloor → new ≡ record (with_entry old job) { disk = new.disk }
       → Gone m (FloorPublished r ∷ []) (floor_published m r) new
-  ended open is = record {
-    run = (floor_published m r, (works, raising, open, refl), refl);
+  ended may-be-open is = record {
+    run = (floor_published m r, (works, raising, may-be-open, refl), refl);
     memory = subst (λ (v : CommitsValue). StandsInMemory v (floor_published m r)) (sym (ap (λ (v : LogStoreValue). v.commits) is))
         (made-floors old.commits m job.work memory may made);
     group = group ∙ same-group job.work ∙ ap (λ (v : LogStoreValue). v.commits.group) (sym is);
@@ -180,7 +180,7 @@ module _ (tells : Bool) (job : Job) (w : WriterState) (old new : LogStoreValue) 
           further m.gate [] refl is (gate ∙ ap (gate_at OfFloor) e ∙ ap (λ (k : Stage). gate_at OfFloor (stage_after k)) (sym e))
       by-stage Syncing e call is =
           further (Due OfFloor) (GateDue OfFloor ∷ [])
-          (gated m (Due OfFloor), (works, subst IsSome (sym raising) tt, gate ∙ ap (gate_at OfFloor) e, refl), refl) is
+          (gated m (Due OfFloor), (works, subst IsSome (sym raising) refl, gate ∙ ap (gate_at OfFloor) e, refl), refl) is
           (ap (λ (k : Stage). gate_at OfFloor (stage_after k)) (sym e))
       by-stage Opening e call is =
           further (MayBeOpen OfFloor) (GateWritten OfFloor ∷ [])
@@ -255,11 +255,11 @@ module _ (tells : Bool) (job : Job) (w : WriterState) (old new : LogStoreValue) 
                 (ap (gate_behind OfFloor) (sym e)),
           )
       by-stage Settling e =
-          let open : m.gate ≡ MayBeOpen OfFloor = gate ∙ ap (gate_at OfFloor) e in
-          only (MayBeOpen OfFloor) refl open (open ∙ ap (gate_behind OfFloor) (sym e))
+          let may-be-open : m.gate ≡ MayBeOpen OfFloor = gate ∙ ap (gate_at OfFloor) e in
+          only (MayBeOpen OfFloor) refl may-be-open (may-be-open ∙ ap (gate_behind OfFloor) (sym e))
       by-stage Done e =
-          let open : m.gate ≡ MayBeOpen OfFloor = gate ∙ ap (gate_at OfFloor) e in
-          only (MayBeOpen OfFloor) refl open (open ∙ ap (gate_behind OfFloor) (sym e))
+          let may-be-open : m.gate ≡ MayBeOpen OfFloor = gate ∙ ap (gate_at OfFloor) e in
+          only (MayBeOpen OfFloor) refl may-be-open (may-be-open ∙ ap (gate_behind OfFloor) (sym e))
 
   -- ---- how the machine went
 
@@ -319,7 +319,7 @@ runs-so tells old new m events floors failed is went disk = record {
   };
 }
   where
-    abbrev OnDiskAs : Bool → History Value → History Value → (ℕ → ℕ) → Type 0
+    OnDiskAs : Bool → History Value → History Value → (ℕ → ℕ) → Type 0
     OnDiskAs b h queue f = MatchBool b (StopsOnHeap new h queue f) (StandsOnHeap new h queue f)
 
 no-idle : (o : Option Raising) → [] ≡ floor_ends did.Idle o
