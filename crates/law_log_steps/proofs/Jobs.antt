@@ -158,7 +158,7 @@ module _ (tells : Bool) (job : Job) (w : WriterState) (old new : LogStoreValue) 
       still-fresh (Floor floor kept) = fresh
 
   -- the machine after a call
-  after : JobDid → Machine Value
+  abbrev after : JobDid → Machine Value
   after did.Idle = m
   after did.WroteEntry = m
   after did.GateClosed = m
