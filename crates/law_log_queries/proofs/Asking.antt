@@ -23,10 +23,8 @@ use Rattle.log_store.specs.Queries.{in_log_store}
 use Rattle.law_refinement.proofs.Asking.{after-is, own-front}
 use Rattle.law_refinement.proofs.RunsKept.{up_to-same}
 use Rattle.law_refinement.proofs.RunsStep.{front-ends}
-use Rattle.law_log_store.specs.Standing.{StandsOnHeap, HasTurn, HasJob, HasStage}
-use Rattle.law_log_store.specs.Calls.{KeepsDisk}
+use Rattle.law_log_store.specs.Standing.{StandsOnHeap, StopsOnHeap, HasTurn, HasJob, HasStage}
 use Rattle.law_log_steps.specs.Store.{IsStoreOf}
-use Rattle.law_log_steps.proofs.Keeping.{store-keeps, itself}
 use Rattle.law_log_queries.specs.Archive.{RunsStand, Stands, GoesOn, end_of}
 use Rattle.law_log_queries.proofs.Runs.{ends-all}
 use Rattle.law_log_queries.proofs.Leaving.{leaves-same, leaves-goes}
@@ -79,13 +77,26 @@ module _ (v : LogStoreValue) (archive : ArchiveValue) (refused : ℕ) where
         alone = is.alone;
       }
 
-  asked-keeps : KeepsDisk v asked
-  asked-keeps = record { stands = λ h queue floors s. asked-heap h queue floors s; stops = λ h queue floors stops. stops }
+  asked-disk : (b : Bool) (h queue : History Value) (floors : ℕ → ℕ) → MatchBool b (StopsOnHeap v h queue floors) (StandsOnHeap v h queue floors)
+      → MatchBool b (StopsOnHeap asked h queue floors) (StandsOnHeap asked h queue floors)
+  asked-disk true h queue floors stops = stops
+  asked-disk false h queue floors s = asked-heap h queue floors s
 
   asked-store : (tells : Bool) (m : Machine Value) → IsStoreOf tells v m → IsStoreOf tells asked m
-  asked-store tells m is =
-      store-keeps tells v asked m m is asked-keeps (record { opened = v.commits.opened; heads = v.commits.heads; new_is = refl }) refl is.memory is.machine
-      (itself m)
+  asked-store tells m is = record {
+    memory = is.memory;
+    machine = is.machine;
+    writing = record {
+      most = is.writing.most;
+      group = is.writing.group;
+      raising = is.writing.raising;
+      made = is.writing.made;
+      gate = is.writing.gate;
+      left = is.writing.left;
+    };
+    fresh = is.fresh;
+    disk = λ told. asked-disk v.commits.failed m.published m.queue m.floors (is.disk told);
+  }
 
 pub asks-stands : {T : Type 0} (tells : Bool) (v new : LogStoreValue) (m : Machine Value) (view : ViewValue) (answer : Result T QueryFault)
     → Stands tells v m → is_front view.runs v.archive.runs ≡ true → Asks in_log_store tells v view answer new
