@@ -9,6 +9,7 @@ mod ending;
 mod image;
 mod members;
 mod members_read;
+mod named;
 mod opening;
 mod roots;
 mod rules;

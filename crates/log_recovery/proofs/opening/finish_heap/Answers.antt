@@ -109,6 +109,7 @@ returns-clause-found c = λ bytes len is.
       anchors_are = refl;
       log_is = ap (λ (n : ℕ). n + 1) (kept_count most chains c.args.read.log.end c.kept_log-kept.result c.in-Some.count kept_here seen.0);
       live_are = c.in-Ok.ensures.live;
+      archives_are = c.archives_of-archives.ensures;
       facts = facts;
       sizes = sizes;
     }
