@@ -1,6 +1,7 @@
 //! Reading the image of a store whose log lies in the heap.
 #![tactic(auto)]
 
+mod all_archives;
 mod anchors;
 mod apart;
 mod archive_parts;
@@ -9,7 +10,6 @@ mod ending;
 mod image;
 mod members;
 mod members_read;
-mod named;
 mod opening;
 mod roots;
 mod rules;

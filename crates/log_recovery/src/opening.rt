@@ -16,12 +16,12 @@ ghost use Rattle.log_recovery.specs.Opening.{IsHeapFault};
 ghost use Rattle.log_recovery.specs.Read.{IsLogRead, IsAnchoredLog, IsHeapRead};
 ghost use Rattle.log_recovery.specs.Members.{IsInMemoryFault};
 
+use crate::all_archives::archives_of;
 use crate::anchors::{AnchorsRead, no_anchors, read_anchors};
 use crate::chain::LogChain;
 use crate::ending::{is_end_right, kept_log};
 use crate::members::read_members;
 use crate::members_read::MembersRead;
-use crate::named::archives_of;
 use crate::rules::{LogEnd, RuleCheck, check_rules};
 use crate::shares::are_anchors_small;
 use crate::taking::HeapSize;

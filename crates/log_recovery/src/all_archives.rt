@@ -12,10 +12,11 @@ fn push_archives(archives: &mut Vec<Archive>, entry: &Entry) -> Result<(), Alloc
     ensures { OnOk result (archives.new.items ≡ archives.old.items ++ archives_named entry.now) }
 {
     match entry {
-        Entry::Archived(archive) => archives.push(*archive),
-        Entry::Base(base) => archives.extend_from_slice(base.archives.as_slice()),
-        Entry::Group(_) | Entry::Floor(_) => Ok(()),
+        Entry::Archived(archive) => archives.push(*archive)?,
+        Entry::Base(base) => archives.extend_from_slice(base.archives.as_slice())?,
+        Entry::Group(_) | Entry::Floor(_) => {}
     }
+    Ok(())
 }
 
 /// The archives that the log of these chains names, in their order.
