@@ -83,7 +83,7 @@ counted-more l c is =
     ∙ length-append (flat_map f l.chains) c.numbers in
     omega (arith, long)
 
-one-or-none : (b : Bool) → cond b 1 0 ≤ 1
+pub one-or-none : (b : Bool) → cond b 1 0 ≤ 1
 one-or-none true = omega arith
 one-or-none false = omega arith
 

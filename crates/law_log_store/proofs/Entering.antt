@@ -52,6 +52,7 @@ use Rattle.law_log_store.proofs.Going.{entered, entry-way-at, entry-way, entry-t
 
 -- its bytes
 pub entry-length : (work : JobWork) → length (entry_bytes (entry_of work)) ≡ 11
+unfolding entry_bytes
 entry-length (Floor floor kept) = length-floor floor
 
 -- ---- an entry begins

@@ -1,5 +1,5 @@
 -- The way of a store's group to the disk, call by call.
-use Rattle.std.proofs.Common.{◌≡◌, ℕ, Bool, true, false, List, [], ◌∷◌, ◌++◌, map, take, drop, Option, None, Some, Result, Ok, Err, refl, ap, sym, subst}
+use Rattle.std.proofs.Common.{◌≡◌, ◌≤◌, ℕ, arith, Bool, true, false, List, [], ◌∷◌, ◌++◌, map, take, drop, Option, None, Some, Result, Ok, Err, refl, ap, sym, subst}
 use Rattle.std.proofs.Common.{⊎_elim, inl, inr}
 use Rattle.std.specs.Prelude.{IsTrue, MatchBool, MatchResult}
 use Rattle.history.specs.Histories.{History, MayAllFollow, HasRisingTimes, last, last_after}
@@ -60,7 +60,7 @@ turn-is l w e content head = λ i. record {
 }
 
 -- they are calls of the heap
-same-archive : (t : Turn) (stage : Stage) (old new : Areas) → IsCallOf t stage (Ok tt) old new → new.archive ≡ old.archive
+pub same-archive : (t : Turn) (stage : Stage) (old new : Areas) → IsCallOf t stage (Ok tt) old new → new.archive ≡ old.archive
 same-archive t (Writing done (p ∷ rest)) old new call = ap (λ (a : Areas). a.archive) call.written
 same-archive t (Writing done []) old new call = ap (λ (a : Areas). a.archive) call.written
 same-archive t Syncing old new call = ap (λ (a : Areas). a.archive) call.synced
@@ -68,7 +68,7 @@ same-archive t Opening old new call = ap (λ (a : Areas). a.archive) call.writte
 same-archive t Settling old new call = ap (λ (a : Areas). a.archive) call.synced
 same-archive t Done old new call = absurd call
 
-same-status : (t : Turn) (stage : Stage) (old new : Areas) → IsCallOf t stage (Ok tt) old new → new.status ≡ old.status
+pub same-status : (t : Turn) (stage : Stage) (old new : Areas) → IsCallOf t stage (Ok tt) old new → new.status ≡ old.status
 same-status t (Writing done (p ∷ rest)) old new call = ap (λ (a : Areas). a.status) call.written
 same-status t (Writing done []) old new call = ap (λ (a : Areas). a.status) call.written
 same-status t Syncing old new call = ap (λ (a : Areas). a.status) call.synced
@@ -77,7 +77,7 @@ same-status t Settling old new call = ap (λ (a : Areas). a.status) call.synced
 same-status t Done old new call = absurd call
 
 -- also where they are refused
-status-left : (t : Turn) (stage : Stage) (result : Result (Unit {0}) DeviceFault) (old new : Areas) (image : Image) → AreSound old
+pub status-left : (t : Turn) (stage : Stage) (result : Result (Unit {0}) DeviceFault) (old new : Areas) (image : Image) → AreSound old
     → IsCallOf t stage result old new → LeavesImage new image → MayLeave old.status image.status
 status-left t (Writing done (p ∷ rest)) result old new image sound call left = let l =
     (left_by_write Heap p.place p.bytes result old new call sound).each image left in l.status
@@ -97,7 +97,7 @@ map-before Opening A B C D f g is = f is
 map-before Settling A B C D f g is = ⊎_elim (λ a. inl (f a)) (λ b. inr (g b)) is
 map-before Done A B C D f g is = g is
 
-map-within : (stage : Stage) (A B C D : Type 0) → (A → C) → (B → D) → MayBecome stage A B → MayBecome stage C D
+pub map-within : (stage : Stage) (A B C D : Type 0) → (A → C) → (B → D) → MayBecome stage A B → MayBecome stage C D
 map-within (Writing done rest) A B C D f g is = f is
 map-within Syncing A B C D f g is = f is
 map-within Opening A B C D f g is = ⊎_elim (λ a. inl (f a)) (λ b. inr (g b)) is
@@ -170,6 +170,15 @@ module _ (v : LogStoreValue) (h queue : History Value) (floors : ℕ → ℕ) (s
       group-stands_for s.reading h floors s.stands (map member_told o.group) next o.is_group
       (room s.reading (in-heap v.roots.extents (root_of v.roots) s.l s.reading s.is_log))
 
+  -- no entry is in the writing
+  alone-at : (stage : Stage) (j : Option Job) → IsBeside (Some w) j → IsBeside (Some (with_stage w stage)) j
+  alone-at stage None alone = tt
+  alone-at stage (Some job) alone = by-stage job.stage alone
+    where
+      by-stage : (k : JobStage) → IsStageBeside (Some w) k → IsStageBeside (Some (with_stage w stage)) k
+      by-stage (Ready waited) alone = tt
+      by-stage (Entering e) alone = absurd (let no = alone.0 in cc)
+
   -- one call further
   pub next-stands : (u : LogStoreValue) → u ≡ record (at_next v w) { disk = u.disk } → AreSound u.disk.areas → KeepsArchive s.l u.disk.areas.archive
       → KeepsRoots v.roots u.disk.areas.status
@@ -204,15 +213,6 @@ module _ (v : LogStoreValue) (h queue : History Value) (floors : ℕ → ℕ) (s
     job = s.job;
   })
 
-  -- no entry is in the writing
-  alone-at : (stage : Stage) (j : Option Job) → IsBeside (Some w) j → IsBeside (Some (with_stage w stage)) j
-  alone-at stage None alone = tt
-  alone-at stage (Some job) alone = by-stage job.stage alone
-    where
-      by-stage : (k : JobStage) → IsStageBeside (Some w) k → IsStageBeside (Some (with_stage w stage)) k
-      by-stage (Ready waited) alone = tt
-      by-stage (Entering e) alone = absurd (let no = alone.0 in cc)
-
   -- the group is published
   may-split : MayAllFollow IsValue h (next ++ drop v.commits.group queue)
   may-split = subst (λ (l : History Value). MayAllFollow IsValue h l) (sym (taken-and-rest v.commits.group queue)) s.commits.may
@@ -243,7 +243,7 @@ module _ (v : LogStoreValue) (h queue : History Value) (floors : ℕ → ℕ) (s
         anchors = anchors-rest s.reading h next floors (map member_told o.group) s.stands stands-then front o.told v.roots.extents v.room.anchors
             (drop v.commits.group queue)
             (subst (λ (l : History Value). HasAnchors v.roots.extents s.reading l v.room.anchors) (sym (taken-and-rest v.commits.group queue)) s.anchors);
-        turn = at-rest u (with_chain s.l chain) then w v.job o.alone (record { log = done.rests refl; room = o.room });
+        turn = at-rest (record (with_published v) { disk = u.disk }) (with_chain s.l chain) then w v.job o.alone (record { log = done.rests refl; room = o.room });
         job = enters-later h next floors v.job (later h next front) s.job;
       })
 

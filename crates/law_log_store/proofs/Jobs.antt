@@ -110,9 +110,9 @@ module _ (tells : Bool) (old new : LogStoreValue) (answer : Result JobDid PumpFa
           subst (λ (j : Option Job). StandsOnHeap new h queue (floors_after j what floors)) (sym is-job) is
       by-answer job is-job (Err why) is = subst (λ (f : PumpFault). JobStepsTo (Err f) old new h queue floors) (sym is.0) is.1
 
-      begun : (job : Job) (waited : Bool) → old.job ≡ Some job → job.stage ≡ Ready waited → old.turn ≡ None → (begun : LogStoreValue)
+      from-ready : (job : Job) (waited : Bool) → old.job ≡ Some job → job.stage ≡ Ready waited → old.turn ≡ None → (begun : LogStoreValue)
           → (b : BeginsEntry old job begun) → AdvancesEntry tells begun.job begun answer new → JobStepsTo answer old new h queue floors
-      begun job waited is-job e at_rest begun b advances =
+      from-ready job waited is-job e at_rest begun b advances =
           let rest = at-ready old h queue floors s job is-job waited e at_rest in
           let promised = ready-promised old job waited step is-job e in
           let may = may-enter old h queue floors s job is-job in
@@ -127,7 +127,7 @@ module _ (tells : Bool) (old new : LogStoreValue) (answer : Result JobDid PumpFa
       by-turn : (job : Job) (waited : Bool) → old.job ≡ Some job → job.stage ≡ Ready waited → (t : Option WriterState) → old.turn ≡ t
           → StepsReady tells job t old answer new → JobStepsTo answer old new h queue floors
       by-turn job waited is-job e None at_rest (inl none) = subst (λ (a : Result JobDid PumpFault). JobStepsTo a old new h queue floors) (sym none.0) none.1
-      by-turn job waited is-job e None at_rest (inr enters) = begun job waited is-job e at_rest enters.0 enters.1 enters.2
+      by-turn job waited is-job e None at_rest (inr enters) = from-ready job waited is-job e at_rest enters.0 enters.1 enters.2
       by-turn job waited is-job e (Some w) standing is =
           subst (λ (a : Result JobDid PumpFault). JobStepsTo a old new h queue floors) (sym is.0)
           (subst (λ (x : LogStoreValue). StandsOnHeap x h queue floors) (sym is.1) (waits-stands old job w h queue floors standing is-job s))

@@ -1,6 +1,7 @@
 -- The beginning of a job, and its steps to the disk.
 use Rattle.std.specs.Prelude.{ℕ, ◌≡◌, ◌⊎◌, ◌+◌, ◌-◌, ◌/◌, ◌<◌, ◌^◌, nat_le, nat_lt, ◌&&◌, ◌||◌, Bool, true, false, IsTrue, [], is_some, Option, Some, None}
 use Rattle.std.specs.Prelude.{Result, Ok, Err, MatchBool, MatchOption, MatchResult, List, length, if◌then◌else◌}
+use Rattle.disk.specs.Areas.{Areas}
 use Rattle.disk.specs.Calls.{Counts, refused_answer}
 use Rattle.disk.specs.declared.area.DeviceFault.{DeviceFault}
 use Rattle.floors.specs.Floors.{floor_at, raised_in}
@@ -102,6 +103,29 @@ entry_of (Floor floor floors) = entries.Floor floor
 abbrev pub at_stage : LogStoreValue → Job → JobStage → LogStoreValue
 at_stage v job stage = record v { job = Some (record job { stage = stage }) }
 
+-- an entry that is in the writing has a call still to be made
+abbrev pub IsStageOnItsWay : JobStage → Type 0
+IsStageOnItsWay (Ready waited) = ⊥
+IsStageOnItsWay (Entering w) = writers.IsOnItsWay w.stage
+
+-- the device call of an entry, with its answer
+abbrev pub IsEntryCallOf : JobStage → Result (Unit {0}) DeviceFault → Areas → Areas → Type 0
+IsEntryCallOf (Ready waited) result old new = ⊥
+IsEntryCallOf (Entering w) result old new = IsCallOf (turn w) w.stage result old new
+
+-- the entry is one call further, which did so much
+abbrev pub IsNextAt : Job → JobStage → Wrote → Job → Type 0
+IsNextAt old (Ready waited) what new = ⊥
+IsNextAt old (Entering w) what new = (what ≡ writers.did w.stage) × (new ≡ record old { stage = Entering (with_stage w (stage_after w.stage)) })
+
+abbrev pub IsNextOf : Job → Wrote → Job → Type 0
+IsNextOf old what new = IsNextAt old old.stage what new
+
+-- the entry of a job that is ready is in the writing
+abbrev pub entering : Option Job → WriterState → Option Job
+entering None w = None
+entering (Some job) w = Some (record job { stage = Entering w })
+
 -- the entry begins: it begins where the log ends, and the log goes on in the least free extent; nothing of it is written yet
 pub record BeginsEntry (old : LogStoreValue) (job : Job) (new : LogStoreValue) : Type 0 where
   pub numbers : List ℕ
@@ -126,6 +150,10 @@ did_of wrote.Settled = did.JobDone
 -- what stands in memory once the entry is the log's
 abbrev pub with_work : JobWork → CommitsValue → CommitsValue
 with_work (Floor floor floors) v = with_floors v floors
+
+abbrev pub with_job : Option Job → CommitsValue → CommitsValue
+with_job None v = v
+with_job (Some job) v = with_work job.work v
 
 -- the entry is the log's, and no job runs
 abbrev pub with_entry : LogStoreValue → Job → LogStoreValue

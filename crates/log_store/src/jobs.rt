@@ -1,9 +1,13 @@
 //! The steps of a job to the disk.
-ghost use Rattle.std.specs.Prelude.{◌≡◌, ⊥, false, IsTrue, IfOk, OnOk, OnErr, MatchOption, None};
+ghost use Rattle.std.specs.Prelude.{◌≡◌, length, false, true, IsTrue, IfErr, IfOk, OnOk, OnErr, MatchOption, None};
 ghost use Rattle.disk.specs.Areas.{AreSound};
+ghost use Rattle.disk.specs.Calls.{Counts};
+ghost use Rattle.status.specs.SlotCalls.{answer_of};
 ghost use Rattle.log_entries.specs.Spelling.{entry_bytes};
+ghost use Rattle.log_extents.specs.Chains.{count_of};
 ghost use Rattle.log_store.specs.declared.job.JobStage.TheVariants.{Ready};
-ghost use Rattle.log_store.specs.Jobs.{PumpsJob, BeginsEntry, AdvancesEntry, IsReady, IsEntering, is_entering, at_stage, with_entry, entry_of, with_work, did_of};
+ghost use Rattle.log_store.specs.Jobs.{PumpsJob, BeginsEntry, AdvancesEntry, IsReady, IsEntering, is_entering, at_stage, entry_of, with_work, with_job, did_of};
+ghost use Rattle.log_store.specs.Jobs.{IsStageOnItsWay, IsEntryCallOf, IsNextOf, entering};
 
 use crate::job::{Job, JobDid, JobStage, JobWork};
 use crate::store::LogStore;
@@ -31,9 +35,10 @@ fn did_of(what: Wrote) -> JobDid
 }
 
 impl JobWork {
-    // The bytes of its entry.
+    // The bytes of its entry, which have room in one extent.
     fn entry(&self, alloc: Global) -> Result<Vec<u8>, AllocError>
-        ensures { IfOk result (λ bytes. bytes.items ≡ entry_bytes (entry_of self.now)) }
+        ensures is { IfOk result (λ bytes. bytes.items ≡ entry_bytes (entry_of self.now)) }
+        ensures one { IfOk result (λ bytes. count_of (length bytes.items) ≡ 1) }
     {
         let mut bytes = Vec::new(alloc);
         match self {
@@ -59,6 +64,42 @@ fn is_entering(job: &Job) -> bool
     match &job.stage {
         JobStage::Ready { .. } => false,
         JobStage::Entering(_) => true,
+    }
+}
+
+impl Job {
+    // The next device call of its entry. A refused one changes nothing here.
+    fn advance<D: Disk>(&mut self, disk: &mut D) -> Result<Wrote, DeviceFault>
+        requires { IsStageOnItsWay self.old.stage }
+        ensures call { IsTrue D.tells → IsEntryCallOf self.old.stage (answer_of result) (D.state disk.old).areas (D.state disk.new).areas }
+        ensures counts { Counts result (D.state disk.old) (D.state disk.new) }
+        ensures ok { IfOk result (λ what. IsNextOf self.old what self.new) }
+        ensures err { IfErr result (λ why. self.new ≡ self.old) }
+    {
+        match &mut self.stage {
+            JobStage::Ready { .. } => unreachable!(),
+            JobStage::Entering(entry) => entry.advance(disk),
+        }
+    }
+}
+
+// The entry of a job that is ready is in the writing.
+fn enter(job: &mut Option<Job>, entry: ChainWriter)
+    ensures { job.new ≡ entering job.old entry }
+{
+    if let Some(job) = job {
+        job.stage = JobStage::Entering(entry);
+    }
+}
+
+// The entry of the job is the log's, and no job runs.
+fn end_job(job: &mut Option<Job>, commits: &mut Commits)
+    ensures none { job.new ≡ None }
+    ensures work { commits.new ≡ with_job job.old commits.old }
+{
+    if let Some(job) = job.take() {
+        let Job { work, stage: _ } = job;
+        work.ends(commits);
     }
 }
 
@@ -108,14 +149,15 @@ impl<D: Disk> LogStore<D> {
         ensures ok { OnOk result (MatchOption self.old.job ⊥ (λ job. BeginsEntry self.old job self.new)) }
         ensures err { OnErr result (self.new ≡ self.old) }
     {
-        let Some(job) = &mut self.job else {
+        let Some(job) = &self.job else {
             unreachable!()
         };
         let bytes = job.work.entry(self.alloc)?;
         let chain = self
             .room
             .take_chain(self.alloc, ENTRY_EXTENTS, ENTRY_EXTENTS)?;
-        job.stage = JobStage::Entering(ChainWriter::new(chain.numbers, chain.link, bytes));
+        let entry = ChainWriter::new(chain.numbers, chain.link, bytes);
+        enter(&mut self.job, entry);
         Ok(())
     }
 
@@ -129,29 +171,16 @@ impl<D: Disk> LogStore<D> {
         let Some(job) = &mut self.job else {
             unreachable!()
         };
-        let JobStage::Entering(entry) = &mut job.stage else {
-            unreachable!()
-        };
-        match entry.advance(&mut self.disk) {
+        match job.advance(&mut self.disk) {
             Err(DeviceFault) => {
                 self.commits.fail();
                 Err(PumpFault::Failed)
             }
             Ok(Wrote::Settled) => {
-                self.end_job();
+                end_job(&mut self.job, &mut self.commits);
                 Ok(JobDid::JobDone)
             }
             Ok(what) => Ok(did_of(what)),
-        }
-    }
-
-    // The entry of the job is the log's, and no job runs.
-    fn end_job(&mut self)
-        ensures { MatchOption self.old.job (self.new ≡ self.old) (λ job. self.new ≡ with_entry self.old job) }
-    {
-        if let Some(job) = self.job.take() {
-            let Job { work, stage: _ } = job;
-            work.ends(&mut self.commits);
         }
     }
 }

@@ -1,10 +1,9 @@
 //! The steps of a group to the disk.
 ghost use Rattle.std.specs.Prelude.{◌≡◌, ◌<◌, false, IsTrue, IsSome, OnErr, OnOk, length, None};
-ghost use Rattle.std.specs.Option.{option_copied};
 ghost use Rattle.disk.specs.Areas.{AreSound};
 ghost use Rattle.log_store.specs.Pumps.{Pumps, bars_groups, Begins, AdvancesGroup, did_of};
 
-use crate::job::{Job, JobStage};
+use crate::job::JobStage;
 use crate::store::LogStore;
 use commits::MOST_IN_GROUP;
 use disk::{DeviceFault, Disk};
@@ -27,19 +26,6 @@ fn did_of(what: Wrote, group: u32) -> Did
     }
 }
 
-// Whether a job bars groups.
-fn bars_groups(job: Option<&Job>) -> bool
-    ensures { result ≡ bars_groups (option_copied job) }
-{
-    match job {
-        None => false,
-        Some(job) => match &job.stage {
-            JobStage::Ready { waited } => *waited,
-            JobStage::Entering(_) => true,
-        },
-    }
-}
-
 impl<D: Disk> LogStore<D> {
     /// One step of the group of commits that is being written; where none stands, one begins of the first 1,024 that wait. Each step makes
     /// one write or sync of the disk. `Idle` is answered where no group stands and no commit waits.
@@ -59,7 +45,7 @@ impl<D: Disk> LogStore<D> {
             if self.commits.waiting() == 0 {
                 return Ok(Did::Idle);
             }
-            if bars_groups(self.job.as_ref()) {
+            if self.is_barred() {
                 return Err(PumpFault::Busy);
             }
             if self.begin_group().is_err() {
@@ -67,6 +53,19 @@ impl<D: Disk> LogStore<D> {
             }
         }
         self.advance()
+    }
+
+    // Whether a job bars groups.
+    fn is_barred(&self) -> bool
+        ensures { result ≡ bars_groups self.now.job }
+    {
+        match &self.job {
+            None => false,
+            Some(job) => match &job.stage {
+                JobStage::Ready { waited } => *waited,
+                JobStage::Entering(_) => true,
+            },
+        }
     }
 
     // A group begins, of which nothing is written yet.
