@@ -8,3 +8,4 @@ pub mod Following
 pub mod Opening
 pub mod Read
 pub mod Image
+pub mod Shown

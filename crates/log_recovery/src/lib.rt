@@ -13,13 +13,15 @@ mod opening;
 mod roots;
 mod rules;
 mod shares;
+mod shown;
 mod taking;
 mod walk;
 
 pub use anchors::AnchorsRead;
 pub use chain::LogChain;
-pub use image::{LogRecovered, read_log};
+pub use image::{LogRecovered, LogShown, read_log, read_shown};
 pub use members_read::{CommitName, MembersRead};
-pub use opening::{AnchoredLog, LogHeap, LogRead};
+pub use opening::{AnchoredLog, LogExtents, LogHeap, LogRead, ShownEnd};
 pub use rules::{LogEnd, RuleCheck, check_rules};
+pub use shown::LogItem;
 pub use walk::ChainsRead;
