@@ -11,11 +11,11 @@ use Rattle.log_entries.specs.declared.entry.AnchorName.{AnchorName}
 use Rattle.log_entries.specs.declared.entry.Archive.{Archive}
 use Rattle.log_entries.specs.declared.entry.RelationFloor.{RelationFloor}
 use Rattle.log_entries.specs.declared.entry.Roll.{Roll}
-use Rattle.log_recovery.specs.declared.shown.LogItem.{LogItem}
-use Rattle.log_recovery.specs.declared.shown.LogItem.TheVariants as says
-use Rattle.log_recovery.specs.declared.opening.ShownEnd.{ShownEnd}
-use Rattle.log_recovery.specs.declared.opening.ShownEnd.TheVariants as ends
-use Rattle.log_recovery.specs.declared.image.LogShown.{LogShown}
+use Rattle.log_shown.specs.declared.items.LogItem.{LogItem}
+use Rattle.log_shown.specs.declared.items.LogItem.TheVariants as says
+use Rattle.log_shown.specs.declared.reading.ShownEnd.{ShownEnd}
+use Rattle.log_shown.specs.declared.reading.ShownEnd.TheVariants as ends
+use Rattle.log_shown.specs.declared.shown.LogShown.{LogShown}
 
 -- the bytes of a text
 abbrev pub Text : Type 0

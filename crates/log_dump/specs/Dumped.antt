@@ -1,7 +1,7 @@
 -- The dump of a store.
 use Rattle.std.specs.Prelude.{◌≡◌, ℕ, List, Bool, IsTrue}
-use Rattle.log_recovery.specs.declared.image.LogShown.{LogShown}
-use Rattle.log_recovery.specs.Shown.{IsLogShown}
+use Rattle.log_shown.specs.declared.shown.LogShown.{LogShown}
+use Rattle.log_shown.specs.Shown.{IsLogShown}
 use Rattle.log_dump.specs.declared.dump.Dump.{Dump}
 use Rattle.log_dump.specs.Dump.{IsDumpText, fault_of}
 

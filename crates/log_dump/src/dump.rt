@@ -2,13 +2,13 @@
 ghost use Rattle.std.specs.Prelude.{◌≡◌, IsTrue, IfOk, IfErr, OnOk};
 ghost use Rattle.std.specs.Io.KnownBytes.{Appends};
 ghost use Rattle.recovery.specs.Answers.{after_reads};
-ghost use Rattle.log_recovery.specs.Shown.{IsShownFault};
+ghost use Rattle.log_shown.specs.Shown.{IsShownFault};
 ghost use Rattle.log_dump.specs.Dump.{Text, IsDumpText, end_text, fault_of};
 ghost use Rattle.log_dump.specs.Dumped.{IsDumpOf};
 
 use crate::lines::{DumpFault, write_items};
 use disk::{Area, Disk};
-use log_recovery::{LogShown, ShownEnd, read_shown};
+use log_shown::{LogShown, ShownEnd, read_shown};
 use recovery::OpenFault;
 use std::alloc::Global;
 use std::io;

@@ -4,7 +4,7 @@ ghost use Rattle.std.specs.Io.KnownBytes.{Appends};
 ghost use Rattle.log_dump.specs.Dump.{Text, Each, IsInstant, IsCommitLine, IsItemText};
 
 use clock::show_instant;
-use log_recovery::LogItem;
+use log_shown::LogItem;
 use std::alloc::{AllocError, Global};
 use std::io;
 use std::io::Write;

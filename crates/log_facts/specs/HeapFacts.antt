@@ -2,9 +2,9 @@
 use Rattle.std.specs.Prelude.{ℕ, ◌-◌, ◌/◌, nat_lt, if◌then◌else◌, Bool, List, [], ◌∷◌, fold, max, Option, Some, None}
 use Rattle.std.specs.List.{list_any}
 use Rattle.log_entries.specs.declared.entry.RelationFloor.{RelationFloor}
-use Rattle.log_recovery.specs.declared.shown.LogItem.{LogItem}
-use Rattle.log_recovery.specs.declared.shown.LogItem.TheVariants as says
-use Rattle.log_recovery.specs.declared.opening.LogExtents.{LogExtents}
+use Rattle.log_shown.specs.declared.items.LogItem.{LogItem}
+use Rattle.log_shown.specs.declared.items.LogItem.TheVariants as says
+use Rattle.log_shown.specs.declared.reading.LogExtents.{LogExtents}
 use Rattle.log_facts.specs.Facts.{plus, is_same}
 use Rattle.log_facts.specs.declared.floor.Floor.{Floor}
 

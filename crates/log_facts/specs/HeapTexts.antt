@@ -5,12 +5,12 @@ use Rattle.recovery.specs.declared.fault.OpenFault.{OpenFault}
 use Rattle.recovery.specs.declared.fault.OpenFault.TheVariants as opening
 use Rattle.log_roots.specs.declared.roots.Roots.{Roots}
 use Rattle.log_roots.specs.Roots.{root_of}
-use Rattle.log_recovery.specs.declared.shown.LogItem.{LogItem}
-use Rattle.log_recovery.specs.declared.opening.LogExtents.{LogExtents}
-use Rattle.log_recovery.specs.declared.opening.ShownEnd.TheVariants as ends
-use Rattle.log_recovery.specs.declared.image.LogShown.{LogShown}
+use Rattle.log_shown.specs.declared.items.LogItem.{LogItem}
+use Rattle.log_shown.specs.declared.reading.LogExtents.{LogExtents}
+use Rattle.log_shown.specs.declared.reading.ShownEnd.TheVariants as ends
+use Rattle.log_shown.specs.declared.shown.LogShown.{LogShown}
 use Rattle.log_recovery.specs.Opening.{ReadsRoots, FailsHeap}
-use Rattle.log_recovery.specs.Shown.{IsLogShown}
+use Rattle.log_shown.specs.Shown.{IsLogShown}
 use Rattle.log_facts.specs.HeapFacts as facts
 use Rattle.log_facts.specs.Texts.{Text, Named, named, text_by}
 

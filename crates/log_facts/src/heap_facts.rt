@@ -2,7 +2,7 @@
 ghost use Rattle.std.specs.Prelude.{◌≡◌, ℕ};
 ghost use Rattle.log_facts.specs.HeapFacts as told;
 
-use log_recovery::{LogExtents, LogItem};
+use log_shown::{LogExtents, LogItem};
 
 /// How many bytes the name of a commit has in a roll.
 const NAME_LEN: u64 = 16;

@@ -4,7 +4,7 @@ ghost use Rattle.log_facts.specs.HeapFacts as told;
 
 use crate::floor::{Floor, is_same};
 use log_entries::RelationFloor;
-use log_recovery::LogItem;
+use log_shown::LogItem;
 use std::alloc::{AllocError, Global};
 
 fn floor_of(floor: &RelationFloor) -> Floor

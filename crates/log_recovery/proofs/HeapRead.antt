@@ -87,7 +87,7 @@ module _ (most root : ℕ) (heap : List ℕ) (chains : List PlacedChain) (next :
   all_in_range new read t = all_joined (IsNumberOf most) (numbers_of chains) read.numbers.items apart_now.in_range t.are.placed.in_range
 
   -- where none can be taken none are right
-  none_right : HasNoAnchors most (mark_of chains) heap flags (first_names chains)
+  pub none_right : HasNoAnchors most (mark_of chains) heap flags (first_names chains)
       → (a : PlacedAnchors) → ¬ AreRightAnchors most (mark_of chains) heap (numbers_of chains) (anchor_names chains) a
   none_right none a right =
       let parts = distinct-parts (numbers_of chains) a.numbers right.apart in
@@ -100,23 +100,6 @@ module _ (most root : ℕ) (heap : List ℕ) (chains : List PlacedChain) (next :
         times = right.times;
       }) (subst (λ (u : List Bool). AreClaimable u a.numbers) (sym flags_are)
       (apart_is_claimable most (numbers_of chains) a.numbers apart_now.in_range right.placed.in_range right.apart))
-
-  -- so those fail that the first chain names
-  pub named_fail : (place : ℕ) → IsFirstOf place (first_names chains) → HasNoAnchors most (mark_of chains) heap flags (first_names chains)
-      → FailsAnchors most (mark_of chains) heap (numbers_of chains) (anchor_names chains) place
-  named_fail place first none =
-      let found = first_named chains place first in
-      record { name = found.0; names_are = names ∙ found.1; none = none_right none; place_is = found.2 }
-    where
-      named_in : (e : Entry) (p : ℕ) → IsFirstOf p (anchors_in e) → (name : AnchorName) × (anchors_in e ≡ name ∷ []) × (p ≡ name.first)
-      named_in (Group members) p is = absurd is
-      named_in (Archived archive) p is = absurd is
-      named_in (Floor floor) p is = absurd is
-      named_in (entries.Base base) p is = (base.anchors, refl, is)
-
-      first_named : (cs : List PlacedChain) (p : ℕ) → IsFirstOf p (first_names cs) → (name : AnchorName) × (first_names cs ≡ name ∷ []) × (p ≡ name.first)
-      first_named [] p is = absurd is
-      first_named (c ∷ cs) p is = named_in c.entry p is
 
   anchors_fail : (place : ℕ) (l : List AnchorName) → anchor_names chains ≡ l → (cs : List PlacedChain) → l ≡ first_names cs → IsFirstOf place l
       → HasNoAnchors most (mark_of chains) heap flags (first_names chains) → FailsHeap most root heap place

@@ -16,4 +16,3 @@ pub mod Deciding
 pub mod HeapRead
 pub mod Past
 pub mod Finishing
-pub mod Showing

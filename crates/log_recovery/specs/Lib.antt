@@ -8,4 +8,3 @@ pub mod Following
 pub mod Opening
 pub mod Read
 pub mod Image
-pub mod Shown

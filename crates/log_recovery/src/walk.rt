@@ -10,8 +10,6 @@ ghost use Rattle.recovery.specs.Faults.{IsReadFault};
 ghost use Rattle.log_recovery.specs.Taking.{free_left};
 ghost use Rattle.log_recovery.specs.Chains.{HasOpenGate, HasNoLogChain, TakesChain, HoldsChains, uses_of, HasEntry};
 ghost use Rattle.log_recovery.specs.Opening.{IsChainFault};
-ghost use Rattle.log_recovery.specs.Shown.{IsFront};
-ghost use Rattle.std.specs.Prelude.{true};
 
 use crate::chain::LogChain;
 use crate::taking::{EXTENT_BYTES, HeapSize, read_chain};
@@ -30,8 +28,12 @@ pub struct ChainsRead {
     pub space: Space,
 }
 
-// Whether an open gate stands in the first byte of this extent.
-fn has_open_gate<D: Disk>(disk: &mut D, heap_len: u64, number: u32) -> Result<bool, OpenFault>
+/// Whether an open gate stands in the first byte of this extent.
+///
+/// # Errors
+///
+/// `Device` where the disk refused the read.
+pub fn has_open_gate<D: Disk>(disk: &mut D, heap_len: u64, number: u32) -> Result<bool, OpenFault>
     requires low { 0 < number }
     requires len { IsTrue D.tells → heap_len ≡ length (D.state disk.old).areas.heap.bytes }
     ensures gate { IsTrue D.tells → IfOk result (λ b. IsTrue b ↔ HasOpenGate (D.state disk.old).areas.heap.bytes number) }
@@ -49,9 +51,13 @@ fn has_open_gate<D: Disk>(disk: &mut D, heap_len: u64, number: u32) -> Result<bo
     }
 }
 
-// The chain of the log that begins at this extent, whose extents are taken now. None where none does whose
-// extents are all free.
-fn read_log_chain<D: Disk>(
+/// The chain of the log that begins at this extent, whose extents are taken now. None where none does whose
+/// extents are all free.
+///
+/// # Errors
+///
+/// `Device` where the disk refused a read; `NoMemory`.
+pub fn read_log_chain<D: Disk>(
     alloc: Global,
     disk: &mut D,
     heap: HeapSize,
@@ -120,57 +126,4 @@ pub(crate) fn read_chains<D: Disk>(
         next,
         space,
     })
-}
-
-/// The chains of a log, or those in front of the first that is not right.
-#[derive(Drop)]
-pub(crate) struct FrontRead {
-    pub read: ChainsRead,
-    /// Whether no chain follows these.
-    pub whole: bool,
-}
-
-/// The chains of the log from the root on, up to the first that is not right.
-///
-/// # Errors
-///
-/// `Device` where the disk refused a read; `NoMemory`.
-pub(crate) fn read_front<D: Disk>(
-    alloc: Global,
-    disk: &mut D,
-    heap: HeapSize,
-    root: u32,
-) -> Result<FrontRead, OpenFault>
-    requires len { IsTrue D.tells → heap.len ≡ length (D.state disk.old).areas.heap.bytes }
-    requires most { heap.most < 2 ^ 32 }
-    requires root { IsNumberOf heap.most root }
-    ensures front { IsTrue D.tells → IfOk result (λ front. IsFront front.whole heap.most root (D.state disk.old).areas.heap.bytes front.read.chains.items
-        front.read.next) }
-    ensures space { IsTrue D.tells → IfOk result (λ front. front.whole ≡ true → front.read.space ≡ uses_of heap.most front.read.chains.items) }
-    ensures entries { IfOk result (λ front. AllByRecursion (HasEntry heap.most) front.read.chains.items) }
-    ensures next { IfOk result (λ front. IsNumberOf heap.most front.read.next) }
-    ensures fault { IfErr result IsReadFault }
-    ensures reads { D.state disk.new ≡ after_reads result (D.state disk.old) }
-{
-    let mut space = Space::new(alloc, heap.most)?;
-    let mut chains = Vec::new(alloc);
-    let mut next = root;
-    while has_open_gate(disk, heap.len, next)? {
-        let Some(chain) = read_log_chain(alloc, disk, heap, &mut space, next)? else {
-            let read = ChainsRead {
-                chains,
-                next,
-                space,
-            };
-            return Ok(FrontRead { read, whole: false });
-        };
-        next = chain.link;
-        chains.push(chain)?;
-    }
-    let read = ChainsRead {
-        chains,
-        next,
-        space,
-    };
-    Ok(FrontRead { read, whole: true })
 }

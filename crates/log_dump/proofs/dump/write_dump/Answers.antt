@@ -2,7 +2,7 @@ use Rattle.std.proofs.Common.{ℕ, ◌++◌, List, refl, subst}
 use Rattle.std.specs.Prelude.{codes}
 use Rattle.std.specs.Fmt.{decimal}
 use Rattle.std.specs.Io.KnownBytes.{Appends}
-use Rattle.log_recovery.specs.declared.shown.LogItem.{LogItem}
+use Rattle.log_shown.specs.declared.items.LogItem.{LogItem}
 use Rattle.log_dump.proofs.Written.{three_written}
 use Rattle.log_dump.specs.Dump.{Each, IsItemText, header_line, end_text}
 use Rattle.log_dump.proofs.dump.write_dump.Goals as goal
