@@ -7,6 +7,7 @@ use Rattle.std.proofs.lemmas.List.{append-nil, drop_all, take_more}
 use Rattle.std.proofs.lemmas.Grind.{flat_map-append}
 use Rattle.disk.specs.declared.area.Area.{Area}
 use Rattle.disk.specs.declared.area.Area.TheVariants.{Status, Heap, Archive}
+use Rattle.recovery.specs.declared.fault.OpenFault.{OpenFault}
 use Rattle.recovery.specs.declared.fault.OpenFault.TheVariants.{Damaged}
 use Rattle.log_extents.specs.Chains.{IsNumberOf, AreDistinct}
 use Rattle.law_log_layout.specs.HeapLog.{PlacedChain, PlacedAnchors}
@@ -65,7 +66,7 @@ named_fail most root heap chains next keeps flags flags_are place first none =
     }
 
 -- where the anchors fail the base is shown
-pub anchors_shown : (most root : ℕ) (heap : List ℕ) (chains : List PlacedChain) (next : ℕ) (flags : List Bool) (area : Area) (place : ℕ)
+anchors_shown : (most root : ℕ) (heap : List ℕ) (chains : List PlacedChain) (next : ℕ) (flags : List Bool) (area : Area) (place : ℕ)
     → KeepsRules most root heap chains next → flags ≡ uses_of most chains
     → IsAnchorsFault most (mark_of chains) heap flags (first_names chains) (Damaged area place) → IsShownAt most root heap place (items_of (take 1 chains))
 anchors_shown most root heap chains next flags Status place keeps flags_are is = absurd is
@@ -73,13 +74,27 @@ anchors_shown most root heap chains next flags Heap place keeps flags_are is =
     (AtAnchors chains next keeps (named_fail most root heap chains next keeps flags flags_are place is.1 is.0), refl)
 anchors_shown most root heap chains next flags Archive place keeps flags_are is = absurd is
 
+pub anchors_shown_of : (most root : ℕ) (heap : List ℕ) (chains : List PlacedChain) (next : ℕ) (flags : List Bool) (fault : OpenFault) (area : Area) (place : ℕ)
+    → fault ≡ Damaged area place → KeepsRules most root heap chains next → flags ≡ uses_of most chains
+    → IsAnchorsFault most (mark_of chains) heap flags (first_names chains) fault → IsShownAt most root heap place (items_of (take 1 chains))
+anchors_shown_of most root heap chains next flags fault area place is keeps flags_are here =
+    anchors_shown most root heap chains next flags area place keeps flags_are
+    (subst (λ (f : OpenFault). IsAnchorsFault most (mark_of chains) heap flags (first_names chains) f) is here)
+
 -- where a record of a chain fails the chains in front of it are shown
-pub members_shown : (most root : ℕ) (heap : List ℕ) (chains : List PlacedChain) (next : ℕ) (a : PlacedAnchors) (area : Area) (place : ℕ)
+members_shown : (most root : ℕ) (heap : List ℕ) (chains : List PlacedChain) (next : ℕ) (a : PlacedAnchors) (area : Area) (place : ℕ)
     → HoldsAnchors most root heap chains next a → IsMembersFault (mark_of chains) (values_of a.records) chains (Damaged area place)
     → IsShownAt most root heap place (items_before place (items_of chains))
 members_shown most root heap chains next a Status place holds is = absurd is
 members_shown most root heap chains next a Heap place holds is = (AtMembers chains next a holds is, refl)
 members_shown most root heap chains next a Archive place holds is = absurd is
+
+pub members_shown_of : (most root : ℕ) (heap : List ℕ) (chains : List PlacedChain) (next : ℕ) (a : PlacedAnchors) (fault : OpenFault) (area : Area) (place : ℕ)
+    → fault ≡ Damaged area place → HoldsAnchors most root heap chains next a → IsMembersFault (mark_of chains) (values_of a.records) chains fault
+    → IsShownAt most root heap place (items_before place (items_of chains))
+members_shown_of most root heap chains next a fault area place is holds here =
+    members_shown most root heap chains next a area place holds
+    (subst (λ (f : OpenFault). IsMembersFault (mark_of chains) (values_of a.records) chains f) is here)
 
 -- the extents in use are those of the chains and of the anchors
 pub used_is_live : (most root : ℕ) (heap : List ℕ) (chains : List PlacedChain) (next : ℕ) (a : PlacedAnchors) (flags : List Bool) (used : ℕ)

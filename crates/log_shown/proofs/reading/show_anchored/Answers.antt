@@ -1,11 +1,10 @@
 use Rattle.std.proofs.Common.{◌≡◌, ℕ, ◌^◌, ◌<◌, Bool, List, sym, ◌∙◌, ap, subst, take}
 use Rattle.law_log_layout.specs.HeapLog.{PlacedChain}
-use Rattle.recovery.specs.declared.fault.OpenFault.TheVariants.{Damaged}
 use Rattle.log_recovery.specs.Rules.{mark_of}
 use Rattle.log_recovery.specs.Anchored.{first_names, TakesAnchors, IsAnchorsFault}
 use Rattle.log_shown.specs.Shown.{items_of}
 use Rattle.log_recovery.proofs.HeapRead.{mark_is_time}
-use Rattle.log_shown.proofs.Showing.{shown_damaged, anchors_shown}
+use Rattle.log_shown.proofs.Showing.{shown_damaged, anchors_shown_of}
 use Rattle.log_shown.proofs.reading.show_anchored.Goals as goal
 
 pub read_base-requires-clause-mark : goal.read_base-requires-clause-mark
@@ -35,11 +34,11 @@ returns-in-Err-Damaged-clause-shown g c = λ told.
     let chains = c.args.log.chains.items in
     let read = c.requires.read told in
     let place = c.in-Err-Damaged.place in
-    let fault = rw c.in-Err-Damaged.field-0-is at c.in-Err-Damaged.ensures.fault told in
-    let named = subst (λ (l : List PlacedChain). IsAnchorsFault most c.args.log.end.mark heap c.args.log.space (first_names l) (Damaged _ place))
-    c.deref.ensures.value fault in
-    let marked = subst (λ (m : ℕ). IsAnchorsFault most m heap c.args.log.space (first_names chains) (Damaged _ place))
-    c.requires.end.says.mark_is named in
+    let fault = c.in-Err-Damaged.field-0 in
+    let named = subst (λ (l : List PlacedChain). IsAnchorsFault most c.args.log.end.mark heap c.args.log.space (first_names l) fault)
+    c.deref.ensures.value (c.in-Err-Damaged.ensures.fault told) in
+    let here = subst (λ (m : ℕ). IsAnchorsFault most m heap c.args.log.space (first_names chains) fault) c.requires.end.says.mark_is named in
+    let stopped = rw c.in-Err-Damaged.field-0-is at c.damaged.ensures.end in
     shown_damaged most root heap place c.damaged.result.items.items (items_of (take 1 chains)) c.damaged.result.end
-    (anchors_shown most root heap chains c.args.log.next c.args.log.space _ place read.keeps read.space_is marked)
-    (c.damaged.ensures.items ∙ c.in_ok-base.ensures ∙ ap (λ (l : List PlacedChain). items_of (take 1 l)) c.deref-2.ensures.value) c.damaged.ensures.end
+    (anchors_shown_of most root heap chains c.args.log.next c.args.log.space fault _ place c.in-Err-Damaged.field-0-is read.keeps read.space_is here)
+    (c.damaged.ensures.items ∙ c.in_ok-base.ensures ∙ ap (λ (l : List PlacedChain). items_of (take 1 l)) c.deref-2.ensures.value) stopped

@@ -5,7 +5,6 @@ use Rattle.wire.specs.declared.slot.Run.{Run}
 use Rattle.law_image.specs.Log.{AreRisingAfter}
 use Rattle.log_entries.specs.declared.entry.Roll.{Roll}
 use Rattle.law_log_layout.specs.HeapLog.{PlacedChain, AreSpansInRow, run_span}
-use Rattle.recovery.specs.declared.fault.OpenFault.TheVariants.{Damaged}
 use Rattle.log_recovery.specs.Rules.{mark_of, roll_part}
 use Rattle.log_recovery.specs.Members.{values_of, heads_told, members_of_all, AreAllStored, IsMembersFault}
 use Rattle.log_sizes.specs.Counted.{AreSizesBehind}
@@ -17,7 +16,7 @@ use Rattle.log_shown.specs.declared.reading.ShownEnd.TheVariants as stops
 use Rattle.log_recovery.proofs.HeapRead.{members_rise_behind, all_in_range}
 use Rattle.log_recovery.proofs.Rows.{runs_in_row, rolls_in_row}
 use Rattle.log_recovery.proofs.Finishing.{holds_anchors, three_decide, IsKept, kept_decides, kept_count}
-use Rattle.log_shown.proofs.Showing.{shown_damaged, members_shown, used_is_live}
+use Rattle.log_shown.proofs.Showing.{shown_damaged, members_shown_of, used_is_live}
 use Rattle.log_shown.proofs.reading.show_members.Goals as goal
 
 pub is_end_right-ends_right-requires-clause-runs : goal.is_end_right-ends_right-requires-clause-runs
@@ -56,11 +55,15 @@ returns-in-Err-Damaged-clause-shown c = λ bytes len is.
     let chains = c.args.read.log.chains.items in
     let olds = is.takes.records in
     let place = c.in-Err-Damaged.place in
-    let fault = rw c.in-Err-Damaged.field-0-is at c.in-Err-Damaged.ensures.fault olds is.takes.writes in
-    let here = subst (λ (m : ℕ). IsMembersFault m (values_of olds) chains (Damaged _ place)) c.requires.end.says.mark_is fault in
+    let fault = c.in-Err-Damaged.field-0 in
+    let here = subst (λ (m : ℕ). IsMembersFault m (values_of olds) chains fault) c.requires.end.says.mark_is
+    (c.in-Err-Damaged.ensures.fault olds is.takes.writes) in
+    let before = rw c.in-Err-Damaged.field-0-is at c.items_before.ensures in
+    let stopped = rw c.in-Err-Damaged.field-0-is at c.damaged.ensures.end in
     shown_damaged most c.args.root bytes place c.damaged.result.items.items (items_before place (items_of chains)) c.damaged.result.end
-    (members_shown most c.args.root bytes chains c.args.read.log.next _ _ place (holds_anchors most c.args.root bytes c.args.read is) here)
-    (c.damaged.ensures.items ∙ c.items_before.ensures ∙ ap (items_before place) c.requires.items) c.damaged.ensures.end
+    (members_shown_of most c.args.root bytes chains c.args.read.log.next _ fault _ place c.in-Err-Damaged.field-0-is
+    (holds_anchors most c.args.root bytes c.args.read is) here)
+    (c.damaged.ensures.items ∙ before ∙ ap (items_before place) c.requires.items) stopped
 
 pub returns-in_default-clause-shown : goal.returns-in_default-clause-shown
 returns-in_default-clause-shown c = λ bytes len is.
@@ -82,8 +85,9 @@ returns-in_default-clause-shown c = λ bytes len is.
     c.is_end_right-ends_right.result c.are_anchors_small-anchors_fit.result kept ends fit in
     let fails = AtEnd chains c.args.read.log.next _ (record { before = holds_anchors most root bytes c.args.read is; stored = stored })
     (λ right. c.in_default.ensures (decides.1 right)) refl in
-    shown_damaged most root bytes root c.damaged.result.items.items (items_of chains) c.damaged.result.end (fails, refl)
-    (c.damaged.ensures.items ∙ c.requires.items) (c.damaged.ensures.end ∙ ap stops.Damaged c.from.ensures)
+    let damaged = c.damaged-in_default in
+    shown_damaged most root bytes root damaged.result.items.items (items_of chains) damaged.result.end (fails, refl)
+    (damaged.ensures.items ∙ c.requires.items) (damaged.ensures.end ∙ ap stops.Damaged c.from.ensures)
 
 pub returns-clause-shown : goal.returns-clause-shown
 returns-clause-shown c = λ bytes len is.

@@ -9,6 +9,7 @@ use Rattle.log_recovery.proofs.Walking.{all_joined, IsWalking, walking_goes_on, 
 use Rattle.log_shown.proofs.walk.read_front.Goals as goal
 
 pub returns-in_default-clause-front : goal.returns-in_default-clause-front
+unfolding walking_fails
 returns-in_default-clause-front g c = λ told.
     let heap = (g.D.Disk.state c.args.disk.now).areas.heap.bytes in
     let looked : g.D.Disk.state c.has_open_gate.new.disk ≡ g.D.Disk.state c.args.disk.now =
