@@ -20,7 +20,7 @@ returns-in-Breaks-clause-shown g c = λ told.
     let heap = (g.D.Disk.state c.args.disk.now).areas.heap.bytes in
     let chains = c.args.read.chains.items in
     let head = c.in-Breaks.head in
-    let fails = rw c.in-Breaks.is at c.in_ok-check_rules.ensures in
+    let fails = rw c.in-Breaks.is at c.in_ok-end.ensures in
     let rule = subst (λ (l : List PlacedChain). FailsRule (mark_of l) l head) c.deref.ensures.value fails in
     shown_damaged c.args.heap.most c.args.root heap head c.damaged.result.items.items (items_before head (items_of chains)) c.damaged.result.end
     (AtRule chains c.args.read.next (c.requires.chains told) rule, refl)
