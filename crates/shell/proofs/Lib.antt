@@ -1,4 +1,3 @@
-pub mod DumpLemmas
 pub mod Kept
 pub mod Keeping
 pub mod Said
