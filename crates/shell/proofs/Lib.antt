@@ -1,3 +1,4 @@
+pub mod DumpLemmas
 pub mod Kept
 pub mod Keeping
 pub mod Said

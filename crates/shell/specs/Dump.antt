@@ -1,7 +1,7 @@
 -- The text of a log.
 use Rattle.std.specs.Prelude.{◌≡◌, ◌==◌, if◌then◌else◌, ℕ, ◌++◌, List, [], ◌∷◌, length, Some, None, MatchBool, codes, nat_lt}
 use Rattle.std.specs.Fmt.{decimal}
-use Rattle.log_dump.specs.Dump.{Each, IsInstant}
+pub use Rattle.log_dump.specs.Dump.{Each, IsInstant}
 use Rattle.session.specs.Texts.{Text}
 use Rattle.status.specs.Header.{total}
 use Rattle.status.specs.declared.header.Header.{Header}

@@ -7,7 +7,7 @@ use Rattle.forms.specs.Lines.{IsRowText, IsTimesText, count_text, found_text, re
 use Rattle.forms.specs.declared.style.Form.{Form}
 use Rattle.forms.specs.declared.style.Style.{Style}
 use Rattle.session.specs.Texts.{text_of}
-use Rattle.log_dump.specs.Dump.{Each}
+use Rattle.shell.specs.Dump.{Each}
 use Rattle.session.specs.declared.reply.Reply.{Reply}
 use Rattle.session.specs.declared.reply.Reply.TheVariants as reply
 

@@ -2,8 +2,7 @@
 ghost use Rattle.std.specs.Prelude.{OnOk};
 ghost use Rattle.std.specs.Io.KnownBytes.{Appends};
 ghost use Rattle.session.specs.Texts.{Text};
-ghost use Rattle.log_dump.specs.Dump.{Each};
-ghost use Rattle.shell.specs.Dump.{IsDump, IsMemberLine, IsSlotText, header_line};
+ghost use Rattle.shell.specs.Dump.{Each, IsDump, IsMemberLine, IsSlotText, header_line};
 
 use log_dump::{DumpFault, write_instant};
 use status::Header;

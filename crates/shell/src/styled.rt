@@ -4,7 +4,7 @@ ghost use Rattle.std.specs.List.{flat_map};
 ghost use Rattle.std.specs.Io.KnownBytes.{Appends};
 ghost use Rattle.forms.specs.Lines.{IsTimesText, found_text};
 ghost use Rattle.session.specs.Texts.{Text};
-ghost use Rattle.log_dump.specs.Dump.{Each};
+ghost use Rattle.shell.specs.Dump.{Each};
 ghost use Rattle.shell.specs.Styled.{IsRowLine, IsRowsText, pair_text, records_text};
 
 use forms::{Form, Style, spell_count, spell_found, spell_record, spell_row, spell_times};

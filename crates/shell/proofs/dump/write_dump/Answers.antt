@@ -1,7 +1,7 @@
 use Rattle.std.proofs.Common.{ℕ, ◌++◌, length, refl, subst}
 use Rattle.std.specs.Io.KnownBytes.{Appends}
 use Rattle.status.specs.Header.{total}
-use Rattle.log_dump.proofs.Written.{three_written}
+use Rattle.shell.proofs.DumpLemmas.{three_written}
 use Rattle.shell.specs.Dump.{header_line, used_line}
 use Rattle.shell.proofs.dump.write_dump.Goals as goal
 

@@ -1,6 +1,6 @@
 use Rattle.std.proofs.Common.{◌++◌, refl}
 use Rattle.std.specs.Prelude.{codes}
-use Rattle.log_dump.proofs.Written.{three_written}
+use Rattle.shell.proofs.DumpLemmas.{three_written}
 use Rattle.shell.specs.Dump.{member_front}
 use Rattle.shell.proofs.dump.write_member.Goals as goal
 

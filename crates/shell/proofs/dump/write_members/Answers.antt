@@ -1,4 +1,4 @@
-use Rattle.log_dump.proofs.Written.{written_all, written_none, written_one}
+use Rattle.shell.proofs.DumpLemmas.{written_all, written_none, written_one}
 use Rattle.shell.specs.Dump.{IsMemberLine}
 use Rattle.shell.proofs.dump.write_members.Goals as goal
 

@@ -1,5 +1,5 @@
 use Rattle.std.proofs.Common.{take}
-use Rattle.log_dump.proofs.Written.{Written}
+use Rattle.shell.proofs.DumpLemmas.{Written}
 use Rattle.shell.specs.Dump.{IsMemberLine}
 use Rattle.shell.proofs.dump.write_members.Given as goal
 

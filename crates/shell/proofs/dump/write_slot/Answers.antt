@@ -1,8 +1,7 @@
 use Rattle.std.proofs.Common.{◌≡◌, ◌++◌, List, refl, subst}
 use Rattle.std.proofs.KnownBytes.{Appends-trans}
 use Rattle.wire.specs.declared.slot.Member.{Member}
-use Rattle.log_dump.specs.Dump.{Each}
-use Rattle.shell.specs.Dump.{IsMemberLine, commit_line}
+use Rattle.shell.specs.Dump.{Each, IsMemberLine, commit_line}
 use Rattle.shell.proofs.dump.write_slot.Goals as goal
 
 pub returns-in_ok-write_members-in-Commit : goal.returns-in_ok-write_members-in-Commit

@@ -1,4 +1,4 @@
-use Rattle.log_dump.proofs.Written.{written_all, written_item, written_none}
+use Rattle.shell.proofs.DumpLemmas.{written_all, written_item, written_none}
 use Rattle.shell.specs.Dump.{IsSlotText}
 use Rattle.shell.proofs.dump.write_slots.Goals as goal
 

@@ -1,5 +1,5 @@
 use Rattle.std.proofs.Common.{take}
-use Rattle.log_dump.proofs.Written.{Written}
+use Rattle.shell.proofs.DumpLemmas.{Written}
 use Rattle.shell.specs.Dump.{IsSlotText}
 use Rattle.shell.proofs.dump.write_slots.Given as goal
 

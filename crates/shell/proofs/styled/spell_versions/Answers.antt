@@ -1,5 +1,5 @@
 use Rattle.std.proofs.Common.{Some}
-use Rattle.log_dump.proofs.Written.{written_all, written_item, written_none}
+use Rattle.shell.proofs.DumpLemmas.{written_all, written_item, written_none}
 use Rattle.shell.specs.Styled.{IsRowLine}
 use Rattle.shell.proofs.styled.spell_versions.Goals as goal
 

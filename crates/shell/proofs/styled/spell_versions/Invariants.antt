@@ -1,6 +1,6 @@
 use Rattle.std.proofs.Common.{Some, take}
 use Rattle.shell.specs.Styled.{IsRowLine}
-use Rattle.log_dump.proofs.Written.{Written}
+use Rattle.shell.proofs.DumpLemmas.{Written}
 use Rattle.shell.proofs.styled.spell_versions.Given as goal
 
 abbrev pub invariant-loop-row : goal.invariant-loop-row
