@@ -35,7 +35,7 @@ fn raises(relation: Option<u16>, slot: &Slot) -> bool
     }
 }
 
-fn is_same(a: Option<u16>, b: Option<u16>) -> bool
+pub(crate) fn is_same(a: Option<u16>, b: Option<u16>) -> bool
     ensures { result ≡ told.is_same a b }
 {
     match (a, b) {

@@ -16,7 +16,7 @@ use std::io;
 use wire::Slot;
 
 /// A number with its name.
-fn named(name: &'static str, number: u64) -> Named<'static>
+pub(crate) fn named(name: &'static str, number: u64) -> Named<'static>
     ensures { named_as result ≡ told.named name.entry.now number }
 {
     Named { name, number }
@@ -65,7 +65,7 @@ fn lines_text(alloc: Global, numbers: &[Named<'_>], floors: &[Floor]) -> io::Res
     Ok(text)
 }
 
-fn text_by(
+pub(crate) fn text_by(
     alloc: Global,
     json: bool,
     numbers: &[Named<'_>],

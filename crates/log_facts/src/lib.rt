@@ -3,8 +3,12 @@
 
 mod facts;
 mod floor;
+mod heap_facts;
+mod heap_floors;
+mod heap_info;
 mod info;
 mod json_info;
 mod lines;
 
+pub use heap_info::{heap_info_text, read_heap_info};
 pub use info::info_text;

@@ -87,7 +87,7 @@ module _ (most root : ℕ) (heap : List ℕ) (chains : List PlacedChain) (next :
   all_in_range new read t = all_joined (IsNumberOf most) (numbers_of chains) read.numbers.items apart_now.in_range t.are.placed.in_range
 
   -- where none can be taken none are right
-  none_right : HasNoAnchors most (mark_of chains) heap flags (first_names chains)
+  pub none_right : HasNoAnchors most (mark_of chains) heap flags (first_names chains)
       → (a : PlacedAnchors) → ¬ AreRightAnchors most (mark_of chains) heap (numbers_of chains) (anchor_names chains) a
   none_right none a right =
       let parts = distinct-parts (numbers_of chains) a.numbers right.apart in

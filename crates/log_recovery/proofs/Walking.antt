@@ -200,7 +200,7 @@ walking_goes_on most root heap chains next old new c w takes = record {
 }
 
 -- where none begins the chain there is not right
-pub walking_fails : (most root : ℕ) (heap : List ℕ) (chains : List PlacedChain) (next : ℕ) (flags : List Bool)
+unfoldable pub walking_fails : (most root : ℕ) (heap : List ℕ) (chains : List PlacedChain) (next : ℕ) (flags : List Bool)
     → IsWalking most root heap chains next flags → HasOpenGate heap next → HasNoLogChain most heap next flags → FailsChain most root heap next
 walking_fails most root heap chains next flags w opened none = record {
   front = chains;

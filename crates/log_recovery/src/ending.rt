@@ -33,7 +33,7 @@ fn extents_beside(end: &LogEnd) -> usize
 
 /// How many extents the log has, those of the base aside. None where the log or the base does not keep its share of a
 /// heap of so many extents.
-pub(crate) fn kept_log(most: u32, chains: &[LogChain], end: &LogEnd) -> Option<usize>
+pub fn kept_log(most: u32, chains: &[LogChain], end: &LogEnd) -> Option<usize>
     ensures kept { MatchOption result (¬ KeepsLogShare most chains.now end.now)
         (λ count. KeepsLogShare most chains.now end.now × (count ≡ length (counted_in chains.now))) }
     ensures few { IfSome result (λ count. count ≤ most / 2) }
@@ -48,7 +48,7 @@ pub(crate) fn kept_log(most: u32, chains: &[LogChain], end: &LogEnd) -> Option<u
 
 /// Whether the log ends within a heap of this length at an extent that is free, what is reclaimed is archived, and
 /// runs and rolls lie apart.
-pub(crate) fn is_end_right(heap_len: u64, next: u32, space: &Space, end: &LogEnd) -> bool
+pub fn is_end_right(heap_len: u64, next: u32, space: &Space, end: &LogEnd) -> bool
     requires next { 0 < next }
     requires runs { AreSpansInRow 0 (map run_span end.now.runs.items) }
     requires rolls { AreSpansInRow 0 (map roll_part end.now.rolls.items) }

@@ -18,8 +18,13 @@ mod walk;
 
 pub use anchors::AnchorsRead;
 pub use chain::LogChain;
+pub use ending::{is_end_right, kept_log};
 pub use image::{LogRecovered, read_log};
+pub use members::{LogMembers, read_members};
 pub use members_read::{CommitName, MembersRead};
-pub use opening::{AnchoredLog, LogHeap, LogRead};
+pub use opening::{AnchoredLog, LogHeap, LogRead, read_base, seen_log};
+pub use roots::read_roots;
 pub use rules::{LogEnd, RuleCheck, check_rules};
-pub use walk::ChainsRead;
+pub use shares::are_anchors_small;
+pub use taking::HeapSize;
+pub use walk::{ChainsRead, has_open_gate, read_log_chain};

@@ -179,7 +179,7 @@ pub struct LogMembers {
 ///
 /// `Damaged` with the first extent of the first chain that has a record which is not the one that its write is
 /// stored as; `NoMemory`.
-pub(crate) fn read_members(
+pub fn read_members(
     alloc: Global,
     mark: u64,
     anchors: Frozen,

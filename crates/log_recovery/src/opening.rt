@@ -91,8 +91,13 @@ fn anchors_name(most: u32, chains: &[LogChain]) -> Option<AnchorName>
     }
 }
 
-// The anchors of a log of these chains, whose extents are taken now.
-fn read_base<D: Disk>(
+/// The anchors of a log of these chains, whose extents are taken now.
+///
+/// # Errors
+///
+/// `Damaged` with the first extent that the base names, where its anchors are not right; `Device` where the disk
+/// refused a read; `NoMemory`.
+pub fn read_base<D: Disk>(
     alloc: Global,
     disk: &mut D,
     heap: HeapSize,
@@ -172,8 +177,8 @@ pub struct LogHeap {
     pub members: MembersRead,
 }
 
-// How many extents the log has, where it ends right and the anchors keep their share.
-fn seen_log(kept: Option<usize>, ends_right: bool, anchors_fit: bool) -> Option<usize>
+/// How many extents the log has, where it ends right and the anchors keep their share.
+pub fn seen_log(kept: Option<usize>, ends_right: bool, anchors_fit: bool) -> Option<usize>
     ensures { MatchOption result (¬ (IsTrue (is_some kept) × IsTrue ends_right × IsTrue anchors_fit)) (λ count. (kept ≡ Some count) × IsTrue ends_right
         × IsTrue anchors_fit) }
 {

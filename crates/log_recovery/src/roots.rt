@@ -15,7 +15,7 @@ use recovery::OpenFault;
 ///
 /// `NotAStore` where no header of a store whose log lies in the heap stands in front; `Device` where the disk
 /// refused a call.
-pub(crate) fn read_roots<D: Disk>(disk: &mut D) -> Result<Roots, OpenFault>
+pub fn read_roots<D: Disk>(disk: &mut D) -> Result<Roots, OpenFault>
     ensures found { IsTrue D.tells → IfOk result (ReadsRoots (D.state disk.old).areas.status.bytes) }
     ensures in_range { IfOk result IsRoots }
     ensures fault { IsTrue D.tells → IfErr result (IsRootsFault (D.state disk.old).areas.status.bytes) }

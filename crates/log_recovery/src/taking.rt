@@ -21,7 +21,7 @@ pub(crate) const EXTENT_BYTES: u64 = EXTENT_LEN as u64;
 
 /// How large a heap is: how many extents it may have, and how many bytes there are.
 #[derive(Clone, Copy, Debug)]
-pub(crate) struct HeapSize {
+pub struct HeapSize {
     pub most: u32,
     pub len: u64,
 }

@@ -28,8 +28,12 @@ pub struct ChainsRead {
     pub space: Space,
 }
 
-// Whether an open gate stands in the first byte of this extent.
-fn has_open_gate<D: Disk>(disk: &mut D, heap_len: u64, number: u32) -> Result<bool, OpenFault>
+/// Whether an open gate stands in the first byte of this extent.
+///
+/// # Errors
+///
+/// `Device` where the disk refused the read.
+pub fn has_open_gate<D: Disk>(disk: &mut D, heap_len: u64, number: u32) -> Result<bool, OpenFault>
     requires low { 0 < number }
     requires len { IsTrue D.tells → heap_len ≡ length (D.state disk.old).areas.heap.bytes }
     ensures gate { IsTrue D.tells → IfOk result (λ b. IsTrue b ↔ HasOpenGate (D.state disk.old).areas.heap.bytes number) }
@@ -47,9 +51,13 @@ fn has_open_gate<D: Disk>(disk: &mut D, heap_len: u64, number: u32) -> Result<bo
     }
 }
 
-// The chain of the log that begins at this extent, whose extents are taken now. None where none does whose
-// extents are all free.
-fn read_log_chain<D: Disk>(
+/// The chain of the log that begins at this extent, whose extents are taken now. None where none does whose
+/// extents are all free.
+///
+/// # Errors
+///
+/// `Device` where the disk refused a read; `NoMemory`.
+pub fn read_log_chain<D: Disk>(
     alloc: Global,
     disk: &mut D,
     heap: HeapSize,

@@ -14,7 +14,7 @@ pub use actions::{act, refuse_folder};
 pub use command_line::{
     Action, Form, Layout, Question, RecordWrite, Style, When, action_of, read_words,
 };
-pub use dump::{DumpFault, write_dump};
+pub use dump::write_dump;
 pub use needs::{Need, folder_need};
 pub use recovery::OpenFault;
 pub use stress_answer::write_stress_answer;

@@ -2,6 +2,8 @@
 #![tactic(auto)]
 
 #[cfg(test)]
+mod dumped;
+#[cfg(test)]
 mod groups;
 #[cfg(test)]
 mod images;

@@ -1,0 +1,9 @@
+use Rattle.std.proofs.Common.{◌≡◌, ◌++◌, length, map}
+use Rattle.log_shown.specs.declared.items.LogItem.TheVariants as says
+use Rattle.log_shown.proofs.items.push_runs.Given as goal
+
+abbrev pub invariant-loop-rest : goal.invariant-loop-rest
+invariant-loop-rest l = l.items.items ++ map says.BaseRun l.rest ≡ l.fn.items.items ++ map says.BaseRun l.runs
+
+abbrev pub decreases-loop-rest : goal.decreases-loop-rest
+decreases-loop-rest l = length l.rest
