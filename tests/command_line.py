@@ -4,6 +4,8 @@ standard error with status 2, and a time that is none refused with status 1.
 
     tests/command_line.py PROGRAM
 """
+import csv
+import io
 import json
 import os
 import sys
@@ -14,7 +16,7 @@ from time import time_ns
 from trial import run
 
 COMMANDS = ("format", "run", "at", "between", "dump", "get", "scan", "history", "times", "put", "del", "floor", "info")
-LIMITS = ("16 to 65536", "65536 extents of 8 KiB", "1 to 1024 keys", "1 to 16 fields of 0 to 255 bytes",
+LIMITS = ("What to do:", "mkdir DIR && timestore format DIR", "16 to 65536", "65536 extents of 8 KiB", "1 to 1024 keys", "1 to 16 fields of 0 to 255 bytes",
           "1 to 9223372036854775807", "status full", "heap full", "Exit status: 0 done, 1 refused, 2 words that are no command")
 LINES = ("begin NAME", "put NAME REL REC F..", "del NAME REL REC", "get NAME REL REC", "submit NAME LABEL TIME", "abort NAME",
          "pump", "flush", "redeem NAME", "at REL REC TIME", "between REL REC TIME TIME", "scan REL TIME", "times LABEL",
@@ -63,6 +65,46 @@ def no_times(program, folder):
     assert os.listdir(folder) == []
 
 
+def tips(program, folder):
+    """What a new user trips over: beside the answer, standard error says what to do."""
+    numbers = "timestore: REL is a number from 0 to 65535, REC and LABEL one from 0 to 18446744073709551615\n"
+    more = "\n\nFor more information, try '--help'.\n"
+    for words, why in ((["get", folder, "users", "7"], "'users' for '<REL>': invalid digit found in string"),
+                       (["get", folder, "1", "Ada"], "'Ada' for '<REC>': invalid digit found in string"),
+                       (["scan", folder, "65536"], "'65536' for '<REL>': 65536 is not in 0..=65535")):
+        assert run(program, words) == (2, "", f"error: invalid value {why}{more}{numbers}"), (words, run(program, words))
+    told = run(program, ["format", folder, "--slots", "many"])[2]
+    assert told == f"error: invalid value 'many' for '--slots <N>': invalid digit found in string{more}", told
+    when = "timestore: a TIME is {}microseconds since 1970, YYYY-MM-DD, or YYYY-MM-DDTHH:MM:SS with Z or an offset as +01:00\n"
+    script = "timestore: a TIME is microseconds since 1970, or YYYY-MM-DDTHH:MM:SSZ\n"
+    for words, tip in ((["get", folder, "1", "7", "soon"], when.format("`now`, ")), (["scan", folder, "1", "soon"], when.format("`now`, ")),
+                       (["history", folder, "1", "7", "0", "soon"], when.format("`now`, ")), (["floor", folder, "1", "now"], when.format("")),
+                       (["at", folder, "1", "7", "2026-11-23"], script), (["between", folder, "1", "7", "0", "now"], script),
+                       (["vacuum", folder, "soon"], script)):
+        assert run(program, words) == (1, "refused: bad time\n", tip), (words, run(program, words))
+    for words, answer, tip in ((["--slots", "8"], "bad slots", "--slots is 16 to 65536, and --extents a multiple of 16 from 64 to 1048576"),
+                               (["--extents", "64"], "wrong profile", "--slots is of profile 3, and --extents of --profile 4")):
+        assert run(program, ["format", folder, *words]) == (1, f"refused: {answer}\n", f"timestore: {tip}\n"), words
+    none = os.path.join(folder, "none")
+    absent = (f"timestore: {none}: No such file or directory (os error 2)\n"
+              "timestore: there is no such folder; `mkdir DIR` makes one, and `timestore format DIR` a store in it\n")
+    for words in (["format", none], ["run", none], ["get", none, "1", "7"], ["info", none], ["put", none, "1", "7", "61"]):
+        assert run(program, words) == (1, "refused: device\n", absent), (words, run(program, words))
+    status, said, told = run(program, ["get", folder, "1", "7"])
+    assert (status, said) == (1, "refused: not a store\n") and told.endswith(
+        "\ntimestore: no store was made in this folder; `timestore format DIR` makes one\n"), told
+    assert os.listdir(folder) == []
+
+
+def hexadecimal(program, folder):
+    """Text where hexadecimal is meant, in a store that is there."""
+    tip = "timestore: a FIELD is in lower-case hexadecimal, two digits a byte, `-` if empty; with --text it is text\n"
+    for fields in (["Ada", "London"], ["61", "6"], ["6A"], [""]):
+        assert run(program, ["put", folder, "1", "7", *fields]) == (1, "refused: bad value\n", tip), fields
+    assert run(program, ["put", folder, "1", "7", "61" * 256]) == (1, "refused: bad value\n", "")
+    assert run(program, ["put", folder, "1", "7", "Ada", "\\q", "--text"]) == (1, "refused: bad value\n", "")
+
+
 def says_version(program):
     assert run(program, ["--version"]) == run(program, ["-V"]) == (0, "timestore 3\n", "")
 
@@ -85,6 +127,29 @@ def one_record(program, folder):
     assert run(program, ["scan", folder, "1", str(times[1])]) == (0, "7 62\nrows 1\n", "")
     assert run(program, ["times", folder, "3"]) == (0, f"times {times[0]}\n", "")
     assert run(program, ["del", folder, "1", "7"]) == (1, "refused: missing\n", "")
+
+
+def tables(program, folder):
+    """CSV, as a reader of another making has it; a field that is no text is in hexadecimal."""
+    store = os.path.join(folder, "tables")
+    os.mkdir(store)
+    assert run(program, ["format", store, "--slots", "16"])[0] == 0
+    for record, fields in (("8", ["a,b", "\"", ""]), ("9", ["\\\\x61", "c\\r\\nd"])):
+        assert run(program, ["put", store, "2", record, "--text", *fields])[0] == 0
+    read = {}
+    for words in (["get", "2", "8"], ["scan", "2"], ["history", "2", "9"], ["history", "2", "10"], ["times", "7"]):
+        status, said, told = run(program, [words[0], store, *words[1:], "--csv"])
+        assert (status, told) == (0, "") and said.replace("\r\n", "").count("\r") == 0, (words, said)
+        read[tuple(words)] = list(csv.reader(io.StringIO(said, newline=""), strict=True))
+    names = ["fields", "field1", "field2", "field3"]
+    assert read["get", "2", "8"] == [names, ["3", "a,b", "\"", ""]], read
+    assert read["scan", "2"] == [["record", *names], ["8", "3", "a,b", "\"", ""], ["9", "2", "\\x5c783631", "c\r\nd", ""]], read
+    (*head, _, _, _), (begin, end, *row) = read["history", "2", "9"]
+    assert head == ["from", "to"] and int(begin) + 1 == int(end) and row == ["2", "\\x5c783631", "c\r\nd"], read
+    assert (read["history", "2", "10"], read["times", "7"]) == ([["from", "to", "fields"]], [["time"]]), read
+    status, said, _ = run(program, ["get", store, "2", "8", "2300-01-01", "--csv"])
+    assert status == 1 and said.startswith("refused: not yet "), (status, said)
+    assert run(program, ["put", store, "2", "8", "61", "--csv"])[0] == 2
 
 
 def forms(program, folder):
@@ -145,9 +210,9 @@ def endless(program, folder):
     store = os.path.join(folder, "endless")
     os.mkdir(store)
     for words in (["--profile", "4", "--slots", "64"], ["--extents", "64"], ["--profile", "3", "--extents", "64"]):
-        assert run(program, ["format", store, *words]) == (1, "refused: wrong profile\n", ""), words
+        assert run(program, ["format", store, *words])[:2] == (1, "refused: wrong profile\n"), words
     for extents in ("63", "48", "72", "1048592"):
-        assert run(program, ["format", store, "--profile", "4", "--extents", extents]) == (1, "refused: bad slots\n", ""), extents
+        assert run(program, ["format", store, "--profile", "4", "--extents", extents])[:2] == (1, "refused: bad slots\n"), extents
     assert os.listdir(store) == []
     status, said, told = run(program, ["format", store, "--profile", "4", "--extents", "64"])
     assert (status, said, told.count("\n")) == (0, "formatted 64\n", 1) and "profile 4" in told, (status, said, told)
@@ -178,9 +243,12 @@ def main():
         helps(program)
         no_commands(program, folder)
         no_times(program, folder)
+        tips(program, folder)
         says_version(program)
         one_record(program, folder)
+        hexadecimal(program, folder)
         forms(program, folder)
+        tables(program, folder)
         endless(program, folder)
     print("command line: ok")
 

@@ -58,6 +58,10 @@ def killed_gives_up(program, folder):
     assert run(program, ["run", folder], "at 1 7 3\nat 1 7 4\n") == (0, "value 63\nrefused: not yet 3\n", "")
 
 
+NO_STORE = "timestore: no store was made in this folder; `timestore format DIR` makes one\n"
+NO_FOLDER = "timestore: there is no such folder; `mkdir DIR` makes one, and `timestore format DIR` a store in it\n"
+
+
 def wrong_folders(program, base):
     empty, half, nowhere = (os.path.join(base, name) for name in ("empty", "half", "nowhere"))
     os.mkdir(empty)
@@ -71,7 +75,7 @@ def wrong_folders(program, base):
         ask = lambda folder: run(program, [words[0], folder, *words[1:]])
         status, said, told = ask(empty)
         assert (status, said) == (1, "refused: not a store\n"), (words, status, said)
-        assert told == f"timestore: {empty}/status: No such file or directory (os error 2)\n", told
+        assert told == f"timestore: {empty}/status: No such file or directory (os error 2)\n{NO_STORE}", told
         assert os.listdir(empty) == []
         status, said, told = ask(half)
         assert (status, said) == (1, "refused: not a store\n"), (words, status, said)
@@ -79,13 +83,13 @@ def wrong_folders(program, base):
         assert content(half) == before
         status, said, told = ask(nowhere)
         assert (status, said) == (1, "refused: device\n"), (words, status, said)
-        assert told == f"timestore: {nowhere}: No such file or directory (os error 2)\n", told
+        assert told == f"timestore: {nowhere}: No such file or directory (os error 2)\n{NO_FOLDER}", told
         assert not os.path.exists(nowhere)
-    assert run(program, ["format", empty, "--slots", "15"]) == (1, "refused: bad slots\n", "")
-    assert run(program, ["at", empty, "1", "7", "soon"]) == (1, "refused: bad time\n", "")
+    assert run(program, ["format", empty, "--slots", "15"])[:2] == (1, "refused: bad slots\n")
+    assert run(program, ["at", empty, "1", "7", "soon"])[:2] == (1, "refused: bad time\n")
     assert os.listdir(empty) == []
     status, said, told = run(program, ["format", nowhere])
-    assert (status, said, told) == (1, "refused: device\n", f"timestore: {nowhere}: No such file or directory (os error 2)\n")
+    assert (status, said, told) == (1, "refused: device\n", f"timestore: {nowhere}: No such file or directory (os error 2)\n{NO_FOLDER}")
     assert run(program, ["format", empty]) == (0, "formatted 1024\n", "")
     assert sorted(os.listdir(empty)) == ["archive", "heap", "status"]
 

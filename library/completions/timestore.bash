@@ -8,10 +8,10 @@ _timestore() {
     fi
     case $command:$word in
     format:-*) mapfile -t COMPREPLY < <(compgen -W "--profile --slots --extents --help" -- "$word") ;;
-    get:-*) mapfile -t COMPREPLY < <(compgen -W "--text --json --help" -- "$word") ;;
-    scan:-*) mapfile -t COMPREPLY < <(compgen -W "--text --json --help" -- "$word") ;;
-    history:-*) mapfile -t COMPREPLY < <(compgen -W "--text --json --instants --help" -- "$word") ;;
-    times:-*) mapfile -t COMPREPLY < <(compgen -W "--text --json --instants --help" -- "$word") ;;
+    get:-*) mapfile -t COMPREPLY < <(compgen -W "--text --json --csv --help" -- "$word") ;;
+    scan:-*) mapfile -t COMPREPLY < <(compgen -W "--text --json --csv --help" -- "$word") ;;
+    history:-*) mapfile -t COMPREPLY < <(compgen -W "--text --json --csv --instants --help" -- "$word") ;;
+    times:-*) mapfile -t COMPREPLY < <(compgen -W "--text --json --csv --instants --help" -- "$word") ;;
     put:-*) mapfile -t COMPREPLY < <(compgen -W "--label --text --help" -- "$word") ;;
     del:-*) mapfile -t COMPREPLY < <(compgen -W "--label --help" -- "$word") ;;
     info:-*) mapfile -t COMPREPLY < <(compgen -W "--json --help" -- "$word") ;;

@@ -85,13 +85,17 @@ text_flag = flag (codes "text")
 abbrev pub json_flag : Rule
 json_flag = flag (codes "json")
 
+-- the answer in CSV
+abbrev pub csv_flag : Rule
+csv_flag = flag (codes "csv")
+
 -- times as instants
 abbrev pub instants_flag : Rule
 instants_flag = flag (codes "instants")
 
--- a command whose answer may be text or JSON
+-- a command whose answer may be text, JSON or CSV
 abbrev pub with_forms : App → App
-with_forms app = with_rule (with_rule app text_flag) json_flag
+with_forms app = with_rule (with_rule (with_rule app text_flag) json_flag) csv_flag
 
 -- and whose times may be instants
 abbrev pub with_styles : App → App
@@ -146,19 +150,19 @@ at = with_rule (of_record (codes "at")) time
 abbrev pub between : App
 between = with_rule (with_rule (of_record (codes "between")) from) to
 
--- `get DIR REL REC [TIME] [--text] [--json]`: asks for a record's value
+-- `get DIR REL REC [TIME] [--text] [--json] [--csv]`: asks for a record's value
 abbrev pub get : App
 get = with_forms (with_rule (of_record (codes "get")) time_or_now)
 
--- `scan DIR REL [TIME] [--text] [--json]`: asks for the records of a relation
+-- `scan DIR REL [TIME] [--text] [--json] [--csv]`: asks for the records of a relation
 abbrev pub scan : App
 scan = with_forms (with_rule (with_rule (with_rule (new_app (codes "scan")) dir) relation) time_or_now)
 
--- `history DIR REL REC [FROM [TO]] [--text] [--json] [--instants]`: asks for a record's rows
+-- `history DIR REL REC [FROM [TO]] [--text] [--json] [--csv] [--instants]`: asks for a record's rows
 abbrev pub history : App
 history = with_styles (with_rule (with_rule (of_record (codes "history")) from_or_first) to_or_now)
 
--- `times DIR LABEL [--text] [--json] [--instants]`: asks for the times of the commits with a label
+-- `times DIR LABEL [--text] [--json] [--csv] [--instants]`: asks for the times of the commits with a label
 abbrev pub times : App
 times = with_styles (with_rule (with_rule (new_app (codes "times")) dir) label_number)
 

@@ -44,10 +44,13 @@ rows_of_key key _ _ = None
 abbrev pub is_set : Text → List Row → Bool
 is_set name rows = option_map_or (λ (t : Text). bytes_eq t (codes "true")) (first_of name rows) false
 
--- the form of an answer: in JSON or as text where these flags are set, else in hexadecimal
-abbrev pub form_by : (is_text is_json : Bool) → Form
-form_by is_text is_json = if is_json then form.Json else if is_text then form.Text else form.Hex
+-- the form of an answer: in JSON, in CSV or as text where these flags are set, of several the first of these, else in hexadecimal
+abbrev pub form_by : (is_text is_json is_csv : Bool) → Form
+form_by is_text is_json is_csv = if is_json then form.Json else if is_csv then form.Csv else if is_text then form.Text else form.Hex
 
 -- how an answer is to be spelled
 abbrev pub style_of : List Row → Style
-style_of rows = record { form = form_by (is_set (codes "text") rows) (is_set (codes "json") rows); instants = is_set (codes "instants") rows }
+style_of rows = record {
+  form = form_by (is_set (codes "text") rows) (is_set (codes "json") rows) (is_set (codes "csv") rows);
+  instants = is_set (codes "instants") rows;
+}

@@ -154,6 +154,17 @@ fn json_flag<'a>(alloc: Global) -> Arg<'a>
     flag(alloc, "json", "The answer in JSON, an object a line")
 }
 
+/// Whether the answer is in CSV.
+fn csv_flag<'a>(alloc: Global) -> Arg<'a>
+    ensures { told.IsArg result told.csv_flag }
+{
+    flag(
+        alloc,
+        "csv",
+        "The answer in CSV, below the names of its columns",
+    )
+}
+
 /// Whether times are instants.
 fn instants_flag<'a>(alloc: Global) -> Arg<'a>
     ensures { told.IsArg result told.instants_flag }
@@ -248,7 +259,7 @@ fn with_arg<'a>(
     command?.arg(arg)
 }
 
-/// The command, whose answer may be text or JSON.
+/// The command, whose answer may be text, JSON or CSV.
 fn with_forms<'a>(
     alloc: Global,
     command: Result<Command<'a>, AllocError>,
@@ -256,7 +267,8 @@ fn with_forms<'a>(
     ensures { (app : App) → IfOk command.entry (λ c. told.IsCommand c app) → IfOk result (λ c. told.IsCommand c (told.with_forms app)) }
 {
     let command = with_arg(command, text_flag(alloc));
-    with_arg(command, json_flag(alloc))
+    let command = with_arg(command, json_flag(alloc));
+    with_arg(command, csv_flag(alloc))
 }
 
 /// The command, whose times may be instants too.

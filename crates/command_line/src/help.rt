@@ -1,7 +1,20 @@
 //! What help says below the lists of commands and arguments.
 
-/// The limits of a store, and what its full slots or heap mean.
-pub const LIMITS: &str = "Limits:
+/// What to begin with, the limits of a store, and what its full slots or heap mean.
+pub const LIMITS: &str = "What to do:
+  make a store          mkdir DIR && timestore format DIR
+  write a record        timestore put DIR 1 7 Ada London --text
+  read it               timestore get DIR 1 7 --text
+  see its past          timestore history DIR 1 7 --text --instants
+  list a relation       timestore scan DIR 1 --csv
+  write much at once    timestore run DIR < SCRIPT, where SCRIPT has the lines
+                        of `timestore run --help`
+  see what is left      timestore info DIR
+  have more slots       timestore grow DIR
+  give back space       timestore vacuum DIR TIME
+  let the past go       timestore floor DIR REL TIME
+
+Limits:
   slots      16 to 65536, chosen when the store is made. A group of 1 to 16
              commits takes one, an archive, a reclaim or a floor takes one,
              none is used again
@@ -72,6 +85,11 @@ With --text the words of a line are parted by tabs, and a field is its text, wit
 is no UTF-8, or has another control character, is \\x and its bytes in hexadecimal.
 With --json each value, record or row is an object on a line of its own, and no line
 says how many there are. A field is a string, or {\"hex\":\"ff00\"} if it is no UTF-8.
+With --csv the answer is a table of RFC 4180: a row for each value, record or row,
+below a row of names. The column `fields` has how many fields a value has, and `field1`,
+`field2` and so on have them, empty where the value has none. A field is its text; one
+that is no UTF-8, has another control character or begins with \\x is \\x and its bytes
+in hexadecimal. Of several of these options --json counts first, then --csv.
 A refusal is the same line in each form.";
 
 /// Of `put` and `del`.
@@ -92,7 +110,7 @@ After `failed`, `times LABEL` tells whether the store has the commit.";
 pub const LABELS: &str =
     "The line is `times`, and the times of the commits with this label, rising, in
 microseconds since 1970. With --text they are parted by tabs; with --json each time is
-an object on a line of its own.";
+an object on a line of its own, and with --csv a row of its own, below the name `time`.";
 
 /// Of `at` and `between`.
 pub const TIMES: &str =

@@ -2,6 +2,7 @@
 #![tactic(auto)]
 
 mod action;
+mod advice;
 mod command;
 mod help;
 mod layout;
@@ -10,6 +11,7 @@ mod question;
 mod read;
 
 pub use action::Action;
+pub use advice::words_advice;
 pub use command::read_words;
 pub use forms::{Form, Style};
 pub use layout::Layout;

@@ -67,12 +67,15 @@ fn is_set(matches: &ArgMatches<'_>, name: &str) -> bool
     }
 }
 
-/// The form of an answer. Of two flags that of JSON counts.
-fn form_by(is_text: bool, is_json: bool) -> Form
-    ensures { result ≡ form_by is_text is_json }
+/// The form of an answer. Of several flags that of JSON counts, and then that of CSV.
+fn form_by(is_text: bool, is_json: bool, is_csv: bool) -> Form
+    ensures { result ≡ form_by is_text is_json is_csv }
 {
     if is_json {
         return Form::Json;
+    }
+    if is_csv {
+        return Form::Csv;
     }
     if is_text { Form::Text } else { Form::Hex }
 }
@@ -82,7 +85,11 @@ fn style(matches: &ArgMatches<'_>) -> Style
     ensures { result ≡ style_of (rows_of (found_of matches.now)) }
 {
     Style {
-        form: form_by(is_set(matches, "text"), is_set(matches, "json")),
+        form: form_by(
+            is_set(matches, "text"),
+            is_set(matches, "json"),
+            is_set(matches, "csv"),
+        ),
         instants: is_set(matches, "instants"),
     }
 }

@@ -12,6 +12,7 @@ abbrev pub is_hex : Form → Bool
 is_hex form.Hex = true
 is_hex form.Text = false
 is_hex form.Json = false
+is_hex form.Csv = false
 
 -- a style is that one
 abbrev pub is_plain : Style → Bool

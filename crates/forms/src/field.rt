@@ -16,6 +16,7 @@ pub fn spell_gap(text: &mut Vec<u8>, form: Form) -> Result<(), AllocError>
         Form::Hex => Ok(text.push(b' ')?),
         Form::Text => Ok(text.push(b'\t')?),
         Form::Json => Ok(()),
+        Form::Csv => Ok(()),
     }
 }
 
@@ -27,6 +28,7 @@ fn spell_word(alloc: Global, text: &mut Vec<u8>, form: Form, field: &[u8]) -> Re
         Form::Hex => spell_hex_field(alloc, text, field),
         Form::Text => spell_text_field(alloc, text, field),
         Form::Json => Ok(()),
+        Form::Csv => Ok(()),
     }
 }
 

@@ -8,9 +8,9 @@ ghost use Rattle.forms.specs.Shown.{moment_of};
 ghost use Rattle.forms.specs.Lines as told;
 
 use crate::field::{spell_gap, spell_words};
-use crate::json_line;
 use crate::moment::{Shown, instant_if};
 use crate::style::{Form, Style};
+use crate::{csv_line, json_line};
 use std::alloc::{AllocError, Global};
 use wire::Value;
 
@@ -33,7 +33,7 @@ fn spell_found_words(
     }
 }
 
-/// Spells the line that says a value or none.
+/// Spells the line that says a value or none, in CSV below the names of its columns.
 ///
 /// # Errors
 ///
@@ -50,6 +50,7 @@ pub fn spell_found(
         Form::Hex => spell_found_words(alloc, text, form, found),
         Form::Text => spell_found_words(alloc, text, form, found),
         Form::Json => json_line::spell_found(alloc, text, found),
+        Form::Csv => csv_line::spell_found(alloc, text, found),
     }
 }
 
@@ -75,7 +76,29 @@ fn spell_record_words(
     Ok(text.push(b'\n')?)
 }
 
-/// Spells the line that says a record and its value.
+/// Spells what stands before the lines of records: in CSV the names of the columns, of which so many
+/// are those of fields.
+///
+/// # Errors
+///
+/// Where there is no memory for it.
+pub fn spell_record_head(
+    alloc: Global,
+    text: &mut Vec<u8>,
+    form: Form,
+    width: u8,
+) -> Result<(), AllocError>
+    ensures { OnOk result (Appends (Some text.old.items) (Some text.new.items) (told.record_head form width)) }
+{
+    match form {
+        Form::Hex => Ok(()),
+        Form::Text => Ok(()),
+        Form::Json => Ok(()),
+        Form::Csv => csv_line::spell_record_head(alloc, text, width),
+    }
+}
+
+/// Spells the line that says a record and its value, in CSV with so many columns of fields.
 ///
 /// # Errors
 ///
@@ -84,15 +107,17 @@ pub fn spell_record(
     alloc: Global,
     text: &mut Vec<u8>,
     form: Form,
+    width: u8,
     number: u64,
     value: &Value,
 ) -> Result<(), AllocError>
-    ensures { OnOk result (Appends (Some text.old.items) (Some text.new.items) (told.record_text form number value.now)) }
+    ensures { OnOk result (Appends (Some text.old.items) (Some text.new.items) (told.record_text form width number value.now)) }
 {
     match form {
         Form::Hex => spell_record_words(alloc, text, form, number, value),
         Form::Text => spell_record_words(alloc, text, form, number, value),
         Form::Json => json_line::spell_record(alloc, text, number, value),
+        Form::Csv => csv_line::spell_record(alloc, text, width, number, value),
     }
 }
 
@@ -124,21 +149,45 @@ fn spell_row_words(
     Ok(text.push(b'\n')?)
 }
 
+/// Spells what stands before the lines of rows.
+///
+/// # Errors
+///
+/// Where there is no memory for it.
+pub fn spell_row_head(
+    alloc: Global,
+    text: &mut Vec<u8>,
+    form: Form,
+    width: u8,
+) -> Result<(), AllocError>
+    ensures { OnOk result (Appends (Some text.old.items) (Some text.new.items) (told.row_head form width)) }
+{
+    match form {
+        Form::Hex => Ok(()),
+        Form::Text => Ok(()),
+        Form::Json => Ok(()),
+        Form::Csv => csv_line::spell_row_head(alloc, text, width),
+    }
+}
+
 /// Spells a row whose times are shown so.
 fn spell_shown_row(
     alloc: Global,
     text: &mut Vec<u8>,
     form: Form,
+    width: u8,
     from: Shown<'_>,
     to: Shown<'_>,
     value: &Value,
 ) -> Result<(), AllocError>
-    ensures { OnOk result (Appends (Some text.old.items) (Some text.new.items) (told.row_line form (moment_of from.entry) (moment_of to.entry) value.now)) }
+    ensures { OnOk result (Appends (Some text.old.items) (Some text.new.items) (told.row_line form width (moment_of from.entry) (moment_of to.entry)
+        value.now)) }
 {
     match form {
         Form::Hex => spell_row_words(alloc, text, form, from, to, value),
         Form::Text => spell_row_words(alloc, text, form, from, to, value),
         Form::Json => json_line::spell_row(alloc, text, from, to, value),
+        Form::Csv => csv_line::spell_row(alloc, text, width, from, to, value),
     }
 }
 
@@ -155,7 +204,8 @@ fn as_shown(time: u64, instant: &Option<String>) -> Shown<'_>
     }
 }
 
-/// Spells the line that says from when on and up to when a value stood, and the value.
+/// Spells the line that says from when on and up to when a value stood, and the value, in CSV with so
+/// many columns of fields.
 ///
 /// # Errors
 ///
@@ -164,17 +214,18 @@ pub fn spell_row(
     alloc: Global,
     text: &mut Vec<u8>,
     style: Style,
+    width: u8,
     from: u64,
     to: u64,
     value: &Value,
 ) -> Result<(), AllocError>
-    ensures { OnOk result ((line : Text) × told.IsRowText style from to value.now line × Appends (Some text.old.items) (Some text.new.items) line) }
+    ensures { OnOk result ((line : Text) × told.IsRowText style width from to value.now line × Appends (Some text.old.items) (Some text.new.items) line) }
 {
     let shown_from = instant_if(alloc, style.instants, from)?;
     let shown_to = instant_if(alloc, style.instants, to)?;
     let begin = as_shown(from, &shown_from);
     let end = as_shown(to, &shown_to);
-    spell_shown_row(alloc, text, style.form, begin, end, value)
+    spell_shown_row(alloc, text, style.form, width, begin, end, value)
 }
 
 /// Spells a line of words and a number.
@@ -186,7 +237,7 @@ fn spell_counted(text: &mut Vec<u8>, words: &str, count: usize) -> Result<(), Al
     Ok(text.push(b'\n')?)
 }
 
-/// Spells how many lines came before; JSON has no such line.
+/// Spells how many lines came before; JSON and CSV have no such line.
 ///
 /// # Errors
 ///
@@ -198,6 +249,7 @@ pub fn spell_count(text: &mut Vec<u8>, form: Form, count: usize) -> Result<(), A
         Form::Hex => spell_counted(text, "rows ", count),
         Form::Text => spell_counted(text, "rows\t", count),
         Form::Json => Ok(()),
+        Form::Csv => Ok(()),
     }
 }
 
@@ -220,6 +272,7 @@ fn spell_shown_time(
             spell_time(text, time)
         }
         Form::Json => json_line::spell_time(alloc, text, time),
+        Form::Csv => csv_line::spell_time(alloc, text, time),
     }
 }
 
@@ -247,13 +300,14 @@ fn spell_pieces(
 }
 
 /// Spells what stands before the times.
-fn spell_front(text: &mut Vec<u8>, form: Form) -> Result<(), AllocError>
+fn spell_front(alloc: Global, text: &mut Vec<u8>, form: Form) -> Result<(), AllocError>
     ensures { OnOk result (Appends (Some text.old.items) (Some text.new.items) (told.times_front form)) }
 {
     match form {
         Form::Hex => text.extend_from_slice(b"times"),
         Form::Text => text.extend_from_slice(b"times"),
         Form::Json => Ok(()),
+        Form::Csv => csv_line::spell_time_head(alloc, text),
     }
 }
 
@@ -265,10 +319,11 @@ fn spell_end(text: &mut Vec<u8>, form: Form) -> Result<(), AllocError>
         Form::Hex => Ok(text.push(b'\n')?),
         Form::Text => Ok(text.push(b'\n')?),
         Form::Json => Ok(()),
+        Form::Csv => Ok(()),
     }
 }
 
-/// Spells the times of the commits with a label: a line, or in JSON a line for each.
+/// Spells the times of the commits with a label: a line, or in JSON and CSV a line for each.
 ///
 /// # Errors
 ///
@@ -281,7 +336,7 @@ pub fn spell_times(
 ) -> Result<(), AllocError>
     ensures { OnOk result ((said : Text) × told.IsTimesText style times.now said × Appends (Some text.old.items) (Some text.new.items) said) }
 {
-    spell_front(text, style.form)?;
+    spell_front(alloc, text, style.form)?;
     spell_pieces(alloc, text, style, times)?;
     spell_end(text, style.form)
 }

@@ -11,6 +11,8 @@ pub enum Form {
     Text,
     /// In JSON, an object a line.
     Json,
+    /// In CSV, a row a line, below the names of the columns.
+    Csv,
 }
 
 /// How an answer is spelled.
@@ -40,6 +42,7 @@ impl Style {
             Form::Hex => !self.instants,
             Form::Text => false,
             Form::Json => false,
+            Form::Csv => false,
         }
     }
 }

@@ -3,6 +3,7 @@ ghost use Rattle.std.specs.Prelude.{◌≡◌, ◌++◌, IfOk, OnOk, Some, Match
 ghost use Rattle.std.specs.Io.KnownBytes.{Appends};
 ghost use Rattle.std.specs.Str.{is_utf8};
 ghost use Rattle.hex.specs.Hex.{encode_lower};
+ghost use Rattle.forms.specs.Csv.{is_cell_text};
 ghost use Rattle.forms.specs.Fields as told;
 
 use hex::FromHexError;
@@ -37,6 +38,16 @@ fn is_text(field: &[u8]) -> bool
     ensures { result ≡ told.is_text field.now }
 {
     are_shown(field) && as_text(field).is_some()
+}
+
+/// Whether a field is a text that is shown, and does not begin as that of bytes in hexadecimal.
+pub fn is_cell_text(field: &[u8]) -> bool
+    ensures { result ≡ is_cell_text field.now }
+{
+    match field {
+        [b'\\', b'x', ..] => false,
+        _ => is_text(field),
+    }
 }
 
 /// Spells bytes in hexadecimal.

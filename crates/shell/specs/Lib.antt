@@ -6,4 +6,5 @@ pub mod Styled
 pub mod Acts
 pub mod Layouts
 pub mod Needs
+pub mod Advice
 pub mod Keeps

@@ -2,6 +2,7 @@
 #![tactic(auto)]
 
 mod actions;
+mod advising;
 mod asking;
 mod dump;
 mod needs;
@@ -11,8 +12,9 @@ mod vacuuming;
 mod writing;
 
 pub use actions::{act, refuse_folder};
+pub use advising::advice;
 pub use command_line::{
-    Action, Form, Layout, Question, RecordWrite, Style, When, action_of, read_words,
+    Action, Form, Layout, Question, RecordWrite, Style, When, action_of, read_words, words_advice,
 };
 pub use dump::write_dump;
 pub use needs::{Need, folder_need};

@@ -22,7 +22,7 @@ pub enum Need<'a> {
 }
 
 /// Whether a store has this size.
-fn is_size(layout: Layout) -> bool
+pub fn is_size(layout: Layout) -> bool
     ensures { result ≡ is_size layout }
 {
     match layout {

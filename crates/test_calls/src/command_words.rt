@@ -1,7 +1,7 @@
 //! Words of the command line: what they ask for, and the texts of help and usage faults.
 use clap::{ArgMatches, Error};
 use command_line::{
-    Action, Form, Layout, Question, RecordWrite, Style, When, action_of, read_words,
+    Action, Form, Layout, Question, RecordWrite, Style, When, action_of, read_words, words_advice,
 };
 use history::Key;
 use std::alloc::Global;
@@ -28,6 +28,11 @@ const PLAIN: Style = Style {
 
 const JSON: Style = Style {
     form: Form::Json,
+    instants: false,
+};
+
+const CSV: Style = Style {
+    form: Form::Csv,
     instants: false,
 };
 
@@ -281,6 +286,22 @@ const ASKED: &[(&[&str], Action<'static>)] = &[
         },
     ),
     (
+        &["timestore", "scan", "d", "1", "--text", "--csv"],
+        Action::Ask {
+            dir: "d",
+            question: Some(Question::Records(1, When::Now)),
+            style: CSV,
+        },
+    ),
+    (
+        &["timestore", "times", "d", "3", "--csv", "--json"],
+        Action::Ask {
+            dir: "d",
+            question: Some(Question::Times(3)),
+            style: JSON,
+        },
+    ),
+    (
         &[
             "timestore",
             "history",
@@ -514,6 +535,8 @@ fn missing<'a>(
 
 /// What help names: each command, and the limits of a store.
 const NAMED: &[&str] = &[
+    "\nWhat to do:\n",
+    "timestore put DIR 1 7 Ada London --text",
     "\n  format ",
     "\n  run ",
     "\n  at ",
@@ -634,12 +657,14 @@ const HELP: &[(&str, &[&str])] = &[
     (
         "get",
         &[
-            "<DIR>", "<REL>", "<REC>", "[TIME]", "`now`", "--text", "--json",
+            "<DIR>", "<REL>", "<REC>", "[TIME]", "`now`", "--text", "--json", "--csv",
         ],
     ),
     (
         "scan",
-        &["<DIR>", "<REL>", "[TIME]", "`now`", "--text", "--json"],
+        &[
+            "<DIR>", "<REL>", "[TIME]", "`now`", "--text", "--json", "--csv",
+        ],
     ),
     (
         "history",
@@ -651,12 +676,20 @@ const HELP: &[(&str, &[&str])] = &[
             "[TO]",
             "--text",
             "--json",
+            "--csv",
             "--instants",
         ],
     ),
     (
         "times",
-        &["<DIR>", "<LABEL>", "--text", "--json", "--instants"],
+        &[
+            "<DIR>",
+            "<LABEL>",
+            "--text",
+            "--json",
+            "--csv",
+            "--instants",
+        ],
     ),
     (
         "put",
@@ -731,5 +764,32 @@ fn a_number_out_of_range_is_named(rt: HostRuntime) -> Result<(), Fail> {
     let error = usage(rt.alloc(), &words)?;
     let text = format!(in rt.alloc(); "{error}")?;
     assert!(rt; text.as_str() == NAMES_THE_RANGE);
+    Ok(())
+}
+
+/// What is said of numbers.
+const NUMBERS: Option<&str> = Some(
+    "REL is a number from 0 to 65535, REC and LABEL one from 0 to 18446744073709551615",
+);
+
+/// Words that are refused, and what is to be done.
+const ADVICE: &[(&[&str], Option<&str>)] = &[
+    (&["timestore", "get", "d", "users", "7"], NUMBERS),
+    (&["timestore", "put", "d", "1", "Ada", "61"], NUMBERS),
+    (&["timestore", "scan", "d", "65536"], NUMBERS),
+    (&["timestore", "times", "d", "many"], NUMBERS),
+    (&["timestore", "format", "d", "--slots", "many"], None),
+    (&["timestore", "stress", "9", "1", "1"], None),
+    (&["timestore", "get", "d", "1"], None),
+    (&["timestore", "forget", "users"], None),
+    (&["timestore", "--help"], None),
+];
+
+#[test]
+fn a_number_that_is_none_is_advised(rt: HostRuntime) -> Result<(), Fail> {
+    for (words, advice) in ADVICE {
+        let error = usage(rt.alloc(), words)?;
+        assert_eq!(rt; words_advice(error.kind(), words), *advice);
+    }
     Ok(())
 }

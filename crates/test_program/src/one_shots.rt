@@ -68,6 +68,11 @@ const JSON: Style = Style {
     instants: false,
 };
 
+const CSV: Style = Style {
+    form: Form::Csv,
+    instants: false,
+};
+
 const MOMENTS: Style = Style {
     form: Form::Hex,
     instants: true,
@@ -80,6 +85,11 @@ const TEXT_MOMENTS: Style = Style {
 
 const JSON_MOMENTS: Style = Style {
     form: Form::Json,
+    instants: true,
+};
+
+const CSV_MOMENTS: Style = Style {
+    form: Form::Csv,
     instants: true,
 };
 
@@ -138,6 +148,74 @@ const FORMS: &[Step] = &[
     Texts(KEY, &["\\q"], (1, 1), "refused: bad value\n", 1),
     Texts(KEY, &["x\\"], (1, 1), "refused: bad value\n", 1),
     Texts(KEY, &["\\xf"], (1, 1), "refused: bad value\n", 1),
+];
+
+/// Rows of CSV: cells in quotes, fewer fields than columns, and bytes that are no text.
+const TABLES: &[Step] = &[
+    New(16),
+    AsksIn(CSV, GET, "fields\r\n", 0),
+    AsksIn(CSV, SCAN, "record,fields\r\n", 0),
+    AsksIn(CSV, Question::Times(1), "time\r\n", 0),
+    Texts(
+        KEY,
+        &["Ada, \"x\"", "one\\ntwo", "", "a\\\\b"],
+        (1, 1_000_000_000_000_000),
+        "done 1000000000000000\n",
+        0,
+    ),
+    AsksIn(
+        CSV,
+        GET,
+        "fields,field1,field2,field3,field4\r\n4,\"Ada, \"\"x\"\"\",\"one\ntwo\",,a\\b\r\n",
+        0,
+    ),
+    Texts(
+        BESIDE,
+        &["\\xff00", "\\\\x61"],
+        (1, 1_000_000_000_000_001),
+        "done 1000000000000001\n",
+        0,
+    ),
+    AsksIn(
+        CSV,
+        SCAN,
+        "record,fields,field1,field2,field3,field4\r\n7,4,\"Ada, \"\"x\"\"\",\"one\ntwo\",,a\\b\r\n\
+         8,2,\\xff00,\\x5c783631,,\r\n",
+        0,
+    ),
+    Texts(
+        KEY,
+        &[""],
+        (1, 1_000_000_000_000_002),
+        "done 1000000000000002\n",
+        0,
+    ),
+    AsksIn(
+        CSV,
+        Question::Rows(KEY, When::At(1_000_000_000_000_001), When::Now),
+        "from,to,fields,field1,field2,field3,field4\r\n\
+         1000000000000001,1000000000000002,4,\"Ada, \"\"x\"\"\",\"one\ntwo\",,a\\b\r\n\
+         1000000000000002,1000000000000003,1,,,,\r\n",
+        0,
+    ),
+    AsksIn(
+        CSV_MOMENTS,
+        Question::Rows(KEY, When::Now, When::Now),
+        "from,to,fields,field1\r\n2001-09-09T01:46:40.000002Z,2001-09-09T01:46:40.000003Z,1,\r\n",
+        0,
+    ),
+    AsksIn(
+        CSV,
+        Question::Times(1),
+        "time\r\n1000000000000000\r\n1000000000000001\r\n1000000000000002\r\n",
+        0,
+    ),
+    AsksIn(
+        CSV,
+        Question::Value(KEY, When::At(1_000_000_000_000_009)),
+        "refused: not yet 1000000000000002\n",
+        1,
+    ),
 ];
 
 /// Times as instants: of a whole second, with microseconds, and after the year 9999.
@@ -382,6 +460,11 @@ const EXAMPLES: &[Example] = &[
         name: "an_answer_has_forms",
         profiles: Each,
         steps: FORMS,
+    },
+    Example {
+        name: "an_answer_is_a_table",
+        profiles: Each,
+        steps: TABLES,
     },
     Example {
         name: "times_are_instants",

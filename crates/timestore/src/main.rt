@@ -1,8 +1,9 @@
 //! The program `timestore`.
 #![tactic(auto)]
 
-ghost use Rattle.std.specs.Prelude.{◌≡◌, ◌↔◌};
-ghost use Rattle.timestore.specs.Folders.{LacksFile};
+ghost use Rattle.std.specs.Prelude.{◌≡◌, ◌↔◌, IsTrue, option_map};
+ghost use Rattle.std.specs.IoError.{error_kind};
+ghost use Rattle.timestore.specs.Folders.{IsAdvised, LacksFile};
 
 mod stress;
 
@@ -13,7 +14,8 @@ use disk_file::{Access, FileDisk, FolderFault};
 use log_store::has_log_header;
 use session::{Answers, LineInput, Lines};
 use shell::{
-    Action, Layout, Need, OpenFault, act, action_of, folder_need, read_words, refuse_folder,
+    Action, Layout, Need, OpenFault, act, action_of, advice, folder_need, read_words,
+    refuse_folder, words_advice,
 };
 use status::{LogFault, read_header};
 use std::alloc::{AllocError, Global};
@@ -31,9 +33,25 @@ use workload::Plan;
 /// The bytes of the script that are read ahead, and those of answers that are gathered.
 const BUFFER: usize = 65_536;
 
-/// Prints what `clap` has to say: help with status 0, a fault on standard error with status 2.
-fn print_usage(rt: &(impl Print + Eprint), error: &Error) -> io::Result<ExitCode> {
+/// Where no store was made in a folder.
+const NO_STORE: &str = "no store was made in this folder; `timestore format DIR` makes one";
+
+/// Where there is no folder.
+const NO_FOLDER: &str =
+    "there is no such folder; `mkdir DIR` makes one, and `timestore format DIR` a store in it";
+
+/// Says on standard error what to do. Nothing depends on whether this can be written.
+fn advise(rt: &impl Eprint, advice: Option<&str>) {
+    if let Some(text) = advice {
+        let _ = eprintln!(rt; "timestore: {text}");
+    }
+}
+
+/// Prints what `clap` has to say: help with status 0, a fault on standard error with status 2, and what to
+/// do about it.
+fn print_usage(rt: &(impl Print + Eprint), error: &Error, words: &[&str]) -> io::Result<ExitCode> {
     error.print(rt)?;
+    advise(rt, words_advice(error.kind(), words));
     Ok(if error.exit_code() == 0 {
         ExitCode::from(0)
     } else {
@@ -51,6 +69,31 @@ fn open_fault(fault: &FolderFault) -> OpenFault
         FolderFault::InUse { path: _ } => OpenFault::Device,
         FolderFault::System { path: _, cause: _ } => OpenFault::Device,
         FolderFault::NoMemory => OpenFault::NoMemory,
+    }
+}
+
+/// Whether a call was refused because what it names is not there.
+fn is_absent(cause: &io::Error) -> bool
+    ensures { IsTrue result ↔ (error_kind cause.now ≡ ErrorKind.NotFound) }
+{
+    cause.kind() == io::ErrorKind::NotFound
+}
+
+/// What to do about a folder that is not opened, if it is known.
+fn folder_advice(fault: &FolderFault) -> Option<&'static str>
+    ensures { IsAdvised (option_map (λ s. s.now) result) fault.now }
+{
+    match fault {
+        FolderFault::Missing { path: _, cause: _ } => Some(NO_STORE),
+        FolderFault::System { path: _, cause } => {
+            if is_absent(cause) {
+                Some(NO_FOLDER)
+            } else {
+                None
+            }
+        }
+        FolderFault::InUse { path: _ } => None,
+        FolderFault::NoMemory => None,
     }
 }
 
@@ -106,6 +149,7 @@ fn act_in<R: Files<File = File> + AllocGlobal + Eprint, I: LineInput, W: Write>(
         }
         Err(fault) => {
             let _ = eprintln!(rt; "timestore: {fault}");
+            advise(rt, folder_advice(&fault));
             refuse_folder(output, open_fault(&fault))
         }
     }
@@ -172,6 +216,9 @@ fn answer<R: Runtime + Files<File = File> + AllocGlobal + Threads + Wait + Sync>
         Need::Change(dir) => act_in(rt, action, dir, Access::Change, &mut input, &mut output),
         Need::Read(dir) => act_in(rt, action, dir, Access::Read, &mut input, &mut output),
     };
+    if status != 0 {
+        advise(rt, advice(&action));
+    }
     Ok(ExitCode::from(status))
 }
 
@@ -181,6 +228,6 @@ fn main(rt: HostRuntime) -> io::Result<ExitCode> {
     let texts = texts_of(alloc, &words)?;
     match read_words(alloc, texts.as_slice()) {
         Ok(matches) => answer(&rt, alloc, &matches),
-        Err(error) => print_usage(&rt, &error),
+        Err(error) => print_usage(&rt, &error, texts.as_slice()),
     }
 }

@@ -4,4 +4,4 @@ use Rattle.shell.proofs.DumpLemmas.{Written}
 use Rattle.shell.proofs.styled.spell_versions.Given as goal
 
 abbrev pub invariant-loop-row : goal.invariant-loop-row
-invariant-loop-row l = Written (IsRowLine l.style) (take l.row-index l.rows) (Some l.initial.text.items) (Some l.text.items)
+invariant-loop-row l = Written (IsRowLine l.style l.width) (take l.row-index l.rows) (Some l.initial.text.items) (Some l.text.items)
