@@ -4,6 +4,7 @@ pub mod Carrying
 pub mod Floors
 pub mod Fronts
 pub mod Archives
+pub mod Tokens
 pub mod Passes
 pub mod Counting
 pub mod Stepping

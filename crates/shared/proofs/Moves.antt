@@ -1,6 +1,6 @@
 -- What one call of the store leaves under the lock.
-use Rattle.std.proofs.Common.{◌≡◌, ℕ, ◌+◌, ◌<◌, ◌^◌, ◌≤◌, ◌==◌, nat_le, nat_lt, Bool, true, false, cond, is_some, List, [], ◌++◌, length, Option, None, Some}
-use Rattle.std.proofs.Common.{Result, Ok, Err, MatchBool, MatchOption, refl, sym, ap, ◌∙◌, subst, arith}
+use Rattle.std.proofs.Common.{◌≡◌, ℕ, ◌+◌, ◌<◌, ◌^◌, ◌≤◌, ◌==◌, nat_le, nat_lt, Bool, true, false, cond, is_some, List, [], ◌∷◌, ◌++◌, length}
+use Rattle.std.proofs.Common.{Option, None, Some, Result, Ok, Err, MatchBool, MatchOption, refl, sym, ap, ◌∙◌, subst, arith}
 use Rattle.std.specs.Prelude.{IsTrue}
 use Rattle.std.proofs.lemmas.Bool.Decides.{nat_tests}
 use Rattle.std.proofs.lemmas.List.{append-nil}
@@ -13,6 +13,7 @@ use Rattle.history.specs.Machine.{Machine}
 use Rattle.history.specs.Steps.{Step, Run, Began, Aborted, FloorStarted, begun, floor_started}
 use Rattle.history.specs.Submissions.{commit_made}
 use Rattle.law_image.specs.Values.{Value, IsValue}
+use Rattle.snapshot.specs.OpenTable.{with_opened, with_closed}
 use Rattle.snapshot.specs.Txn.{TxnValue, AreTxnWrites}
 use Rattle.group.specs.CommitOrder as orders
 use Rattle.group.specs.Tickets.{TicketValue}
@@ -70,6 +71,8 @@ use Rattle.law_refinement.proofs.Whole.{rest-goes}
 use Rattle.law_refinement.proofs.GrowingViews.{query-stands}
 use Rattle.shared.specs.Archives.{ArchiveSeen, IsArchiveLater, archive_seen, no_archive}
 use Rattle.shared.specs.Counts.{told_count, told_after}
+use Rattle.shared.specs.Moments.{TxnPassValue, GoesWith, token_of}
+use Rattle.shared.specs.Tokens.{Token, Tokens, no_tokens, IsOut, IsFree, AreOpen, without, taken_back}
 use Rattle.shared.specs.Reached.{Reached, opened, stepped}
 use Rattle.shared.specs.Seen.{Seen, SightValue, seen_of, IsLater}
 use Rattle.shared.specs.Shared.{IsShared, Submits, SubmitSays, SubmitHappens, FloorSays, FloorHappens, ArchiveSays, ArchiveHappens, ReclaimSays, ReclaimHappens}
@@ -77,17 +80,26 @@ use Rattle.shared.specs.Shared.{GrowthSays, GrowthHappens, queued_seen, pumped_s
 use Rattle.shared.proofs.Archives.{archive-same, archive-then, archive-first, archive-on}
 use Rattle.shared.proofs.Counting.{told-push, after-push, told-redeemed, after-redeemed, after-later, none-after}
 use Rattle.shared.proofs.Fronts.{last-seen, later-same}
+use Rattle.shared.proofs.Tokens.{given-open, taken-open, unopened-free, is-its_own}
 use Rattle.shared.proofs.Stepping.{follows, submit_seen, submit-seen, broken-seen, published-none, pump-seen, later-pumped, job-seen, later-done, later-job}
 
 -- what is known of an archive, by another name
 pub known : {a b c : ArchiveSeen} → b ≡ a → IsArchiveLater a c → IsArchiveLater b c
 known {a} {b} {c} is later = subst (λ (x : ArchiveSeen). IsArchiveLater x c) (sym is) later
 
+-- what is out is open, by another name
+still-open : (a b : Tokens) (places : List (Option ℕ)) → b ≡ a → AreOpen a.out places → AreOpen b.out places
+still-open a b places is are = subst (λ (x : Tokens). AreOpen x.out places) (sym is) are
+
+open-still : (out : List Token) (a b : List (Option ℕ)) → b ≡ a → AreOpen out a → AreOpen out b
+open-still out a b is are = subst (λ (x : List (Option ℕ)). AreOpen out x) (sym is) are
+
 -- the same under another pass of the writer's
 pub repass : (tells : Bool) (start : Machine Value) (brand : ℕ) (table : TableId) (v : StoreValue) (shares : ℕ) (at at' : TableId) (pass pass' : SightValue)
     → IsShared tells start brand table v shares at pass
-    → at' ≡ at → pass'.writes ≡ true → pass'.seen ≡ pass.seen → pass'.archive ≡ pass.archive → IsShared tells start brand table v shares at' pass'
-repass tells start brand table v shares at at' pass pass' h same on seen archive = record {
+    → at' ≡ at → pass'.writes ≡ true → pass'.seen ≡ pass.seen → pass'.archive ≡ pass.archive → pass'.tokens ≡ pass.tokens
+    → IsShared tells start brand table v shares at' pass'
+repass tells start brand table v shares at at' pass pass' h same on seen archive tokens = record {
   state = h.state;
   stands = h.stands;
   reached = h.reached;
@@ -98,13 +110,15 @@ repass tells start brand table v shares at at' pass pass' h same on seen archive
   seen = seen ∙ h.seen;
   archive = known archive h.archive;
   writes = on;
+  given = still-open pass.tokens pass'.tokens v.transactions.opened tokens h.given;
 }
 
 -- and where it knows the archive as it is now
 pub repass-known : (tells : Bool) (start : Machine Value) (brand : ℕ) (table : TableId) (v : StoreValue) (shares : ℕ) (at at' : TableId)
     (pass pass' : SightValue) → IsShared tells start brand table v shares at pass
-    → at' ≡ at → pass'.writes ≡ true → pass'.seen ≡ pass.seen → pass'.archive ≡ archive_seen tells v → IsShared tells start brand table v shares at' pass'
-repass-known tells start brand table v shares at at' pass pass' h same on seen archive = record {
+    → at' ≡ at → pass'.writes ≡ true → pass'.seen ≡ pass.seen → pass'.archive ≡ archive_seen tells v → pass'.tokens ≡ pass.tokens
+    → IsShared tells start brand table v shares at' pass'
+repass-known tells start brand table v shares at at' pass pass' h same on seen archive tokens = record {
   state = h.state;
   stands = h.stands;
   reached = h.reached;
@@ -115,14 +129,16 @@ repass-known tells start brand table v shares at at' pass pass' h same on seen a
   seen = seen ∙ h.seen;
   archive = known archive (archive-same (archive_seen tells v));
   writes = on;
+  given = still-open pass.tokens pass'.tokens v.transactions.opened tokens h.given;
 }
 
--- the machine's commits are as they were
-quiet : (tells : Bool) (start : Machine Value) (brand : ℕ) (table : TableId) (old new : StoreValue) (shares : ℕ) (at : TableId) (pass : SightValue)
+-- the machine's commits are as they were, under a pass that has other transactions out
+rested : (tells : Bool) (start : Machine Value) (brand : ℕ) (table : TableId) (old new : StoreValue) (shares : ℕ) (at at' : TableId) (pass pass' : SightValue)
     (h : IsShared tells start brand table old shares at pass) (after : Machine Value)
     → Stands tells new after → GoesOn tells old new → Reached start after → seen_of after ≡ seen_of h.state → new.transactions.mark ≡ old.transactions.mark
-    → new.transactions.heads ≡ old.transactions.heads → IsShared tells start brand table new shares at pass
-quiet tells start brand table old new shares at pass h after stands goes reached same mark heads = record {
+    → new.transactions.heads ≡ old.transactions.heads → at' ≡ at → pass'.writes ≡ true → pass'.seen ≡ pass.seen → pass'.archive ≡ pass.archive
+    → AreOpen pass'.tokens.out new.transactions.opened → IsShared tells start brand table new shares at' pass'
+rested tells start brand table old new shares at at' pass pass' h after stands goes reached same mark heads cell on seen archive given = record {
   state = after;
   stands = stands;
   reached = reached;
@@ -131,18 +147,30 @@ quiet tells start brand table old new shares at pass h after stands goes reached
   none_waits =
       ap (λ (l : List CommitHead). told_after (last after.published) l) heads ∙ ap (λ (s : Seen). told_after (last s.published) old.transactions.heads) same
       ∙ h.none_waits;
-  cell = h.cell;
-  seen = h.seen ∙ sym same;
-  archive = archive-then pass.archive (archive_seen tells old) (archive_seen tells new) h.archive (archive-on tells old new goes);
-  writes = h.writes;
+  cell = cell ∙ h.cell;
+  seen = seen ∙ h.seen ∙ sym same;
+  archive = known archive (archive-then pass.archive (archive_seen tells old) (archive_seen tells new) h.archive (archive-on tells old new goes));
+  writes = on;
+  given = given;
 }
+
+-- and under the same pass, where the same transactions are open
+quiet : (tells : Bool) (start : Machine Value) (brand : ℕ) (table : TableId) (old new : StoreValue) (shares : ℕ) (at : TableId) (pass : SightValue)
+    (h : IsShared tells start brand table old shares at pass) (after : Machine Value)
+    → Stands tells new after → GoesOn tells old new → Reached start after → seen_of after ≡ seen_of h.state → new.transactions.mark ≡ old.transactions.mark
+    → new.transactions.heads ≡ old.transactions.heads → new.transactions.opened ≡ old.transactions.opened
+    → IsShared tells start brand table new shares at pass
+quiet tells start brand table old new shares at pass h after stands goes reached same mark heads places =
+    rested tells start brand table old new shares at at pass pass h after stands goes reached same mark heads refl h.writes refl refl
+    (open-still pass.tokens.out old.transactions.opened new.transactions.opened places h.given)
 
 -- ---- opening
 
 pub begins : (tells : Bool) (start : Machine Value) (brand : ℕ) (table : TableId) (v : StoreValue) (total : ℕ) (at : TableId) (pass : SightValue)
     → Stands tells v start → v.transactions.mark ≡ brand → told_count v.transactions.heads ≡ length start.published → start.queue ≡ []
-    → total ≡ 0 → at ≡ table → pass.seen ≡ seen_of start → pass.archive ≡ no_archive → pass.writes ≡ true → IsShared tells start brand table v total at pass
-begins tells start brand table v total at pass stands mark fresh empty none cell seen archive writes = record {
+    → total ≡ 0 → at ≡ table → pass.seen ≡ seen_of start → pass.archive ≡ no_archive → pass.writes ≡ true → pass.tokens ≡ no_tokens
+    → IsShared tells start brand table v total at pass
+begins tells start brand table v total at pass stands mark fresh empty none cell seen archive writes tokens = record {
   state = start;
   stands = stands;
   reached = opened;
@@ -156,50 +184,88 @@ begins tells start brand table v total at pass stands mark fresh empty none cell
   seen = seen;
   archive = known archive (archive-first (archive_seen tells v));
   writes = writes;
+  given = still-open no_tokens pass.tokens v.transactions.opened tokens tt;
 }
 
 -- ---- transactions
 
-pub begin-keeps : (tells : Bool) (start : Machine Value) (brand : ℕ) (table : TableId) (old new : StoreValue) (shares : ℕ) (at : TableId) (pass : SightValue)
-    (r : Result TxnValue BeginFault) → IsShared tells start brand table old shares at pass → stores.Begins old r new
-    → IsShared tells start brand table new shares at pass
-begin-keeps tells start brand table old new shares at pass (Ok txn) h begins =
+-- the number of a transaction that begins is that of none that is out
+pub begin-fresh : (tells : Bool) (start : Machine Value) (brand : ℕ) (table : TableId) (old new : StoreValue) (shares : ℕ) (at : TableId) (pass : SightValue)
+    (txn : TxnValue) → IsShared tells start brand table old shares at pass → stores.Begins old (Ok txn) new → IsFree txn.number pass.tokens.out
+begin-fresh tells start brand table old new shares at pass txn h begins =
+    unopened-free pass.tokens.out old.transactions.opened txn.number h.given begins.transactions.fresh
+
+-- a transaction begins, and the writer's pass has given it out
+pub begin-gives : (tells : Bool) (start : Machine Value) (brand : ℕ) (table : TableId) (old new : StoreValue) (shares : ℕ) (at at' : TableId)
+    (pass pass' : SightValue) (txn : TxnValue) → IsShared tells start brand table old shares at pass → stores.Begins old (Ok txn) new → at' ≡ at
+    → pass'.writes ≡ true → pass'.seen ≡ pass.seen → pass'.archive ≡ pass.archive → pass'.tokens.out ≡ token_of txn ∷ pass.tokens.out
+    → IsShared tells start brand table new shares at' pass'
+begin-gives tells start brand table old new shares at at' pass pass' txn h begins cell on seen archive out =
     let did = begin-stands tells old new (Ok txn) h.state h.stands begins in
     let is = begins.transactions.new_is in
     let mark : new.transactions.mark ≡ old.transactions.mark = ap (λ (v : TransactionsValue). v.mark) is in
-    quiet tells start brand table old new shares at pass h (begun h.state) did.1 (rest-goes tells old new begins.rest mark)
-    (stepped (Began txn.snapshot) h.reached did.0) refl mark (ap (λ (v : TransactionsValue). v.heads) is)
-begin-keeps tells start brand table old new shares at pass (Err begin.NoMemory) h begins =
+    let free = begin-fresh tells start brand table old new shares at pass txn h begins in
+    let given = given-open pass.tokens.out old.transactions.opened (token_of txn) h.given free begins.transactions.within in
+    rested tells start brand table old new shares at at' pass pass' h (begun h.state) did.1 (rest-goes tells old new begins.rest mark)
+    (stepped (Began txn.snapshot) h.reached did.0) refl mark (ap (λ (v : TransactionsValue). v.heads) is) cell on seen archive
+    (subst (λ (o : List Token). AreOpen o new.transactions.opened) (sym out)
+    (open-still (token_of txn ∷ pass.tokens.out) (with_opened old.transactions.opened txn.number txn.snapshot) new.transactions.opened
+    (ap (λ (v : TransactionsValue). v.opened) is) given))
+
+-- or none does
+pub begin-keeps : (tells : Bool) (start : Machine Value) (brand : ℕ) (table : TableId) (old new : StoreValue) (shares : ℕ) (at : TableId) (pass : SightValue)
+    (why : BeginFault) → IsShared tells start brand table old shares at pass → stores.Begins old (Err why) new
+    → IsShared tells start brand table new shares at pass
+begin-keeps tells start brand table old new shares at pass begin.NoMemory h begins =
     let did = begin-stands tells old new (Err begin.NoMemory) h.state h.stands begins in
     let is = begins.transactions.1 in
     let mark : new.transactions.mark ≡ old.transactions.mark = ap (λ (v : TransactionsValue). v.mark) is in
     quiet tells start brand table old new shares at pass h h.state did.1 (rest-goes tells old new begins.rest mark) h.reached refl mark
-    (ap (λ (v : TransactionsValue). v.heads) is)
-begin-keeps tells start brand table old new shares at pass (Err begin.Failed) h begins =
+    (ap (λ (v : TransactionsValue). v.heads) is) (ap (λ (v : TransactionsValue). v.opened) is)
+begin-keeps tells start brand table old new shares at pass begin.Failed h begins =
     let did = begin-stands tells old new (Err begin.Failed) h.state h.stands begins in
     let is = begins.transactions.1 in
     let mark : new.transactions.mark ≡ old.transactions.mark = ap (λ (v : TransactionsValue). v.mark) is in
     quiet tells start brand table old new shares at pass h h.state did.1 (rest-goes tells old new begins.rest mark) h.reached refl mark
-    (ap (λ (v : TransactionsValue). v.heads) is)
+    (ap (λ (v : TransactionsValue). v.heads) is) (ap (λ (v : TransactionsValue). v.opened) is)
 
-over-heads : (v new : TransactionsValue) (number : ℕ) (b : Bool) → new ≡ cond b (over v number) v → (new.mark ≡ v.mark) × (new.heads ≡ v.heads)
-over-heads v new number true is = (ap (λ (x : TransactionsValue). x.mark) is, ap (λ (x : TransactionsValue). x.heads) is)
-over-heads v new number false is = (ap (λ (x : TransactionsValue). x.mark) is, ap (λ (x : TransactionsValue). x.heads) is)
+-- a transaction that is out is the store's own, by what the writer's pass has seen since it began
+pub its-own : (tells : Bool) (start : Machine Value) (brand : ℕ) (table : TableId) (v : StoreValue) (shares : ℕ) (at : TableId) (pass : SightValue)
+    (txn : TxnValue) (own : TxnPassValue) → IsShared tells start brand table v shares at pass → GoesWith start brand txn own → IsLater own.seen pass.seen
+    → IsOut pass.tokens.out own.token → AreTxnWrites txn.state txn.snapshot txn.writes → is_own v.transactions txn ≡ true
+its-own tells start brand table v shares at pass txn own h goes later out writes =
+    is-its_own start brand v.transactions h.state txn own pass.tokens.out h.stands.memory h.stands.machine h.mark h.given goes
+    (subst (λ (s : Seen). IsLater own.seen s) h.seen later) out writes
 
-pub abort-keeps : (tells : Bool) (start : Machine Value) (brand : ℕ) (table : TableId) (old new : StoreValue) (shares : ℕ) (at : TableId) (pass : SightValue)
-    (txn : TxnValue) → IsShared tells start brand table old shares at pass → stores.Aborts old txn new → IsShared tells start brand table new shares at pass
-abort-keeps tells start brand table old new shares at pass txn h aborts =
-    let kept = over-heads old.transactions new.transactions txn.number (is_own old.transactions txn) aborts.transactions in
-    by-own kept.0 kept.1 (is_own old.transactions txn) (abort-stands tells old new txn h.state h.stands aborts)
-  where
-    by-own : new.transactions.mark ≡ old.transactions.mark → new.transactions.heads ≡ old.transactions.heads → (b : Bool)
-        → MatchBool b ((after : Machine Value) × Step IsValue h.state (Aborted txn.snapshot) after × Stands tells new after) (Stands tells new h.state)
-        → IsShared tells start brand table new shares at pass
-    by-own mark heads true did =
-        quiet tells start brand table old new shares at pass h did.0 did.2 (rest-goes tells old new aborts.rest mark)
-        (stepped (Aborted txn.snapshot) h.reached did.1) (ap seen_of did.1.2) mark heads
-    by-own mark heads false did =
-        quiet tells start brand table old new shares at pass h h.state did (rest-goes tells old new aborts.rest mark) h.reached refl mark heads
+-- an own transaction is given up
+pub record Aborting (tells : Bool) (start : Machine Value) (m : Machine Value) (old new : StoreValue) (txn : TxnValue) : Type 0 where
+  pub after : Machine Value
+  pub step : Step IsValue m (Aborted txn.snapshot) after
+  pub stands : Stands tells new after
+  pub left : new.transactions ≡ over old.transactions txn.number
+
+pub aborting : (tells : Bool) (start : Machine Value) (m : Machine Value) (old new : StoreValue) (txn : TxnValue) → Stands tells old m
+    → is_own old.transactions txn ≡ true → stores.Aborts old txn new → Aborting tells start m old new txn
+aborting tells start m old new txn stands own aborts =
+    let did = subst (λ (b : Bool). MatchBool b ((after : Machine Value) × Step IsValue m (Aborted txn.snapshot) after × Stands tells new after)
+    (Stands tells new m)) own (abort-stands tells old new txn m stands aborts) in
+    let left = subst (λ (b : Bool). new.transactions ≡ cond b (over old.transactions txn.number) old.transactions) own aborts.transactions in
+    record { after = did.0; step = did.1; stands = did.2; left = left }
+
+-- once the writer's pass has taken it back
+pub abort-keeps : (tells : Bool) (start : Machine Value) (brand : ℕ) (table : TableId) (old new : StoreValue) (shares : ℕ) (at at' : TableId)
+    (pass pass' : SightValue) (txn : TxnValue) (own : Option Token) (h : IsShared tells start brand table old shares at pass)
+    → stores.Aborts old txn new → Aborting tells start h.state old new txn → own ≡ Some (token_of txn) → at' ≡ at → pass'.writes ≡ true
+    → pass'.seen ≡ pass.seen → pass'.archive ≡ pass.archive → pass'.tokens.out ≡ taken_back pass.tokens.out own
+    → IsShared tells start brand table new shares at' pass'
+abort-keeps tells start brand table old new shares at at' pass pass' txn own h aborts a goes cell on seen archive out =
+    let mark : new.transactions.mark ≡ old.transactions.mark = ap (λ (v : TransactionsValue). v.mark) a.left in
+    let taken = taken-open pass.tokens.out old.transactions.opened txn.number h.given in
+    rested tells start brand table old new shares at at' pass pass' h a.after a.stands (rest-goes tells old new aborts.rest mark)
+    (stepped (Aborted txn.snapshot) h.reached a.step) (ap seen_of a.step.2) mark (ap (λ (v : TransactionsValue). v.heads) a.left) cell on seen archive
+    (subst (λ (o : List Token). AreOpen o new.transactions.opened) (sym (out ∙ ap (taken_back pass.tokens.out) goes))
+    (open-still (without txn.number pass.tokens.out) (with_closed old.transactions.opened txn.number) new.transactions.opened
+    (ap (λ (v : TransactionsValue). v.opened) a.left) taken))
 
 -- ---- submits
 
@@ -277,6 +343,19 @@ left-counts v new t label (Err refused.Failed) left =
     counts-same v new (ap (λ (x : TransactionsValue). x.mark) left) (ap (λ (x : TransactionsValue). x.heads) left)
 left-counts v new t label (Err refused.Stranger) left = absurd left
 
+-- the transaction is open no more, and the others are
+left-opened : (v new : TransactionsValue) (t : TxnValue) (label : ℕ) (r : Result Submitted SubmitFault) → LeftBySubmit (over v t.number) t label r new
+    → new.opened ≡ with_closed v.opened t.number
+left-opened v new t label (Ok (submitted.ReadOnly at)) left = ap (λ (x : TransactionsValue). x.opened) left.1
+left-opened v new t label (Ok (submitted.Queued ticket)) left = ap (λ (x : TransactionsValue). x.opened) left.1.new_is
+left-opened v new t label (Err (refused.Conflict key)) left = ap (λ (x : TransactionsValue). x.opened) left
+left-opened v new t label (Err refused.HeapFull) left = ap (λ (x : TransactionsValue). x.opened) left
+left-opened v new t label (Err refused.StatusFull) left = ap (λ (x : TransactionsValue). x.opened) left
+left-opened v new t label (Err refused.ClockEnd) left = ap (λ (x : TransactionsValue). x.opened) left
+left-opened v new t label (Err refused.NoMemory) left = ap (λ (x : TransactionsValue). x.opened) left
+left-opened v new t label (Err refused.Failed) left = ap (λ (x : TransactionsValue). x.opened) left
+left-opened v new t label (Err refused.Stranger) left = absurd left
+
 -- what the answer says of an own transaction's submit
 left-says : (brand : ℕ) (v new : TransactionsValue) (m after : Machine Value) (t : TxnValue) (label now : ℕ) (r : Result Submitted SubmitFault) → v.mark ≡ brand
     → LeftBySubmit (over v t.number) t label r new → StandsInMemory new after
@@ -286,7 +365,7 @@ left-says brand v new m after t label now (Ok (submitted.Queued ticket)) mark le
     (left.0 ∙ mark, ticket-time (over v t.number) new m after t label now ticket left.1 stands step)
 left-says brand v new m after t label now (Err why) mark left stands step = tt
 
--- what a submit leaves, of an own transaction or of a stranger
+-- what a submit of an own transaction leaves
 pub record SubmitLeaves (tells : Bool) (start : Machine Value) (brand : ℕ) (m : Machine Value) (old new : StoreValue) (t : TxnValue) (label now : ℕ)
     (r : Result Submitted SubmitFault) : Type 0 where
   pub after : Machine Value
@@ -294,15 +373,16 @@ pub record SubmitLeaves (tells : Bool) (start : Machine Value) (brand : ℕ) (m 
   pub reached : Reached start after
   pub noted_is : seen_of after ≡ noted r (seen_of m) label t.writes
   pub counts : KeepsCounts old.transactions new.transactions
+  pub opened : new.transactions.opened ≡ with_closed old.transactions.opened t.number
   pub goes : GoesOn tells old new
   pub happens : SubmitHappens start brand t label now r (seen_of after)
 
 pub submit-leaves : (tells : Bool) (start : Machine Value) (brand : ℕ) (m : Machine Value) (old new : StoreValue) (t : TxnValue) (label now : ℕ)
     (r : Result Submitted SubmitFault) → Stands tells old m → Reached start m → old.transactions.mark ≡ brand → AreTxnWrites t.state t.snapshot t.writes
-    → label < 2 ^ 64 → stores.Submits old t label now r new
+    → label < 2 ^ 64 → is_own old.transactions t ≡ true → stores.Submits old t label now r new
     → SubmitLeaves tells start brand m old new t label now r
-submit-leaves tells start brand m old new t label now r stands reached mark are range does =
-    by-own (is_own old.transactions t) (submitting tells old new m t label now r stands are range does (is_own old.transactions t) refl)
+submit-leaves tells start brand m old new t label now r stands reached mark are range is_its_own does =
+    by-result r (submitting tells old new m t label now r stands are range does true is_its_own)
   where
     own : (x : Result Submitted SubmitFault) → Submitting tells old new m t label now x
         → ((after : Machine Value) → Submits start brand t label now x (seen_of after) → SubmitHappens start brand t label now x (seen_of after))
@@ -317,6 +397,7 @@ submit-leaves tells start brand m old new t label now r stands reached mark are 
           reached = stepped ev reached s.step;
           noted_is = submit-seen m s.after (submission_of t label now) x s.step ∙ noted-seen x (seen_of m) c label t.writes brand t.snapshot says refl;
           counts = left-counts old.transactions new.transactions t label x s.left;
+          opened = left-opened old.transactions new.transactions t label x s.left;
           goes = rest-goes tells old new does.rest (left-counts old.transactions new.transactions t label x s.left).mark;
           happens = tells_so s.after (record { before = m; after = s.after; reached = reached; step = s.step; seen_is = refl; says = says });
         }
@@ -332,23 +413,6 @@ submit-leaves tells start brand m old new t label now r stands reached mark are 
     by-result (Err refused.Failed) s = own (Err refused.Failed) s (λ after d. d)
     by-result (Err refused.Stranger) s = absurd s.left
 
-    stranger : SubmitLeaves tells start brand m old new t label now (Err refused.Stranger) → r ≡ Err refused.Stranger
-        → SubmitLeaves tells start brand m old new t label now r
-    stranger s is = subst (λ (x : Result Submitted SubmitFault). SubmitLeaves tells start brand m old new t label now x) (sym is) s
-
-    by-own : (b : Bool) → MatchBool b (Submitting tells old new m t label now r) ((r ≡ Err refused.Stranger) × (new.transactions ≡ old.transactions)
-        × Stands tells new m) → SubmitLeaves tells start brand m old new t label now r
-    by-own true s = by-result r s
-    by-own false s = stranger (record {
-      after = m;
-      stands = s.2;
-      reached = reached;
-      noted_is = refl;
-      counts = counts-same old.transactions new.transactions (ap (λ (v : TransactionsValue). v.mark) s.1) (ap (λ (v : TransactionsValue). v.heads) s.1);
-      goes = rest-goes tells old new does.rest (ap (λ (v : TransactionsValue). v.mark) s.1);
-      happens = (m, reached, refl);
-    }) s.0
-
 -- what the pass has noted is what is seen of the machine
 pub noted-is : (tells : Bool) (start : Machine Value) (brand : ℕ) (m : Machine Value) (old new : StoreValue) (t : TxnValue) (label now : ℕ)
     (r : Result Submitted SubmitFault) (seen : Seen) (writes : List (KeyWrite Value)) (s : SubmitLeaves tells start brand m old new t label now r)
@@ -359,8 +423,9 @@ noted-is tells start brand m old new t label now r seen writes s same is =
 pub submit-keeps : (tells : Bool) (start : Machine Value) (brand : ℕ) (table : TableId) (old new : StoreValue) (shares : ℕ) (at at' : TableId)
     (pass pass' : SightValue) (t : TxnValue) (label now : ℕ) (r : Result Submitted SubmitFault) (h : IsShared tells start brand table old shares at pass)
     → (s : SubmitLeaves tells start brand h.state old new t label now r) → at' ≡ table → pass'.writes ≡ true → pass'.seen ≡ seen_of s.after → pass'.archive
-    ≡ pass.archive → IsShared tells start brand table new shares at' pass'
-submit-keeps tells start brand table old new shares at at' pass pass' t label now r h s cell on seen archive =
+    ≡ pass.archive → (own : Option Token) → own ≡ Some (token_of t) → pass'.tokens.out ≡ taken_back pass.tokens.out own
+    → IsShared tells start brand table new shares at' pass'
+submit-keeps tells start brand table old new shares at at' pass pass' t label now r h s cell on seen archive own goes out =
     let published : s.after.published ≡ h.state.published = ap (λ (x : Seen). x.published) s.noted_is ∙ noted-published r (seen_of h.state) label t.writes in
     record {
       state = s.after;
@@ -373,6 +438,9 @@ submit-keeps tells start brand table old new shares at at' pass pass' t label no
       seen = seen;
       archive = known archive (archive-then pass.archive (archive_seen tells old) (archive_seen tells new) h.archive (archive-on tells old new s.goes));
       writes = on;
+      given = subst (λ (o : List Token). AreOpen o new.transactions.opened) (sym (out ∙ ap (taken_back pass.tokens.out) goes))
+          (open-still (without t.number pass.tokens.out) (with_closed old.transactions.opened t.number) new.transactions.opened s.opened
+          (taken-open pass.tokens.out old.transactions.opened t.number h.given));
     }
 
 -- ---- steps of groups and jobs
@@ -386,6 +454,7 @@ pub record Pumped (tells : Bool) (start : Machine Value) (m : Machine Value) (ol
   pub seen : seen_of after ≡ pumped_seen r (seen_of m)
   pub mark : new.transactions.mark ≡ old.transactions.mark
   pub heads : new.transactions.heads ≡ old.transactions.heads
+  pub opened : new.transactions.opened ≡ old.transactions.opened
   pub goes : GoesOn tells old new
 
 pub pumped : (tells : Bool) (start : Machine Value) (m : Machine Value) (old new : StoreValue) (r : Result Did PumpFault) → Reached start m → Stands tells old m
@@ -406,6 +475,7 @@ pumped tells start m old new r reached stands sound pumps =
           ∙ ap (λ (s : Seen). record s { failed = true }) (published-none (seen_of m)));
       mark = mark;
       heads = heads;
+      opened = (pump-leaves tells old new r pumps).opened;
       goes = pump-goes tells old new r m stands pumps;
     }
     by-failure mark heads false is did = record {
@@ -416,15 +486,16 @@ pumped tells start m old new r reached stands sound pumps =
       seen = pump-seen m did.0 r did.1;
       mark = mark;
       heads = heads;
+      opened = (pump-leaves tells old new r pumps).opened;
       goes = pump-goes tells old new r m stands pumps;
     }
 
 -- once the pass has gone on
 pub pump-publishes : (tells : Bool) (start : Machine Value) (brand : ℕ) (table : TableId) (old new : StoreValue) (shares : ℕ) (at at' : TableId)
     (pass pass' : SightValue) (r : Result Did PumpFault) (h : IsShared tells start brand table old shares at pass) → Pumped tells start h.state old new r
-    → at' ≡ table → pass'.writes ≡ true → pass'.seen ≡ pumped_seen r (seen_of h.state) → pass'.archive ≡ pass.archive
+    → at' ≡ table → pass'.writes ≡ true → pass'.seen ≡ pumped_seen r (seen_of h.state) → pass'.archive ≡ pass.archive → pass'.tokens ≡ pass.tokens
     → IsShared tells start brand table new shares at' pass'
-pump-publishes tells start brand table old new shares at at' pass pass' r h p cell on seen archive =
+pump-publishes tells start brand table old new shares at at' pass pass' r h p cell on seen archive tokens =
     let later' : IsLater (seen_of h.state) (seen_of p.after) =
     subst (λ (s : Seen). IsLater (seen_of h.state) s) (sym p.seen) (later-pumped r (seen_of h.state)) in
     let rises : last h.state.published ≤ last p.after.published = last-seen (seen_of h.state) (seen_of p.after) p.stands.machine.history later' in
@@ -441,6 +512,8 @@ pump-publishes tells start brand table old new shares at at' pass pass' r h p ce
       seen = seen ∙ sym p.seen;
       archive = known archive (archive-then pass.archive (archive_seen tells old) (archive_seen tells new) h.archive (archive-on tells old new p.goes));
       writes = on;
+      given = still-open pass.tokens pass'.tokens new.transactions.opened tokens
+          (open-still pass.tokens.out old.transactions.opened new.transactions.opened p.opened h.given);
     }
 
 -- what the beginning of an archive answers
@@ -495,7 +568,7 @@ pub archive-begins : (tells : Bool) (start : Machine Value) (brand : ℕ) (table
 archive-begins tells start brand table old new shares at pass upto r h starts =
     let left = start-leaves old new upto r starts in (
       quiet tells start brand table old new shares at pass h h.state (archive-start-stands tells old new upto r h.state h.stands starts)
-          (archive-start-goes tells old new upto r h.state h.stands starts) h.reached refl left.mark left.heads,
+          (archive-start-goes tells old new upto r h.state h.stands starts) h.reached refl left.mark left.heads left.opened,
       (h.state, h.reached, h.seen, archive-says old new upto h.state r h.stands.memory starts),
     )
 
@@ -549,7 +622,7 @@ pub reclaim-begins : (tells : Bool) (start : Machine Value) (brand : ℕ) (table
 reclaim-begins tells start brand table old new shares at pass r h starts =
     let left = reclaim-leaves old new r starts in (
       quiet tells start brand table old new shares at pass h h.state (reclaim-start-stands tells old new r h.state h.stands starts)
-          (reclaim-start-goes tells old new r h.state h.stands starts) h.reached refl left.mark left.heads,
+          (reclaim-start-goes tells old new r h.state h.stands starts) h.reached refl left.mark left.heads left.opened,
       (h.state, h.reached, h.seen, reclaim-says old new h.state r h.stands.memory starts),
     )
 
@@ -573,7 +646,7 @@ floor-begins tells start brand table old new shares at pass scope floor r h star
     goes = floor-start-goes tells old new scope floor r h.state h.stands starts
 
     same : Stands tells new h.state → IsShared tells start brand table new shares at pass
-    same stands = quiet tells start brand table old new shares at pass h h.state stands goes h.reached refl left.mark left.heads
+    same stands = quiet tells start brand table old new shares at pass h h.state stands goes h.reached refl left.mark left.heads left.opened
 
     works : (x : Result (Unit {0}) StartFault) → r ≡ x → (x ≡ Err fault.Failed → ⊥) → h.state.failed ≡ false
     works x is other = sym h.stands.memory.failed ∙ first-works old.transactions.failed _ _ r old new starts (λ failed. other (sym is ∙ failed))
@@ -582,7 +655,7 @@ floor-begins tells start brand table old new shares at pass scope floor r h star
         → IsShared tells start brand table new shares at pass × FloorSays h.state (raising_to scope floor) x
     by-answer (Ok done) is did = (
       quiet tells start brand table old new shares at pass h (floor_started h.state (raising_to scope floor)) did.1 goes
-          (stepped (FloorStarted (raising_to scope floor)) h.reached did.0) refl left.mark left.heads,
+          (stepped (FloorStarted (raising_to scope floor)) h.reached did.0) refl left.mark left.heads left.opened,
       did.0,
     )
     by-answer (Err fault.NothingToDo) is did = (same did.1, did.0)
@@ -623,7 +696,7 @@ pub growth-begins : (tells : Bool) (start : Machine Value) (brand : ℕ) (table 
 growth-begins tells start brand table old new shares at pass r h starts =
     let left = grow-leaves old new r starts in (
       quiet tells start brand table old new shares at pass h h.state (grow-start-stands tells old new r h.state h.stands starts)
-          (grow-start-goes tells old new r h.state h.stands starts) h.reached refl left.mark left.heads,
+          (grow-start-goes tells old new r h.state h.stands starts) h.reached refl left.mark left.heads left.opened,
       (h.state, h.reached, h.seen, growth-says old new h.state r h.stands.memory.failed starts),
     )
 
@@ -679,8 +752,8 @@ pub job-keeps : (tells : Bool) (start : Machine Value) (brand : ℕ) (table : Ta
     (pass pass' : SightValue) (r : Result JobDid PumpFault) (h : IsShared tells start brand table old shares at pass) (raising : Option Raising)
     → raising_of old.job ≡ raising
     → JobPumped tells start h.state old new r → at' ≡ at → pass'.writes ≡ true → pass'.seen ≡ job_seen r raising pass.seen → pass'.archive ≡ pass.archive
-    → IsShared tells start brand table new shares at' pass'
-job-keeps tells start brand table old new shares at at' pass pass' r h raising is p same on seen archive =
+    → pass'.tokens ≡ pass.tokens → IsShared tells start brand table new shares at' pass'
+job-keeps tells start brand table old new shares at at' pass pass' r h raising is p same on seen archive tokens =
     let later : IsLater (seen_of h.state) (seen_of p.after) =
     subst (λ (s : Seen). IsLater (seen_of h.state) s) (sym p.seen) (later-job r (raising_of old.job) (seen_of h.state) p.later) in
     let rises : last h.state.published ≤ last p.after.published = last-seen (seen_of h.state) (seen_of p.after) p.stands.machine.history later in
@@ -697,6 +770,8 @@ job-keeps tells start brand table old new shares at at' pass pass' r h raising i
       seen = seen ∙ ap (job_seen r raising) h.seen ∙ ap (λ (o : Option Raising). job_seen r o (seen_of h.state)) (sym is) ∙ sym p.seen;
       archive = known archive (archive-then pass.archive (archive_seen tells old) (archive_seen tells new) h.archive (archive-on tells old new p.goes));
       writes = on;
+      given = still-open pass.tokens pass'.tokens new.transactions.opened tokens
+          (open-still pass.tokens.out old.transactions.opened new.transactions.opened p.left.opened h.given);
     }
 
 -- ---- queries
@@ -720,7 +795,7 @@ query-keeps tells start brand table old new shares at pass view from Refuses Rec
     let on = query-stands tells old new h.state view from Refuses Recent OfHistory Exact answer h.stands says in
     let same = asked-same tells old new view from Refuses Recent OfHistory Exact answer says in
     quiet tells start brand table old new shares at pass h h.state on.0 on.1 h.reached refl (ap (λ (v : TransactionsValue). v.mark) same)
-    (ap (λ (v : TransactionsValue). v.heads) same)
+    (ap (λ (v : TransactionsValue). v.heads) same) (ap (λ (v : TransactionsValue). v.opened) same)
 
 -- ---- tickets
 
@@ -735,7 +810,7 @@ redeem-keeps tells start brand table old new shares at pass k r h redeems =
     same x none is stands = subst (λ (n : ℕ). IsShared tells start brand table new n at pass) (omega (arith, none))
         (quiet tells start brand table old new shares at pass h h.state stands
         (rest-goes tells old new redeems.rest (ap (λ (v : TransactionsValue). v.mark) is)) h.reached refl (ap (λ (v : TransactionsValue). v.mark) is)
-        (ap (λ (v : TransactionsValue). v.heads) is))
+        (ap (λ (v : TransactionsValue). v.heads) is) (ap (λ (v : TransactionsValue). v.opened) is))
 
     by-result : (x : Redeemed) → LeftByRedeem old.transactions k x new.transactions → Stands tells new h.state
         → IsShared tells start brand table new (shares + done_in x) at pass
@@ -759,6 +834,7 @@ redeem-keeps tells start brand table old new shares at pass k r h redeems =
               archive-then pass.archive (archive_seen tells old) (archive_seen tells new) h.archive
               (archive-on tells old new (rest-goes tells old new redeems.rest (ap (λ (v : TransactionsValue). v.mark) left.3)));
           writes = h.writes;
+          given = open-still pass.tokens.out old.transactions.opened new.transactions.opened (ap (λ (v : TransactionsValue). v.opened) left.3) h.given;
         }
     by-result (redeemed.Waiting back) left stands = same (redeemed.Waiting back) refl left.1 stands
     by-result redeemed.InDoubt left stands = same redeemed.InDoubt refl left stands

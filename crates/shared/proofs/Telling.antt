@@ -1,5 +1,5 @@
 -- What the calls under the lock tell their callers.
-use Rattle.std.proofs.Common.{◌≡◌, ℕ, ◌<◌, ◌==◌, nat_le, Bool, true, false, cond, ◌+◌, List, length, Result, Ok, Err, MatchBool, inl, inr, refl, sym, ap, ◌∙◌}
+use Rattle.std.proofs.Common.{◌≡◌, ℕ, ◌<◌, ◌==◌, nat_le, Bool, true, false, cond, ◌+◌, List, length, Result, Ok, Err, MatchBool, refl, sym, ap, ◌∙◌}
 use Rattle.std.proofs.Common.{subst, arith}
 use Rattle.std.specs.Prelude.{IfOk}
 use Rattle.std.proofs.lemmas.Bool.Decides.{nat_tests}
@@ -10,9 +10,8 @@ use Rattle.atomic_table.specs.Seated.{TableId}
 use Rattle.history.specs.Answers as answers
 use Rattle.history.specs.Histories.{last}
 use Rattle.history.specs.Machine.{Machine}
-use Rattle.history.specs.Steps.{Step, Aborted}
 use Rattle.history.proofs.Tickets.{done-published}
-use Rattle.law_image.specs.Values.{Value, IsValue}
+use Rattle.law_image.specs.Values.{Value}
 use Rattle.chains.specs.KeyWrites.{KeyWrites}
 use Rattle.snapshot.specs.Txn.{TxnValue, at_snapshot}
 use Rattle.group.specs.Tickets.{TicketValue}
@@ -24,23 +23,22 @@ use Rattle.timequery.specs.View.{ViewValue}
 use Rattle.group.specs.Calls as calls
 use Rattle.group.specs.CommitOrder.{is_awaited}
 use Rattle.group.specs.declared.commit_order.TicketState.TheVariants as ticket_state
-use Rattle.group.specs.Values.{is_own}
 use Rattle.store.specs.Values.{StoreValue}
 use Rattle.store.specs.Calls as stores
 use Rattle.law_refinement.specs.Laws.{RedeemsAs}
 use Rattle.law_refinement.specs.Leaving.{LeftByRedeem}
-use Rattle.law_refinement.specs.Stands.{Stands}
 use Rattle.law_refinement.proofs.Told.{redeeming}
 use Rattle.law_refinement.proofs.Answering.{times-of_label}
 use Rattle.law_refinement.proofs.Views.{view-of-history}
 use Rattle.law_refinement.proofs.Memory.{last-is, begun-sees}
-use Rattle.law_refinement.proofs.GrowingCalls.{begin-stands, abort-stands, redeem-stands}
+use Rattle.law_refinement.proofs.GrowingCalls.{begin-stands, redeem-stands}
 use Rattle.shared.specs.Archives.{ArchiveSeen, ReadsArchive, archive_seen}
 use Rattle.shared.specs.Counts.{told_after, unredeemed}
 use Rattle.shared.specs.Seen.{Seen, SightValue, seen_of}
 use Rattle.shared.specs.Shared.{IsShared, Shows, BeginHappens, AbortHappens, HasCommitAt, RedeemSays, SeenReached}
 use Rattle.shared.proofs.Archives.{reads-taken}
 use Rattle.shared.proofs.Counting.{published-count}
+use Rattle.shared.proofs.Moves.{Aborting}
 use Rattle.shared.proofs.Awaiting.{queue-awaited}
 
 pub shows : (tells : Bool) (start : Machine Value) (brand : ℕ) (table : TableId) (v : StoreValue) (shares : ℕ) (at : TableId) (pass : SightValue)
@@ -84,17 +82,12 @@ begin-happens tells start brand table v new shares at pass seen (Err begin.Faile
       ∙ (begin-stands tells v new (Err begin.Failed) h.state h.stands begins).0.0,
 )
 
--- an own transaction is over, and a stranger is only spent
+-- an own transaction is given up
 pub abort-happens : (tells : Bool) (start : Machine Value) (brand : ℕ) (table : TableId) (v new : StoreValue) (shares : ℕ) (at : TableId) (pass : SightValue)
-    (seen : Seen) (t : TxnValue) → IsShared tells start brand table v shares at pass → seen ≡ pass.seen → stores.Aborts v t new
+    (seen : Seen) (t : TxnValue) (h : IsShared tells start brand table v shares at pass) → seen ≡ pass.seen → Aborting tells start h.state v new t
     → AbortHappens start t.snapshot seen
-abort-happens tells start brand table v new shares at pass seen t h same aborts =
-    by-own (is_own v.transactions t) (abort-stands tells v new t h.state h.stands aborts)
-  where
-    by-own : (b : Bool) → MatchBool b ((after : Machine Value) × Step IsValue h.state (Aborted t.snapshot) after
-        × Stands tells new after) (Stands tells new h.state) → AbortHappens start t.snapshot seen
-    by-own true did = inl (record { before = h.state; after = did.0; reached = h.reached; step = did.1; seen_is = same ∙ h.seen ∙ sym (ap seen_of did.1.2) })
-    by-own false did = inr (h.state, h.reached, same ∙ h.seen)
+abort-happens tells start brand table v new shares at pass seen t h same a =
+    record { before = h.state; after = a.after; reached = h.reached; step = a.step; seen_is = same ∙ h.seen ∙ sym (ap seen_of a.step.2) }
 
 -- a ticket that is not redeemed yet is of a commit later than those that are published
 abbrev Late : StoreValue → TicketValue → Redeemed → Type 0

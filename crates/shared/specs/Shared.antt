@@ -41,11 +41,13 @@ use Rattle.shared.specs.Counts.{told_count, told_after}
 use Rattle.shared.specs.Moments.{OfSeen}
 use Rattle.shared.specs.Reached.{Reached}
 use Rattle.shared.specs.Seen.{Seen, SightValue, floors_listed, floor_in, seen_of}
+use Rattle.shared.specs.Tokens.{AreOpen}
 
 -- ---- the value under the lock
 
 -- The store stands for a state that steps of the machine lead to. The commits for which Done was answered since opening are those in the shares, and none of
--- them waits. The pass is the cell's writer, and has seen all commits and the floors; what it knows of the archive is there still.
+-- them waits. The pass is the cell's writer, and has seen all commits and the floors; what it knows of the archive is there still, and the transactions
+-- that it gave out are open.
 pub record IsShared (tells : Bool) (start : Machine Value) (brand : ℕ) (table : TableId) (store : StoreValue) (shares : ℕ) (at : TableId) (pass : SightValue) :
     Type 0 where
   pub state : Machine Value
@@ -58,6 +60,7 @@ pub record IsShared (tells : Bool) (start : Machine Value) (brand : ℕ) (table 
   pub seen : pass.seen ≡ seen_of state
   pub archive : IsArchiveLater pass.archive (archive_seen tells store)
   pub writes : pass.writes ≡ true
+  pub given : AreOpen pass.tokens.out store.transactions.opened
 
 -- ---- what was seen
 
@@ -154,16 +157,13 @@ BeginHappens start brand (Ok txn) seen = Reads start brand txn seen
 BeginHappens start brand (Err begin.NoMemory) seen = SeenReached start seen
 BeginHappens start brand (Err begin.Failed) seen = SeenReached start seen × (seen.failed ≡ true)
 
--- At a state that steps lead to one transaction of this snapshot is over, and what follows was seen. A stranger is only spent.
-pub record IsOver (start : Machine Value) (snapshot : ℕ) (seen : Seen) : Type 0 where
+-- At a state that steps lead to a transaction of this snapshot is given up, and what follows was seen.
+pub record AbortHappens (start : Machine Value) (snapshot : ℕ) (seen : Seen) : Type 0 where
   pub before : Machine Value
   pub after : Machine Value
   pub reached : Reached start before
   pub step : Step IsValue before (Aborted snapshot) after
   pub seen_is : seen ≡ seen_of after
-
-abbrev pub AbortHappens : Machine Value → ℕ → Seen → Type 0
-AbortHappens start snapshot seen = IsOver start snapshot seen ⊎ SeenReached start seen
 
 -- ---- submits
 
@@ -182,9 +182,9 @@ pub record Submits (start : Machine Value) (brand : ℕ) (txn : TxnValue) (label
   pub seen_is : seen ≡ seen_of after
   pub says : SubmitSays brand txn.snapshot (commit_made before (submission_of txn label now)).time result
 
--- a stranger changes nothing
+-- no transaction that the store gave out is a stranger to it
 abbrev pub SubmitHappens : Machine Value → ℕ → TxnValue → ℕ → ℕ → Result Submitted SubmitFault → Seen → Type 0
-SubmitHappens start brand txn label now (Err refused.Stranger) seen = SeenReached start seen
+SubmitHappens start brand txn label now (Err refused.Stranger) seen = ⊥
 SubmitHappens start brand txn label now result seen = Submits start brand txn label now result seen
 
 -- ---- steps of groups and jobs

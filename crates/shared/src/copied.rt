@@ -107,7 +107,7 @@ pub(crate) fn apply(
 ) -> Result<(), TxnFault>
     ensures ok { OnOk result (txn.new.writes ≡ written (at_snapshot txn.old.state txn.old.snapshot) txn.old.writes writes.now) }
     ensures err { IfErr result (AreBarred (at_snapshot txn.old.state txn.old.snapshot) txn.old.writes writes.now) }
-    ensures snapshot { txn.new.snapshot ≡ txn.old.snapshot }
+    ensures kept { txn.new ≡ record txn.old { writes = txn.new.writes } }
 {
     for write in writes {
         make_change(alloc, txn, write)?;

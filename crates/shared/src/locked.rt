@@ -18,9 +18,10 @@ ghost use Rattle.store.specs.Pumps.{Pumps};
 ghost use Rattle.store.specs.Reclaims.{StartsReclaim};
 ghost use Rattle.shared.specs.Archives.{no_archive};
 ghost use Rattle.shared.specs.Counts.{told_count, unredeemed};
-ghost use Rattle.shared.specs.Moments.{OfSeen};
+ghost use Rattle.shared.specs.Moments.{OfSeen, GoesWith, begun_txn};
 ghost use Rattle.shared.specs.Reached.{Reached};
 ghost use Rattle.shared.specs.Seen.{IsLater, seen_of};
+ghost use Rattle.shared.specs.Tokens.{no_tokens};
 ghost use Rattle.shared.specs.Shared.{BeginHappens, AbortHappens, SubmitHappens, SeenReached, PumpHappens, JobHappens, FloorHappens, ArchiveHappens};
 ghost use Rattle.shared.specs.Shared.{ReclaimHappens, GrowthHappens, RedeemSays, done_in};
 
@@ -32,8 +33,10 @@ use crate::noting::{
     count_done, has_failed, note_archive, note_failed, note_job, note_published, note_queued,
 };
 use crate::observer::Observer;
+use crate::shared_txn::SharedTxn;
 use crate::shared_view::{SharedView, taken_at};
 use crate::signals::Signals;
+use crate::txn_pass::TxnPass;
 use disk::Disk;
 use history::{Key, Version};
 use std::alloc::AllocError;
@@ -77,7 +80,8 @@ impl<D: Disk, L: Opening> Locked<D, L> {
         requires queue { L.start.queue ≡ [] }
         requires book { book.total ≡ 0 }
         requires cell { writer.table_id ≡ L.table }
-        requires writer { ((cell_view writer).seen ≡ seen_of L.start) × ((cell_view writer).archive ≡ no_archive) × ((cell_view writer).writes ≡ true) }
+        requires writer { ((cell_view writer).seen ≡ seen_of L.start) × ((cell_view writer).archive ≡ no_archive) × ((cell_view writer).writes ≡ true)
+            × ((cell_view writer).tokens ≡ no_tokens) }
         ensures { result ≡ store }
     {
         Locked {
@@ -122,32 +126,42 @@ impl<D: Disk, L: Opening> Locked<D, L> {
         rt: &R,
         cell: &PublishedCell,
         me: &mut Observer<L>,
-    ) -> Result<Txn, BeginFault>
+    ) -> Result<SharedTxn<L>, BeginFault>
         requires { cell.now.table.shared.table_id ≡ L.table }
-        ensures is { Begins self.old result self.new }
-        ensures happens { BeginHappens L.start L.mark result me.new }
+        ensures is { Begins self.old (begun_txn result) self.new }
+        ensures happens { BeginHappens L.start L.mark (begun_txn result) me.new }
+        ensures moment { IfOk result (λ t. t.seen ≡ me.new) }
         ensures later { IsLater me.old me.new }
     {
         me.meet(rt, cell, &mut self.writer);
-        self.store.begin()
+        match self.store.begin() {
+            Ok(txn) => {
+                let (number, snapshot) = (txn.number(), txn.snapshot());
+                let pass = TxnPass::given_by(rt, cell, &mut self.writer, number, snapshot);
+                Ok(SharedTxn::of(txn, pass))
+            }
+            Err(fault) => Err(fault),
+        }
     }
 
     pub(crate) fn abort<R: Wait>(
         &mut self,
         rt: &R,
         cell: &PublishedCell,
-        txn: Txn,
+        txn: SharedTxn<L>,
         me: &mut Observer<L>,
     )
         requires { cell.now.table.shared.table_id ≡ L.table }
-        ensures is { Aborts self.old txn self.new }
-        ensures happens { AbortHappens L.start txn.snapshot me.new }
+        ensures is { Aborts self.old txn.txn self.new }
+        ensures happens { AbortHappens L.start txn.txn.snapshot me.new }
         ensures later { IsLater me.old me.new }
     {
+        let (txn, pass) = txn.spend();
         // A transaction's writes are in range.
         let _count = txn.writes().len();
-        me.meet(rt, cell, &mut self.writer);
+        pass.give_back(rt, cell, &mut self.writer);
         self.store.abort(txn);
+        me.meet(rt, cell, &mut self.writer);
         self.signals.note_move();
     }
 
@@ -155,17 +169,18 @@ impl<D: Disk, L: Opening> Locked<D, L> {
         &mut self,
         rt: &R,
         cell: &PublishedCell,
-        txn: Txn,
+        txn: SharedTxn<L>,
         label: u64,
         now: u64,
         me: &mut Observer<L>,
     ) -> Result<Submitted, SubmitFault>
         requires { cell.now.table.shared.table_id ≡ L.table }
-        ensures is { Submits self.old txn label now result self.new }
-        ensures happens { SubmitHappens L.start L.mark txn label now result me.new }
+        ensures is { Submits self.old txn.txn label now result self.new }
+        ensures happens { SubmitHappens L.start L.mark txn.txn label now result me.new }
         ensures later { IsLater me.old me.new }
     {
-        let submitted = self.submit_writes(rt, cell, txn, label, now, me);
+        let (txn, pass) = txn.spend();
+        let submitted = self.submit_writes(rt, cell, txn, pass, label, now, me);
         self.signals.note_submitted(&submitted);
         submitted
     }
@@ -439,6 +454,7 @@ impl<D: Disk, L: Opening> Locked<D, L> {
         rt: &R,
         cell: &PublishedCell,
         txn: Txn,
+        pass: TxnPass<L>,
         label: u64,
         now: u64,
         me: &mut Observer<L>,
@@ -446,12 +462,14 @@ impl<D: Disk, L: Opening> Locked<D, L> {
         ghost writes: { List (KeyWrite Value) }
         requires cell { cell.now.table.shared.table_id ≡ L.table }
         requires writes { txn.writes ≡ writes }
+        requires goes { GoesWith L.start L.mark txn pass }
         ensures is { Submits self.old txn label now result self.new }
         ensures happens { SubmitHappens L.start L.mark txn label now result me.new }
         ensures later { IsLater me.old me.new }
     {
         // A transaction's writes are in range.
         let _count = txn.writes().len();
+        pass.give_back(rt, cell, &mut self.writer);
         let submitted = self.store.submit(txn, label, now);
         note_queued(rt, cell, &mut self.writer, &submitted, label);
         me.meet(rt, cell, &mut self.writer);

@@ -8,7 +8,7 @@ ghost use Rattle.shared.specs.Shared.{SeenReached, RedeemSays, done_in};
 
 use crate::change::Change;
 use crate::committed::{CommitFault, Committed};
-use crate::copied::{apply, copy_changes};
+use crate::copied::copy_changes;
 use crate::naming::Opening;
 use crate::observer::Observer;
 use crate::posts::{Doing, Posts};
@@ -252,18 +252,18 @@ impl<D: Disk, L: Opening> SharedStore<D, L> {
     ) -> Result<Submitted, CommitFault>
         ensures { ServedSays L.start L.mark writes.now label result me.new }
     {
-        let mut txn = match self.begin_txn(rt, me) {
+        let mut txn = match self.begin(rt, me) {
             Ok(txn) => txn,
             Err(fault) => return Err(CommitFault::Begin(fault)),
         };
-        match apply(self.alloc, &mut txn, writes) {
+        match txn.apply(self.alloc, writes) {
             Ok(()) => {}
             Err(fault) => {
-                self.abort_txn(rt, txn, me);
+                self.abort(rt, txn, me);
                 return Err(CommitFault::Txn(fault));
             }
         }
-        match self.submit_txn(rt, txn, label, now, me) {
+        match self.submit(rt, txn, label, now, me) {
             Ok(submitted) => Ok(submitted),
             Err(fault) => Err(CommitFault::Submit(fault)),
         }

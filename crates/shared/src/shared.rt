@@ -25,7 +25,7 @@ use std::alloc::{AllocError, Global};
 use std::sync::atomic::AtomicBool;
 use std::sync::ledger::Share;
 use std::sync::{Condvar, Mutex, Wait};
-use store::{BeginFault, Did, PumpFault, Redeemed, Store, SubmitFault, Submitted, Ticket, Txn};
+use store::{BeginFault, Did, PumpFault, Redeemed, Store, SubmitFault, Submitted, Ticket};
 
 /// A store under a lock, and the cell of its published time, which needs none. One holding of the lock
 /// makes at most one call of the store. The posts of those who call `commit` have a lock of their own, and
@@ -95,10 +95,7 @@ impl<D: Disk, L: Opening> SharedStore<D, L> {
         ensures moment { IfOk result (λ t. t.seen ≡ me.new) }
         ensures later { IsLater me.old me.new }
     {
-        match self.begin_txn(rt, me) {
-            Ok(txn) => Ok(SharedTxn::of(txn, me.another(&self.cell))),
-            Err(fault) => Err(fault),
-        }
+        self.locked.lock(rt).begin(rt, &self.cell, me)
     }
 
     /// Gives the transaction's snapshot up.
@@ -106,7 +103,8 @@ impl<D: Disk, L: Opening> SharedStore<D, L> {
         ensures happens { AbortHappens L.start txn.txn.snapshot me.new }
         ensures later { IsLater me.old me.new }
     {
-        self.abort_txn(rt, txn.spend(), me);
+        self.locked.lock(rt).abort(rt, &self.cell, txn, me);
+        self.moved.notify_all();
     }
 
     /// Ends a transaction: its writes are queued as a commit, or it is refused.
@@ -119,35 +117,6 @@ impl<D: Disk, L: Opening> SharedStore<D, L> {
         me: &mut Observer<L>,
     ) -> Result<Submitted, SubmitFault>
         ensures happens { SubmitHappens L.start L.mark txn.txn label now result me.new }
-        ensures later { IsLater me.old me.new }
-    {
-        self.submit_txn(rt, txn.spend(), label, now, me)
-    }
-
-    pub(crate) fn abort_txn<R: Wait>(&self, rt: &R, txn: Txn, me: &mut Observer<L>)
-        ensures happens { AbortHappens L.start txn.snapshot me.new }
-        ensures later { IsLater me.old me.new }
-    {
-        self.locked.lock(rt).abort(rt, &self.cell, txn, me);
-        self.moved.notify_all();
-    }
-
-    pub(crate) fn begin_txn<R: Wait>(&self, rt: &R, me: &mut Observer<L>) -> Result<Txn, BeginFault>
-        ensures happens { BeginHappens L.start L.mark result me.new }
-        ensures later { IsLater me.old me.new }
-    {
-        self.locked.lock(rt).begin(rt, &self.cell, me)
-    }
-
-    pub(crate) fn submit_txn<R: Wait>(
-        &self,
-        rt: &R,
-        txn: Txn,
-        label: u64,
-        now: u64,
-        me: &mut Observer<L>,
-    ) -> Result<Submitted, SubmitFault>
-        ensures happens { SubmitHappens L.start L.mark txn label now result me.new }
         ensures later { IsLater me.old me.new }
     {
         let submitted = self

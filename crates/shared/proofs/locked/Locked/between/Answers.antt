@@ -5,7 +5,7 @@ use Rattle.shared.proofs.locked.Locked.between.Goals as goal
 pub invariant_of-self : goal.invariant_of-self
 invariant_of-self g c =
     let w = c.compare.ensures.writer in
-    query-keeps _ _ _ _ _ _ _ _ _ _ _ _ _ _ _ _ (repass _ _ _ _ _ _ _ _ _ _ c.self.invariant w.0 w.1 w.2 w.3) c.between.ensures
+    query-keeps _ _ _ _ _ _ _ _ _ _ _ _ _ _ _ _ (repass _ _ _ _ _ _ _ _ _ _ c.self.invariant w.0 w.1 w.2 w.3 w.4) c.between.ensures
 
 pub returns-clause-says : goal.returns-clause-says
 returns-clause-says g c =

@@ -49,7 +49,7 @@ invariant_of-self g c =
     let w = c.meet.ensures.writer in
     let raising = ap (λ (v : StoreValue). raising_of v.job) c.self.view_is ∙ c.requires.1.1.1.1 in
     let seen = f.seen ∙ ap (λ (b : Bool). failed_seen b (cell_view c.note_job.new.writer).seen) c.has_failed.ensures ∙ ap (failed_seen (has_failed r)) n.seen in
-    job-keeps _ _ _ _ _ _ _ _ _ _ _ _ h _ raising p (w.0 ∙ f.cell ∙ n.cell) w.1 (w.2 ∙ seen) (w.3 ∙ f.archive ∙ n.archive)
+    job-keeps _ _ _ _ _ _ _ _ _ _ _ _ h _ raising p (w.0 ∙ f.cell ∙ n.cell) w.1 (w.2 ∙ seen) (w.3 ∙ f.archive ∙ n.archive) (w.4 ∙ f.tokens ∙ n.tokens)
 
 pub returns-clause-happens : goal.returns-clause-happens
 returns-clause-happens g c =
