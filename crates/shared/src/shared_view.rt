@@ -154,7 +154,8 @@ impl<L: Opening> SharedView<L> {
         ensures kept { self.new ≡ self.old }
         ensures shows { Shows L.start L.mark (cell_view writer.old).archive self.new.shown self.new.seen }
         ensures writer { (writer.new.table_id ≡ writer.old.table_id) × ((cell_view writer.new).writes ≡ true)
-            × ((cell_view writer.new).seen ≡ (cell_view writer.old).seen) × ((cell_view writer.new).archive ≡ (cell_view writer.old).archive) }
+            × ((cell_view writer.new).seen ≡ (cell_view writer.old).seen) × ((cell_view writer.new).archive ≡ (cell_view writer.old).archive)
+            × ((cell_view writer.new).tokens ≡ (cell_view writer.old).tokens) }
     {
         self.moment.compare(rt, cell, writer);
     }
