@@ -7,6 +7,8 @@ pub mod Archives
 pub mod Tokens
 pub mod Passes
 pub mod Counting
+pub mod Engines
+pub mod Starting
 pub mod Stepping
 pub mod Moves
 pub mod Awaiting

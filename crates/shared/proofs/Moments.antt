@@ -12,9 +12,10 @@ use Rattle.law_image.specs.Values.{Value}
 use Rattle.snapshot.specs.Txn.{TxnValue, seen_by}
 use Rattle.atomic_table.specs.Seated.{TableId}
 use Rattle.timequery.specs.View.{ViewValue}
-use Rattle.store.specs.Values.{StoreValue}
-use Rattle.law_refinement.specs.Homes.{ViewReads}
+use Rattle.any_store.specs.Values.{StoreValue}
+use Rattle.law_any_store.specs.Standing.{ViewReads}
 use Rattle.shared.specs.Archives.{ArchiveSeen, IsArchiveLater, archive_seen}
+use Rattle.shared.specs.Kinds.{Kind}
 use Rattle.shared.specs.Moments.{TxnMoment, TxnPassValue, ViewMoment, HoldsSeen, WorksOn, GoesWith, token_of, value_for}
 use Rattle.shared.specs.Seen.{Seen, SightValue, IsLater}
 use Rattle.shared.specs.Shared.{IsShared, Shows, Reads, SeenReached}
@@ -36,10 +37,10 @@ shows-later start brand old new view seen later s = record {
 }
 
 -- the store has what the view reads
-pub still-reads : (tells : Bool) (start : Machine Value) (brand : ℕ) (table : TableId) (v : StoreValue) (shares : ℕ) (at : TableId) (pass : SightValue)
-    (view : ViewValue) (seen : Seen) → IsShared tells start brand table v shares at pass → (s : Shows start brand pass.archive view seen)
+pub still-reads : (tells : Bool) (start : Machine Value) (kind : Kind) (brand : ℕ) (table : TableId) (v : StoreValue) (shares : ℕ) (at : TableId)
+    (pass : SightValue) (view : ViewValue) (seen : Seen) → IsShared tells start kind brand table v shares at pass → (s : Shows start brand pass.archive view seen)
     → ViewReads tells v view s.machine.published s.machine.floors
-still-reads tells start brand table v shares at pass view seen h s =
+still-reads tells start kind brand table v shares at pass view seen h s =
     reads-of tells v view s.machine.published s.machine.floors (s.mark
     ∙ sym h.mark) (reads-later pass.archive (archive_seen tells v) view s.machine.published s.machine.floors h.archive s.reads)
 

@@ -15,9 +15,10 @@ use Rattle.law_image.specs.Values.{Value, IsValue}
 use Rattle.chains.specs.KeyWrites.{KeyWrites, writes_of}
 use Rattle.snapshot.specs.OpenTable.{snapshot_of, with_opened, with_closed}
 use Rattle.snapshot.specs.Txn.{TxnValue, AreTxnWrites, EndsASeenValue, at_snapshot}
-use Rattle.group.specs.Values.{TransactionsValue, is_own, is_of_value, is_snapshot}
-use Rattle.law_refinement.specs.Standing.{StandsInMemory}
-use Rattle.law_refinement.proofs.Memory.{open-sees}
+use Rattle.group.specs.Values.{is_of_value, is_snapshot}
+use Rattle.commits.specs.Values.{CommitsValue, is_own}
+use Rattle.law_commits.specs.Standing.{StandsInMemory}
+use Rattle.law_any_store.proofs.Memory.{open-sees}
 use Rattle.shared.specs.Moments.{WorksOn, GoesWith, TxnPassValue, token_of}
 use Rattle.shared.specs.Seen.{Seen, IsFrontOf, IsLater, seen_of}
 use Rattle.shared.specs.Tokens.{Token, IsAmong, IsOut, IsFree, AreOpen, without}
@@ -153,7 +154,7 @@ sees-still seen m key machine later =
     ap (λ (h : History Value). state h (last seen.published) key) front.1 ∙ state-append seen.published front.0 (last seen.published) key rising
 
 -- a transaction that is out is the store's own
-pub is-its_own : (start : Machine Value) (brand : ℕ) (v : TransactionsValue) (m : Machine Value) (t : TxnValue) (pass : TxnPassValue) (out : List Token)
+pub is-its_own : (start : Machine Value) (brand : ℕ) (v : CommitsValue) (m : Machine Value) (t : TxnValue) (pass : TxnPassValue) (out : List Token)
     → StandsInMemory v m → IsMachine IsValue m → v.mark ≡ brand → AreOpen out v.opened → GoesWith start brand t pass → IsLater pass.seen (seen_of m)
     → IsOut out pass.token → AreTxnWrites t.state t.snapshot t.writes → is_own v t ≡ true
 is-its_own start brand v m t pass out stands machine mark are goes later is_out writes =

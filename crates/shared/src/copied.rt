@@ -6,9 +6,9 @@ ghost use Rattle.snapshot.specs.Txn.{at_snapshot, with_put, IsFullFor};
 ghost use Rattle.shared.specs.Posted.{write_of, wrote, written, IsBarred, AreBarred, IsUncopied, AreUncopied};
 
 use crate::change::Change;
+use any_store::{Txn, TxnFault};
 use history::{Key, KeyWrite};
 use std::alloc::{AllocError, Global};
-use store::{Txn, TxnFault};
 use wire::{Value, ValueFault};
 
 /// The changes in memory of their own: a value, or none where the key is to be deleted.

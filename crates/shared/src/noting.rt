@@ -12,10 +12,10 @@ ghost use Rattle.shared.specs.Shared.{published_seen, queued_seen, done_seen, fa
 
 use crate::cell::{PublishedCell, WriterPass};
 use crate::observer::{go_on, publish_next, queue_next, see_next};
+use any_store::{Did, JobDid, PumpFault, Redeemed, Store, SubmitFault, Submitted};
 use disk::Disk;
 use std::marker::Brand;
 use std::sync::Wait;
-use store::{Did, JobDid, PumpFault, Redeemed, Store, SubmitFault, Submitted};
 
 // A commit of this time and label is queued.
 fn queue_commit<R: Wait>(

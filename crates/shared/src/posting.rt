@@ -15,12 +15,12 @@ use crate::posts::{Doing, Posts};
 use crate::served::{Request, Served};
 use crate::shared::SharedStore;
 use crate::signals::Signals;
+use any_store::{Did, PumpFault, Redeemed, Submitted, Ticket, TxnFault};
 use disk::Disk;
 use history::KeyWrite;
 use std::alloc::AllocError;
 use std::sync::ledger::Share;
 use std::sync::{MutexGuard, Wait};
-use store::{Did, PumpFault, Redeemed, Submitted, Ticket, TxnFault};
 use wire::Value;
 
 impl<D: Disk, L: Opening> SharedStore<D, L> {
@@ -320,7 +320,7 @@ impl<D: Disk, L: Opening> SharedStore<D, L> {
         mut pause: F,
     ) -> Result<Did, PumpFault>
         requires { F.IsAlwaysCallable pause }
-        ensures ends { CommitterEnds L.start result me.new }
+        ensures ends { CommitterEnds L.start L.kind result me.new }
         ensures later { IsLater me.old me.new }
     {
         self.posts.lock(rt).attend();

@@ -3,7 +3,7 @@ ghost use Rattle.std.specs.Prelude.{◌≡◌, ◌≤◌, ◌+◌, ◌<◌, leng
 ghost use Rattle.history.specs.Histories.{last};
 ghost use Rattle.history.specs.Machine.{Machine};
 ghost use Rattle.law_image.specs.Values.{Value};
-ghost use Rattle.law_refinement.specs.Stands.{Stands};
+ghost use Rattle.law_any_store.specs.Standing.{Stands};
 ghost use Rattle.shared.specs.Counts.{unredeemed};
 ghost use Rattle.shared.specs.Moments.{begun_txn};
 ghost use Rattle.shared.specs.Reached.{Reached};
@@ -19,13 +19,13 @@ use crate::posts::Posts;
 use crate::shared_txn::SharedTxn;
 use crate::shared_view::SharedView;
 use crate::signals::Signals;
+use any_store::{BeginFault, Did, PumpFault, Redeemed, Store, SubmitFault, Submitted, Ticket};
 use crossbeam_utils::sync::EventCount;
 use disk::Disk;
 use std::alloc::{AllocError, Global};
 use std::sync::atomic::AtomicBool;
 use std::sync::ledger::Share;
 use std::sync::{Condvar, Mutex, Wait};
-use store::{BeginFault, Did, PumpFault, Redeemed, Store, SubmitFault, Submitted, Ticket};
 
 /// A store under a lock, and the cell of its published time, which needs none. One holding of the lock
 /// makes at most one call of the store. The posts of those who call `commit` have a lock of their own, and
@@ -145,7 +145,7 @@ impl<D: Disk, L: Opening> SharedStore<D, L> {
     /// One step of the group that is written. A step that publishes writes the published time before
     /// the lock is given up.
     pub fn pump<R: Wait>(&self, rt: &R, me: &mut Observer<L>) -> Result<Did, PumpFault>
-        ensures happens { PumpHappens L.start result me.new }
+        ensures happens { PumpHappens L.start L.kind result me.new }
         ensures later { IsLater me.old me.new }
     {
         let mut after = Signals::new();
@@ -159,7 +159,7 @@ impl<D: Disk, L: Opening> SharedStore<D, L> {
         after: &mut Signals,
         me: &mut Observer<L>,
     ) -> Result<Did, PumpFault>
-        ensures happens { PumpHappens L.start result me.new }
+        ensures happens { PumpHappens L.start L.kind result me.new }
         ensures later { IsLater me.old me.new }
     {
         let mut locked = self.locked.lock(rt);

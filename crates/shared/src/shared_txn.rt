@@ -14,10 +14,10 @@ ghost use Rattle.shared.specs.Shared.{SeenReached};
 use crate::copied::apply;
 use crate::naming::Opening;
 use crate::txn_pass::TxnPass;
+use any_store::{SharedValue, Txn, TxnFault};
 use history::{Key, KeyWrite};
 use std::alloc::{AllocError, Global};
 use std::marker::Model;
-use store::{SharedValue, Txn, TxnFault};
 use wire::Value;
 
 /// An open transaction: it reads what was published when it began, with its own writes over it, and

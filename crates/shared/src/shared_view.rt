@@ -11,11 +11,11 @@ ghost use Rattle.shared.specs.Shared.{Shows};
 use crate::cell::{PublishedCell, WriterPass};
 use crate::moment::Moment;
 use crate::naming::Opening;
+use any_store::{QueryFault, RowWalk, SharedValue, View};
 use history::{Key, Version};
 use std::alloc::{AllocError, Global};
 use std::marker::Model;
 use std::sync::Wait;
-use store::{QueryFault, RowWalk, SharedValue, View};
 
 /// What was published at one moment, with the commits and the floors that its caller had seen then.
 /// Later commits do not change it, nor does a vacuum or a floor that is raised, and it may go to
