@@ -28,7 +28,7 @@ use Rattle.law_refinement.specs.Standing.{Name, name_of, name_at}
 use Rattle.law_commits.specs.Standing.{StandsInMemory}
 use Rattle.law_any_store.specs.Formatted.{header_of}
 use Rattle.law_any_store.specs.Opened.{IsOfHeader}
-use Rattle.law_any_store.specs.Standing.{Stands, opened_as}
+use Rattle.law_any_store.specs.Standing.{Stands, opened_as, opened_in}
 use Rattle.law_any_store.proofs.Formatted.{formatted-stands}
 use Rattle.law_any_store.proofs.Memory.{memory-stands}
 use Rattle.law_any_store.proofs.Opened.{open-stands, open-header}
@@ -106,6 +106,24 @@ pub fresh-kind : (tells : Bool) (layout : Layout) (old : Areas) (disk : DiskStat
     → IsTrue tells → AreSound disk.areas → IsFormatted layout old disk.areas → Opens tells disk mark v → kind_of v ≡ kind_as layout
 fresh-kind tells layout old disk mark v told sound is opens =
     kind-by tells layout v (fresh-header tells layout old disk mark v told is opens) (fresh-stands tells layout old disk mark v told sound is opens)
+
+-- it is opened as its layout says
+pub opened-as : (layout : Layout) (v : StoreValue) → HasSize layout v → (h : History Value) (floors : ℕ → ℕ)
+    → opened_in v h floors ≡ opened_as (header_of layout) h floors
+opened-as (layouts.Slots slots) (Slots s) of h floors = refl
+opened-as (layouts.Slots slots) (Log l) of h floors = absurd of
+opened-as (layouts.Log extents) (Slots s) of h floors = absurd of
+opened-as (layouts.Log extents) (Log l) of h floors = refl
+
+-- with what it holds published
+pub opened-published : (v : StoreValue) (h : History Value) (floors : ℕ → ℕ) → (opened_in v h floors).published ≡ h
+opened-published (Slots s) h floors = refl
+opened-published (Log l) h floors = refl
+
+-- and nothing waits
+pub queue-none : (v : StoreValue) (h : History Value) (floors : ℕ → ℕ) → (opened_in v h floors).queue ≡ []
+queue-none (Slots s) h floors = refl
+queue-none (Log l) h floors = refl
 
 -- ---- it has no commits
 
