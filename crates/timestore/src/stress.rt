@@ -2,13 +2,15 @@
 ghost use Rattle.std.specs.Prelude.{◌≡◌, ◌≤◌, ◌*◌, ◌++◌, ℕ, codes};
 ghost use Rattle.std.specs.Fmt.{decimal};
 ghost use Rattle.std.specs.Io.KnownBytes.{Appends};
+ghost use Rattle.any_store.specs.declared.formatting.Layout.TheVariants.{Slots};
+ghost use Rattle.workload.specs.Reading.{IsStressed};
 
 use shell::write_stress_answer;
 use std::alloc::Global;
 use std::io::Write;
 use std::sync::Wait;
 use std::thread::Threads;
-use workload::{Plan, stress};
+use workload::{Plan, SLOTS, stress};
 
 /// The status of a run whose answer was written in full.
 const DONE: u8 = 0;
@@ -25,11 +27,12 @@ pub fn run_stress<R: Threads + Wait + Sync, W: Write>(
     plan: Plan,
     output: &mut W,
 ) -> u8
-    ensures done { result ≡ 0 → (last : ℕ) × Appends (W.contents output.old) (W.contents output.new)
+    ensures done { result ≡ 0 → (last : ℕ) × IsStressed (Slots 32768) plan.readers plan.writers plan.rounds (plan.writers * plan.rounds) last
+        × Appends (W.contents output.old) (W.contents output.new)
         (codes "commits " ++ (decimal (plan.writers * plan.rounds) ++ (codes " last " ++ (decimal last ++ codes "\n")))) }
     ensures status { result ≤ 1 }
 {
-    let Some((commits, last)) = stress(rt, alloc, plan) else {
+    let Some((commits, last)) = stress(rt, alloc, SLOTS, plan) else {
         return REFUSED;
     };
     match write_stress_answer(output, commits, last) {
