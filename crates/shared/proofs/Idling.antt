@@ -202,21 +202,19 @@ log-idles tells l l' m r stands step pumps works = by-turn l.turn step.turn log_
     by-queue true none idle =
         let zero_is : length l.commits.queue ≡ 0 = grind (arith, nat_tests) in
         (λ is. empty-queue m.queue (omega (arith, many, zero_is)), λ empty. idle.0)
-    by-queue false some begun =
-        (
-          λ is. absurd (begins-group tells l l' r begun is),
-          λ empty.
-              let nothing : length m.queue ≡ 0 = ap (λ (h : History Value). length h) empty in
-              let zero_is : length l.commits.queue ≡ 0 = omega (arith, many, nothing) in
-              absurd (grind (arith, nat_tests)),
-        )
+    by-queue false some begun = (
+      λ is. absurd (begins-group tells l l' r begun is),
+      λ empty.
+          let nothing : length m.queue ≡ 0 = ap (λ (h : History Value). length h) empty in
+          let zero_is : length l.commits.queue ≡ 0 = omega (arith, many, nothing) in
+          absurd (grind (arith, nat_tests)),
+    )
 
     by-turn : (t : Option WriterState) → HasTurn l.commits.group t → logs.TakesStep tells l t r l' → (r ≡ Ok did.Idle) ↔ (m.queue ≡ [])
     by-turn None none does = by-queue (length l.commits.queue == 0) refl does
     by-turn (Some w) turning does =
         let group = turning.0 in
-        let within = step.contents in
-        (
+        let within = step.contents in (
           λ is. absurd (advances tells w l l' r does is),
           λ empty.
               let nothing : length m.queue ≡ 0 = ap (λ (h : History Value). length h) empty in

@@ -88,7 +88,7 @@ archive-says tells (Log l) (Log l') upto m r stands starts =
   where
     by-failure : (b : Bool) → m.failed ≡ b → ArchiveSays true m upto (Err (none_of b fault.WrongProfile))
     by-failure true fails = fails
-    by-failure false works = (tt, works)
+    by-failure false works = (refl, works)
 
 -- ---- reclaims
 
@@ -147,7 +147,7 @@ reclaim-says tells (Log l) (Log l') m r stands starts =
   where
     by-failure : (b : Bool) → m.failed ≡ b → ReclaimSays true m (Err (none_of b fault.WrongProfile))
     by-failure true fails = fails
-    by-failure false works = (tt, works)
+    by-failure false works = (refl, works)
 
 -- ---- growths
 

@@ -134,7 +134,8 @@ awaited-named : (t s time : ℕ) (heads : List CommitHead) (h : History Value) �
     → is_awaited time heads ≡ true → t < time
 awaited-named t s time [] h named le rising waits = absurd cc
 awaited-named t s time (x ∷ xs) [] named le rising waits = absurd cc
-awaited-named t s time (x ∷ xs) (c ∷ cs) named le rising waits = by-test (x.time == time) refl waits
+awaited-named t s time (x ∷ xs) (c ∷ cs) named le rising waits =
+    by-test (λ behind low more. awaited-named t c.time time xs cs behind low rising.2 more) (x.time == time) refl waits
   where
     first : x.time ≡ c.time
     first = let it : name_at x ≡ name_of c = cc in ap (λ (n : Name). n.time) it
@@ -142,12 +143,13 @@ awaited-named t s time (x ∷ xs) (c ∷ cs) named le rising waits = by-test (x.
     behind : map name_at xs ≡ map name_of cs
     behind = cc
 
-    by-test : (b : Bool) → (x.time == time) ≡ b → cond b x.awaited (is_awaited time xs) ≡ true → t < time
-    by-test true is one =
+    by-test : (map name_at xs ≡ map name_of cs → t ≤ c.time → is_awaited time xs ≡ true → t < time) → (b : Bool) → (x.time == time) ≡ b
+        → cond b x.awaited (is_awaited time xs) ≡ true → t < time
+    by-test later true is one =
         let same : x.time ≡ time = grind (arith, nat_tests) in
         let above = rising.0 in
         omega (arith, same, first, above, le)
-    by-test false is rest = let above = rising.0 in awaited-named t c.time time xs cs behind (omega (arith, above, le)) rising.2 rest
+    by-test later false is rest = let above = rising.0 in later behind (omega (arith, above, le)) rest
 
 -- so is one that is awaited behind the published ones
 awaited-waits : (t s p time : ℕ) (heads : List CommitHead) (queue : History Value) → IsRisingAfter s heads → last_time_after s (take p heads) < time
@@ -175,7 +177,7 @@ heads-late v new m k r stands machine redeems =
         new) ((r ≡ redeemed.Stranger) × (new ≡ v)) → Late (last m.published) k r
     by-mark true true waits true early says = is-late (redeemed.Done k.time) says.0 tt
     by-mark true true waits false late says =
-        let lt : last_time_after 0 (take v.published v.heads) < k.time = grind (arith, nat_tests) in
+        let lt : last_published (order_of v) < k.time = grind (arith, nat_tests) in
         late-by (last m.published) k v.failed r
         (awaited-waits (last m.published) 0 v.published k.time v.heads m.queue stands.rising lt (waiting-named v m stands) (queue-rises m machine) waits) says.0
     by-mark true false none d early says = is-late redeemed.Stranger says.0 tt

@@ -16,7 +16,10 @@ fn a_stress_counts_each_round_of_each_writer(rt: HostRuntime) {
             readers,
             rounds,
         };
-        assert_eq!(rt; stress(&rt, rt.alloc(), SLOTS, plan), Some((commits, commits)));
+        assert_eq!(rt;
+            stress(&rt, rt.alloc(), SLOTS, plan),
+            Some((commits, commits))
+        );
     }
 }
 
