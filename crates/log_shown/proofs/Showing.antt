@@ -9,7 +9,7 @@ use Rattle.disk.specs.declared.area.Area.{Area}
 use Rattle.disk.specs.declared.area.Area.TheVariants.{Status, Heap, Archive}
 use Rattle.recovery.specs.declared.fault.OpenFault.{OpenFault}
 use Rattle.recovery.specs.declared.fault.OpenFault.TheVariants.{Damaged}
-use Rattle.log_extents.specs.Chains.{IsNumberOf, AreDistinct}
+use Rattle.log_extents.specs.Chains.{IsNumberOf}
 use Rattle.law_log_layout.specs.HeapLog.{PlacedChain, PlacedAnchors}
 use Rattle.log_space.specs.Uses.{all_used, used_count}
 use Rattle.log_space.proofs.Uses.{used_are_counted, used_in_turn}

@@ -1,4 +1,4 @@
-use Rattle.std.proofs.Common.{◌≡◌, ℕ, ◌^◌, ◌<◌, Bool, List, sym, ◌∙◌, ap, subst, take}
+use Rattle.std.proofs.Common.{ℕ, ◌^◌, ◌<◌, Bool, List, sym, ◌∙◌, ap, subst, take}
 use Rattle.law_log_layout.specs.HeapLog.{PlacedChain}
 use Rattle.log_recovery.specs.Rules.{mark_of}
 use Rattle.log_recovery.specs.Anchored.{first_names, TakesAnchors, IsAnchorsFault}

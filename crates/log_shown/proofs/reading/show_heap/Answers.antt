@@ -1,6 +1,5 @@
-use Rattle.std.proofs.Common.{◌≡◌, Bool, true, false, List, refl, sym, ◌∙◌, ap, subst}
+use Rattle.std.proofs.Common.{Bool, sym, ◌∙◌, ap, subst}
 use Rattle.disk.specs.Calls.{DiskState}
-use Rattle.law_log_layout.specs.HeapLog.{PlacedChain}
 use Rattle.log_recovery.specs.Chains.{HoldsChains}
 use Rattle.log_recovery.specs.Opening.{AtChain}
 use Rattle.log_shown.specs.Shown.{IsFront, items_of}

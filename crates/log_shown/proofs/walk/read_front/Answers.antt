@@ -1,4 +1,4 @@
-use Rattle.std.proofs.Common.{◌≡◌, ℕ, ◌++◌, ◌∷◌, [], List, Bool, refl, sym, ◌∙◌, ap, subst}
+use Rattle.std.proofs.Common.{◌≡◌, ℕ, ◌∷◌, [], List, refl, sym, ◌∙◌, ap, subst}
 use Rattle.disk.specs.Calls.{DiskState}
 use Rattle.std.specs.List.{AllByRecursion}
 use Rattle.log_entries.specs.Ranges.{IsEntry}
