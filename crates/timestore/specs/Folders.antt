@@ -1,7 +1,7 @@
 -- Folders whose files are not opened.
 use Rattle.std.specs.Prelude.{◌≡◌, ◌⊎◌, ◌≤◌, List, ℕ, Option, Some, None, codes}
 use Rattle.std.specs.IoError.{error_kind}
-use Rattle.std.specs.declared.io.kind.ErrorKind.TheVariants.{NotFound}
+use Rattle.std.specs.declared.io.ErrorKind.TheVariants.{NotFound}
 use Rattle.disk_file.specs.declared.fault.FolderFault.{FolderFault}
 use Rattle.disk_file.specs.declared.fault.FolderFault.TheVariants.{Missing, InUse, System, NoMemory}
 

@@ -3,6 +3,7 @@
 
 ghost use Rattle.std.specs.Prelude.{◌≡◌, ◌↔◌, IsTrue, option_map};
 ghost use Rattle.std.specs.IoError.{error_kind};
+ghost use Rattle.std.specs.declared.io.ErrorKind.TheVariants.{NotFound};
 ghost use Rattle.timestore.specs.Folders.{IsAdvised, LacksFile};
 
 mod stress;
@@ -74,7 +75,7 @@ fn open_fault(fault: &FolderFault) -> OpenFault
 
 /// Whether a call was refused because what it names is not there.
 fn is_absent(cause: &io::Error) -> bool
-    ensures { IsTrue result ↔ (error_kind cause.now ≡ ErrorKind.NotFound) }
+    ensures { IsTrue result ↔ (error_kind cause.now ≡ NotFound) }
 {
     cause.kind() == io::ErrorKind::NotFound
 }

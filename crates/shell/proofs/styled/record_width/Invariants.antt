@@ -1,5 +1,4 @@
 use Rattle.std.proofs.Common.{◌≡◌, ℕ, List, drop}
-use Rattle.history.specs.declared.time.Version.{Version}
 use Rattle.forms.specs.Fields.{Text}
 use Rattle.shell.specs.Styled.{record_width, widest}
 use Rattle.shell.proofs.styled.record_width.Given as goal

@@ -1,4 +1,4 @@
-use Rattle.std.proofs.Common.{◌≡◌, ℕ, List, drop}
+use Rattle.std.proofs.Common.{◌≡◌, List, drop}
 use Rattle.history.specs.declared.time.Version.{Version}
 use Rattle.forms.specs.Fields.{Text}
 use Rattle.shell.specs.Styled.{row_width, widest}
