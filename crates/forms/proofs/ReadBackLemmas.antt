@@ -120,7 +120,8 @@ row-run x rest tail start =
 -- the text of a row that is not blank
 line-plain : (x : Text) (rest : List Text) (tail : Text) → is_blank rfc (x ∷ rest) ≡ false
     → csv_line (x ∷ rest) ++ tail ≡ field_text default_writer x ++ (fields_text default_writer rest ++ (13 ∷ 10 ∷ tail))
-line-plain x rest tail b = rw (b, field-same x, fields-same rest) (append_assoc (field_text default_writer x ++ fields_text default_writer rest) (13 ∷ 10 ∷ []) tail
+line-plain x rest tail b = rw (b, field-same x, fields-same rest) (append_assoc (field_text default_writer x ++ fields_text default_writer rest)
+    (13 ∷ 10 ∷ []) tail
     ∙ append_assoc (field_text default_writer x) (fields_text default_writer rest) (13 ∷ 10 ∷ tail))
 
 not-zero : (n : ℕ) → (suc n == 0) ≡ true → ⊥

@@ -41,4 +41,5 @@ returns-in-Err-Damaged-clause-shown g c = λ told.
     let stopped = rw c.in-Err-Damaged.field-0-is at c.damaged.ensures.end in
     shown_damaged most root heap place c.damaged.result.items.items (items_of (take 1 chains)) c.damaged.result.end
     (anchors_shown_of most root heap chains c.args.log.next c.args.log.space fault _ place c.in-Err-Damaged.field-0-is read.keeps read.space_is here)
-    (c.damaged.ensures.items ∙ c.in_ok-base-in-Err-Damaged.ensures ∙ ap (λ (l : List PlacedChain). items_of (take 1 l)) c.deref-in-Err-Damaged.ensures.value) stopped
+    (c.damaged.ensures.items ∙ c.in_ok-base-in-Err-Damaged.ensures
+    ∙ ap (λ (l : List PlacedChain). items_of (take 1 l)) c.deref-in-Err-Damaged.ensures.value) stopped
