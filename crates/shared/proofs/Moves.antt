@@ -1,8 +1,8 @@
 -- What one call of the store leaves under the lock.
 use Rattle.std.proofs.Common.{◌≡◌, ℕ, ◌+◌, ◌<◌, ◌^◌, ◌≤◌, Bool, true, false, cond, List, [], ◌∷◌, ◌++◌, length}
-use Rattle.std.proofs.Common.{Option, None, Some, Result, Ok, Err, MatchBool, refl, sym, ap, ◌∙◌, subst, arith}
+use Rattle.std.proofs.Common.{Option, Some, Result, Ok, Err, MatchBool, refl, sym, ap, ◌∙◌, subst, arith}
 use Rattle.std.specs.Prelude.{IsTrue}
-use Rattle.std.proofs.lemmas.List.{append-nil, length-append}
+use Rattle.std.proofs.lemmas.List.{length-append}
 use Rattle.atomic_table.specs.Seated.{TableId}
 use Rattle.disk.specs.Areas.{AreSound}
 use Rattle.history.specs.declared.key.KeyWrite.{KeyWrite}
@@ -52,7 +52,6 @@ use Rattle.law_any_store.proofs.Names.{pumped-names, kept-names}
 use Rattle.law_any_store.proofs.Tickets.{ticket-time}
 use Rattle.law_any_store.proofs.Views.{begin-goes, abort-goes, submit-goes, redeem-goes, pump-goes, job-pump-goes, archive-start-goes, reclaim-start-goes}
 use Rattle.law_any_store.proofs.Views.{floor-start-goes, grow-start-goes}
-use Rattle.law_commits.proofs.Names.{assigned-is}
 use Rattle.shared.specs.Archives.{ArchiveSeen, IsArchiveLater, archive_seen, no_archive}
 use Rattle.shared.specs.Counts.{told_count, told_after, AreToldOf}
 use Rattle.shared.specs.Kinds.{Kind, kind_of}
@@ -61,10 +60,10 @@ use Rattle.shared.specs.Tokens.{Token, Tokens, no_tokens, IsOut, IsFree, AreOpen
 use Rattle.shared.specs.Reached.{Reached, opened, stepped}
 use Rattle.shared.specs.Seen.{Seen, SightValue, seen_of, order_of, IsLater}
 use Rattle.shared.specs.Shared.{IsShared, Submits, SubmitSays, SubmitHappens, FloorSays, FloorHappens, ArchiveSays, ArchiveHappens, ReclaimSays, ReclaimHappens}
-use Rattle.shared.specs.Shared.{GrowthHappens, queued_seen, published_seen, failed_seen, has_failed, pumped_seen, done_seen, job_seen, noted, done_in}
+use Rattle.shared.specs.Shared.{GrowthHappens, queued_seen, pumped_seen, done_seen, job_seen, noted, done_in}
 use Rattle.shared.specs.Shared.{raising_in}
 use Rattle.shared.proofs.Archives.{archive-same, archive-then, archive-first, archive-on}
-use Rattle.shared.proofs.Counting.{told-push, after-push, told-redeemed, after-redeemed, after-later, none-after, length-redeemed}
+use Rattle.shared.proofs.Counting.{told-push, after-push, told-redeemed, after-redeemed, after-later, length-redeemed}
 use Rattle.shared.proofs.Engines.{in-memory, is-machine, kind-stays, raises-is, none-told}
 use Rattle.shared.proofs.Fronts.{last-seen, later-same}
 use Rattle.shared.proofs.Starting.{archive-says, reclaim-says, growth-says, floor-works}
