@@ -1,5 +1,5 @@
 -- A store stands for a state over any disk, where nothing is said of the disk.
-use Rattle.std.proofs.Common.{◌≡◌, ℕ, false, IsTrue, Bool, Option, None, Some, MatchOption, length, refl, sym, ap, ◌∙◌, subst}
+use Rattle.std.proofs.Common.{◌≡◌, ℕ, false, Bool, Option, None, Some, MatchOption, length, refl, sym, ap, ◌∙◌, subst}
 use Rattle.disk.specs.Calls.{DiskState}
 use Rattle.disk_file.specs.Counts.{untold}
 use Rattle.history.specs.Histories.{History}

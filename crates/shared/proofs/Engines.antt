@@ -1,5 +1,5 @@
 -- What is said of a store in either layout, for threads.
-use Rattle.std.proofs.Common.{◌≡◌, ℕ, ◌+◌, ◌≤◌, Bool, List, [], ◌++◌, length, take, drop, map, max, refl, sym, ap, ◌∙◌, subst, arith}
+use Rattle.std.proofs.Common.{◌≡◌, ℕ, ◌+◌, ◌≤◌, Bool, List, [], ◌++◌, length, take, drop, map, max, sym, ap, ◌∙◌, subst, arith}
 use Rattle.std.proofs.lemmas.List.{append-nil, length-append, length-map}
 use Rattle.std.proofs.lemmas.Bool.Decides.{nat_tests}
 use Rattle.history.specs.Histories.{History, HasRisingTimes, last}
@@ -13,7 +13,7 @@ use Rattle.commits.specs.Values as commits
 use Rattle.any_store.specs.Values.{StoreValue, is_log, commits_of}
 use Rattle.any_store.specs.declared.engine.Engine.TheVariants.{Slots, Log}
 use Rattle.law_refinement.specs.Standing.{Name, name_of, name_at}
-use Rattle.law_commits.specs.Standing.{HasNames, StandsInMemory}
+use Rattle.law_commits.specs.Standing.{StandsInMemory}
 use Rattle.law_commits.proofs.Names.{last-is, assigned-is, waiting-heads, back-names}
 use Rattle.law_any_store.specs.Names as memory
 use Rattle.law_any_store.specs.Names.{KeepsNames}
@@ -21,7 +21,7 @@ use Rattle.law_any_store.specs.Standing.{Stands, GoesOn}
 use Rattle.law_any_store.proofs.Marks.{layout-stays}
 use Rattle.law_any_store.proofs.Memory.{memory-stands}
 use Rattle.shared.specs.Counts.{told_after, told_count, awaited_upto}
-use Rattle.shared.specs.Kinds.{Kind, kind_of}
+use Rattle.shared.specs.Kinds.{kind_of}
 use Rattle.shared.specs.Shared.{raising_in}
 use Rattle.shared.proofs.Counting.{published-count, none-after, after-later}
 

@@ -38,7 +38,8 @@ shows-later start brand old new view seen later s = record {
 
 -- the store has what the view reads
 pub still-reads : (tells : Bool) (start : Machine Value) (kind : Kind) (brand : ℕ) (table : TableId) (v : StoreValue) (shares : ℕ) (at : TableId)
-    (pass : SightValue) (view : ViewValue) (seen : Seen) → IsShared tells start kind brand table v shares at pass → (s : Shows start brand pass.archive view seen)
+    (pass : SightValue) (view : ViewValue) (seen : Seen) → IsShared tells start kind brand table v shares at pass
+    → (s : Shows start brand pass.archive view seen)
     → ViewReads tells v view s.machine.published s.machine.floors
 still-reads tells start kind brand table v shares at pass view seen h s =
     reads-of tells v view s.machine.published s.machine.floors (s.mark

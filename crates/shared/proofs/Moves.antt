@@ -1,8 +1,8 @@
 -- What one call of the store leaves under the lock.
 use Rattle.std.proofs.Common.{◌≡◌, ℕ, ◌+◌, ◌<◌, ◌^◌, ◌≤◌, Bool, true, false, cond, List, [], ◌∷◌, ◌++◌, length}
-use Rattle.std.proofs.Common.{Option, None, Some, Result, Ok, Err, MatchBool, refl, sym, ap, ◌∙◌, subst, arith}
+use Rattle.std.proofs.Common.{Option, Some, Result, Ok, Err, MatchBool, refl, sym, ap, ◌∙◌, subst, arith}
 use Rattle.std.specs.Prelude.{IsTrue}
-use Rattle.std.proofs.lemmas.List.{append-nil, length-append}
+use Rattle.std.proofs.lemmas.List.{length-append}
 use Rattle.atomic_table.specs.Seated.{TableId}
 use Rattle.disk.specs.Areas.{AreSound}
 use Rattle.history.specs.declared.key.KeyWrite.{KeyWrite}
@@ -52,7 +52,6 @@ use Rattle.law_any_store.proofs.Names.{pumped-names, kept-names}
 use Rattle.law_any_store.proofs.Tickets.{ticket-time}
 use Rattle.law_any_store.proofs.Views.{begin-goes, abort-goes, submit-goes, redeem-goes, pump-goes, job-pump-goes, archive-start-goes, reclaim-start-goes}
 use Rattle.law_any_store.proofs.Views.{floor-start-goes, grow-start-goes}
-use Rattle.law_commits.proofs.Names.{assigned-is}
 use Rattle.shared.specs.Archives.{ArchiveSeen, IsArchiveLater, archive_seen, no_archive}
 use Rattle.shared.specs.Counts.{told_count, told_after, AreToldOf}
 use Rattle.shared.specs.Kinds.{Kind, kind_of}
@@ -61,9 +60,10 @@ use Rattle.shared.specs.Tokens.{Token, Tokens, no_tokens, IsOut, IsFree, AreOpen
 use Rattle.shared.specs.Reached.{Reached, opened, stepped}
 use Rattle.shared.specs.Seen.{Seen, SightValue, seen_of, order_of, IsLater}
 use Rattle.shared.specs.Shared.{IsShared, Submits, SubmitSays, SubmitHappens, FloorSays, FloorHappens, ArchiveSays, ArchiveHappens, ReclaimSays, ReclaimHappens}
-use Rattle.shared.specs.Shared.{GrowthHappens, queued_seen, published_seen, failed_seen, has_failed, pumped_seen, done_seen, job_seen, noted, done_in, raising_in}
+use Rattle.shared.specs.Shared.{GrowthHappens, queued_seen, pumped_seen, done_seen, job_seen, noted, done_in}
+use Rattle.shared.specs.Shared.{raising_in}
 use Rattle.shared.proofs.Archives.{archive-same, archive-then, archive-first, archive-on}
-use Rattle.shared.proofs.Counting.{told-push, after-push, told-redeemed, after-redeemed, after-later, none-after, length-redeemed}
+use Rattle.shared.proofs.Counting.{told-push, after-push, told-redeemed, after-redeemed, after-later, length-redeemed}
 use Rattle.shared.proofs.Engines.{in-memory, is-machine, kind-stays, raises-is, none-told}
 use Rattle.shared.proofs.Fronts.{last-seen, later-same}
 use Rattle.shared.proofs.Starting.{archive-says, reclaim-says, growth-says, floor-works}
@@ -83,7 +83,8 @@ open-still : (out : List Token) (a b : List (Option ℕ)) → b ≡ a → AreOpe
 open-still out a b is are = subst (λ (x : List (Option ℕ)). AreOpen out x) (sym is) are
 
 -- the same under another pass of the writer's
-pub repass : (tells : Bool) (start : Machine Value) (kind : Kind) (brand : ℕ) (table : TableId) (v : StoreValue) (shares : ℕ) (at at' : TableId) (pass pass' : SightValue)
+pub repass : (tells : Bool) (start : Machine Value) (kind : Kind) (brand : ℕ) (table : TableId) (v : StoreValue) (shares : ℕ) (at at' : TableId)
+    (pass pass' : SightValue)
     → IsShared tells start kind brand table v shares at pass
     → at' ≡ at → pass'.writes ≡ true → pass'.seen ≡ pass.seen → pass'.archive ≡ pass.archive → pass'.tokens ≡ pass.tokens
     → IsShared tells start kind brand table v shares at' pass'
@@ -147,7 +148,8 @@ told-redeem heads published queue time first shares waits told =
 -- the machine's commits are as they were, under a pass that has other transactions out
 rested : (tells : Bool) (start : Machine Value) (kind : Kind) (brand : ℕ) (table : TableId) (old new : StoreValue) (shares : ℕ) (at at' : TableId)
     (pass pass' : SightValue) (h : IsShared tells start kind brand table old shares at pass) (after : Machine Value)
-    → Stands tells new after → GoesOn tells old new → KeepsNames old new → Reached start after → seen_of after ≡ seen_of h.state → (commits_of new).mark ≡ (commits_of old).mark
+    → Stands tells new after → GoesOn tells old new → KeepsNames old new → Reached start after → seen_of after ≡ seen_of h.state
+    → (commits_of new).mark ≡ (commits_of old).mark
     → (commits_of new).heads ≡ (commits_of old).heads → at' ≡ at → pass'.writes ≡ true → pass'.seen ≡ pass.seen → pass'.archive ≡ pass.archive
     → AreOpen pass'.tokens.out (commits_of new).opened → IsShared tells start kind brand table new shares at' pass'
 rested tells start kind brand table old new shares at at' pass pass' h after stands goes names reached same mark heads cell on seen archive given = record {
@@ -170,9 +172,11 @@ rested tells start kind brand table old new shares at at' pass pass' h after sta
 }
 
 -- and under the same pass, where the same transactions are open
-quiet : (tells : Bool) (start : Machine Value) (kind : Kind) (brand : ℕ) (table : TableId) (old new : StoreValue) (shares : ℕ) (at : TableId) (pass : SightValue)
+quiet : (tells : Bool) (start : Machine Value) (kind : Kind) (brand : ℕ) (table : TableId) (old new : StoreValue) (shares : ℕ) (at : TableId)
+    (pass : SightValue)
     (h : IsShared tells start kind brand table old shares at pass) (after : Machine Value)
-    → Stands tells new after → GoesOn tells old new → KeepsNames old new → Reached start after → seen_of after ≡ seen_of h.state → (commits_of new).mark ≡ (commits_of old).mark
+    → Stands tells new after → GoesOn tells old new → KeepsNames old new → Reached start after → seen_of after ≡ seen_of h.state
+    → (commits_of new).mark ≡ (commits_of old).mark
     → (commits_of new).heads ≡ (commits_of old).heads → (commits_of new).opened ≡ (commits_of old).opened
     → IsShared tells start kind brand table new shares at pass
 quiet tells start kind brand table old new shares at pass h after stands goes names reached same mark heads places =
@@ -203,7 +207,8 @@ begins tells start kind brand table v total at pass stands layout mark fresh emp
 -- ---- transactions
 
 -- the number of a transaction that begins is that of none that is out
-pub begin-fresh : (tells : Bool) (start : Machine Value) (kind : Kind) (brand : ℕ) (table : TableId) (old new : StoreValue) (shares : ℕ) (at : TableId) (pass : SightValue)
+pub begin-fresh : (tells : Bool) (start : Machine Value) (kind : Kind) (brand : ℕ) (table : TableId) (old new : StoreValue) (shares : ℕ) (at : TableId)
+    (pass : SightValue)
     (txn : TxnValue) → IsShared tells start kind brand table old shares at pass → stores.Begins old (Ok txn) new → IsFree txn.number pass.tokens.out
 begin-fresh tells start kind brand table old new shares at pass txn h begins =
     unopened-free pass.tokens.out (commits_of old).opened txn.number h.given (laws.begin-leaves old new (Ok txn) begins).fresh
@@ -228,22 +233,26 @@ begin-gives tells start kind brand table old new shares at at' pass pass' txn h 
     (ap (λ (v : CommitsValue). v.opened) is) given))
 
 -- or none does
-pub begin-keeps : (tells : Bool) (start : Machine Value) (kind : Kind) (brand : ℕ) (table : TableId) (old new : StoreValue) (shares : ℕ) (at : TableId) (pass : SightValue)
+pub begin-keeps : (tells : Bool) (start : Machine Value) (kind : Kind) (brand : ℕ) (table : TableId) (old new : StoreValue) (shares : ℕ) (at : TableId)
+    (pass : SightValue)
     (why : BeginFault) → IsShared tells start kind brand table old shares at pass → stores.Begins old (Err why) new
     → IsShared tells start kind brand table new shares at pass
 begin-keeps tells start kind brand table old new shares at pass begin.NoMemory h begins =
     let did = begin-stands tells old new (Err begin.NoMemory) h.state h.stands begins in
     let is = laws.begin-leaves old new (Err begin.NoMemory) begins in
     quiet tells start kind brand table old new shares at pass h h.state did.1 (begin-goes tells old new (Err begin.NoMemory) begins)
-    (begin-names old new (Err begin.NoMemory) begins) h.reached refl (ap (λ (v : CommitsValue). v.mark) is) (ap (λ (v : CommitsValue). v.heads) is) (ap (λ (v : CommitsValue). v.opened) is)
+    (begin-names old new (Err begin.NoMemory) begins) h.reached refl (ap (λ (v : CommitsValue). v.mark) is) (ap (λ (v : CommitsValue). v.heads) is)
+    (ap (λ (v : CommitsValue). v.opened) is)
 begin-keeps tells start kind brand table old new shares at pass begin.Failed h begins =
     let did = begin-stands tells old new (Err begin.Failed) h.state h.stands begins in
     let is = laws.begin-leaves old new (Err begin.Failed) begins in
     quiet tells start kind brand table old new shares at pass h h.state did.1 (begin-goes tells old new (Err begin.Failed) begins)
-    (begin-names old new (Err begin.Failed) begins) h.reached refl (ap (λ (v : CommitsValue). v.mark) is) (ap (λ (v : CommitsValue). v.heads) is) (ap (λ (v : CommitsValue). v.opened) is)
+    (begin-names old new (Err begin.Failed) begins) h.reached refl (ap (λ (v : CommitsValue). v.mark) is) (ap (λ (v : CommitsValue). v.heads) is)
+    (ap (λ (v : CommitsValue). v.opened) is)
 
 -- a transaction that is out is the store's own, by what the writer's pass has seen since it began
-pub its-own : (tells : Bool) (start : Machine Value) (kind : Kind) (brand : ℕ) (table : TableId) (v : StoreValue) (shares : ℕ) (at : TableId) (pass : SightValue)
+pub its-own : (tells : Bool) (start : Machine Value) (kind : Kind) (brand : ℕ) (table : TableId) (v : StoreValue) (shares : ℕ) (at : TableId)
+    (pass : SightValue)
     (txn : TxnValue) (own : TxnPassValue) → IsShared tells start kind brand table v shares at pass → GoesWith start brand txn own → IsLater own.seen pass.seen
     → IsOut pass.tokens.out own.token → AreTxnWrites txn.state txn.snapshot txn.writes → is_own (commits_of v) txn ≡ true
 its-own tells start kind brand table v shares at pass txn own h goes later out writes =
@@ -260,8 +269,8 @@ pub record Aborting (tells : Bool) (start : Machine Value) (m : Machine Value) (
 pub aborting : (tells : Bool) (start : Machine Value) (m : Machine Value) (old new : StoreValue) (txn : TxnValue) → Stands tells old m
     → is_own (commits_of old) txn ≡ true → stores.Aborts old txn new → Aborting tells start m old new txn
 aborting tells start m old new txn stands own aborts =
-    let did = subst (λ (b : Bool). MatchBool b (Goes tells m (Aborted txn.snapshot) new) (Stands tells new m)) own (abort-stands tells old new txn m stands aborts)
-    in
+    let did = subst (λ (b : Bool). MatchBool b (Goes tells m (Aborted txn.snapshot) new) (Stands tells new m)) own
+    (abort-stands tells old new txn m stands aborts) in
     let left = subst (λ (b : Bool). commits_of new ≡ cond b (over (commits_of old) txn.number) (commits_of old)) own (laws.abort-leaves old new txn aborts) in
     record { after = did.0; step = did.1; stands = did.2; left = left }
 
@@ -296,8 +305,8 @@ pub submitting : (tells : Bool) (old new : StoreValue) (m : Machine Value) (t : 
     → (b : Bool) → is_own (commits_of old) t ≡ b
     → MatchBool b (Submitting tells old new m t label now r) ((r ≡ Err refused.Stranger) × (commits_of new ≡ commits_of old) × Stands tells new m)
 submitting tells old new m t label now r stands are range does b is =
-    by-own b (subst (λ (x : Bool). MatchBool x (Goes tells m (event_of m (submission_of t label now) r) new) (Stands tells new m)) is (submit-stands tells old new t
-    label now r m stands are range does))
+    by-own b (subst (λ (x : Bool). MatchBool x (Goes tells m (event_of m (submission_of t label now) r) new) (Stands tells new m)) is
+    (submit-stands tells old new t label now r m stands are range does))
     (subst (λ (x : Bool). MatchBool x (LeftBySubmit (over (commits_of old) t.number) t label r (commits_of new)) ((r ≡ Err refused.Stranger)
     × (commits_of new ≡ commits_of old))) is (laws.submit-leaves old new t label now r does))
   where
@@ -543,7 +552,8 @@ pub pump-publishes : (tells : Bool) (start : Machine Value) (kind : Kind) (brand
 pump-publishes tells start kind brand table old new shares at at' pass pass' r h p cell on seen archive tokens =
     let later' : IsLater (seen_of h.state) (seen_of p.after) =
     subst (λ (s : Seen). IsLater (seen_of h.state) s) (sym p.seen) (later-pumped r (seen_of h.state)) in
-    let rises : last h.state.published ≤ last p.after.published = last-seen (seen_of h.state) (seen_of p.after) (is-machine tells new p.after p.stands).history later' in
+    let rises : last h.state.published ≤ last p.after.published =
+    last-seen (seen_of h.state) (seen_of p.after) (is-machine tells new p.after p.stands).history later' in
     record {
       state = p.after;
       stands = p.stands;

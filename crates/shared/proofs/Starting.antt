@@ -1,7 +1,7 @@
 -- What the starts of jobs answer, in either layout.
-use Rattle.std.proofs.Common.{◌≡◌, ℕ, ◌<◌, ◌≤◌, ◌==◌, nat_le, nat_lt, Bool, true, false, cond, is_some, Option, None, Some, Result, Ok, Err, MatchOption, refl, sym}
+use Rattle.std.proofs.Common.{◌≡◌, ℕ, ◌<◌, ◌≤◌, ◌==◌, nat_le, nat_lt, Bool, true, false, cond, is_some, Option, None, Some, Result, Ok, Err, MatchOption}
+use Rattle.std.proofs.Common.{refl, sym}
 use Rattle.std.proofs.Common.{◌∙◌, subst, arith}
-use Rattle.std.specs.Prelude.{IsTrue}
 use Rattle.std.proofs.lemmas.Bool.Decides.{nat_tests}
 use Rattle.history.specs.Histories.{last}
 use Rattle.history.specs.Machine.{Machine}
@@ -20,7 +20,7 @@ use Rattle.store.specs.declared.job.StartFault.TheVariants as fault
 use Rattle.any_store.specs.Jobs as jobs
 use Rattle.any_store.specs.Jobs.{none_of}
 use Rattle.any_store.specs.Values as any
-use Rattle.any_store.specs.Values.{is_log, commits_of}
+use Rattle.any_store.specs.Values.{is_log}
 use Rattle.any_store.specs.declared.engine.Engine.TheVariants.{Slots, Log}
 use Rattle.law_refinement.specs.Standing.{StandsInMemory}
 use Rattle.law_refinement.proofs.FloorStarts.{in-use}

@@ -55,7 +55,8 @@ use Rattle.shared.proofs.Engines.{in-memory, is-machine, waiting-named, queue-ri
 use Rattle.shared.proofs.Moves.{Aborting}
 
 pub shows : (tells : Bool) (start : Machine Value) (kind : Kind) (brand : ℕ) (table : TableId) (v : StoreValue) (shares : ℕ) (at : TableId)
-    (pass : SightValue) (archive : ArchiveSeen) (seen : Seen) (r : Result ViewValue AllocError) → IsShared tells start kind brand table v shares at pass → archive ≡ archive_seen tells v
+    (pass : SightValue) (archive : ArchiveSeen) (seen : Seen) (r : Result ViewValue AllocError) → IsShared tells start kind brand table v shares at pass
+    → archive ≡ archive_seen tells v
     → seen ≡ pass.seen
     → IfOk r (queries.IsViewOf v) → IfOk r (λ w. Shows start brand archive w seen)
 shows tells start kind brand table v shares at pass archive seen (Ok w) h known same of =
@@ -72,7 +73,8 @@ shows tells start kind brand table v shares at pass archive seen (Ok w) h known 
 shows tells start kind brand table v shares at pass archive seen (Err why) h known same of = tt
 
 pub begin-happens : (tells : Bool) (start : Machine Value) (kind : Kind) (brand : ℕ) (table : TableId) (v new : StoreValue) (shares : ℕ) (at : TableId)
-    (pass : SightValue) (seen : Seen) (r : Result TxnValue BeginFault) → IsShared tells start kind brand table v shares at pass → seen ≡ pass.seen → stores.Begins v r new
+    (pass : SightValue) (seen : Seen) (r : Result TxnValue BeginFault) → IsShared tells start kind brand table v shares at pass → seen ≡ pass.seen
+    → stores.Begins v r new
     → BeginHappens start brand r seen
 begin-happens tells start kind brand table v new shares at pass seen (Ok txn) h same begins =
     let b = begin-leaves v new (Ok txn) begins in
@@ -97,7 +99,8 @@ begin-happens tells start kind brand table v new shares at pass seen (Err begin.
 
 -- an own transaction is given up
 pub abort-happens : (tells : Bool) (start : Machine Value) (kind : Kind) (brand : ℕ) (table : TableId) (v new : StoreValue) (shares : ℕ) (at : TableId)
-    (pass : SightValue) (seen : Seen) (t : TxnValue) (h : IsShared tells start kind brand table v shares at pass) → seen ≡ pass.seen → Aborting tells start h.state v new t
+    (pass : SightValue) (seen : Seen) (t : TxnValue) (h : IsShared tells start kind brand table v shares at pass) → seen ≡ pass.seen
+    → Aborting tells start h.state v new t
     → AbortHappens start t.snapshot seen
 abort-happens tells start kind brand table v new shares at pass seen t h same a =
     record { before = h.state; after = a.after; reached = h.reached; step = a.step; seen_is = same ∙ h.seen ∙ sym (ap seen_of a.step.2) }
@@ -205,7 +208,8 @@ waiting-works false true time is = absurd cc
 waiting-works false false time is = refl
 
 pub redeem-says : (tells : Bool) (start : Machine Value) (kind : Kind) (brand : ℕ) (table : TableId) (v new : StoreValue) (shares : ℕ) (at : TableId)
-    (pass : SightValue) (seen : Seen) (k : TicketValue) (r : Redeemed) → IsShared tells start kind brand table v shares at pass → seen ≡ pass.seen → stores.Redeems v k r new
+    (pass : SightValue) (seen : Seen) (k : TicketValue) (r : Redeemed) → IsShared tells start kind brand table v shares at pass → seen ≡ pass.seen
+    → stores.Redeems v k r new
     → RedeemSays brand k r seen
 redeem-says tells start kind brand table v new shares at pass seen k r h same redeems =
     by-result r (redeem-leaves v new k r redeems) (redeem-stands tells v new k r h.state h.stands redeems).0

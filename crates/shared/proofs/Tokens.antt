@@ -1,6 +1,6 @@
 -- What is out is open in the store, and is the store's own.
 use Rattle.std.proofs.Common.{◌≡◌, ◌≢◌, ℕ, zero, suc, ◌≤◌, ◌<◌, ◌==◌, ◌||◌, ◌&&◌, nat_lt, Bool, true, false, cond, List, [], ◌∷◌, ◌++◌, length}
-use Rattle.std.proofs.Common.{slice_get, slice_set, Option, None, Some, is_some, refl, sym, ap, ◌∙◌, subst, inl, inr, ⊎_elim, arith}
+use Rattle.std.proofs.Common.{slice_set, Option, None, Some, is_some, refl, sym, ap, ◌∙◌, subst, inl, inr, ⊎_elim, arith}
 use Rattle.std.specs.Prelude.{IsSome}
 use Rattle.std.specs.List.{list_all, AllByRecursion}
 use Rattle.std.proofs.lemmas.Bool.{cases_lt}
@@ -19,7 +19,7 @@ use Rattle.group.specs.Values.{is_of_value, is_snapshot}
 use Rattle.commits.specs.Values.{CommitsValue, is_own}
 use Rattle.law_commits.specs.Standing.{StandsInMemory}
 use Rattle.law_any_store.proofs.Memory.{open-sees}
-use Rattle.shared.specs.Moments.{WorksOn, GoesWith, TxnPassValue, token_of}
+use Rattle.shared.specs.Moments.{GoesWith, TxnPassValue, token_of}
 use Rattle.shared.specs.Seen.{Seen, IsFrontOf, IsLater, seen_of}
 use Rattle.shared.specs.Tokens.{Token, IsAmong, IsOut, IsFree, AreOpen, without}
 

@@ -1,5 +1,6 @@
 -- What the value under the lock keeps, and what the calls of a shared store answer.
-use Rattle.std.specs.Prelude.{◌≡◌, ℕ, ◌<◌, ◌≤◌, ◌++◌, ◌↔◌, ◌⊎◌, Bool, true, false, IsTrue, List, [], ◌∷◌, length, take, drop, IsSome, Contains, Option, None, Some}
+use Rattle.std.specs.Prelude.{◌≡◌, ℕ, ◌<◌, ◌≤◌, ◌++◌, ◌↔◌, Bool, true, false, IsTrue, List, [], ◌∷◌, length, take, drop, IsSome, Contains, Option, None}
+use Rattle.std.specs.Prelude.{Some}
 use Rattle.std.specs.Prelude.{Result, Ok, Err, MatchBool, if◌then◌else◌}
 use Rattle.atomic_table.specs.Seated.{TableId}
 use Rattle.history.specs.declared.key.Key.{Key}
@@ -242,8 +243,8 @@ FloorHappens start scope floor result seen = OfSeen start seen (λ m. FloorSays 
 -- ---- archives and reclaims
 
 -- An archive begins up to a time that is not later than the last commit; or the store has failed, another job runs, nothing more has ended by then, the time is
--- later than the last commit, which is told, the log has no slot for it, or the run finds no room in the archive or no memory. Only a store whose log lies in the
--- heap has no archives.
+-- later than the last commit, which is told, the log has no slot for it, or the run finds no room in the archive or no memory. Only a store whose log lies in
+-- the heap has no archives.
 abbrev pub ArchiveSays : Bool → Machine Value → ℕ → Result (Unit {0}) StartFault → Type 0
 ArchiveSays in_heap m upto (Ok done) = (m.failed ≡ false) × (upto ≤ last m.published)
 ArchiveSays in_heap m upto (Err start_fault.Failed) = m.failed ≡ true

@@ -1,14 +1,10 @@
-use Rattle.std.proofs.Common.{rules, ◌≡◌, ◌+◌, ℕ, length, [], true, sym, subst}
-use Rattle.std.specs.Prelude.{IfSome}
+use Rattle.std.proofs.Common.{rules, [], true, sym, subst}
 use denote.Param.Send.{sendable}
 use Rattle.disk.proofs.mem_disk.MemDisk.TheSendSync as mem_disk
-use Rattle.history.specs.Histories.{History}
 use Rattle.history.specs.Machine.{Machine}
 use Rattle.law_image.specs.Values.{Value}
 use Rattle.law_any_store.specs.Standing.{Stands}
-use Rattle.shared.specs.Counts.{unredeemed}
-use Rattle.shared.specs.Reached.{Reached}
-use Rattle.shared.proofs.Fresh.{opened-as, opened-published, queue-none}
+use Rattle.shared.proofs.Fresh.{opened-as, queue-none}
 use Rattle.workload.proofs.in_memory.stress.Goals as goal
 
 pub stress_on-requires : goal.stress_on-requires

@@ -7,9 +7,11 @@ pub invariant_of-self : goal.invariant_of-self
 invariant_of-self g c =
     let w = c.compare.ensures.writer in
     repass _ _ _ _ _ _ _ _ _ _ _
-    (query-keeps _ _ _ _ _ _ _ _ _ _ c.self.invariant (scan_between-stands _ _ _ _ _ _ _ _ _ c.self.invariant.stands c.scan_between.ensures)) w.0 w.1 w.2 w.3 w.4
+    (query-keeps _ _ _ _ _ _ _ _ _ _ c.self.invariant (scan_between-stands _ _ _ _ _ _ _ _ _ c.self.invariant.stands
+    c.scan_between.ensures)) w.0 w.1 w.2 w.3 w.4
 
 pub returns-clause-says : goal.returns-clause-says
 returns-clause-says g c =
-    scan_between-says _ _ _ _ _ _ _ _ _ _ c.self.invariant _ _ _ c.shown.ensures c.compare.ensures.kept c.compare.ensures.shows c.args.relation c.args.a c.args.b
+    scan_between-says _ _ _ _ _ _ _ _ _ _ c.self.invariant _ _ _ c.shown.ensures c.compare.ensures.kept c.compare.ensures.shows c.args.relation c.args.a
+    c.args.b
     c.scan_between.result c.scan_between.ensures
