@@ -378,7 +378,8 @@ dumps_heap-kept tells old new o v gives (inr lacks) =
     inr (record { why = lacks.why; fault = lacks.fault; left = lacks.left; said = refused-kept o v _ gives lacks.said })
 
 -- of either
-shown-kept : (tells : Bool) (old new : DiskState) (o v : Output) (InSlots InSlots' InHeap InHeap' : Type 0) → GivesOut o v → (InSlots → InSlots') → (InHeap → InHeap')
+shown-kept : (tells : Bool) (old new : DiskState) (o v : Output) (InSlots InSlots' InHeap InHeap' : Type 0) → GivesOut o v → (InSlots → InSlots')
+    → (InHeap → InHeap')
     → ByLayout tells old o new InSlots InHeap → ByLayout tells old v new InSlots' InHeap'
 shown-kept tells old new o v InSlots InSlots' InHeap InHeap' gives by in_heap (inl shown) = inl (shown.0, by shown.1)
 shown-kept tells old new o v InSlots InSlots' InHeap InHeap' gives by in_heap (inr (inl shown)) = inr (inl (shown.0, in_heap shown.1))

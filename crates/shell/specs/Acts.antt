@@ -440,7 +440,8 @@ TellsByLayout tells old json output new =
 
 -- `dump`: what is shown of the log is said, or why it is not
 abbrev pub DumpsByLayout : Bool → DiskState → Output → DiskState → Type 0
-DumpsByLayout tells old output new = ByLayout tells old output new (Dumps tells old output new) (DumpsHeap tells old output new ⊎ HasNoDump tells old output new)
+DumpsByLayout tells old output new = ByLayout tells old output new (Dumps tells old output new)
+    (DumpsHeap tells old output new ⊎ HasNoDump tells old output new)
 
 -- ---- actions
 
