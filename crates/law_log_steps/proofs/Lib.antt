@@ -5,5 +5,3 @@ pub mod Resting
 pub mod Opening
 pub mod Fronts
 pub mod InStep
-pub mod Jobs
-pub mod FloorStarts
