@@ -149,9 +149,7 @@ impl<D: Disk> LogStore<D> {
         ensures ok { OnOk result (MatchOption self.old.job ⊥ (λ job. BeginsEntry self.old job self.new)) }
         ensures err { OnErr result (self.new ≡ self.old) }
     {
-        let Some(job) = &self.job else {
-            unreachable!()
-        };
+        let Some(job) = &self.job else { unreachable!() };
         let bytes = job.work.entry(self.alloc)?;
         let chain = self
             .room
