@@ -137,6 +137,12 @@ impl Machine {
         self.status == status && are_answers(self.said(), lines, self.profile)
     }
 
+    /// Whether an action writes this text, byte for byte, and ends with this status.
+    pub fn prints(&mut self, action: Action<'_>, text: &str, status: u8) -> bool {
+        self.does(action, "");
+        self.status == status && self.said() == text
+    }
+
     /// Whether a script ends with status 0.
     pub fn ends(&mut self, script: &str) -> bool {
         self.does(SCRIPT, script);

@@ -308,6 +308,9 @@ impl Machine {
             Step::Asks(question, lines, status) => {
                 self.says(asks(question, PLAIN), "", lines, status)
             }
+            Step::AsksIn(style, question, text, status) if matches!(style.form, Form::Csv) => {
+                self.prints(asks(question, style), text, status)
+            }
             Step::AsksIn(style, question, lines, status) => {
                 self.says(asks(question, style), "", lines, status)
             }
