@@ -186,8 +186,27 @@ def forms(program, folder):
     assert run(program, ["info", os.path.join(folder, "none")])[:2] == (1, "refused: device\n")
 
 
+def shown(program, store):
+    """The log of a store of profile 4 that has commits at 100 and at 200: what is shown of it, and up to a damaged chain."""
+    front = "header extents 64 root 1\nchain 1 commits extents 1\nmember 5 100 1 1970-01-01T00:00:00Z\n"
+    log = front + "chain 2 commits extents 1\nmember 6 200 2 1970-01-01T00:00:00Z\nnext 3\nused 2 of 64\n"
+    facts = {"profile": 4, "heap": 64, "extents": 2, "log": 3, "free": 29, "commits": 2, "last": 200, "archived": 0, "archive": 0, "reclaimed": 0}
+    assert run(program, ["dump", store]) == (0, log, "")
+    assert run(program, ["info", store]) == (0, "".join(f"{name} {number}\n" for name, number in facts.items()), "")
+    assert json.loads(run(program, ["info", store, "--json"])[1]) == {**facts, "floors": []}
+    with open(os.path.join(store, "heap"), "r+b") as heap:
+        heap.seek(8192 + 12)
+        used = heap.read(1)
+        for byte, told in ((b"\0", (1, front + "refused: damaged heap 2\n", "")), (used, (0, log, ""))):
+            heap.seek(8192 + 12)
+            heap.write(byte)
+            heap.flush()
+            assert run(program, ["dump", store]) == told, told
+            assert run(program, ["info", store])[0] == told[0]
+
+
 def endless(program, folder):
-    """A store of profile 4, which is still being built: format says so, what is done stays, and jobs are refused."""
+    """A store of profile 4, which is still being built: format says so, what is done stays and is shown, and jobs are refused."""
     store = os.path.join(folder, "endless")
     os.mkdir(store)
     for words in (["--profile", "4", "--slots", "64"], ["--extents", "64"], ["--profile", "3", "--extents", "64"]):
@@ -208,11 +227,12 @@ def endless(program, folder):
                           (["between", "1", "7", "1", "201"], "100 200 61\nrows 1\n"), (["scan", "1"], "8 62 -\nrows 1\n"),
                           (["scan", "1", "100"], "7 61\nrows 1\n"), (["history", "1", "7"], "100 200 61\nrows 1\n"), (["times", "5"], "times 100\n")):
         assert run(program, [words[0], store, *words[1:]]) == (0, answer, ""), words
+    shown(program, store)
     status, said, told = run(program, ["put", store, "1", "7", "Ada", "--text"])
     assert (status, told) == (0, "") and said.startswith("done "), (status, said, told)
     assert run(program, ["get", store, "1", "7", "--json"])[1].endswith('"value":["Ada"]}\n')
     assert run(program, ["del", store, "1", "7"])[0] == 0 and run(program, ["get", store, "1", "7"]) == (0, "none\n", "")
-    for words in (["vacuum", store, "200"], ["floor", store, "1", "200"], ["info", store], ["info", store, "--json"], ["dump", store]):
+    for words in (["vacuum", store, "200"], ["floor", store, "1", "200"]):
         assert run(program, words)[:2] == (1, "refused: wrong profile\n"), words
     assert run(program, ["grow", store])[:2] == (1, "refused: not growable\n")
 

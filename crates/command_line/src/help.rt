@@ -45,9 +45,8 @@ groups, and its heap as many extents of 8 KiB; one that is full answers
 `refused: status full` to each further commit.
 
 Profile 4 has no slots: its log lies in the heap, and does not end. It is still
-being built. Its bytes may change, and it has no jobs yet: `vacuum`, `floor`,
-`info` and `dump` answer it by `wrong profile`. So is a size refused that is of
-the other profile.";
+being built. Its bytes may change, and it has no jobs yet: `vacuum` and `floor`
+answer it by `wrong profile`. So is a size refused that is of the other profile.";
 
 /// Of `run`.
 pub const RUN: &str = "A line has one command, words parted by one space:
@@ -170,6 +169,10 @@ where there is nothing of it:
   days          the slots that are left last so long if they are used as in the
                 30 days before the last commit; no line where there is no commit
   floor REL T   a line for each relation that has a floor, or `floor T` of all
+Of profile 4 there are no slots, no first and no days, but these:
+  heap          how many extents the heap may have
+  extents       how many are used
+  log, free     how many are the log's, and how many more it may have
 With --json it is one object. Its member `floors` is an array, an object for each.";
 
 /// Of `dump`.
@@ -181,7 +184,18 @@ pub const DUMP: &str = "The store is not opened, and nothing is written. The lin
   slot N archived UPTO START LENGTH RECORDS
   slot N reclaimed UPTO EXTENT EXTENTS RECORDS
   slot N floor TIME, or slot N floor TIME relation REL
-  used N of SLOTS: when all are used, commits are refused by `status full`";
+  used N of SLOTS: when all are used, commits are refused by `status full`
+Of profile 4, whose log is chains of extents, H the first extent of each:
+  header extents E root H
+  chain H base UPTO EXTENT EXTENTS RECORDS, then
+  roll START LENGTH, archived UPTO START LENGTH RECORDS 0, floor TIME relation REL
+  chain H commits extents N, then for each of its commits
+  member LABEL TIME RECORDS INSTANT
+  chain H archived UPTO START LENGTH RECORDS RUNS
+  chain H floor TIME relation REL
+  next H: where the log goes on
+  used N of E
+A chain that is not right ends it, as `refused: damaged heap H`.";
 
 /// Of `stress`.
 pub const STRESS: &str =

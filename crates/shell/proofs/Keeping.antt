@@ -70,7 +70,10 @@ use Rattle.shell.specs.Acts.{Raises, RaisesStore, SaysSlots, SaysVacuum, Tells, 
 use Rattle.shell.specs.Asking.{end_asked, line_asked, time_asked}
 use Rattle.command_line.specs.declared.layout.Layout.{Layout}
 use Rattle.shell.specs.Layouts.{store_layout}
-use Rattle.shell.specs.Acts.{IfSlots, RefusesProfile}
+use Rattle.recovery.specs.Answers.{after_fault}
+use Rattle.recovery.specs.declared.fault.OpenFault.{OpenFault}
+use Rattle.recovery.specs.declared.fault.OpenFault.TheVariants as opening
+use Rattle.shell.specs.Acts.{ByLayout, DumpsHeap, HasNoDump, HasNoInfo, RefusesProfile, TellsHeap}
 use Rattle.shell.specs.Keeps.{LineLeads, LinesKeep, RunKeeps, NewRunKeeps, KeepsPromise, VacuumKeeps, VacuumingKeeps, GrowthKeeps}
 use Rattle.shell.specs.Keeps.{GrowingKeeps, MakingKeeps, IsValueReply, IsRowsReply, OrGaveOut, AskingKeeps}
 use Rattle.shell.specs.Keeps.{FloorKeeps, RaisingKeeps}
@@ -710,12 +713,25 @@ dump-holds tells old new output (inl (inr none)) = ap (λ (s : DiskState). s.are
 dump-holds tells old new output (inr (inl dumped)) = ap (λ (s : DiskState). s.areas) dumped.same
 dump-holds tells old new output (inr (inr lacks)) = ap (λ (s : DiskState). s.areas) lacks.0
 
--- what is shown where the log is slots
-shown-holds : (tells : Bool) (old new : DiskState) (o : Output) (Shows : Type 0) → (Shows → new.areas ≡ old.areas) → IfSlots tells old o new Shows
+-- a refused read is counted, and nothing else has changed
+fault-holds : (why : OpenFault) (old : DiskState) → (after_fault why old).areas ≡ old.areas
+fault-holds opening.NotAStore old = refl
+fault-holds (opening.Damaged area place) old = refl
+fault-holds opening.Device old = refl
+fault-holds opening.NoMemory old = refl
+
+-- of a log in the heap
+dump_of_heap-holds : (tells : Bool) (old new : DiskState) (output : Output) → DumpsHeap tells old output new ⊎ HasNoDump tells old output new
     → new.areas ≡ old.areas
-shown-holds tells old new o Shows by (inl shown) = by shown.1
-shown-holds tells old new o Shows by (inr (inl in_heap)) = ap (λ (s : DiskState). s.areas) in_heap.1.0
-shown-holds tells old new o Shows by (inr (inr lacks)) = ap (λ (s : DiskState). s.areas) lacks.0
+dump_of_heap-holds tells old new output (inl done) = ap (λ (s : DiskState). s.areas) done.same
+dump_of_heap-holds tells old new output (inr lacks) = ap (λ (s : DiskState). s.areas) lacks.left ∙ fault-holds lacks.why old
+
+-- of either
+shown-holds : (tells : Bool) (old new : DiskState) (o : Output) (InSlots InHeap : Type 0) → (InSlots → new.areas ≡ old.areas) → (InHeap → new.areas ≡ old.areas)
+    → ByLayout tells old o new InSlots InHeap → new.areas ≡ old.areas
+shown-holds tells old new o InSlots InHeap by in_heap (inl shown) = by shown.1
+shown-holds tells old new o InSlots InHeap by in_heap (inr (inl shown)) = in_heap shown.1
+shown-holds tells old new o InSlots InHeap by in_heap (inr (inr lacks)) = ap (λ (s : DiskState). s.areas) lacks.0
 
 -- ---- floor
 
@@ -762,6 +778,11 @@ info-holds tells old new json output (inl (inr none)) = ap (λ (s : DiskState). 
 info-holds tells old new json output (inr (inl done)) = ap (λ (s : DiskState). s.areas) done.same
 info-holds tells old new json output (inr (inr lacks)) = ap (λ (s : DiskState). s.areas) lacks.0
 
+info_of_heap-holds : (tells : Bool) (old new : DiskState) (json : Bool) (output : Output)
+    → TellsHeap tells old json output new ⊎ HasNoInfo tells old output new → new.areas ≡ old.areas
+info_of_heap-holds tells old new json output (inl done) = ap (λ (s : DiskState). s.areas) done.same
+info_of_heap-holds tells old new json output (inr lacks) = ap (λ (s : DiskState). s.areas) lacks.left ∙ fault-holds lacks.why old
+
 -- ---- actions
 
 -- so does each action
@@ -779,7 +800,9 @@ keeps-acts tells (action.Vacuum dir time) old new input output told sound acts =
 keeps-acts tells (action.Grow dir) old new input output told sound acts = growth-keeps tells old new output told sound acts
 keeps-acts tells (action.Floor dir relation time) old new input output told sound acts = raise-keeps tells old new relation time output told sound acts
 keeps-acts tells (action.Info dir json) old new input output told sound acts =
-    shown-holds tells old new output (Tells tells old json output new) (info-holds tells old new json output) acts
+    shown-holds tells old new output (Tells tells old json output new) (TellsHeap tells old json output new ⊎ HasNoInfo tells old output new)
+    (info-holds tells old new json output) (info_of_heap-holds tells old new json output) acts
 keeps-acts tells (action.Dump dir) old new input output told sound acts =
-    shown-holds tells old new output (Dumps tells old output new) (dump-holds tells old new output) acts
+    shown-holds tells old new output (Dumps tells old output new) (DumpsHeap tells old output new ⊎ HasNoDump tells old output new)
+    (dump-holds tells old new output) (dump_of_heap-holds tells old new output) acts
 keeps-acts tells (action.Stress writers readers rounds) old new input output told sound acts = acts.0

@@ -1,5 +1,5 @@
 -- What was said stays said when it is given out; where that is refused, the status is 1.
-use Rattle.std.proofs.Common.{◌≡◌, ◌≢◌, ◌∙◌, ◌⊎◌, inl, inr, ℕ, Bool, true, false, [], Option, Some, None, sym, subst, append-nil}
+use Rattle.std.proofs.Common.{◌≡◌, ◌≢◌, ◌∙◌, ◌⊎◌, inl, inr, ℕ, ◌++◌, Bool, true, false, [], Option, Some, None, sym, subst, append-nil}
 use Rattle.std.specs.Prelude.{MatchOption, MatchBool}
 use Rattle.std.specs.Io.KnownBytes.{Appends}
 use Rattle.std.proofs.KnownBytes.{Appends-kept}
@@ -7,7 +7,7 @@ use Rattle.disk.specs.Calls.{DiskState}
 use Rattle.script.specs.declared.line.Line.{Line}
 use Rattle.script.specs.declared.line.Line.TheVariants as line
 use Rattle.session.specs.Streams.{AppendsFront}
-use Rattle.session.specs.Texts.{Text, text_of}
+use Rattle.session.specs.Texts.{Text, open_line, text_of}
 use Rattle.session.specs.declared.ending.Ending.{Ending}
 use Rattle.session.specs.declared.ending.Ending.TheVariants.{OutputRefused, Whole}
 use Rattle.session.specs.declared.reply.Reply.{Reply}
@@ -23,8 +23,8 @@ use Rattle.command_line.specs.declared.question.Question.{Question}
 use Rattle.command_line.specs.declared.question.RecordWrite.{RecordWrite}
 use Rattle.command_line.specs.declared.action.Action.{Action}
 use Rattle.command_line.specs.declared.action.Action.TheVariants as action
-use Rattle.shell.specs.Acts.{Acts, Asks, Dumps, DoesNotOpen, GivesOut, Grows, IfSlots, HasNoMemory, HasStatusOf, Input, IsRefused, IsSaid, IsTold, Makes}
-use Rattle.shell.specs.Acts.{Output}
+use Rattle.shell.specs.Acts.{Acts, Asks, Dumps, DoesNotOpen, GivesOut, Grows, HasNoMemory, HasStatusOf, Input, IsRefused, IsSaid, IsTold, Makes}
+use Rattle.shell.specs.Acts.{ByLayout, DumpsHeap, HasNoDump, HasNoInfo, Output, TellsHeap}
 use Rattle.shell.specs.Layouts.{store_layout}
 use Rattle.shell.specs.Acts.{RefusesProfile, RefusesTime, RefusesToMake, RunsNew, RunsScript, SaysAll, SaysArchived, SaysBoth, SaysFront, SaysGrown, SaysSlots}
 use Rattle.shell.specs.Acts.{IsToldAs, IsToldIn, Raises, SaysRaised, SaysSo, SaysVacuum, Tells, Vacuums, Writes}
@@ -352,12 +352,38 @@ tells-kept tells old new json o v gives (inr (inl done)) =
     }))
 tells-kept tells old new json o v gives (inr (inr lacks)) = inr (inr (lacks.0, refused-kept o v _ gives lacks.1))
 
--- what is shown where the log is slots
-shown-kept : (tells : Bool) (old new : DiskState) (o v : Output) (Shows Shows' : Type 0) → GivesOut o v → (Shows → Shows') → IfSlots tells old o new Shows
-    → IfSlots tells old v new Shows'
-shown-kept tells old new o v Shows Shows' gives by (inl shown) = inl (shown.0, by shown.1)
-shown-kept tells old new o v Shows Shows' gives by (inr (inl in_heap)) = inr (inl (in_heap.0, profile-kept old new o v gives in_heap.1))
-shown-kept tells old new o v Shows Shows' gives by (inr (inr lacks)) = inr (inr (lacks.0, refused-kept o v _ gives lacks.1))
+-- of a log in the heap
+tells_heap-kept : (tells : Bool) (old new : DiskState) (json : Bool) (o v : Output) → GivesOut o v
+    → TellsHeap tells old json o new ⊎ HasNoInfo tells old o new → TellsHeap tells old json v new ⊎ HasNoInfo tells old v new
+tells_heap-kept tells old new json o v gives (inl done) =
+    inl (record { text = done.text; is = done.is; said = said-kept o v _ gives done.said; same = done.same })
+tells_heap-kept tells old new json o v gives (inr lacks) =
+    inr (record { why = lacks.why; fault = lacks.fault; left = lacks.left; said = refused-kept o v _ gives lacks.said })
+
+dump_said-kept : (text : Text) (fault : Option OpenFault) (o v : Output) → GivesOut o v
+    → MatchOption fault (IsSaid o text) (λ why. IsRefused o (text ++ open_line why))
+    → MatchOption fault (IsSaid v text) (λ why. IsRefused v (text ++ open_line why))
+dump_said-kept text None o v gives said = said-kept o v text gives said
+dump_said-kept text (Some why) o v gives refused = refused-kept o v _ gives refused
+
+dumps_heap-kept : (tells : Bool) (old new : DiskState) (o v : Output) → GivesOut o v → DumpsHeap tells old o new ⊎ HasNoDump tells old o new
+    → DumpsHeap tells old v new ⊎ HasNoDump tells old v new
+dumps_heap-kept tells old new o v gives (inl done) = inl (record {
+  dump = done.dump;
+  is = done.is;
+  said = dump_said-kept done.dump.text.items done.dump.fault o v gives done.said;
+  same = done.same;
+})
+dumps_heap-kept tells old new o v gives (inr lacks) =
+    inr (record { why = lacks.why; fault = lacks.fault; left = lacks.left; said = refused-kept o v _ gives lacks.said })
+
+-- of either
+shown-kept : (tells : Bool) (old new : DiskState) (o v : Output) (InSlots InSlots' InHeap InHeap' : Type 0) → GivesOut o v → (InSlots → InSlots')
+    → (InHeap → InHeap')
+    → ByLayout tells old o new InSlots InHeap → ByLayout tells old v new InSlots' InHeap'
+shown-kept tells old new o v InSlots InSlots' InHeap InHeap' gives by in_heap (inl shown) = inl (shown.0, by shown.1)
+shown-kept tells old new o v InSlots InSlots' InHeap InHeap' gives by in_heap (inr (inl shown)) = inr (inl (shown.0, in_heap shown.1))
+shown-kept tells old new o v InSlots InSlots' InHeap InHeap' gives by in_heap (inr (inr lacks)) = inr (inr (lacks.0, refused-kept o v _ gives lacks.1))
 
 pub acts-kept : (tells : Bool) (a : Action) (old new : DiskState) (input : Input) (o v : Output) → GivesOut o v → Acts tells a old input o new
     → Acts tells a old input v new
@@ -372,7 +398,10 @@ acts-kept tells (action.Vacuum dir time) old new input o v gives acts = upto-kep
 acts-kept tells (action.Grow dir) old new input o v gives acts = grows-kept tells old new o v gives acts
 acts-kept tells (action.Floor dir relation time) old new input o v gives acts = raise-kept tells old new relation time o v gives acts
 acts-kept tells (action.Info dir json) old new input o v gives acts =
-    shown-kept tells old new o v (Tells tells old json o new) (Tells tells old json v new) gives (tells-kept tells old new json o v gives) acts
+    shown-kept tells old new o v (Tells tells old json o new) (Tells tells old json v new) (TellsHeap tells old json o new ⊎ HasNoInfo tells old o new)
+    (TellsHeap tells old json v new ⊎ HasNoInfo tells old v new) gives (tells-kept tells old new json o v gives)
+    (tells_heap-kept tells old new json o v gives) acts
 acts-kept tells (action.Dump dir) old new input o v gives acts =
-    shown-kept tells old new o v (Dumps tells old o new) (Dumps tells old v new) gives (dumps-kept tells old new o v gives) acts
+    shown-kept tells old new o v (Dumps tells old o new) (Dumps tells old v new) (DumpsHeap tells old o new ⊎ HasNoDump tells old o new)
+    (DumpsHeap tells old v new ⊎ HasNoDump tells old v new) gives (dumps-kept tells old new o v gives) (dumps_heap-kept tells old new o v gives) acts
 acts-kept tells (action.Stress writers readers rounds) old new input o v gives acts = (acts.0, refused-kept o v [] gives acts.1)

@@ -10,7 +10,7 @@ use Rattle.script.specs.declared.line.Line.TheVariants as line
 use Rattle.std.specs.Io.KnownBytes.{Appends}
 use Rattle.std.proofs.KnownBytes.{Appends-trans}
 use Rattle.session.specs.Streams.{AppendsFront, Says}
-use Rattle.session.specs.Texts.{Text, refusal_line, text_of}
+use Rattle.session.specs.Texts.{Text, open_line, refusal_line, text_of}
 use Rattle.session.specs.declared.fault.Fault.TheVariants as fault
 use Rattle.session.specs.declared.ending.Ending.{Ending}
 use Rattle.session.specs.declared.ending.Ending.TheVariants.{Whole}
@@ -25,7 +25,9 @@ use Rattle.command_line.specs.declared.question.RecordWrite.{RecordWrite}
 use Rattle.command_line.specs.declared.action.Action.{Action}
 use Rattle.command_line.specs.declared.action.Action.TheVariants as action
 use Rattle.command_line.specs.declared.layout.Layout.{Layout}
-use Rattle.shell.specs.Acts.{Dumps, IfSlots, RefusesProfile}
+use Rattle.shell.specs.Acts.{ByLayout, Dumps, DumpsByLayout, DumpsHeap, HasNoDump, HasNoInfo, RefusesProfile, SaysDump, TellsByLayout, TellsHeap}
+use Rattle.log_dump.specs.declared.dump.Dump.{Dump}
+use Rattle.recovery.specs.declared.fault.OpenFault.{OpenFault}
 use Rattle.shell.specs.Acts.{Acts, Asks, Grows, HasStatusOf, Input, IsRefused, IsSaid, IsTold, Makes, Output, RefusesTime, RunsNew, RunsScript, SaysAll}
 use Rattle.shell.specs.Acts.{IsToldAs, IsToldIn, Raises, SaysRaised, SaysSo, Tells}
 use Rattle.shell.specs.Acts.{SaysFront, SaysGrown, SaysSlots, SaysVacuum, Vacuums, Writes}
@@ -255,11 +257,27 @@ dumps-status tells old new o (inl (inr lacks)) = refused-status o _ lacks.said
 dumps-status tells old new o (inr (inl done)) = said-status o done.text done.said
 dumps-status tells old new o (inr (inr lacks)) = refused-status o _ lacks.1
 
--- what is shown where the log is slots
-shown-status : (tells : Bool) (old new : DiskState) (o : Output) (Shows : Type 0) → (Shows → o.status ≤ 1) → IfSlots tells old o new Shows → o.status ≤ 1
-shown-status tells old new o Shows by (inl shown) = by shown.1
-shown-status tells old new o Shows by (inr (inl in_heap)) = refused-status o _ in_heap.1.1
-shown-status tells old new o Shows by (inr (inr lacks)) = refused-status o _ lacks.1
+-- of a log in the heap
+tells_heap-status : (tells : Bool) (old new : DiskState) (json : Bool) (o : Output) → TellsHeap tells old json o new ⊎ HasNoInfo tells old o new
+    → o.status ≤ 1
+tells_heap-status tells old new json o (inl done) = said-status o done.text done.said
+tells_heap-status tells old new json o (inr lacks) = refused-status o _ lacks.said
+
+dump_said-status : (text : Text) (fault : Option OpenFault) (o : Output)
+    → MatchOption fault (IsSaid o text) (λ why. IsRefused o (text ++ open_line why)) → o.status ≤ 1
+dump_said-status text None o said = said-status o text said
+dump_said-status text (Some why) o refused = refused-status o _ refused
+
+dumps_heap-status : (tells : Bool) (old new : DiskState) (o : Output) → DumpsHeap tells old o new ⊎ HasNoDump tells old o new → o.status ≤ 1
+dumps_heap-status tells old new o (inl done) = dump_said-status done.dump.text.items done.dump.fault o done.said
+dumps_heap-status tells old new o (inr lacks) = refused-status o _ lacks.said
+
+-- of either
+shown-status : (tells : Bool) (old new : DiskState) (o : Output) (InSlots InHeap : Type 0) → (InSlots → o.status ≤ 1) → (InHeap → o.status ≤ 1)
+    → ByLayout tells old o new InSlots InHeap → o.status ≤ 1
+shown-status tells old new o InSlots InHeap by in_heap (inl shown) = by shown.1
+shown-status tells old new o InSlots InHeap by in_heap (inr (inl shown)) = in_heap shown.1
+shown-status tells old new o InSlots InHeap by in_heap (inr (inr lacks)) = refused-status o _ lacks.1
 
 pub acts-status : (tells : Bool) (a : Action) (old new : DiskState) (input : Input) (o : Output) → Acts tells a old input o new → o.status ≤ 1
 acts-status tells action.Example old new input o acts = runs_new-status tells old new input o acts
@@ -273,6 +291,9 @@ acts-status tells (action.Vacuum dir time) old new input o acts = upto-status te
 acts-status tells (action.Grow dir) old new input o acts = grows-status tells old new o acts
 acts-status tells (action.Floor dir relation time) old new input o acts = raise-status tells old new relation time o acts
 acts-status tells (action.Info dir json) old new input o acts =
-    shown-status tells old new o (Tells tells old json o new) (tells-status tells old new json o) acts
-acts-status tells (action.Dump dir) old new input o acts = shown-status tells old new o (Dumps tells old o new) (dumps-status tells old new o) acts
+    shown-status tells old new o (Tells tells old json o new) (TellsHeap tells old json o new ⊎ HasNoInfo tells old o new)
+    (tells-status tells old new json o) (tells_heap-status tells old new json o) acts
+acts-status tells (action.Dump dir) old new input o acts =
+    shown-status tells old new o (Dumps tells old o new) (DumpsHeap tells old o new ⊎ HasNoDump tells old o new) (dumps-status tells old new o)
+    (dumps_heap-status tells old new o) acts
 acts-status tells (action.Stress writers readers rounds) old new input o acts = refused-status o [] acts.1

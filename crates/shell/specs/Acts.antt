@@ -8,6 +8,11 @@ use Rattle.disk.specs.declared.area.Area.TheVariants as area
 use Rattle.recovery.specs.declared.fault.FormatFault.{FormatFault}
 use Rattle.recovery.specs.declared.fault.OpenFault.{OpenFault}
 use Rattle.recovery.specs.declared.fault.OpenFault.TheVariants as opening
+use Rattle.recovery.specs.Answers.{after_fault}
+use Rattle.log_shown.specs.Shown.{IsShownFault}
+use Rattle.log_dump.specs.Dumped.{IsDumpOf}
+use Rattle.log_dump.specs.declared.dump.Dump.{Dump}
+use Rattle.log_facts.specs.HeapTexts.{IsInfoFault, IsInfoOf}
 use Rattle.status.specs.Reading.{AnswersHeader, HoldsLog, IsHeaderFault, IsLogFault, ReadsHeader, refused_by}
 use Rattle.status.specs.declared.fault.LogFault.{LogFault}
 use Rattle.status.specs.declared.fault.LogFault.TheVariants as log
@@ -267,7 +272,7 @@ pub record DumpsLog (tells : Bool) (old : DiskState) (output : Output) (new : Di
 abbrev pub LacksText : DiskState → Output → DiskState → Type 0
 LacksText old output new = (new ≡ old) × IsRefused output (refusal_line fault.NoMemory)
 
--- `dump`: the log is said, or why it is not
+-- slots are said, or why they are not
 abbrev pub Dumps : Bool → DiskState → Output → DiskState → Type 0
 Dumps tells old output new = (HasNoHeader tells old output new ⊎ HasNoLog tells old output new) ⊎ (DumpsLog tells old output new ⊎ LacksText old output new)
 
@@ -379,25 +384,64 @@ pub record TellsLog (tells : Bool) (old : DiskState) (json : Bool) (output : Out
   pub said : IsSaid output (info_text json header slots)
   pub same : new ≡ old
 
--- `info`: what the log tells is said, or why it is not
+-- what slots tell is said, or why it is not
 abbrev pub Tells : Bool → DiskState → Bool → Output → DiskState → Type 0
 Tells tells old json output new =
     (HasNoHeader tells old output new ⊎ HasNoLog tells old output new) ⊎ (TellsLog tells old json output new ⊎ LacksText old output new)
 
--- ---- a log in the heap, of which nothing is shown yet
+-- ---- a log in the heap
 
--- its header stands there, and it is refused
-abbrev pub LiesInHeap : Bool → DiskState → Output → DiskState → Type 0
-LiesInHeap tells old output new = (IsTrue tells → HasLogHeader old.areas.status.bytes) × RefusesProfile old output new
+-- what the log tells is said, and the disk is as it was
+pub record TellsHeap (tells : Bool) (old : DiskState) (json : Bool) (output : Output) (new : DiskState) : Type 0 where
+  pub text : Text
+  pub is : IsInfoOf tells json old.areas.status.bytes old.areas.heap.bytes text
+  pub said : IsSaid output text
+  pub same : new ≡ old
+
+-- or the first check of opening that fails, or that the device or memory gave out
+pub record HasNoInfo (tells : Bool) (old : DiskState) (output : Output) (new : DiskState) : Type 0 where
+  pub why : OpenFault
+  pub fault : IsTrue tells → IsInfoFault old.areas.status.bytes old.areas.heap.bytes why
+  pub left : new ≡ after_fault why old
+  pub said : IsRefused output (open_line why)
+
+-- the text of a dump is said, and behind it the first check of opening that fails
+abbrev pub SaysDump : Dump → Output → Type 0
+SaysDump dump output = MatchOption dump.fault (IsSaid output dump.text.items) (λ why. IsRefused output (dump.text.items ++ open_line why))
+
+-- what is shown of the log is said, and the disk is as it was
+pub record DumpsHeap (tells : Bool) (old : DiskState) (output : Output) (new : DiskState) : Type 0 where
+  pub dump : Dump
+  pub is : IsDumpOf tells old.areas.status.bytes old.areas.heap.bytes dump
+  pub said : SaysDump dump output
+  pub same : new ≡ old
+
+-- or that the device or memory gave out, or that no header stands in front
+pub record HasNoDump (tells : Bool) (old : DiskState) (output : Output) (new : DiskState) : Type 0 where
+  pub why : OpenFault
+  pub fault : IsTrue tells → IsShownFault old.areas.status.bytes why
+  pub left : new ≡ after_fault why old
+  pub said : IsRefused output (open_line why)
 
 -- the header can't be read
 abbrev pub LacksFront : DiskState → Output → DiskState → Type 0
 LacksFront old output new = (new ≡ looked refused_answer old) × IsRefused output (open_line opening.Device)
 
--- so it is where the log is slots, and one in the heap is refused
-abbrev pub IfSlots : Bool → DiskState → Output → DiskState → Type 0 → Type 0
-IfSlots tells old output new Shows =
-    ((IsTrue tells → ¬ HasLogHeader old.areas.status.bytes) × Shows) ⊎ (LiesInHeap tells old output new ⊎ LacksFront old output new)
+-- so it is where the log is slots, and so where it lies in the heap
+abbrev pub ByLayout : Bool → DiskState → Output → DiskState → (InSlots InHeap : Type 0) → Type 0
+ByLayout tells old output new InSlots InHeap =
+    ((IsTrue tells → ¬ HasLogHeader old.areas.status.bytes) × InSlots)
+    ⊎ (((IsTrue tells → HasLogHeader old.areas.status.bytes) × InHeap) ⊎ LacksFront old output new)
+
+-- `info`: what the log tells is said, or why it is not
+abbrev pub TellsByLayout : Bool → DiskState → Bool → Output → DiskState → Type 0
+TellsByLayout tells old json output new =
+    ByLayout tells old output new (Tells tells old json output new) (TellsHeap tells old json output new ⊎ HasNoInfo tells old output new)
+
+-- `dump`: what is shown of the log is said, or why it is not
+abbrev pub DumpsByLayout : Bool → DiskState → Output → DiskState → Type 0
+DumpsByLayout tells old output new = ByLayout tells old output new (Dumps tells old output new)
+    (DumpsHeap tells old output new ⊎ HasNoDump tells old output new)
 
 -- ---- actions
 
@@ -418,6 +462,6 @@ Acts tells (action.Write dir write) old input output new = Writes tells old writ
 Acts tells (action.Vacuum dir time) old input output new = MatchOption time (RefusesTime old output new) (λ t. Vacuums tells old t output new)
 Acts tells (action.Grow dir) old input output new = Grows tells old output new
 Acts tells (action.Floor dir relation time) old input output new = MatchOption time (RefusesTime old output new) (λ t. Raises tells old relation t output new)
-Acts tells (action.Info dir json) old input output new = IfSlots tells old output new (Tells tells old json output new)
-Acts tells (action.Dump dir) old input output new = IfSlots tells old output new (Dumps tells old output new)
+Acts tells (action.Info dir json) old input output new = TellsByLayout tells old json output new
+Acts tells (action.Dump dir) old input output new = DumpsByLayout tells old output new
 Acts tells (action.Stress writers readers rounds) old input output new = DoesNothing old output new

@@ -1,7 +1,7 @@
 -- The text of a log.
 use Rattle.std.specs.Prelude.{◌≡◌, ◌==◌, if◌then◌else◌, ℕ, ◌++◌, List, [], ◌∷◌, length, Some, None, MatchBool, codes, nat_lt}
 use Rattle.std.specs.Fmt.{decimal}
-use Rattle.clock.specs.Instant.{Spells, second_at}
+pub use Rattle.log_dump.specs.Dump.{Each, IsInstant}
 use Rattle.session.specs.Texts.{Text}
 use Rattle.status.specs.Header.{total}
 use Rattle.status.specs.declared.header.Header.{Header}
@@ -9,15 +9,6 @@ use Rattle.wire.specs.declared.slot.Body.{Body}
 use Rattle.wire.specs.declared.slot.Body.TheVariants as body
 use Rattle.wire.specs.declared.slot.Member.{Member}
 use Rattle.wire.specs.declared.slot.Slot.{Slot}
-
--- a text of each, one after another
-abbrev pub Each : {X : Type 0} → (X → Text → Type 0) → List X → Text → Type 0
-Each P [] text = text ≡ []
-Each P (x ∷ xs) text = (first : Text) × (more : Text) × P x first × Each P xs more × (text ≡ first ++ more)
-
--- the second of a time as an instant, or a dash after the year 9999
-abbrev pub IsInstant : ℕ → Text → Type 0
-IsInstant time text = MatchBool (nat_lt time 253_402_300_800_000_000) (Spells text (second_at time)) (text ≡ codes "-")
 
 -- label, time, first extent, extents, records
 abbrev pub member_front : Member → Text

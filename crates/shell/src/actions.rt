@@ -4,8 +4,8 @@ ghost use Rattle.script.specs.declared.line.Line.TheVariants.{At, Between, Grow}
 ghost use Rattle.session.specs.Streams.{Says, is_output_refused, text_said};
 ghost use Rattle.session.specs.Texts.{Text, open_line, refusal_line, text_of};
 ghost use Rattle.session.specs.declared.ending.Ending.TheVariants.{Whole};
-ghost use Rattle.shell.specs.Acts.{Acts, Asks, Dumps, GivesOut, Grows, IfSlots, IsRefused, IsTold, Makes, RefusesTime, RunsNew, RunsScript, SaysArchived};
-ghost use Rattle.shell.specs.Acts.{SaysBoth};
+ghost use Rattle.shell.specs.Acts.{Acts, Asks, Dumps, GivesOut, Grows, IsRefused, IsTold, Makes, RefusesTime, RunsNew, RunsScript, SaysArchived};
+ghost use Rattle.shell.specs.Acts.{SaysBoth, SaysDump, TellsHeap, HasNoInfo, TellsByLayout, DumpsHeap, HasNoDump, DumpsByLayout};
 ghost use Rattle.shell.specs.Acts.{SaysGrown, SaysSlots, SaysVacuum, Vacuums, given, open_fault_of, told};
 ghost use Rattle.forms.specs.Styles.{plain};
 ghost use Rattle.shell.specs.Acts.{IsSaid, IsToldAs, IsToldIn, Raises, RefusesProfile, SaysRaised, Tells, Writes};
@@ -16,7 +16,7 @@ ghost use Rattle.shell.specs.Layouts.{formatted_line, size_of, store_layout};
 ghost use Rattle.shell.specs.Vacuums.{archived_line, reclaimed_line};
 
 use crate::asking::line_asked;
-use crate::dump::{DumpFault, write_dump};
+use crate::dump::write_dump;
 use crate::styled::{found_lines, record_lines, row_lines, time_lines};
 use crate::vacuuming::{Job, Vacuumed, answer, do_job, do_jobs, is_refusal, log_of, records_in};
 use crate::writing::{answer_write, lines_of};
@@ -24,7 +24,8 @@ use any_store::{OpenFault, StartFault, Store, format};
 use command_line::{Action, Layout, Question, RecordWrite, Style, When};
 use disk::{Area, Disk};
 use history::Key;
-use log_facts::info_text;
+use log_dump::{Dump, DumpFault, read_dump};
+use log_facts::{info_text, read_heap_info};
 use log_store::has_log_header;
 use script::Line;
 use session::{
@@ -597,20 +598,36 @@ fn info<D: Disk, W: Write>(alloc: Global, disk: D, json: bool, output: &mut Answ
     }
 }
 
-/// Says what the log of a store tells, if it is slots. Of a log in the heap nothing is told yet.
-fn info_if_slots<D: Disk, W: Write>(
+/// Says what the log of a store tells that lies in the heap. The store is not opened for it.
+fn info_of_heap<D: Disk, W: Write>(
     alloc: Global,
     disk: D,
     json: bool,
     output: &mut Answers<W>,
 ) -> (u8, D)
-    ensures { IfSlots D.tells (D.state disk) (told W.contents result.0 output.old output.new) (D.state result.1)
-        (Tells D.tells (D.state disk) json (told W.contents result.0 output.old output.new) (D.state result.1)) }
+    ensures { TellsHeap D.tells (D.state disk) json (told W.contents result.0 output.old output.new) (D.state result.1)
+        ⊎ HasNoInfo D.tells (D.state disk) (told W.contents result.0 output.old output.new) (D.state result.1) }
+{
+    let mut disk = disk;
+    match read_heap_info(alloc, &mut disk, json) {
+        Ok(text) => (status_of(output.say(text.as_slice())), disk),
+        Err(fault) => (refuse(output, Fault::Open(fault)), disk),
+    }
+}
+
+/// Says what the log of a store tells.
+fn info_by_layout<D: Disk, W: Write>(
+    alloc: Global,
+    disk: D,
+    json: bool,
+    output: &mut Answers<W>,
+) -> (u8, D)
+    ensures { TellsByLayout D.tells (D.state disk) json (told W.contents result.0 output.old output.new) (D.state result.1) }
 {
     let mut disk = disk;
     match has_log_header(&mut disk) {
         Ok(false) => info(alloc, disk, json, output),
-        Ok(true) => (refuse_profile(output), disk),
+        Ok(true) => info_of_heap(alloc, disk, json, output),
         Err(_) => (refuse(output, Fault::Open(OpenFault::Device)), disk),
     }
 }
@@ -643,15 +660,58 @@ fn dump<D: Disk, W: Write>(alloc: Global, disk: D, output: &mut Answers<W>) -> (
     }
 }
 
-/// Writes the log of a store, if it is slots. Of a log in the heap nothing is shown yet.
-fn dump_if_slots<D: Disk, W: Write>(alloc: Global, disk: D, output: &mut Answers<W>) -> (u8, D)
-    ensures { IfSlots D.tells (D.state disk) (told W.contents result.0 output.old output.new) (D.state result.1)
-        (Dumps D.tells (D.state disk) (told W.contents result.0 output.old output.new) (D.state result.1)) }
+/// Says a text, and behind it why no more of it is said.
+fn say_cut_off<W: Write>(
+    output: &mut Answers<W>,
+    text: &[u8],
+    fault: OpenFault,
+) -> Result<(), Refused>
+    ensures { Says (text_said W.contents output.old) (text.now ++ open_line fault) result (text_said W.contents output.new) (is_output_refused output.new) }
+{
+    match output.say(text) {
+        Ok(()) => write_reply(output, &Reply::Refused(Fault::Open(fault))),
+        Err(refused) => Err(refused),
+    }
+}
+
+/// As much of it as the output takes. The program's status is 1.
+fn refuse_behind<W: Write>(output: &mut Answers<W>, text: &[u8], fault: OpenFault) -> u8
+    ensures { IsRefused (told W.contents result output.old output.new) (text.now ++ open_line fault) }
+{
+    let _ = say_cut_off(output, text, fault);
+    REFUSED
+}
+
+/// Says what is shown of a log, and behind it the check that fails.
+fn tell_dump<W: Write>(output: &mut Answers<W>, dump: &Dump) -> u8
+    ensures { SaysDump dump.now (told W.contents result output.old output.new) }
+{
+    match dump.fault {
+        None => status_of(output.say(dump.text.as_slice())),
+        Some(fault) => refuse_behind(output, dump.text.as_slice(), fault),
+    }
+}
+
+/// Writes what is shown of the log of a store that lies in the heap. The store is not opened for it.
+fn dump_of_heap<D: Disk, W: Write>(alloc: Global, disk: D, output: &mut Answers<W>) -> (u8, D)
+    ensures { DumpsHeap D.tells (D.state disk) (told W.contents result.0 output.old output.new) (D.state result.1)
+        ⊎ HasNoDump D.tells (D.state disk) (told W.contents result.0 output.old output.new) (D.state result.1) }
+{
+    let mut disk = disk;
+    match read_dump(alloc, &mut disk) {
+        Ok(dump) => (tell_dump(output, &dump), disk),
+        Err(fault) => (refuse(output, Fault::Open(fault)), disk),
+    }
+}
+
+/// Writes the log of a store.
+fn dump_by_layout<D: Disk, W: Write>(alloc: Global, disk: D, output: &mut Answers<W>) -> (u8, D)
+    ensures { DumpsByLayout D.tells (D.state disk) (told W.contents result.0 output.old output.new) (D.state result.1) }
 {
     let mut disk = disk;
     match has_log_header(&mut disk) {
         Ok(false) => dump(alloc, disk, output),
-        Ok(true) => (refuse_profile(output), disk),
+        Ok(true) => dump_of_heap(alloc, disk, output),
         Err(_) => (refuse(output, Fault::Open(OpenFault::Device)), disk),
     }
 }
@@ -694,8 +754,8 @@ fn perform<D: Disk, R: LineInput, W: Write>(
             relation,
             time,
         } => raise_upto(alloc, disk, relation, time, output),
-        Action::Info { dir: _, json } => info_if_slots(alloc, disk, json, output),
-        Action::Dump { dir: _ } => dump_if_slots(alloc, disk, output),
+        Action::Info { dir: _, json } => info_by_layout(alloc, disk, json, output),
+        Action::Dump { dir: _ } => dump_by_layout(alloc, disk, output),
         // It is of no disk: the program runs it in threads of its own.
         Action::Stress {
             writers: _,

@@ -2,46 +2,14 @@
 ghost use Rattle.std.specs.Prelude.{OnOk};
 ghost use Rattle.std.specs.Io.KnownBytes.{Appends};
 ghost use Rattle.session.specs.Texts.{Text};
-ghost use Rattle.shell.specs.Dump.{Each, IsDump, IsInstant, IsMemberLine, IsSlotText, header_line};
+ghost use Rattle.shell.specs.Dump.{Each, IsDump, IsMemberLine, IsSlotText, header_line};
 
-use clock::show_instant;
+use log_dump::{DumpFault, write_instant};
 use status::Header;
-use std::alloc::{AllocError, Global};
+use std::alloc::Global;
 use std::io;
 use std::io::Write;
 use wire::{Body, Member, Slot};
-
-/// Why a log is not written as text. Some of it may have been written.
-#[derive(Debug, Drop)]
-pub enum DumpFault {
-    /// The writer refused.
-    OutputRefused,
-    /// There was no memory for the text of an instant.
-    NoMemory,
-}
-
-impl From<io::Error> for DumpFault {
-    fn from(_: io::Error) -> Self {
-        DumpFault::OutputRefused
-    }
-}
-
-impl From<AllocError> for DumpFault {
-    fn from(_: AllocError) -> Self {
-        DumpFault::NoMemory
-    }
-}
-
-/// Writes the instant of a time in microseconds since 1970, or `-` after the year 9999.
-fn write_instant<W: Write>(alloc: Global, output: &mut W, time: u64) -> Result<(), DumpFault>
-    ensures { OnOk result ((text : Text) × IsInstant time text × Appends (W.contents output.old) (W.contents output.new) text) }
-{
-    match show_instant(alloc, time)? {
-        Some(text) => output.write_all(text.as_bytes())?,
-        None => output.write_all(b"-")?,
-    }
-    Ok(())
-}
 
 /// Writes the line of a member of a commit's slot.
 fn write_member<W: Write>(alloc: Global, output: &mut W, member: &Member) -> Result<(), DumpFault>

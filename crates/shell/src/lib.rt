@@ -16,7 +16,7 @@ pub use advising::advice;
 pub use command_line::{
     Action, Form, Layout, Question, RecordWrite, Style, When, action_of, read_words, words_advice,
 };
-pub use dump::{DumpFault, write_dump};
+pub use dump::write_dump;
 pub use needs::{Need, folder_need};
 pub use recovery::OpenFault;
 pub use stress_answer::write_stress_answer;

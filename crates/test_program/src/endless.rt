@@ -1,10 +1,12 @@
 //! Stores whose log lies in the heap: their steps, the jobs that they refuse, stops at each call, and what is
-//! not shown of them yet.
+//! shown of them.
 use crate::examples::{Example, each_goes};
 use crate::fronts::FRONTS;
 use crate::machine::Profiles::Endless;
 use crate::steps::Step;
-use crate::steps::Step::{At, Does, Formats, Long, New, Parts, Says, Spells, Stops};
+use crate::steps::Step::{
+    At, Back, Changes, Does, Dumps, Formats, Long, Mark, New, Parts, Says, Spells, Stops,
+};
 use crate::sweeps::{Sweep, each_goes_between, each_sweep_goes};
 use disk::Area;
 use shell::{Action, Layout};
@@ -181,11 +183,69 @@ pump | idle
     ]),
 ];
 
+/// What is told of a log of one commit.
+const FACTS: Step = Does(
+    Action::Info {
+        dir: "",
+        json: false,
+    },
+    "",
+    "profile 4
+heap 64
+extents 1
+log 2
+free 30
+commits 1
+last 100
+archived 0
+archive 0
+reclaimed 0
+",
+    0,
+);
+
+/// The log is shown as far as no check fails, and without it nothing is told.
+const SHOWN: &[Step] = &[
+    New(0),
+    Dumps("header extents 64 root 1\nnext 1\nused 0 of 64\n", 0),
+    Says(ONE_COMMIT),
+    Dumps(
+        "header extents 64 root 1
+chain 1 commits extents 1
+member 9 100 1 1970-01-01T00:00:00Z
+next 2
+used 1 of 64
+",
+        0,
+    ),
+    FACTS,
+    Mark,
+    Changes(Area::Heap, 12, 0),
+    Dumps("header extents 64 root 1\nrefused: damaged heap 1\n", 1),
+    Does(
+        Action::Info {
+            dir: "",
+            json: true,
+        },
+        "",
+        "refused: damaged heap 1\n",
+        1,
+    ),
+    Back,
+    Changes(Area::Status, 12, 0x48),
+    Dumps("refused: not a store\n", 1),
+];
+
 const EXAMPLES: &[Example] = &[
     Example {
         name: "no_job_begins",
         profiles: Endless,
         steps: NO_JOBS,
+    },
+    Example {
+        name: "a_log_is_shown_up_to_a_check",
+        profiles: Endless,
+        steps: SHOWN,
     },
     Example {
         name: "a_store_is_made_once",

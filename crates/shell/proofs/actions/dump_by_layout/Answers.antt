@@ -1,7 +1,7 @@
-use Rattle.std.proofs.Common.{◌≡◌, ◌∙◌, true, false, sym, subst, inl, inr}
+use Rattle.std.proofs.Common.{◌≡◌, ◌⊎◌, ◌∙◌, true, false, sym, subst, inl, inr}
 use Rattle.disk.specs.Calls.{DiskState}
-use Rattle.shell.specs.Acts.{Dumps, told}
-use Rattle.shell.proofs.actions.dump_if_slots.Goals as goal
+use Rattle.shell.specs.Acts.{DumpsHeap, HasNoDump, Dumps, told}
+use Rattle.shell.proofs.actions.dump_by_layout.Goals as goal
 
 pub returns-in-Ok-false : goal.returns-in-Ok-false
 returns-in-Ok-false g c =
@@ -15,7 +15,12 @@ returns-in-Ok-false g c =
 
 pub returns-in-Ok-true : goal.returns-in-Ok-true
 returns-in-Ok-true g c =
-    inr (inl ((λ tells. (c.in-Ok-true.ensures.has tells).0 c.in-Ok-true.field-0-test), (c.in-Ok-true.ensures.same, c.refuse_profile.ensures)))
+    let output = told g.W.Write.contents c.dump_of_heap.result.0 c.args.output.now c.dump_of_heap.new.output in
+    inr (inl (
+      (λ tells. (c.in-Ok-true.ensures.has tells).0 c.in-Ok-true.field-0-test),
+      subst (λ (d : DiskState). DumpsHeap g.D.Disk.tells d output (g.D.Disk.state c.dump_of_heap.result.1)
+          ⊎ HasNoDump g.D.Disk.tells d output (g.D.Disk.state c.dump_of_heap.result.1)) c.in-Ok-true.ensures.same c.dump_of_heap.ensures,
+    ))
 
 pub returns-in-Err : goal.returns-in-Err
 returns-in-Err g c = inr (inr (c.in-Err.ensures.same, c.refuse.ensures))
