@@ -183,6 +183,24 @@ def archive_time(program, base, keys):
     row(f"and made, written and synced, {length:,} bytes", 1e6 * made, "us")
 
 
+def endless_files(program, base, group, groups):
+    """A store of the layout that is being built, of so many groups: what its heap takes, and what an opening with a first answer does."""
+    folder = os.path.join(base, f"endless-{group}")
+    os.mkdir(folder)
+    assert run(program, ["format", folder, "--profile", "4"])[0] == 0
+    names, value, script = [f"t{n}" for n in range(group)], " ".join(["61" * 16] * 4), ""
+    for number in range(groups):
+        script += "".join(f"begin {name}\nput {name} 1 {number * group + n} {value}\nsubmit {name} 1 0\n" for n, name in enumerate(names))
+        script += "flush\n" + "".join(f"redeem {name}\n" for name in names)
+    status, out = run(program, ["run", folder], script)
+    count = group * groups
+    assert status == 0 and out.count("done ") == count, (status, out[-200:])
+    bare = min(timed(lambda: run(program, ["--version"]))[0] for _ in range(5))
+    opening = min(timed(lambda: run(program, ["get", folder, "1", "0"]))[0] for _ in range(5))
+    row(f"heap a version of 64 bytes, {group} under a gate ({count:,})", os.path.getsize(os.path.join(folder, "heap")) / count, "bytes")
+    row("opening that store, with a first answer", 1000 * (opening - bare), "ms")
+
+
 def main():
     program = os.path.abspath(sys.argv[1])
     with tempfile.TemporaryDirectory(dir=sys.argv[2] if len(sys.argv) > 2 else None) as base:
@@ -198,6 +216,8 @@ def main():
             conflict_time(program, base, keys, 60, 5)
         for keys in (1_024, 100_000):
             archive_time(program, base, keys)
+        for group, groups in ((1, 10_000), (16, 6_250), (64, 1_563)):
+            endless_files(program, base, group, groups)
 
 
 if __name__ == "__main__":
