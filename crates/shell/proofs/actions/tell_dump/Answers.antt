@@ -12,4 +12,4 @@ returns-in-None g c = rw c.in-None.is (said-by (told g.W.Write.contents c.status
 
 pub returns-in-Some : goal.returns-in-Some
 returns-in-Some g c = rw c.in-Some.is (subst (λ (t : Text). IsRefused (told g.W.Write.contents c.refuse_behind.result c.args.output.now
-    c.refuse_behind.new.output) (t ++ open_line c.in-Some.fault)) c.as_slice.ensures.value c.refuse_behind.ensures)
+    c.refuse_behind.new.output) (t ++ open_line c.in-Some.fault)) c.as_slice-in-Some.ensures.value c.refuse_behind.ensures)
