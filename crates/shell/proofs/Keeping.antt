@@ -11,7 +11,6 @@ use Rattle.history.specs.declared.key.Key.{Key}
 use Rattle.history.specs.declared.time.Version.{Version}
 use Rattle.history.specs.Histories.{History, last}
 use Rattle.law_image.specs.Values.{Value}
-use Rattle.history.specs.Machine as machine
 use Rattle.history.specs.Machine.{Machine}
 use Rattle.floors.specs.Floors.{floor_at}
 use Rattle.law_refinement.specs.Homes.{IsSure, ViewStands}

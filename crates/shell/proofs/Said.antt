@@ -25,7 +25,7 @@ use Rattle.command_line.specs.declared.question.RecordWrite.{RecordWrite}
 use Rattle.command_line.specs.declared.action.Action.{Action}
 use Rattle.command_line.specs.declared.action.Action.TheVariants as action
 use Rattle.command_line.specs.declared.layout.Layout.{Layout}
-use Rattle.shell.specs.Acts.{ByLayout, Dumps, DumpsByLayout, DumpsHeap, HasNoDump, HasNoInfo, RefusesProfile, SaysDump, TellsByLayout, TellsHeap}
+use Rattle.shell.specs.Acts.{ByLayout, Dumps, DumpsHeap, HasNoDump, HasNoInfo, RefusesProfile, TellsHeap}
 use Rattle.log_dump.specs.declared.dump.Dump.{Dump}
 use Rattle.recovery.specs.declared.fault.OpenFault.{OpenFault}
 use Rattle.shell.specs.Acts.{Acts, Asks, Grows, HasStatusOf, Input, IsRefused, IsSaid, IsTold, Makes, Output, RefusesTime, RunsNew, RunsScript, SaysAll}

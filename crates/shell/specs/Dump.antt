@@ -1,5 +1,5 @@
 -- The text of a log.
-use Rattle.std.specs.Prelude.{◌≡◌, ◌==◌, if◌then◌else◌, ℕ, ◌++◌, List, [], ◌∷◌, length, Some, None, MatchBool, codes, nat_lt}
+use Rattle.std.specs.Prelude.{◌≡◌, ◌==◌, if◌then◌else◌, ℕ, ◌++◌, List, length, Some, None, codes}
 use Rattle.std.specs.Fmt.{decimal}
 pub use Rattle.log_dump.specs.Dump.{Each, IsInstant}
 use Rattle.session.specs.Texts.{Text}
