@@ -87,7 +87,7 @@ rates: build
 # Every example of the documents, its answers compared; the small store of docs/FORMAT.md byte by byte; and that the man page and the completions
 # are what the program's help gives.
 examples: build pages
-	tests/using_test.py $(PROGRAM) README.md docs/USING.md
+	tests/using_test.py $(PROGRAM) README.md docs/TUTORIAL.md docs/USING.md
 	tests/format_test.py $(PROGRAM) docs/FORMAT.md
 	library/man/from_help.py $(PROGRAM)
 
