@@ -4,6 +4,7 @@ use Rattle.std.specs.Prelude.{MatchOption, MatchBool}
 use Rattle.std.specs.Io.KnownBytes.{Appends}
 use Rattle.std.proofs.KnownBytes.{Appends-kept}
 use Rattle.disk.specs.Calls.{DiskState}
+use Rattle.recovery.specs.declared.fault.OpenFault.{OpenFault}
 use Rattle.script.specs.declared.line.Line.{Line}
 use Rattle.script.specs.declared.line.Line.TheVariants as line
 use Rattle.session.specs.Streams.{AppendsFront}

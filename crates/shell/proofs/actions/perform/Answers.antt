@@ -22,10 +22,10 @@ pub returns-in-Floor : goal.returns-in-Floor
 returns-in-Floor g c = rw c.in-Floor.is c.raise_upto.ensures
 
 pub returns-in-Info : goal.returns-in-Info
-returns-in-Info g c = rw c.in-Info.is c.info_if_slots.ensures
+returns-in-Info g c = rw c.in-Info.is c.info_by_layout.ensures
 
 pub returns-in-Format : goal.returns-in-Format
 returns-in-Format g c = rw c.in-Format.is c.make_if.ensures
 
 pub returns-in-Dump : goal.returns-in-Dump
-returns-in-Dump g c = rw c.in-Dump.is c.dump_if_slots.ensures
+returns-in-Dump g c = rw c.in-Dump.is c.dump_by_layout.ensures
