@@ -21,6 +21,7 @@ from store_bench import HERE, LEAST_IN_GATES, LEAST_OF_RAW, load, measured, medi
 # Each verb, what its value is, and how often it is done in a round.
 VERBS = {
     **{f"c{count}": (f"commits of one record by {count} writers, /s", 2_000 * min(count, 16)) for count in (1, 2, 4, 8, 16, 32)},
+    **{f"ec{count}": (f"commits of one record by {count} writers, of a store whose log lies in the heap, /s", 2_000 * min(count, 16)) for count in (1, 2, 4, 8, 16, 32)},
     **{f"r{count}": (f"views by {count} readers beside a writer, /s", 300_000) for count in (1, 2, 3, 4)},
     **{f"l{count}": (f"latest views by {count} readers beside a writer, /s", 300_000) for count in (1, 2, 3, 4)},
     **{f"n{count}": (f"values by {count} readers of a view each, which is renewed before each, beside a writer, /s", 5_000_000) for count in (1, 2, 3, 4)},
@@ -47,9 +48,9 @@ def built_callers(folder):
 
 def called(callers, verb, count, base):
     """What as many callers in C reach of raw groups, in each form, if they were built."""
-    if callers is None or verb[0] != "c":
+    if callers is None or "c" not in verb:
         return {}
-    writers, found = verb[1:], {}
+    writers, found = verb.rpartition("c")[2], {}
     for form, word in FORMS.items():
         with tempfile.TemporaryDirectory(dir=base) as folder:
             ran = subprocess.run([callers, folder, writers, str(max(2, count // int(writers))), LOCKED, *word], stdout=subprocess.PIPE, check=True)
@@ -69,7 +70,7 @@ def all_rounds(program, callers, verbs, share, rounds, base):
 
 def beside(verb, answers):
     """What the machine does itself, and where the time goes."""
-    if verb[0] == "c":
+    if "c" in verb:
         raw = f"raw {shown(median(answers, 'raw'))}: {median(answers, 'of_raw'):.2f} of it; {median(answers, 'members'):.1f} a group"
         parts = ", ".join(f"{kind} {median(answers, kind + '_us'):,.0f}" for kind in ("gathering", "writing", "syncing"))
         told = [
@@ -87,11 +88,11 @@ def beside(verb, answers):
 
 def aimed(verb, answers):
     """What is aimed at, and whether it was met."""
-    if verb[0] != "c" or verb == "c32":
+    if "c" not in verb or verb.endswith("c32"):
         return ""
     raw = median(answers, "raw")
     least, text = LEAST_OF_RAW * raw, f"{LEAST_OF_RAW:.0%} of raw"
-    if verb == "c16":
+    if verb.endswith("c16"):
         text += f", {LEAST_IN_GATES:,} where raw allows it"
         least = max(least, LEAST_IN_GATES if raw >= LEAST_IN_GATES else 0)
     return f"{text}: {'yes' if median(answers, 'value') >= least else 'no'}"
