@@ -21,7 +21,7 @@ from store_bench import HERE, LEAST_IN_GATES, LEAST_OF_RAW, load, measured, medi
 # Each verb, what its value is, and how often it is done in a round.
 VERBS = {
     **{f"c{count}": (f"commits of one record by {count} writers, /s", 2_000 * min(count, 16)) for count in (1, 2, 4, 8, 16, 32)},
-    **{f"ec{count}": (f"commits of one record by {count} writers, of a store whose log lies in the heap, /s", 2_000 * min(count, 16)) for count in (1, 2, 4, 8, 16, 32)},
+    **{f"ec{count}": (f"the same, the log in the heap, by {count} writers, /s", 2_000 * min(count, 16)) for count in (1, 2, 4, 8, 16, 32)},
     **{f"r{count}": (f"views by {count} readers beside a writer, /s", 300_000) for count in (1, 2, 3, 4)},
     **{f"l{count}": (f"latest views by {count} readers beside a writer, /s", 300_000) for count in (1, 2, 3, 4)},
     **{f"n{count}": (f"values by {count} readers of a view each, which is renewed before each, beside a writer, /s", 5_000_000) for count in (1, 2, 3, 4)},
@@ -48,9 +48,9 @@ def built_callers(folder):
 
 def called(callers, verb, count, base):
     """What as many callers in C reach of raw groups, in each form, if they were built."""
-    if callers is None or "c" not in verb:
+    if callers is None or verb[0] != "c":
         return {}
-    writers, found = verb.rpartition("c")[2], {}
+    writers, found = verb[1:], {}
     for form, word in FORMS.items():
         with tempfile.TemporaryDirectory(dir=base) as folder:
             ran = subprocess.run([callers, folder, writers, str(max(2, count // int(writers))), LOCKED, *word], stdout=subprocess.PIPE, check=True)
@@ -88,11 +88,11 @@ def beside(verb, answers):
 
 def aimed(verb, answers):
     """What is aimed at, and whether it was met."""
-    if "c" not in verb or verb.endswith("c32"):
+    if verb[0] != "c" or verb == "c32":
         return ""
     raw = median(answers, "raw")
     least, text = LEAST_OF_RAW * raw, f"{LEAST_OF_RAW:.0%} of raw"
-    if verb.endswith("c16"):
+    if verb == "c16":
         text += f", {LEAST_IN_GATES:,} where raw allows it"
         least = max(least, LEAST_IN_GATES if raw >= LEAST_IN_GATES else 0)
     return f"{text}: {'yes' if median(answers, 'value') >= least else 'no'}"
