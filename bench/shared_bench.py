@@ -21,6 +21,7 @@ from store_bench import HERE, LEAST_IN_GATES, LEAST_OF_RAW, load, measured, medi
 # Each verb, what its value is, and how often it is done in a round.
 VERBS = {
     **{f"c{count}": (f"commits of one record by {count} writers, /s", 2_000 * min(count, 16)) for count in (1, 2, 4, 8, 16, 32)},
+    **{f"ec{count}": (f"the same, the log in the heap, by {count} writers, /s", 2_000 * min(count, 16)) for count in (1, 2, 4, 8, 16, 32)},
     **{f"r{count}": (f"views by {count} readers beside a writer, /s", 300_000) for count in (1, 2, 3, 4)},
     **{f"l{count}": (f"latest views by {count} readers beside a writer, /s", 300_000) for count in (1, 2, 3, 4)},
     **{f"n{count}": (f"values by {count} readers of a view each, which is renewed before each, beside a writer, /s", 5_000_000) for count in (1, 2, 3, 4)},
@@ -69,7 +70,7 @@ def all_rounds(program, callers, verbs, share, rounds, base):
 
 def beside(verb, answers):
     """What the machine does itself, and where the time goes."""
-    if verb[0] == "c":
+    if "c" in verb:
         raw = f"raw {shown(median(answers, 'raw'))}: {median(answers, 'of_raw'):.2f} of it; {median(answers, 'members'):.1f} a group"
         parts = ", ".join(f"{kind} {median(answers, kind + '_us'):,.0f}" for kind in ("gathering", "writing", "syncing"))
         told = [

@@ -1,7 +1,8 @@
 -- A store stands for a state over any disk, where nothing is said of the disk.
-use Rattle.std.proofs.Common.{◌≡◌, ℕ, false, IsTrue, Bool, Option, None, Some, MatchOption, sym, subst}
+use Rattle.std.proofs.Common.{◌≡◌, ℕ, false, Bool, Option, None, Some, MatchOption, length, refl, sym, ap, ◌∙◌, subst}
 use Rattle.disk.specs.Calls.{DiskState}
 use Rattle.disk_file.specs.Counts.{untold}
+use Rattle.history.specs.Histories.{History}
 use Rattle.history.specs.Machine.{Machine}
 use Rattle.law_image.specs.Values.{Value}
 use Rattle.status.specs.GrowthState.{GrowthState}
@@ -9,6 +10,16 @@ use Rattle.store.specs.Values.{StoreValue, IsInStep, TurnsOne}
 use Rattle.store.specs.declared.job.Job.{Job}
 use Rattle.store.specs.declared.job.JobWork.{JobWork}
 use Rattle.store.specs.declared.job.JobWork.TheVariants.{Archive, Reclaim, Floor, Grow}
+use Rattle.commits.specs.Values.{CommitsValue}
+use Rattle.log_store.specs.Values.{LogStoreValue}
+use Rattle.log_store.specs.Values as logs
+use Rattle.any_store.specs.Values as any
+use Rattle.any_store.specs.Values.{commits_of, with_disk}
+use Rattle.any_store.specs.declared.engine.Engine.TheVariants.{Slots, Log}
+use Rattle.law_log_queries.specs.Archive as archives
+use Rattle.law_any_store.specs.Standing as any_stands
+use Rattle.law_any_store.specs.Standing.{opened_in}
+use Rattle.shared.specs.Counts.{told_count}
 use Rattle.law_refinement.specs.Homes.{HasPlace}
 use Rattle.law_refinement.specs.Stands.{RaisesFloor, Stands, StandsStill, StandsGrowing, without_growth}
 use Rattle.law_refinement.proofs.Growing.{as-still, as-growing, by-kind}
@@ -65,5 +76,42 @@ over tells v m disk s =
     (λ still. as-still false (record v { disk = disk }) m (still-over tells v m disk still))
     (λ growth grows. as-growing false growth (record v { disk = disk }) m (growing-over tells growth v m disk grows))
 
-pub over-stands : (tells : Bool) (v w : StoreValue) (m : Machine Value) (disk : DiskState) → w ≡ record v { disk = disk } → Stands tells v m → Stands false w m
-over-stands tells v w m disk is s = subst (λ (x : StoreValue). Stands false x m) (sym is) (over tells v m disk s)
+log-step-over : (l : LogStoreValue) (disk : DiskState) → logs.IsInStep l → logs.IsInStep (record l { disk = disk })
+log-step-over l disk s =
+    record { contents = s.contents; bytes = s.bytes; promised = s.promised; few = s.few; many = s.many; turn = s.turn }
+
+log-over : (tells : Bool) (l : LogStoreValue) (m : Machine Value) (disk : DiskState) → archives.Stands tells l m
+    → archives.Stands false (record l { disk = disk }) m
+log-over tells l m disk s =
+    let w = s.store.writing in
+    record {
+      store = record {
+        memory = s.store.memory;
+        machine = s.store.machine;
+        writing = record { most = w.most; group = w.group; raising = w.raising; gate = w.gate; left = w.left };
+        fresh = s.store.fresh;
+        disk = λ told. untold told;
+      };
+      runs = λ told. untold told;
+    }
+
+-- in either layout
+any-over : (tells : Bool) (v : any.StoreValue) (disk : DiskState) (h : History Value) (floors : ℕ → ℕ) → any_stands.Stands tells v (opened_in v h floors)
+    → any_stands.Stands false (with_disk v disk) (opened_in (with_disk v disk) h floors)
+any-over tells (Slots s) disk h floors stands = over tells s (opened_in (Slots s) h floors) disk stands
+any-over tells (Log l) disk h floors stands = (log-step-over l disk stands.0, log-over tells l (opened_in (Log l) h floors) disk stands.1)
+
+pub over-stands : (tells : Bool) (v w : any.StoreValue) (disk : DiskState) (h : History Value) (floors : ℕ → ℕ) → w ≡ with_disk v disk
+    → any_stands.Stands tells v (opened_in v h floors) → any_stands.Stands false w (opened_in w h floors)
+over-stands tells v w disk h floors is s =
+    subst (λ (x : any.StoreValue). any_stands.Stands false x (opened_in x h floors)) (sym is) (any-over tells v disk h floors s)
+
+-- what is in memory is as it was
+over-commits : (v : any.StoreValue) (disk : DiskState) → commits_of (with_disk v disk) ≡ commits_of v
+over-commits (Slots s) disk = refl
+over-commits (Log l) disk = refl
+
+pub over-told : (v w : any.StoreValue) (disk : DiskState) → w ≡ with_disk v disk → told_count (commits_of v).heads ≡ length (commits_of v).heads
+    → told_count (commits_of w).heads ≡ length (commits_of w).heads
+over-told v w disk is told =
+    subst (λ (c : CommitsValue). told_count c.heads ≡ length c.heads) (sym (ap commits_of is ∙ over-commits v disk)) told

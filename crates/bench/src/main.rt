@@ -40,6 +40,7 @@ v4   scans a second of 1,000 records as of such a time
 v5   milliseconds of opening with a first answer, the median of COUNT
 v6   bytes of memory that the opened store holds, for each of COUNT versions
 c1   commits a second of one record each, COUNT by one writer; c2, c4, c8, c16, c32: by so many together
+ec1  the same of a store whose log lies in the heap; ec2, ec4, ec8, ec16, ec32
 r1   views a second, COUNT by one reader beside a writer; r2, r3, r4: by so many, COUNT each
 q1   values a second by one view, COUNT by one reader beside a writer; q2, q3, q4: by so many, COUNT each
 h    microseconds that the lock is held, over COUNT groups of 16 commits and a vacuum

@@ -1,14 +1,28 @@
 //! Stores in folders.
 
 use crate::fault::Fault;
+use any_store::Layout;
 use disk_file::{Access, FileDisk};
 use std::alloc::Global;
 use std::fs::{File, create_dir};
 use std::rt::Files;
-use store::{Store, format};
+use store::Store;
 
 /// The mark of the one store that is open.
 pub(crate) const MARK: u64 = 1;
+
+/// Makes a folder with an empty store of this layout.
+pub(crate) fn make_as<R: Files<File = File> + AllocGlobal>(
+    rt: &R,
+    alloc: Global,
+    folder: &str,
+    layout: Layout,
+) -> Result<(), Fault> {
+    create_dir(rt, folder)?;
+    let mut disk = FileDisk::open(rt, folder, Access::Make)?;
+    any_store::format(alloc, &mut disk, layout)?;
+    Ok(())
+}
 
 /// Makes a folder with an empty store of this many slots.
 pub(crate) fn make<R: Files<File = File> + AllocGlobal>(
@@ -17,10 +31,7 @@ pub(crate) fn make<R: Files<File = File> + AllocGlobal>(
     folder: &str,
     slots: u32,
 ) -> Result<(), Fault> {
-    create_dir(rt, folder)?;
-    let mut disk = FileDisk::open(rt, folder, Access::Make)?;
-    format(alloc, &mut disk, slots)?;
-    Ok(())
+    make_as(rt, alloc, folder, Layout::Slots(slots))
 }
 
 /// Opens the store of a folder.

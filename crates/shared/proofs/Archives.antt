@@ -6,11 +6,15 @@ use Rattle.archive.specs.declared.run.RunEntry.{RunEntry}
 use Rattle.history.specs.Histories.{History}
 use Rattle.law_image.specs.Values.{Value}
 use Rattle.timequery.specs.View.{ViewValue}
-use Rattle.store.specs.Calls.{is_front}
-use Rattle.store.specs.Values.{StoreValue}
-use Rattle.law_refinement.specs.Homes.{KeepsUpTo, ViewReads, GoesOn}
+use Rattle.timequery.specs.Archives.{is_front}
+use Rattle.any_store.specs.declared.engine.Engine.TheVariants.{Slots, Log}
+use Rattle.any_store.specs.Values.{StoreValue, commits_of}
+use Rattle.law_refinement.specs.Homes.{KeepsUpTo}
+use Rattle.law_log_queries.specs.Archive.{end_of}
+use Rattle.law_log_queries.proofs.Runs.{ends-all, end-more}
+use Rattle.law_any_store.specs.Standing.{ViewReads, GoesOn}
 use Rattle.law_refinement.proofs.RunsKept.{up_to-same, runs-held, ends-later}
-use Rattle.law_refinement.proofs.RunsStep.{front-more}
+use Rattle.law_refinement.proofs.RunsStep.{front-more, front-ends}
 use Rattle.shared.specs.Archives.{ArchiveSeen, IsArchiveLater, ReadsArchive, archive_seen, no_archive}
 use Rattle.shared.specs.Seen.{Known, IsMore, nothing_known}
 use Rattle.shared.proofs.Fronts.{later-same, later-then, later-nothing}
@@ -47,7 +51,16 @@ archive-first a = record { tells = λ told. refl; more = a.runs; runs = refl; en
 
 -- that of a store whose views go on
 pub archive-on : (tells : Bool) (old new : StoreValue) → GoesOn tells old new → IsArchiveLater (archive_seen tells old) (archive_seen tells new)
-archive-on tells old new goes = record { tells = λ told. told; more = goes.more; runs = goes.runs; end = goes.end; bytes = goes.bytes }
+archive-on tells (Slots s) (Slots s') goes = record { tells = λ told. told; more = goes.more; runs = goes.runs; end = goes.end; bytes = goes.bytes }
+archive-on tells (Slots s) (Log l') goes = absurd goes
+archive-on tells (Log l) (Slots s') goes = absurd goes
+archive-on tells (Log l) (Log l') goes = record {
+  tells = λ told. told;
+  more = goes.more;
+  runs = goes.runs;
+  end = λ told. let later = end-more l.archive.runs goes.more in let is = ap end_of goes.runs in omega (arith, later, is);
+  bytes = goes.bytes;
+}
 
 -- ---- what is known goes on
 
@@ -64,9 +77,20 @@ more-nothing k = record { seen = later-nothing k.seen; archive = archive-first k
 
 pub reads-taken : (tells : Bool) (v : StoreValue) (view : ViewValue) (h : History Value) (floors : ℕ → ℕ) → ViewReads tells v view h floors
     → ReadsArchive (archive_seen tells v) view h floors
-reads-taken tells v view h floors reads = record {
+reads-taken tells (Slots s) view h floors reads = record {
   front = reads.front;
   runs = λ told. let r = reads.runs told in record { lists = r.lists; held = r.held; ends = r.ends; marks = r.marks; archived = r.archived };
+}
+reads-taken tells (Log l) view h floors reads = record {
+  front = reads.front;
+  runs =
+      λ told. let r = reads.runs told in record {
+        lists = r.lists;
+        held = r.held;
+        ends = front-ends (end_of l.archive.runs) view.runs l.archive.runs reads.front (ends-all l.archive.runs);
+        marks = r.marks;
+        archived = r.archived;
+      };
 }
 
 pub reads-later : (old new : ArchiveSeen) (view : ViewValue) (h : History Value) (floors : ℕ → ℕ) → IsArchiveLater old new → ReadsArchive old view h floors
@@ -84,10 +108,15 @@ reads-later old new view h floors later reads = record {
 }
 
 -- a store with this archive answers such a view of its own
-pub reads-of : (tells : Bool) (v : StoreValue) (view : ViewValue) (h : History Value) (floors : ℕ → ℕ) → view.mark ≡ v.transactions.mark
+pub reads-of : (tells : Bool) (v : StoreValue) (view : ViewValue) (h : History Value) (floors : ℕ → ℕ) → view.mark ≡ (commits_of v).mark
     → ReadsArchive (archive_seen tells v) view h floors → ViewReads tells v view h floors
-reads-of tells v view h floors mark reads = record {
+reads-of tells (Slots s) view h floors mark reads = record {
   mark = mark;
   front = reads.front;
   runs = λ told. let r = reads.runs told in record { lists = r.lists; held = r.held; ends = r.ends; marks = r.marks; archived = r.archived };
+}
+reads-of tells (Log l) view h floors mark reads = record {
+  mark = mark;
+  front = reads.front;
+  runs = λ told. let r = reads.runs told in record { lists = r.lists; held = r.held; marks = r.marks; archived = r.archived };
 }

@@ -9,25 +9,26 @@ use Rattle.history.specs.Machine.{Machine}
 use Rattle.law_image.specs.Values.{Value}
 use Rattle.timequery.specs.View.{ViewValue}
 use Rattle.timequery.specs.declared.fault.QueryFault.{QueryFault}
-use Rattle.store.specs.Calls as stores
-use Rattle.store.specs.Values.{StoreValue}
+use Rattle.any_store.specs.Queries as stores
+use Rattle.any_store.specs.Values.{StoreValue}
 use Rattle.law_refinement.specs.Homes.{IsSure}
 use Rattle.law_refinement.specs.Laws.{SaysAt, SaysScanAt, SaysBetween, SaysScanBetween}
-use Rattle.law_refinement.proofs.Views.{at-answered, scan_at-answered, between-answered, scan_between-answered}
+use Rattle.law_any_store.proofs.Views.{at-answered, scan_at-answered, between-answered, scan_between-answered}
+use Rattle.shared.specs.Kinds.{Kind}
 use Rattle.shared.specs.Moments.{ViewMoment, OfSeen}
 use Rattle.shared.specs.Seen.{SightValue}
 use Rattle.shared.specs.Shared.{IsShared, Shows}
 use Rattle.shared.proofs.Moments.{still-reads}
 
 -- the view as it was shown, and as it was lent
-module _ (tells : Bool) (start : Machine Value) (brand : ℕ) (table : TableId) (v new : StoreValue) (shares : ℕ) (at : TableId) (pass : SightValue)
-    (h : IsShared tells start brand table v shares at pass) (shown : ViewValue) (asked lent : ViewMoment) (is : shown ≡ asked.shown) (same : asked
+module _ (tells : Bool) (start : Machine Value) (kind : Kind) (brand : ℕ) (table : TableId) (v new : StoreValue) (shares : ℕ) (at : TableId) (pass : SightValue)
+    (h : IsShared tells start kind brand table v shares at pass) (shown : ViewValue) (asked lent : ViewMoment) (is : shown ≡ asked.shown) (same : asked
     ≡ lent) (s : Shows start brand pass.archive asked.shown asked.seen) where
   pub at-says : (key : Key) (time : ℕ) (r : Result (Option Value) QueryFault) → stores.AnswersAtView tells v shown key time r new
       → OfSeen start lent.seen (λ m. SaysAt (IsSure tells lent.shown.reclaimed time) (answers.at_answer m.published m.floors key time) r)
   at-says key time r says =
       let m = s.machine in
-      let reads = still-reads tells start brand table v shares at pass asked.shown asked.seen h s in
+      let reads = still-reads tells start kind brand table v shares at pass asked.shown asked.seen h s in
       let found = subst (λ (w : ViewValue). stores.AnswersAtView tells v w key time r new) is says in
       subst (λ (x : ViewMoment). OfSeen start x.seen (λ m. SaysAt (IsSure tells x.shown.reclaimed time) (answers.at_answer m.published m.floors key time) r))
       same
@@ -37,7 +38,7 @@ module _ (tells : Bool) (start : Machine Value) (brand : ℕ) (table : TableId) 
       → OfSeen start lent.seen (λ m. SaysScanAt (IsSure tells lent.shown.reclaimed time) m.published m.floors relation time r)
   scan_at-says relation time r says =
       let m = s.machine in
-      let reads = still-reads tells start brand table v shares at pass asked.shown asked.seen h s in
+      let reads = still-reads tells start kind brand table v shares at pass asked.shown asked.seen h s in
       let found = subst (λ (w : ViewValue). stores.AnswersScanAt tells v w relation time r new) is says in
       subst (λ (x : ViewMoment). OfSeen start x.seen (λ m. SaysScanAt (IsSure tells x.shown.reclaimed time) m.published m.floors relation time r)) same
       (m, s.reached, s.seen_is, scan_at-answered tells v new h.state asked.shown m.published m.floors relation time r h.stands s.stands reads found)
@@ -46,7 +47,7 @@ module _ (tells : Bool) (start : Machine Value) (brand : ℕ) (table : TableId) 
       → OfSeen start lent.seen (λ m. SaysBetween (IsSure tells lent.shown.reclaimed a) m.published m.floors key a b r)
   between-says key a b r says =
       let m = s.machine in
-      let reads = still-reads tells start brand table v shares at pass asked.shown asked.seen h s in
+      let reads = still-reads tells start kind brand table v shares at pass asked.shown asked.seen h s in
       let found = subst (λ (w : ViewValue). stores.AnswersRows tells v w key a b r new) is says in
       subst (λ (x : ViewMoment). OfSeen start x.seen (λ m. SaysBetween (IsSure tells x.shown.reclaimed a) m.published m.floors key a b r)) same
       (m, s.reached, s.seen_is, between-answered tells v new h.state asked.shown m.published m.floors key a b r h.stands s.stands reads found)
@@ -55,7 +56,7 @@ module _ (tells : Bool) (start : Machine Value) (brand : ℕ) (table : TableId) 
       → OfSeen start lent.seen (λ m. SaysScanBetween (IsSure tells lent.shown.reclaimed a) m.published m.floors relation a b r)
   scan_between-says relation a b r says =
       let m = s.machine in
-      let reads = still-reads tells start brand table v shares at pass asked.shown asked.seen h s in
+      let reads = still-reads tells start kind brand table v shares at pass asked.shown asked.seen h s in
       let found = subst (λ (w : ViewValue). stores.AnswersScanRows tells v w relation a b r new) is says in
       subst (λ (x : ViewMoment). OfSeen start x.seen (λ m. SaysScanBetween (IsSure tells x.shown.reclaimed a) m.published m.floors relation a b r)) same
       (m, s.reached, s.seen_is, scan_between-answered tells v new h.state asked.shown m.published m.floors relation a b r h.stands s.stands reads found)

@@ -1,21 +1,22 @@
 -- A commit that waits has a ticket that is not redeemed yet.
-use Rattle.std.proofs.Common.{◌≡◌, ℕ, ◌<◌, ◌==◌, ◌+◌, nat_lt, Bool, true, false, cond, List, [], ◌∷◌, ◌++◌, map, refl, ap, ◌∙◌, subst, ⊎_elim, arith}
+use Rattle.std.proofs.Common.{◌≡◌, ℕ, zero, suc, ◌<◌, ◌==◌, ◌+◌, nat_lt, Bool, true, false, cond, List, [], ◌∷◌, map, drop, refl, ap, ◌∙◌, subst, ⊎_elim, arith}
 use Rattle.std.specs.Prelude.{Contains}
 use Rattle.std.proofs.lemmas.Bool.Decides.{nat_tests}
-use Rattle.std.proofs.lemmas.List.Elements.{Contains-append_right}
 use Rattle.atomic_table.specs.Seated.{TableId}
-use Rattle.history.specs.Histories.{Commit, History, HasRisingTimes, IsHistory, last}
+use Rattle.history.specs.Histories.{Commit, History, HasRisingTimes, last}
 use Rattle.history.specs.Machine.{Machine}
-use Rattle.history.proofs.Histories.{rising-from_following, may_follow-behind}
 use Rattle.history.proofs.Members.{Contains-cons_cases, Contains-nil}
-use Rattle.law_image.specs.Values.{Value, IsValue}
-use Rattle.group.specs.CommitOrder.{is_awaited}
+use Rattle.law_image.specs.Values.{Value}
+use Rattle.group.specs.CommitOrder.{is_awaited, IsRisingAfter}
 use Rattle.group.specs.declared.commit_order.CommitHead.{CommitHead}
-use Rattle.store.specs.Values.{StoreValue}
+use Rattle.any_store.specs.Values.{StoreValue, commits_of}
+use Rattle.law_commits.proofs.Answering as answering
 use Rattle.law_refinement.specs.Standing.{Name, name_of, name_at}
 use Rattle.shared.specs.Counts.{told_after}
+use Rattle.shared.specs.Kinds.{Kind}
 use Rattle.shared.specs.Seen.{SightValue}
 use Rattle.shared.specs.Shared.{IsShared, HasCommitAt}
+use Rattle.shared.proofs.Engines.{in-memory, is-machine, waiting-named, queue-rises}
 
 pub later-time : (t : ℕ) (h : History Value) (c : Commit Value) → HasRisingTimes t h → Contains h c → t < c.time
 later-time t [] c rising has = absurd (Contains-nil c has)
@@ -67,15 +68,32 @@ awaited-later t (x ∷ xs) (d ∷ ds) c names has after none =
     let others : told_after t xs ≡ 0 = omega (arith, all) in
     awaited-by t x xs d ds c (ap (λ (n : Name). n.time) first) after one has (λ more. awaited-later t xs ds c behind more after others) (x.time == c.time) refl
 
-pub queue-awaited : (tells : Bool) (start : Machine Value) (brand : ℕ) (table : TableId) (v : StoreValue) (shares : ℕ) (at : TableId) (pass : SightValue)
-    (h : IsShared tells start brand table v shares at pass) (time : ℕ) → HasCommitAt h.state.queue time → is_awaited time v.transactions.heads ≡ true
-queue-awaited tells start brand table v shares at pass h time found =
+-- none behind others is told later
+none-behind : (t n : ℕ) (heads : List CommitHead) → told_after t heads ≡ 0 → told_after t (drop n heads) ≡ 0
+none-behind t zero heads none = none
+none-behind t (suc n) [] none = none
+none-behind t (suc n) (x ∷ xs) none = let all : late t x + told_after t xs ≡ 0 = none in none-behind t n xs (omega (arith, all))
+
+-- one that is awaited behind others is awaited among all
+awaited-behind : (t time n : ℕ) (heads : List CommitHead) → IsRisingAfter t heads → is_awaited time (drop n heads) ≡ true → is_awaited time heads ≡ true
+awaited-behind t time zero heads rising waits = waits
+awaited-behind t time (suc n) [] rising waits = waits
+awaited-behind t time (suc n) (x ∷ xs) rising waits =
+    let rest = awaited-behind x.time time n xs rising.2 waits in
+    let after = answering.awaited-later x.time time xs rising.2 rest in
+    let other : (x.time == time) ≡ false = grind (arith, nat_tests) in
+    rw other rest
+
+pub queue-awaited : (tells : Bool) (start : Machine Value) (kind : Kind) (brand : ℕ) (table : TableId) (v : StoreValue) (shares : ℕ) (at : TableId)
+    (pass : SightValue) (h : IsShared tells start kind brand table v shares at pass) (time : ℕ) → HasCommitAt h.state.queue time
+    → is_awaited time (commits_of v).heads ≡ true
+queue-awaited tells start kind brand table v shares at pass h time found =
     let m = h.state in
-    let legal : IsHistory IsValue (m.published ++ m.queue) = h.stands.machine.history in
-    let rising : HasRisingTimes (last m.published) m.queue =
-    rising-from_following IsValue m.published m.queue (may_follow-behind IsValue [] m.published m.queue legal) in
-    let late : last m.published < found.0.time = later-time (last m.published) m.queue found.0 rising found.1 in
-    let awaited =
-    awaited-later (last m.published) v.transactions.heads (m.published
-    ++ m.queue) found.0 h.stands.memory.names (Contains-append_right m.published m.queue found.0 found.1) late h.none_waits in
-    subst (λ (t : ℕ). is_awaited t v.transactions.heads ≡ true) found.2 awaited
+    let c = commits_of v in
+    let memory = in-memory tells v m h.stands in
+    let rising = queue-rises m (is-machine tells v m h.stands) in
+    let after : last m.published < found.0.time = later-time (last m.published) m.queue found.0 rising found.1 in
+    let waits =
+    awaited-later (last m.published) (drop c.published c.heads) m.queue found.0 (waiting-named c m memory) found.1 after
+    (none-behind (last m.published) c.published c.heads h.none_waits) in
+    subst (λ (t : ℕ). is_awaited t c.heads ≡ true) found.2 (awaited-behind 0 found.0.time c.published c.heads memory.rising waits)

@@ -20,7 +20,7 @@ use Rattle.shared.specs.contracts.shared_txn.SharedTxn.TheInside as shared_txn
 use Rattle.shared.specs.contracts.shared_view.SharedView as SharedView
 use Rattle.shared.specs.contracts.shared_view.SharedView.TheInside as shared_view
 use Rattle.shared.proofs.moment.Moment.TheSendSync as moment
-use Rattle.shared.proofs.observer.Observer.TheSendSync as observer
+use Rattle.shared.proofs.txn_pass.TxnPass.TheSendSync as txn_pass
 use Rattle.shared.proofs.Versions.{frozen_send}
 
 view_inside : IsSend view.the_row
@@ -59,7 +59,7 @@ module _ (L : RattleType) (opening : openings.Ghosts L.Denot) (ledger : ledgers.
   shared_view-send = view_send (shared_view.the_row L opening ledger) _ _ _ _ shared_view_inside
 
   shared_txn_inside : IsSend (shared_txn.the_row L opening ledger)
-  shared_txn_inside = declared_send (shared_txn.the_type L opening ledger) (search (sendable, txn_sent), (search (sendable, observer.the_send), tt))
+  shared_txn_inside = declared_send (shared_txn.the_type L opening ledger) (search (sendable, txn_sent), (search (sendable, txn_pass.the_send), tt))
 
   pub shared_txn-send : IsSend (SharedTxn.the_row L opening ledger)
   shared_txn-send = view_send (shared_txn.the_row L opening ledger) _ _ _ _ shared_txn_inside

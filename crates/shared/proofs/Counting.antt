@@ -1,8 +1,13 @@
 -- How many commits are told of, as the heads change.
-use Rattle.std.proofs.Common.{◌≡◌, ℕ, zero, suc, ◌+◌, ◌<◌, ◌≤◌, ◌==◌, nat_lt, Bool, true, false, cond, List, [], ◌∷◌, ◌++◌, length, take, refl, ap, ◌∙◌, arith}
+use Rattle.std.proofs.Common.{◌≡◌, ℕ, zero, suc, ◌+◌, ◌<◌, ◌≤◌, ◌==◌, nat_lt, Bool, true, false, cond, List, [], ◌∷◌, ◌++◌, length, take, drop, map, refl}
+use Rattle.std.proofs.Common.{ap, ◌∙◌}
+use Rattle.std.proofs.Common.{arith}
 use Rattle.std.proofs.lemmas.Bool.Decides.{nat_tests}
+use Rattle.history.specs.Histories.{History, HasRisingTimes}
+use Rattle.law_image.specs.Values.{Value}
 use Rattle.group.specs.declared.commit_order.CommitHead.{CommitHead}
 use Rattle.group.specs.CommitOrder.{is_awaited, redeemed, last_time_after, IsRisingAfter}
+use Rattle.law_refinement.specs.Standing.{Name, name_of, name_at}
 use Rattle.shared.specs.Counts.{told_count, told_after, awaited_upto}
 
 -- ---- a commit is queued
@@ -41,6 +46,16 @@ told-by x xs time rest false later =
 pub told-redeemed : (time : ℕ) (heads : List CommitHead) → is_awaited time heads ≡ true → told_count (redeemed time heads) ≡ told_count heads + 1
 told-redeemed time [] waits = absurd cc
 told-redeemed time (x ∷ xs) waits = told-by x xs time (told-redeemed time xs) (x.time == time) waits
+
+-- and there are as many
+length-by : (x : CommitHead) (xs : List CommitHead) (time : ℕ) → length (redeemed time xs) ≡ length xs → (b : Bool)
+    → length (cond b (record x { awaited = false } ∷ xs) (x ∷ redeemed time xs)) ≡ length (x ∷ xs)
+length-by x xs time rest true = refl
+length-by x xs time rest false = ap suc rest
+
+pub length-redeemed : (time : ℕ) (heads : List CommitHead) → length (redeemed time heads) ≡ length heads
+length-redeemed time [] = refl
+length-redeemed time (x ∷ xs) = length-by x xs time (length-redeemed time xs) (x.time == time)
 
 -- what a head adds to those that are told later than a time
 abbrev late : ℕ → CommitHead → ℕ
@@ -98,7 +113,7 @@ none-after t (x ∷ xs) rising =
     let rest = none-after x.time xs rising.2 in
     let goal : late (last_time_after x.time xs) x + told_after (last_time_after x.time xs) xs ≡ 0 = omega (arith, first, rest) in goal
 
-rising-take : (t n : ℕ) (heads : List CommitHead) → IsRisingAfter t heads → IsRisingAfter t (take n heads)
+pub rising-take : (t n : ℕ) (heads : List CommitHead) → IsRisingAfter t heads → IsRisingAfter t (take n heads)
 rising-take t zero heads rising = tt
 rising-take t (suc n) [] rising = tt
 rising-take t (suc n) (x ∷ xs) rising = (rising.0, rising.1, rising-take x.time n xs rising.2)
@@ -120,40 +135,47 @@ due-early t x le =
     let low : nat_lt t x.time ≡ false = grind (arith, nat_tests) in
     ap (λ (b : Bool). cond x.awaited 0 1 + cond b 0 (cond x.awaited 1 0)) low ∙ one-of x.awaited
 
--- of heads that are all later none is told up to then, and none awaited
-none-early : (t s : ℕ) (heads : List CommitHead) → t ≤ s → IsRisingAfter s heads → told_after t heads ≡ 0 → (told_count heads ≡ 0) × (awaited_upto t heads ≡ 0)
-none-early t s [] le rising none = (refl, refl)
-none-early t s (x ∷ xs) le rising none =
+-- of heads with the names of later commits none is told where none is told later, and none awaited up to then
+none-early : (t s : ℕ) (heads : List CommitHead) (h : History Value) → map name_at heads ≡ map name_of h → t ≤ s → HasRisingTimes s h
+    → told_after t heads ≡ 0 → (told_count heads ≡ 0) × (awaited_upto t heads ≡ 0)
+none-early t s [] h named le rising none = (refl, refl)
+none-early t s (x ∷ xs) [] named le rising none = absurd cc
+none-early t s (x ∷ xs) (c ∷ cs) named le rising none =
+    let first_name : name_at x ≡ name_of c = cc in
+    let behind : map name_at xs ≡ map name_of cs = cc in
+    let time : x.time ≡ c.time = ap (λ (n : Name). n.time) first_name in
     let above = rising.0 in
-    let high : t < x.time = omega (arith, le, above) in
+    let high : t < x.time = omega (arith, le, above, time) in
     let of = due-late t x high in
     let told_x = of.0 in
     let due_x = of.1 in
     let all : late t x + told_after t xs ≡ 0 = none in
     let rest_none : told_after t xs ≡ 0 = omega (arith, all) in
-    let rest = none-early t x.time xs (omega (arith, high)) rising.2 rest_none in
+    let rest = none-early t c.time xs cs behind (omega (arith, le, above)) rising.2 rest_none in
     let told = rest.0 in
     let waits = rest.1 in
     let first : cond x.awaited 0 1 + told_count xs ≡ 0 = omega (arith, all, told_x, told) in
     let second : due t x + awaited_upto t xs ≡ 0 = omega (arith, due_x, waits) in
     (first, second)
 
--- the published commits are those that are told and those that are awaited
-pub published-count : (t p : ℕ) (heads : List CommitHead) → IsRisingAfter t heads → p ≤ length heads → told_after (last_time_after t (take p heads)) heads ≡ 0
-    → p ≡ told_count heads + awaited_upto (last_time_after t (take p heads)) heads
-published-count t zero [] rising few none = refl
-published-count t (suc p) [] rising few none = absurd (omega (arith, few))
-published-count t zero (x ∷ xs) rising few none =
-    let nothing = none-early t t (x ∷ xs) (omega arith) rising none in
+-- the published heads are those that are told and those that are awaited, where those behind them have the names of commits that wait
+pub published-count : (t s p : ℕ) (heads : List CommitHead) (queue : History Value) → IsRisingAfter s heads → p ≤ length heads
+    → last_time_after s (take p heads) ≤ t → map name_at (drop p heads) ≡ map name_of queue → HasRisingTimes t queue → told_after t heads ≡ 0
+    → p ≡ told_count heads + awaited_upto t heads
+published-count t s zero heads queue rising few upto named later none =
+    let nothing = none-early t t heads queue named (omega arith) later none in
     let told = nothing.0 in
     let waits = nothing.1 in
-    let goal : Path ℕ 0 (told_count (x ∷ xs) + awaited_upto t (x ∷ xs)) = omega (arith, told, waits) in goal
-published-count t (suc p) (x ∷ xs) rising few none =
-    let early = rising-last x.time (take p xs) (rising-take x.time p xs rising.2) in
-    let all : late (last_time_after x.time (take p xs)) x + told_after (last_time_after x.time (take p xs)) xs ≡ 0 = none in
-    let rest_none : told_after (last_time_after x.time (take p xs)) xs ≡ 0 = omega (arith, all) in
+    let goal : Path ℕ 0 (told_count heads + awaited_upto t heads) = omega (arith, told, waits) in
+    goal
+published-count t s (suc p) [] queue rising few upto named later none = absurd (omega (arith, few))
+published-count t s (suc p) (x ∷ xs) queue rising few upto named later none =
+    let least = rising-last x.time (take p xs) (rising-take x.time p xs rising.2) in
+    let early : x.time ≤ t = omega (arith, least, upto) in
+    let all : late t x + told_after t xs ≡ 0 = none in
+    let rest_none : told_after t xs ≡ 0 = omega (arith, all) in
     let shorter : suc p ≤ suc (length xs) = few in
-    let rest = published-count x.time p xs rising.2 (omega (arith, shorter)) rest_none in
-    let one = due-early (last_time_after x.time (take p xs)) x early in
-    let goal : suc p ≡ cond x.awaited 0 1 + told_count xs + (due (last_time_after x.time (take p xs)) x + awaited_upto (last_time_after x.time (take p xs)) xs)
-    = omega (arith, one, rest) in goal
+    let rest = published-count t x.time p xs queue rising.2 (omega (arith, shorter)) upto named later rest_none in
+    let one = due-early t x early in
+    let goal : suc p ≡ cond x.awaited 0 1 + told_count xs + (due t x + awaited_upto t xs) = omega (arith, one, rest) in
+    goal

@@ -25,6 +25,20 @@ use Rattle.status.specs.TurnState.{TurnState}
 use Rattle.store.specs.Pumps.{Pumps, TakesStep, Steps, WritesExtent, TurnsSlot, IsTurned, MayBeginSlot, started}
 use Rattle.store.specs.Values.{StoreValue, turn_of}
 use Rattle.law_refinement.specs.Standing.{StandsInMemory, AllWait}
+use Rattle.chains.specs.KeyWrites.{KeyWrites}
+use Rattle.commits.specs.Values.{WaitingValue}
+use Rattle.log_writer.specs.Turns.{Stage, Writing, Syncing, Opening, Settling, Done}
+use Rattle.log_writer.specs.Writer.{WriterState}
+use Rattle.log_writer.specs.Writer as writers
+use Rattle.log_store.specs.Pumps as logs
+use Rattle.log_store.specs.Pumps.{did_of}
+use Rattle.log_store.specs.Values.{LogStoreValue, IsInStep, HasTurn}
+use Rattle.any_store.specs.Calls as any_calls
+use Rattle.any_store.specs.Values as any
+use Rattle.any_store.specs.declared.engine.Engine.TheVariants.{Slots, Log}
+use Rattle.law_commits.specs.Standing as log_memory
+use Rattle.law_any_store.specs.Standing.{Stands}
+use Rattle.shared.proofs.Engines.{in-memory}
 
 no-group : (s : GroupStage) (group : ℕ) (qs : List QueuedValue) → StageFits s group qs → group ≡ 0 → s ≡ NoGroup
 no-group NoGroup group qs fits none = refl
@@ -111,9 +125,9 @@ takes tells old new r next.AdvanceSlot some does is = by-turn old.turn does
     by-turn None none = none
     by-turn (Some turn) t = turns tells turn old new r t is
 
-pub idles : (tells : Bool) (v new : StoreValue) (m : Machine Value) (r : Result Did PumpFault) → StandsInMemory v.transactions m → IsInOrder v.transactions
+slots-idles : (tells : Bool) (v new : StoreValue) (m : Machine Value) (r : Result Did PumpFault) → StandsInMemory v.transactions m → IsInOrder v.transactions
     → Pumps tells v r new → m.failed ≡ false → (r ≡ Ok did.Idle) ↔ (m.queue ≡ [])
-idles tells v new m r stands order pumps works = by-lists v.transactions.queue m.queue refl stands.queue
+slots-idles tells v new m r stands order pumps works = by-lists v.transactions.queue m.queue refl stands.queue
   where
     step : TakesStep tells (next_step v.transactions) (started v) r new
     step = subst (λ (b : Bool). MatchBool b ((r ≡ Err pump.Failed) × (new ≡ v)) (TakesStep tells (next_step v.transactions) (started v) r new)) (stands.failed
@@ -137,3 +151,81 @@ idles tells v new m r stands order pumps works = by-lists v.transactions.queue m
           λ is. absurd (takes tells (started v) new r (next_step v.transactions) (next-some v.transactions order (omega (arith, len))) step is),
           λ none. absurd cc,
         )
+
+-- ---- where the log lies in the heap
+
+wrote-some : (stage : Stage) (group : ℕ) → did_of (writers.did stage) group ≡ did.Idle → ⊥
+wrote-some (Writing done []) group is = absurd cc
+wrote-some (Writing done (p ∷ rest)) group is = absurd cc
+wrote-some Syncing group is = absurd cc
+wrote-some Opening group is = absurd cc
+wrote-some Settling group is = absurd cc
+wrote-some Done group is = absurd cc
+
+advances : (tells : Bool) (w : WriterState) (l l' : LogStoreValue) (r : Result Did PumpFault) → logs.Advances tells w l r l' → r ≡ Ok did.Idle → ⊥
+advances tells w l l' (Ok what) a is = let same : what ≡ did.Idle = cc in wrote-some w.stage l.commits.group (sym a.answer.0 ∙ same)
+advances tells w l l' (Err why) a is = absurd cc
+
+advances-group : (tells : Bool) (l l' : LogStoreValue) (t : Option WriterState) (r : Result Did PumpFault) → logs.AdvancesGroup tells l t r l'
+    → r ≡ Ok did.Idle → ⊥
+advances-group tells l l' None r a is = a
+advances-group tells l l' (Some w) r a is = advances tells w l l' r a is
+
+begins-group : (tells : Bool) (l l' : LogStoreValue) (r : Result Did PumpFault) → logs.BeginsGroup tells l r l' → r ≡ Ok did.Idle → ⊥
+begins-group tells l l' r (inl none) is = let no : Path (Result Did PumpFault) (Err pump.NoMemory) (Ok did.Idle) = sym none.0 ∙ is in absurd cc
+begins-group tells l l' r (inr begun) is = advances-group tells begun.0 l' (begun.0).turn r begun.2 is
+
+-- as many commits wait as the machine's queue has
+many-wait : (reclaimed : ℕ) (before : List KeyWrites) (ws : List WaitingValue) (cs : History Value) → log_memory.AllWait reclaimed before ws cs
+    → length ws ≡ length cs
+many-wait reclaimed before [] [] all = refl
+many-wait reclaimed before [] (c ∷ cs) all = absurd all
+many-wait reclaimed before (w ∷ ws) [] all = absurd all
+many-wait reclaimed before (w ∷ ws) (c ∷ cs) all = ap suc (many-wait reclaimed w.after ws cs all.1)
+
+empty-queue : (cs : History Value) → length cs ≡ 0 → cs ≡ []
+empty-queue [] none = refl
+empty-queue (c ∷ cs) none = absurd (omega (arith, none))
+
+log-idles : (tells : Bool) (l l' : LogStoreValue) (m : Machine Value) (r : Result Did PumpFault) → log_memory.StandsInMemory l.commits m → IsInStep l
+    → logs.Pumps tells l r l' → m.failed ≡ false → (r ≡ Ok did.Idle) ↔ (m.queue ≡ [])
+log-idles tells l l' m r stands step pumps works = by-turn l.turn step.turn log_takes
+  where
+    many : length l.commits.queue ≡ length m.queue
+    many = many-wait l.commits.reclaimed l.commits.versions l.commits.queue m.queue stands.queue
+
+    log_takes : logs.TakesStep tells l l.turn r l'
+    log_takes = subst (λ (b : Bool). MatchBool b ((r ≡ Err pump.Failed) × (l' ≡ l)) (logs.TakesStep tells l l.turn r l')) (stands.failed ∙ works) pumps
+
+    by-queue : (b : Bool) → (length l.commits.queue == 0) ≡ b → MatchBool b ((r ≡ Ok did.Idle) × (l' ≡ l)) (logs.BeginsGroup tells l r l')
+        → (r ≡ Ok did.Idle) ↔ (m.queue ≡ [])
+    by-queue true none idle =
+        let zero_is : length l.commits.queue ≡ 0 = grind (arith, nat_tests) in
+        (λ is. empty-queue m.queue (omega (arith, many, zero_is)), λ empty. idle.0)
+    by-queue false some begun = (
+      λ is. absurd (begins-group tells l l' r begun is),
+      λ empty.
+          let nothing : length m.queue ≡ 0 = ap (λ (h : History Value). length h) empty in
+          let zero_is : length l.commits.queue ≡ 0 = omega (arith, many, nothing) in
+          absurd (grind (arith, nat_tests)),
+    )
+
+    by-turn : (t : Option WriterState) → HasTurn l.commits.group t → logs.TakesStep tells l t r l' → (r ≡ Ok did.Idle) ↔ (m.queue ≡ [])
+    by-turn None none does = by-queue (length l.commits.queue == 0) refl does
+    by-turn (Some w) turning does =
+        let group = turning.0 in
+        let within = step.contents in (
+          λ is. absurd (advances tells w l l' r does is),
+          λ empty.
+              let nothing : length m.queue ≡ 0 = ap (λ (h : History Value). length h) empty in
+              absurd (omega (arith, many, nothing, group, within)),
+        )
+
+-- ---- in either layout
+
+pub idles : (tells : Bool) (v new : any.StoreValue) (m : Machine Value) (r : Result Did PumpFault) → Stands tells v m → any_calls.Pumps tells v r new
+    → m.failed ≡ false → (r ≡ Ok did.Idle) ↔ (m.queue ≡ [])
+idles tells (Slots s) (Slots s') m r stands pumps works = slots-idles tells s s' m r stands.memory stands.order pumps works
+idles tells (Slots s) (Log l') m r stands pumps works = absurd pumps
+idles tells (Log l) (Slots s') m r stands pumps works = absurd pumps
+idles tells (Log l) (Log l') m r stands pumps works = log-idles tells l l' m r (in-memory tells (Log l) m stands) stands.0 pumps works

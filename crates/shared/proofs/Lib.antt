@@ -4,8 +4,11 @@ pub mod Carrying
 pub mod Floors
 pub mod Fronts
 pub mod Archives
+pub mod Tokens
 pub mod Passes
 pub mod Counting
+pub mod Engines
+pub mod Starting
 pub mod Stepping
 pub mod Moves
 pub mod Awaiting

@@ -1,5 +1,5 @@
 -- Views and transactions answer by the history of their moment.
-use Rattle.std.proofs.Common.{◌≡◌, ℕ, Bool, List, Option, Result, Ok, Err, unwrap_or, sym, ap, subst, ◌∙◌}
+use Rattle.std.proofs.Common.{◌≡◌, ℕ, Bool, List, Option, Some, Result, Ok, Err, unwrap_or, sym, ap, subst, ◌∙◌}
 use Rattle.std.specs.Prelude.{IfOk, OnOk, OnErr, if◌then◌else◌}
 use Rattle.std.specs.declared.alloc.AllocError.{AllocError}
 use Rattle.history.specs.declared.key.Key.{Key}
@@ -12,10 +12,11 @@ use Rattle.law_image.specs.Values.{Value}
 use Rattle.snapshot.specs.Txn.{TxnValue, seen_by}
 use Rattle.atomic_table.specs.Seated.{TableId}
 use Rattle.timequery.specs.View.{ViewValue}
-use Rattle.store.specs.Values.{StoreValue}
-use Rattle.law_refinement.specs.Homes.{ViewReads}
+use Rattle.any_store.specs.Values.{StoreValue}
+use Rattle.law_any_store.specs.Standing.{ViewReads}
 use Rattle.shared.specs.Archives.{ArchiveSeen, IsArchiveLater, archive_seen}
-use Rattle.shared.specs.Moments.{TxnMoment, ViewMoment, HoldsSeen, WorksOn, value_for}
+use Rattle.shared.specs.Kinds.{Kind}
+use Rattle.shared.specs.Moments.{TxnMoment, TxnPassValue, ViewMoment, HoldsSeen, WorksOn, GoesWith, token_of, value_for}
 use Rattle.shared.specs.Seen.{Seen, SightValue, IsLater}
 use Rattle.shared.specs.Shared.{IsShared, Shows, Reads, SeenReached}
 use Rattle.shared.proofs.Archives.{reads-later, reads-of}
@@ -36,10 +37,11 @@ shows-later start brand old new view seen later s = record {
 }
 
 -- the store has what the view reads
-pub still-reads : (tells : Bool) (start : Machine Value) (brand : ℕ) (table : TableId) (v : StoreValue) (shares : ℕ) (at : TableId) (pass : SightValue)
-    (view : ViewValue) (seen : Seen) → IsShared tells start brand table v shares at pass → (s : Shows start brand pass.archive view seen)
+pub still-reads : (tells : Bool) (start : Machine Value) (kind : Kind) (brand : ℕ) (table : TableId) (v : StoreValue) (shares : ℕ) (at : TableId)
+    (pass : SightValue) (view : ViewValue) (seen : Seen) → IsShared tells start kind brand table v shares at pass
+    → (s : Shows start brand pass.archive view seen)
     → ViewReads tells v view s.machine.published s.machine.floors
-still-reads tells start brand table v shares at pass view seen h s =
+still-reads tells start kind brand table v shares at pass view seen h s =
     reads-of tells v view s.machine.published s.machine.floors (s.mark
     ∙ sym h.mark) (reads-later pass.archive (archive_seen tells v) view s.machine.published s.machine.floors h.archive s.reads)
 
@@ -78,10 +80,21 @@ pub rewritten : (start : Machine Value) (brand : ℕ) (t : TxnValue) (seen : See
 rewritten start brand t seen ws w =
     record { machine = w.machine; reached = w.reached; seen_is = w.seen_is; mark = w.mark; snapshot = w.snapshot; reads = w.reads }
 
-pub still-works : {T E : Type 0} (r : Result T E) (start : Machine Value) (brand : ℕ) (t t' : TxnValue) (seen : Seen) (ws : List (KeyWrite Value))
-    → WorksOn start brand t seen → OnOk r (t' ≡ record t { writes = ws }) → OnErr r (t' ≡ t) → WorksOn start brand t' seen
-still-works (Ok done) start brand t t' seen ws w ok err = subst (λ (x : TxnValue). WorksOn start brand x seen) (sym ok) (rewritten start brand t seen ws w)
-still-works (Err why) start brand t t' seen ws w ok err = subst (λ (x : TxnValue). WorksOn start brand x seen) (sym err) w
+-- nor of the pass that goes with it
+pub still-goes : (start : Machine Value) (brand : ℕ) (t t' : TxnValue) (pass : TxnPassValue) (ws : List (KeyWrite Value)) → GoesWith start brand t pass
+    → t' ≡ record t { writes = ws } → GoesWith start brand t' pass
+still-goes start brand t t' pass ws goes is =
+    subst (λ (x : TxnValue). GoesWith start brand x pass) (sym is) (rewritten start brand t pass.seen ws goes.0, goes.1)
+
+pub still-works : {T E : Type 0} (r : Result T E) (start : Machine Value) (brand : ℕ) (t t' : TxnValue) (pass : TxnPassValue) (ws : List (KeyWrite Value))
+    → GoesWith start brand t pass → OnOk r (t' ≡ record t { writes = ws }) → OnErr r (t' ≡ t) → GoesWith start brand t' pass
+still-works (Ok done) start brand t t' pass ws goes ok err = still-goes start brand t t' pass ws goes ok
+still-works (Err why) start brand t t' pass ws goes ok err = subst (λ (x : TxnValue). GoesWith start brand x pass) (sym err) goes
+
+-- a transaction that has just begun goes with the pass that was given with it
+pub begun-goes : (start : Machine Value) (brand : ℕ) (t : TxnValue) (pass : TxnPassValue) (seen : Seen) → Reads start brand t seen → pass.seen ≡ seen
+    → pass.token ≡ Some (token_of t) → GoesWith start brand t pass
+begun-goes start brand t pass seen reads same token = (subst (λ (s : Seen). WorksOn start brand t s) (sym same) (reads-works start brand t seen reads), token)
 
 -- ---- its writes, by a moment that has this transaction
 

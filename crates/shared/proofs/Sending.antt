@@ -42,8 +42,21 @@ use Rattle.store.proofs.job.JobStage.TheSendSync as job_stage
 use Rattle.store.proofs.store_archive.Archived.TheSendSync as archived
 use Rattle.store.specs.contracts.job.Job as Job
 use Rattle.store.specs.contracts.job.JobWork as JobWork
-use Rattle.store.specs.contracts.store.Store as Store
-use Rattle.store.specs.contracts.store.Store.TheInside as store
+use Rattle.store.specs.contracts.store.Store as SlotStore
+use Rattle.store.specs.contracts.store.Store.TheInside as slot_store
+use Rattle.timequery.proofs.store_archive.StoreArchive.TheSendSync as store_archive
+use Rattle.commits.specs.contracts.commits.Commits as Commits
+use Rattle.commits.specs.contracts.commits.Commits.TheInside as commits
+use Rattle.commits.specs.contracts.waiting.Waiting as Waiting
+use Rattle.log_roots.proofs.roots.Roots.TheSendSync as roots
+use Rattle.log_room.proofs.content.Content.TheSendSync as content
+use Rattle.log_room.proofs.room.HeapRoom.TheSendSync as room
+use Rattle.log_writer.proofs.writer.ChainWriter.TheSendSync as chain_writer
+use Rattle.log_store.specs.contracts.store.LogStore as LogStore
+use Rattle.log_store.specs.contracts.store.LogStore.TheInside as log_store
+use Rattle.any_store.proofs.engine.Engine.TheSendSync as engine
+use Rattle.any_store.specs.contracts.any.Store as Store
+use Rattle.any_store.specs.contracts.any.Store.TheInside as store
 use Rattle.shared.specs.declared.naming.Opening as openings
 use Rattle.shared.specs.contracts.latest.KeptView as KeptView
 use Rattle.shared.specs.contracts.latest.Latest as Latest
@@ -144,11 +157,37 @@ work_send = variants_send JobWork.enum (
 job_send : IsSend Job.the_row
 job_send = declared_send Job.the_type (search (sendable, work_send), (search (sendable, job_stage.the_send), tt))
 
+-- ---- the commits of a log in the heap
+
+waiting_send : IsSend Waiting.the_row
+waiting_send = search (sendable, crosses, frozen_send) depth 20
+
+commits_inside : IsSend commits.the_row
+commits_inside = declared_send commits.the_type (
+  search sendable,
+  (
+    search (sendable, open_table.the_send),
+    (
+      search (sendable, order.the_send),
+      (
+        search (sendable, frozen_send),
+        (
+          search (sendable, crosses, waiting_send),
+          (search sendable, (search (sendable, floors.the_send), (search sendable, (search sendable, tt)))),
+        ),
+      ),
+    ),
+  ),
+)
+
+commits_send : IsSend Commits.the_row
+commits_send = view_send commits.the_row _ _ _ _ commits_inside
+
 -- ---- the store
 
 module _ (D : RattleType) (disk : devices.Ghosts D.Denot) (crossing : IsSend D) where
-  store_inside : IsSend (store.the_row D disk)
-  store_inside = declared_send (store.the_type D disk) (
+  slot_store_inside : IsSend (slot_store.the_row D disk)
+  slot_store_inside = declared_send (slot_store.the_type D disk) (
     search (sendable, crosses),
     (
       search (sendable, transactions_send),
@@ -167,6 +206,39 @@ module _ (D : RattleType) (disk : devices.Ghosts D.Denot) (crossing : IsSend D) 
       ),
     ),
   )
+
+  slot_store_send : IsSend (SlotStore.the_row D disk)
+  slot_store_send = view_send (slot_store.the_row D disk) _ _ _ _ slot_store_inside
+
+  log_store_inside : IsSend (log_store.the_row D disk)
+  log_store_inside = declared_send (log_store.the_type D disk) (
+    search (sendable, crosses),
+    (
+      search (sendable, roots.the_send),
+      (
+        search (sendable, commits_send),
+        (
+          search (sendable, crosses, content.the_send),
+          (
+            search (sendable, room.the_send),
+            (
+              search (sendable, option.the_send, chain_writer.the_send),
+              (
+                search (sendable, store_archive.the_send),
+                (search (sendable, crossing), tt),
+              ),
+            ),
+          ),
+        ),
+      ),
+    ),
+  )
+
+  log_store_send : IsSend (LogStore.the_row D disk)
+  log_store_send = view_send (log_store.the_row D disk) _ _ _ _ log_store_inside
+
+  store_inside : IsSend (store.the_row D disk)
+  store_inside = declared_send (store.the_type D disk) (search (sendable, engine.the_send, slot_store_send, log_store_send), tt)
 
   store_send : IsSend (Store.the_row D disk)
   store_send = view_send (store.the_row D disk) _ _ _ _ store_inside

@@ -17,15 +17,11 @@ use Rattle.group.specs.declared.answers.Submitted.{Submitted}
 use Rattle.group.specs.declared.answers.Submitted.TheVariants as submitted
 use Rattle.group.specs.declared.answers.SubmitFault.{SubmitFault}
 use Rattle.group.specs.declared.answers.SubmitFault.TheVariants as refused
-use Rattle.store.specs.declared.job.Job.{Job}
-use Rattle.store.specs.declared.job.JobWork.{JobWork}
-use Rattle.store.specs.declared.job.JobWork.TheVariants.{Archive, Reclaim, Floor, Grow}
 use Rattle.store.specs.declared.job.JobDid.{JobDid}
 use Rattle.store.specs.declared.job.JobDid.TheVariants as job_did
 use Rattle.law_refinement.specs.Laws.{event_of, begins_in, ends_in, floor_ends_in, floor_ends, job_breaks_in, job_ends_in}
-use Rattle.law_refinement.specs.Calls.{raising_to}
 use Rattle.law_refinement.specs.Leaving.{count_in}
-use Rattle.law_refinement.specs.Stands.{raising_by, raising_of}
+use Rattle.law_any_store.specs.Calls.{pumped_in}
 use Rattle.law_refinement.proofs.Told.{pump-publishes}
 use Rattle.shared.specs.Reached.{Reached, stepped}
 use Rattle.shared.specs.Seen.{Seen, floors_listed, floor_in, seen_of, order_of, IsFrontOf, IsLater}
@@ -138,6 +134,15 @@ pump-seen m n r run =
     }) (pump-failed m n r run)
     ∙ failed-as (has_failed r) (published_seen (seen_of m) (count_in r))
 
+-- in either layout
+pub pumped-seen : (in_heap : Bool) (m n : Machine Value) (r : Result Did PumpFault) → Run IsValue m (pumped_in in_heap m r) n
+    → seen_of n ≡ pumped_seen r (seen_of m)
+pumped-seen false m n r run = pump-seen m n r run
+pumped-seen true m n (Ok what) run = pump-seen m n (Ok what) run
+pumped-seen true m n (Err pump.Busy) run = ap seen_of run ∙ published-none (seen_of m)
+pumped-seen true m n (Err pump.NoMemory) run = ap seen_of run ∙ published-none (seen_of m)
+pumped-seen true m n (Err pump.Failed) run = pump-seen m n (Err pump.Failed) run
+
 -- the commits that are seen are the same in another order of words
 pub published-order : (s : Seen) (count : ℕ) → order_of (published_seen s count) ≡ order_of s
 published-order s count =
@@ -157,6 +162,13 @@ done-order r o s = by-test (is_done r)
     by-test : (b : Bool) → order_of (cond b (raised_seen o s) s) ≡ order_of s
     by-test true = raised-order o s
     by-test false = refl
+
+-- no step changes the commit order
+pub pumped-order : (r : Result Did PumpFault) (s : Seen) → order_of (pumped_seen r s) ≡ order_of s
+pumped-order r s = failed-order (has_failed r) (published_seen s (count_in r)) ∙ published-order s (count_in r)
+
+pub job-order : (r : Result JobDid PumpFault) (o : Option Raising) (s : Seen) → order_of (job_seen r o s) ≡ order_of s
+job-order r o s = failed-order (has_failed r) (done_seen r o s) ∙ done-order r o s
 
 failed-published : (b : Bool) (s : Seen) → (failed_seen b s).published ≡ s.published
 failed-published true s = refl
@@ -202,17 +214,10 @@ floor-seen m n job_did.JobDone r run =
 unchanged-seen : (m n : Machine Value) (what : JobDid) → n ≡ m → seen_of n ≡ done_seen (Ok what) None (seen_of m)
 unchanged-seen m n what run = ap seen_of run ∙ sym (same-seen (is_done (Ok what)) (seen_of m))
 
-work-seen : (m n : Machine Value) (what : JobDid) (work : JobWork) → Run IsValue m (floor_ends what (raising_by work)) n → seen_of n
-    ≡ done_seen (Ok what) (raising_by work) (seen_of m)
-work-seen m n what (Archive run writer) ran = unchanged-seen m n what ran
-work-seen m n what (Reclaim anchors source written) ran = unchanged-seen m n what ran
-work-seen m n what (Floor scope floor floors) ran = floor-seen m n what (raising_to scope floor) ran
-work-seen m n what (Grow growth) ran = unchanged-seen m n what ran
-
-done-seen : (m n : Machine Value) (what : JobDid) (job : Option Job) → Run IsValue m (floor_ends what (raising_of job)) n → seen_of n
-    ≡ done_seen (Ok what) (raising_of job) (seen_of m)
-done-seen m n what None ran = unchanged-seen m n what ran
-done-seen m n what (Some job) ran = work-seen m n what job.work ran
+raised-seen : (m n : Machine Value) (what : JobDid) (raising : Option Raising) → Run IsValue m (floor_ends what raising) n
+    → seen_of n ≡ done_seen (Ok what) raising (seen_of m)
+raised-seen m n what None ran = unchanged-seen m n what ran
+raised-seen m n what (Some r) ran = floor-seen m n what r ran
 
 job_broken-seen : (m n : Machine Value) (gate : Gate) → Run IsValue m (job_breaks_in gate) n → seen_of n ≡ record (seen_of m) { failed = true }
 job_broken-seen m n Shut run = ap seen_of run.2 ∙ ap seen_of run.1.1
@@ -220,12 +225,12 @@ job_broken-seen m n (Due OfGroup) run = ap seen_of run.2 ∙ ap seen_of run.1.1
 job_broken-seen m n (Due OfFloor) run = ap seen_of run.2.2 ∙ ap seen_of run.2.1.1 ∙ ap (λ (x : Machine Value). record (seen_of x) { failed = true }) run.1.2
 job_broken-seen m n (MayBeOpen change) run = ap seen_of run.2 ∙ ap seen_of run.1.1
 
-pub job-seen : (m n : Machine Value) (job : Option Job) (r : Result JobDid PumpFault) → m.raising ≡ raising_of job → Run IsValue m (job_ends_in m r) n
-    → seen_of n ≡ job_seen r (raising_of job) (seen_of m)
-job-seen m n job (Ok what) is run = done-seen m n what job (subst (λ (o : Option Raising). Run IsValue m (floor_ends what o) n) is run)
-job-seen m n job (Err pump.Busy) is run = ap seen_of run
-job-seen m n job (Err pump.NoMemory) is run = ap seen_of run
-job-seen m n job (Err pump.Failed) is run = job_broken-seen m n m.gate run
+pub job-seen : (m n : Machine Value) (raising : Option Raising) (r : Result JobDid PumpFault) → m.raising ≡ raising → Run IsValue m (job_ends_in m r) n
+    → seen_of n ≡ job_seen r raising (seen_of m)
+job-seen m n raising (Ok what) is run = raised-seen m n what raising (subst (λ (o : Option Raising). Run IsValue m (floor_ends what o) n) is run)
+job-seen m n raising (Err pump.Busy) is run = ap seen_of run
+job-seen m n raising (Err pump.NoMemory) is run = ap seen_of run
+job-seen m n raising (Err pump.Failed) is run = job_broken-seen m n m.gate run
 
 -- floors alone are raised
 raised-later : (s n : Seen) (b : Bool) (o : Option Raising) → n ≡ cond b (raised_seen o s) s
@@ -240,15 +245,15 @@ raised-later s n true (Some r) is rise = record {
 raised-later s n false o is rise = subst (λ (x : Seen). IsLater s x) (sym is) (later-same s)
 
 -- so a job's step shows no less
-pub later-done : (m n : Machine Value) (job : Option Job) (r : Result JobDid PumpFault) → IsMachine IsValue m → m.raising ≡ raising_of job
-    → Run IsValue m (job_ends_in m r) n → IsLater (seen_of m) (done_seen r (raising_of job) (seen_of m))
-later-done m n job (Ok what) legal is run =
-    let seen = job-seen m n job (Ok what) is run in
+pub later-done : (m n : Machine Value) (raising : Option Raising) (r : Result JobDid PumpFault) → IsMachine IsValue m → m.raising ≡ raising
+    → Run IsValue m (job_ends_in m r) n → IsLater (seen_of m) (done_seen r raising (seen_of m))
+later-done m n raising (Ok what) legal is run =
+    let seen = job-seen m n raising (Ok what) is run in
     let later =
-    raised-later (seen_of m) (seen_of n) (is_done (Ok what)) (raising_of job) seen
+    raised-later (seen_of m) (seen_of n) (is_done (Ok what)) raising seen
     (listed-later m.floors n.floors (λ relation. run-floors IsValue m n (job_ends_in m (Ok what)) relation legal run)) in
     subst (λ (s : Seen). IsLater (seen_of m) s) seen later
-later-done m n job (Err why) legal is run = later-same (seen_of m)
+later-done m n raising (Err why) legal is run = later-same (seen_of m)
 
 -- and where the store fails
 pub later-job : (r : Result JobDid PumpFault) (raising : Option Raising) (s : Seen) → IsLater s (done_seen r raising s) → IsLater s (job_seen r raising s)

@@ -6,10 +6,13 @@ use Rattle.archive.specs.Searches.{archive_of}
 use Rattle.law_image.specs.Reading.{ArchiveRecord}
 use Rattle.law_image.specs.Values.{Value}
 use Rattle.history.specs.Histories.{History}
+use Rattle.timequery.specs.Archives.{is_front}
 use Rattle.timequery.specs.View.{ViewValue, mark_of}
-use Rattle.store.specs.Calls.{is_front}
-use Rattle.store.specs.Values.{StoreValue}
+use Rattle.any_store.specs.declared.engine.Engine.TheVariants.{Slots, Log}
+use Rattle.any_store.specs.Values.{StoreValue, disk_of}
+use Rattle.any_store.specs.Values as stores
 use Rattle.law_refinement.specs.Homes.{AreArchived, KeepsUpTo}
+use Rattle.law_log_queries.specs.Archive.{end_of}
 
 -- whether the disk tells its bytes, the runs, where the last of them ends, and the bytes
 pub record ArchiveSeen : Type 0 where
@@ -22,9 +25,14 @@ pub record ArchiveSeen : Type 0 where
 abbrev pub no_archive : ArchiveSeen
 no_archive = record { tells = true; runs = []; end = 0; bytes = [] }
 
+-- where the last of a store's runs ends
+abbrev pub runs_end_of : StoreValue → ℕ
+runs_end_of (Slots s) = s.runs_end
+runs_end_of (Log l) = end_of l.archive.runs
+
 -- that of a store
 abbrev pub archive_seen : Bool → StoreValue → ArchiveSeen
-archive_seen tells v = record { tells = tells; runs = v.archive.runs; end = v.runs_end; bytes = archive_of v.disk }
+archive_seen tells v = record { tells = tells; runs = (stores.archive_of v).runs; end = runs_end_of v; bytes = archive_of (disk_of v) }
 
 -- runs were added, and what stood of the others stands
 pub record IsArchiveLater (old new : ArchiveSeen) : Type 0 where

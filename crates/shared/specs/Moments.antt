@@ -1,5 +1,5 @@
 -- What views and transactions of a shared store answer, by the history and the floors of their moment.
-use Rattle.std.specs.Prelude.{ℕ, ◌≡◌, Option, Result, Ok, Err, unwrap_or}
+use Rattle.std.specs.Prelude.{ℕ, ◌≡◌, Option, Some, Result, Ok, Err, unwrap_or}
 use Rattle.std.specs.Borrow.{Bor}
 use Rattle.std.specs.Option.{option_copied}
 use Rattle.history.specs.declared.key.Key.{Key}
@@ -12,6 +12,7 @@ use Rattle.group.specs.declared.answers.BeginFault.{BeginFault}
 use Rattle.timequery.specs.View.{ViewValue}
 use Rattle.timequery.specs.declared.fault.QueryFault.{QueryFault}
 use Rattle.shared.specs.Reached.{Reached}
+use Rattle.shared.specs.Tokens.{Token}
 use Rattle.shared.specs.Seen.{Seen, seen_of, IsFrontOf, IsLater}
 
 -- a view, and the commits and the floors that its caller had seen when it was taken
@@ -40,6 +41,19 @@ pub record WorksOn (start : Machine Value) (brand : ℕ) (txn : TxnValue) (seen 
   pub mark : txn.mark ≡ brand
   pub snapshot : txn.snapshot ≡ last seen.published
   pub reads : (key : Key) → at_snapshot txn.state txn.snapshot key ≡ state seen.published (last seen.published) key
+
+-- the pass that goes with a transaction: what was seen when it began, and its token
+pub record TxnPassValue : Type 0 where
+  pub seen : Seen
+  pub token : Option Token
+
+-- a transaction's token
+abbrev pub token_of : TxnValue → Token
+token_of t = record { number = t.number; snapshot = t.snapshot }
+
+-- the transaction works on what was seen when it began, and goes with its own pass
+abbrev pub GoesWith : Machine Value → ℕ → TxnValue → TxnPassValue → Type 0
+GoesWith start brand txn pass = WorksOn start brand txn pass.seen × (pass.token ≡ Some (token_of txn))
 
 -- what a transaction sees of a key: its own write, or else the value in the history of its moment
 abbrev pub value_for : TxnMoment → Key → Option Value

@@ -87,7 +87,7 @@ pub record Asked (start : Machine Value) (brand : ℕ) (writes : List (KeyWrite 
     pub early : IsLater first seen
     pub submits : SubmitHappens start brand txn label now result seen
 
--- a transaction began on what was seen, one of these changes could not be made, and the transaction was over when this was seen
+-- a transaction began on what was seen, one of these changes could not be made, and the transaction was given up when this was seen
 pub record GivenUp (start : Machine Value) (brand : ℕ) (writes : List (KeyWrite Value)) (why : TxnFault) (seen : Seen) : Type 0 where
   pub first : Seen
   pub begun : TxnValue

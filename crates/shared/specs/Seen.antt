@@ -5,6 +5,7 @@ use Rattle.history.specs.Histories.{History}
 use Rattle.history.specs.Machine.{Machine}
 use Rattle.law_image.specs.Values.{Value}
 use Rattle.shared.specs.Archives.{ArchiveSeen, IsArchiveLater, no_archive}
+use Rattle.shared.specs.Tokens.{Tokens, no_tokens}
 
 -- the floors of all relations, in their order
 unfoldable pub floors_listed : (ℕ → ℕ) → List ℕ
@@ -59,12 +60,13 @@ pub record IsMore (old new : Known) : Type 0 where
   pub seen : IsLater old.seen new.seen
   pub archive : IsArchiveLater old.archive new.archive
 
--- what a pass has seen and knows, what it was told that another does, and whether it is the writer's
+-- what a pass has seen and knows, what it was told that another does, whether it is the writer's, and its tokens
 pub record SightValue : Type 0 where
   pub seen : Seen
   pub archive : ArchiveSeen
   pub heard : Known
   pub writes : Bool
+  pub tokens : Tokens
 
 -- what a pass has seen, and what it knows of the archive
 abbrev pub known_by : SightValue → Known
@@ -72,8 +74,8 @@ known_by v = record { seen = v.seen; archive = v.archive }
 
 -- the writer's pass before it has seen anything
 abbrev pub first_sight : SightValue
-first_sight = record { seen = nothing; archive = no_archive; heard = nothing_known; writes = true }
+first_sight = record { seen = nothing; archive = no_archive; heard = nothing_known; writes = true; tokens = no_tokens }
 
 -- a pass that is not the writer's and has seen nothing
 abbrev pub unmade_sight : SightValue
-unmade_sight = record { seen = nothing; archive = no_archive; heard = nothing_known; writes = false }
+unmade_sight = record { seen = nothing; archive = no_archive; heard = nothing_known; writes = false; tokens = no_tokens }

@@ -1,5 +1,6 @@
 -- What the value under the lock keeps, and what the calls of a shared store answer.
-use Rattle.std.specs.Prelude.{◌≡◌, ℕ, ◌+◌, ◌<◌, ◌≤◌, ◌++◌, ◌↔◌, ◌⊎◌, Bool, true, false, List, [], ◌∷◌, length, take, drop, IsSome, Contains, Option, None, Some}
+use Rattle.std.specs.Prelude.{◌≡◌, ℕ, ◌<◌, ◌≤◌, ◌++◌, ◌↔◌, Bool, true, false, IsTrue, List, [], ◌∷◌, length, take, drop, IsSome, Contains, Option, None}
+use Rattle.std.specs.Prelude.{Some}
 use Rattle.std.specs.Prelude.{Result, Ok, Err, MatchBool, if◌then◌else◌}
 use Rattle.atomic_table.specs.Seated.{TableId}
 use Rattle.history.specs.declared.key.Key.{Key}
@@ -26,38 +27,46 @@ use Rattle.group.specs.declared.answers.Submitted.TheVariants as submitted
 use Rattle.group.specs.declared.answers.SubmitFault.{SubmitFault}
 use Rattle.group.specs.declared.answers.SubmitFault.TheVariants as refused
 use Rattle.timequery.specs.View.{ViewValue}
-use Rattle.store.specs.Values.{StoreValue}
 use Rattle.store.specs.declared.job.JobDid.{JobDid}
 use Rattle.store.specs.declared.job.JobDid.TheVariants as job_did
 use Rattle.store.specs.declared.job.StartFault.{StartFault}
 use Rattle.store.specs.declared.job.StartFault.TheVariants as start_fault
 use Rattle.law_refinement.specs.Calls.{raising_to}
 use Rattle.law_refinement.specs.Homes.{ViewStands}
-use Rattle.law_refinement.specs.Laws.{submission_of, event_of, begins_in, ends_in, job_ends_in}
+use Rattle.law_refinement.specs.Laws.{submission_of, event_of, job_ends_in}
 use Rattle.law_refinement.specs.Leaving.{count_in}
-use Rattle.law_refinement.specs.Stands.{Stands}
+use Rattle.law_refinement.specs.Stands.{raising_of}
+use Rattle.any_store.specs.declared.engine.Engine.TheVariants.{Slots, Log}
+use Rattle.any_store.specs.Values.{StoreValue, commits_of}
+use Rattle.law_any_store.specs.Calls.{pumped_in}
+use Rattle.law_any_store.specs.Standing.{Stands}
 use Rattle.shared.specs.Archives.{ArchiveSeen, IsArchiveLater, ReadsArchive, archive_seen}
-use Rattle.shared.specs.Counts.{told_count, told_after}
+use Rattle.shared.specs.Counts.{told_after, AreToldOf}
+use Rattle.shared.specs.Kinds.{Kind, kind_of}
 use Rattle.shared.specs.Moments.{OfSeen}
 use Rattle.shared.specs.Reached.{Reached}
 use Rattle.shared.specs.Seen.{Seen, SightValue, floors_listed, floor_in, seen_of}
+use Rattle.shared.specs.Tokens.{AreOpen}
 
 -- ---- the value under the lock
 
--- The store stands for a state that steps of the machine lead to. The commits for which Done was answered since opening are those in the shares, and none of
--- them waits. The pass is the cell's writer, and has seen all commits and the floors; what it knows of the archive is there still.
-pub record IsShared (tells : Bool) (start : Machine Value) (brand : ℕ) (table : TableId) (store : StoreValue) (shares : ℕ) (at : TableId) (pass : SightValue) :
-    Type 0 where
+-- The store stands for a state that steps of the machine lead to, and is of this layout. The commits for which Done was answered since opening are those in the
+-- shares, and none of them waits. The pass is the cell's writer, and has seen all commits and the floors; what it knows of the archive is there still, and the
+-- transactions that it gave out are open.
+pub record IsShared (tells : Bool) (start : Machine Value) (kind : Kind) (brand : ℕ) (table : TableId) (store : StoreValue) (shares : ℕ) (at : TableId)
+    (pass : SightValue) : Type 0 where
   pub state : Machine Value
   pub stands : Stands tells store state
   pub reached : Reached start state
-  pub mark : store.transactions.mark ≡ brand
-  pub told : told_count store.transactions.heads ≡ length start.published + shares
-  pub none_waits : told_after (last state.published) store.transactions.heads ≡ 0
+  pub layout : kind_of store ≡ kind
+  pub mark : (commits_of store).mark ≡ brand
+  pub told : AreToldOf (commits_of store).heads state.published state.queue (length start.published) shares
+  pub none_waits : told_after (last state.published) (commits_of store).heads ≡ 0
   pub cell : at ≡ table
   pub seen : pass.seen ≡ seen_of state
   pub archive : IsArchiveLater pass.archive (archive_seen tells store)
   pub writes : pass.writes ≡ true
+  pub given : AreOpen pass.tokens.out (commits_of store).opened
 
 -- ---- what was seen
 
@@ -114,6 +123,11 @@ raised_seen (Some r) s = record s { floors = floors_listed (raised r.scope r.flo
 abbrev pub done_seen : Result JobDid PumpFault → Option Raising → Seen → Seen
 done_seen result raising s = if is_done result then raised_seen raising s else s
 
+-- the floor that the store's job is to raise, if it is to raise one; none runs where the log lies in the heap
+abbrev pub raising_in : StoreValue → Option Raising
+raising_in (Slots s) = raising_of s.job
+raising_in (Log l) = None
+
 -- what is to be seen after a step of a job
 abbrev pub job_seen : Result JobDid PumpFault → Option Raising → Seen → Seen
 job_seen result raising s = failed_seen (has_failed result) (done_seen result raising s)
@@ -154,16 +168,13 @@ BeginHappens start brand (Ok txn) seen = Reads start brand txn seen
 BeginHappens start brand (Err begin.NoMemory) seen = SeenReached start seen
 BeginHappens start brand (Err begin.Failed) seen = SeenReached start seen × (seen.failed ≡ true)
 
--- At a state that steps lead to one transaction of this snapshot is over, and what follows was seen. A stranger is only spent.
-pub record IsOver (start : Machine Value) (snapshot : ℕ) (seen : Seen) : Type 0 where
+-- At a state that steps lead to a transaction of this snapshot is given up, and what follows was seen.
+pub record AbortHappens (start : Machine Value) (snapshot : ℕ) (seen : Seen) : Type 0 where
   pub before : Machine Value
   pub after : Machine Value
   pub reached : Reached start before
   pub step : Step IsValue before (Aborted snapshot) after
   pub seen_is : seen ≡ seen_of after
-
-abbrev pub AbortHappens : Machine Value → ℕ → Seen → Type 0
-AbortHappens start snapshot seen = IsOver start snapshot seen ⊎ SeenReached start seen
 
 -- ---- submits
 
@@ -182,20 +193,20 @@ pub record Submits (start : Machine Value) (brand : ℕ) (txn : TxnValue) (label
   pub seen_is : seen ≡ seen_of after
   pub says : SubmitSays brand txn.snapshot (commit_made before (submission_of txn label now)).time result
 
--- a stranger changes nothing
+-- no transaction that the store gave out is a stranger to it
 abbrev pub SubmitHappens : Machine Value → ℕ → TxnValue → ℕ → ℕ → Result Submitted SubmitFault → Seen → Type 0
-SubmitHappens start brand txn label now (Err refused.Stranger) seen = SeenReached start seen
+SubmitHappens start brand txn label now (Err refused.Stranger) seen = ⊥
 SubmitHappens start brand txn label now result seen = Submits start brand txn label now result seen
 
 -- ---- steps of groups and jobs
 
 -- From a state that steps lead to the machine does what a step of the group answers, and what follows was seen. While it works, nothing is to be done just
 -- where no commit waits.
-pub record PumpHappens (start : Machine Value) (result : Result Did PumpFault) (seen : Seen) : Type 0 where
+pub record PumpHappens (start : Machine Value) (kind : Kind) (result : Result Did PumpFault) (seen : Seen) : Type 0 where
   pub before : Machine Value
   pub after : Machine Value
   pub reached : Reached start before
-  pub run : MatchBool before.failed ((result ≡ Err pump.Failed) × (after ≡ before)) (Run IsValue before (begins_in before ++ ends_in before.gate result) after)
+  pub run : MatchBool before.failed ((result ≡ Err pump.Failed) × (after ≡ before)) (Run IsValue before (pumped_in kind.in_heap before result) after)
   pub idle : before.failed ≡ false → (result ≡ Ok did.Idle) ↔ (before.queue ≡ [])
   pub seen_is : seen ≡ seen_of after
 
@@ -231,50 +242,52 @@ FloorHappens start scope floor result seen = OfSeen start seen (λ m. FloorSays 
 
 -- ---- archives and reclaims
 
--- an archive begins up to a time that is not later than the last commit; or the store has failed, another job runs, nothing more has ended by then, the time is
--- later than the last commit, which is told, the log has no slot for it, or the run finds no room in the archive or no memory
-abbrev pub ArchiveSays : Machine Value → ℕ → Result (Unit {0}) StartFault → Type 0
-ArchiveSays m upto (Ok done) = (m.failed ≡ false) × (upto ≤ last m.published)
-ArchiveSays m upto (Err start_fault.Failed) = m.failed ≡ true
-ArchiveSays m upto (Err start_fault.JobBusy) = m.failed ≡ false
-ArchiveSays m upto (Err start_fault.NothingToDo) = m.failed ≡ false
-ArchiveSays m upto (Err (start_fault.NotYet time)) = (m.failed ≡ false) × (last m.published < upto) × (time ≡ last m.published)
-ArchiveSays m upto (Err start_fault.StatusFull) = (m.failed ≡ false) × (upto ≤ last m.published)
-ArchiveSays m upto (Err start_fault.ArchiveFull) = (m.failed ≡ false) × (upto ≤ last m.published)
-ArchiveSays m upto (Err start_fault.NoMemory) = (m.failed ≡ false) × (upto ≤ last m.published)
-ArchiveSays m upto (Err start_fault.WrongProfile) = ⊥
-ArchiveSays m upto (Err (start_fault.InUse snapshot)) = ⊥
-ArchiveSays m upto (Err start_fault.HeapFull) = ⊥
-ArchiveSays m upto (Err start_fault.NotGrowable) = ⊥
+-- An archive begins up to a time that is not later than the last commit; or the store has failed, another job runs, nothing more has ended by then, the time is
+-- later than the last commit, which is told, the log has no slot for it, or the run finds no room in the archive or no memory. Only a store whose log lies in
+-- the heap has no archives.
+abbrev pub ArchiveSays : Bool → Machine Value → ℕ → Result (Unit {0}) StartFault → Type 0
+ArchiveSays in_heap m upto (Ok done) = (m.failed ≡ false) × (upto ≤ last m.published)
+ArchiveSays in_heap m upto (Err start_fault.Failed) = m.failed ≡ true
+ArchiveSays in_heap m upto (Err start_fault.JobBusy) = m.failed ≡ false
+ArchiveSays in_heap m upto (Err start_fault.NothingToDo) = m.failed ≡ false
+ArchiveSays in_heap m upto (Err (start_fault.NotYet time)) = (m.failed ≡ false) × (last m.published < upto) × (time ≡ last m.published)
+ArchiveSays in_heap m upto (Err start_fault.StatusFull) = (m.failed ≡ false) × (upto ≤ last m.published)
+ArchiveSays in_heap m upto (Err start_fault.ArchiveFull) = (m.failed ≡ false) × (upto ≤ last m.published)
+ArchiveSays in_heap m upto (Err start_fault.NoMemory) = (m.failed ≡ false) × (upto ≤ last m.published)
+ArchiveSays in_heap m upto (Err start_fault.WrongProfile) = IsTrue in_heap × (m.failed ≡ false)
+ArchiveSays in_heap m upto (Err (start_fault.InUse snapshot)) = ⊥
+ArchiveSays in_heap m upto (Err start_fault.HeapFull) = ⊥
+ArchiveSays in_heap m upto (Err start_fault.NotGrowable) = ⊥
 
 -- at a state that steps lead to it is so, and nothing of the machine's happens; that state was seen
-abbrev pub ArchiveHappens : Machine Value → ℕ → Result (Unit {0}) StartFault → Seen → Type 0
-ArchiveHappens start upto result seen = OfSeen start seen (λ m. ArchiveSays m upto result)
+abbrev pub ArchiveHappens : Machine Value → Kind → ℕ → Result (Unit {0}) StartFault → Seen → Type 0
+ArchiveHappens start kind upto result seen = OfSeen start seen (λ m. ArchiveSays kind.in_heap m upto result)
 
--- a reclaim begins where the store works; or it has failed, another job runs, nothing was archived since the last one, a transaction reads what would go, the
--- first of whose snapshots is told, the log has no slot for it, or its anchors find no extents or no memory
-abbrev pub ReclaimSays : Machine Value → Result (Unit {0}) StartFault → Type 0
-ReclaimSays m (Ok done) = m.failed ≡ false
-ReclaimSays m (Err start_fault.Failed) = m.failed ≡ true
-ReclaimSays m (Err start_fault.JobBusy) = m.failed ≡ false
-ReclaimSays m (Err start_fault.NothingToDo) = m.failed ≡ false
-ReclaimSays m (Err (start_fault.InUse snapshot)) =
+-- A reclaim begins where the store works; or it has failed, another job runs, nothing was archived since the last one, a transaction reads what would go, the
+-- first of whose snapshots is told, the log has no slot for it, or its anchors find no extents or no memory. Only a store whose log lies in the heap has no
+-- reclaims.
+abbrev pub ReclaimSays : Bool → Machine Value → Result (Unit {0}) StartFault → Type 0
+ReclaimSays in_heap m (Ok done) = m.failed ≡ false
+ReclaimSays in_heap m (Err start_fault.Failed) = m.failed ≡ true
+ReclaimSays in_heap m (Err start_fault.JobBusy) = m.failed ≡ false
+ReclaimSays in_heap m (Err start_fault.NothingToDo) = m.failed ≡ false
+ReclaimSays in_heap m (Err (start_fault.InUse snapshot)) =
     (m.failed ≡ false) × ((upto : ℕ) × (floor_starts.in_use_refusal (floor_starts.in_use_below m.snapshots upto) ≡ Some (floor_starts.InUse snapshot)))
-ReclaimSays m (Err start_fault.StatusFull) = m.failed ≡ false
-ReclaimSays m (Err start_fault.HeapFull) = m.failed ≡ false
-ReclaimSays m (Err start_fault.NoMemory) = m.failed ≡ false
-ReclaimSays m (Err start_fault.WrongProfile) = ⊥
-ReclaimSays m (Err (start_fault.NotYet time)) = ⊥
-ReclaimSays m (Err start_fault.ArchiveFull) = ⊥
-ReclaimSays m (Err start_fault.NotGrowable) = ⊥
+ReclaimSays in_heap m (Err start_fault.StatusFull) = m.failed ≡ false
+ReclaimSays in_heap m (Err start_fault.HeapFull) = m.failed ≡ false
+ReclaimSays in_heap m (Err start_fault.NoMemory) = m.failed ≡ false
+ReclaimSays in_heap m (Err start_fault.WrongProfile) = IsTrue in_heap × (m.failed ≡ false)
+ReclaimSays in_heap m (Err (start_fault.NotYet time)) = ⊥
+ReclaimSays in_heap m (Err start_fault.ArchiveFull) = ⊥
+ReclaimSays in_heap m (Err start_fault.NotGrowable) = ⊥
 
 -- at a state that steps lead to it is so, and nothing of the machine's happens; that state was seen
-abbrev pub ReclaimHappens : Machine Value → Result (Unit {0}) StartFault → Seen → Type 0
-ReclaimHappens start result seen = OfSeen start seen (λ m. ReclaimSays m result)
+abbrev pub ReclaimHappens : Machine Value → Kind → Result (Unit {0}) StartFault → Seen → Type 0
+ReclaimHappens start kind result seen = OfSeen start seen (λ m. ReclaimSays kind.in_heap m result)
 
 -- ---- growths
 
--- a growth begins where the store works; or it has failed, another job runs, or its log has no piece more
+-- a growth begins where the store works; or it has failed, another job runs, or its log has no piece more, which one that lies in the heap never has
 abbrev pub GrowthSays : Machine Value → Result (Unit {0}) StartFault → Type 0
 GrowthSays m (Ok done) = m.failed ≡ false
 GrowthSays m (Err start_fault.Failed) = m.failed ≡ true

@@ -19,7 +19,8 @@ pub(crate) fn confirm<R: Wait>(
     ensures pass { (pass.new.table_id ≡ pass.old.table_id) × (cell_view pass.new ≡ cell_view pass.old) }
     ensures more { IsMore (known_by (cell_view pass.old)) (known_by (cell_view writer.old)) }
     ensures writer { (writer.new.table_id ≡ writer.old.table_id) × ((cell_view writer.new).writes ≡ true)
-        × ((cell_view writer.new).seen ≡ (cell_view writer.old).seen) × ((cell_view writer.new).archive ≡ (cell_view writer.old).archive) }
+        × ((cell_view writer.new).seen ≡ (cell_view writer.old).seen) × ((cell_view writer.new).archive ≡ (cell_view writer.old).archive)
+        × ((cell_view writer.new).tokens ≡ (cell_view writer.old).tokens) }
 {
     let mine = cell.split_pass::<Tell>(pass);
     cell.join_pass::<Hear>(writer, mine);

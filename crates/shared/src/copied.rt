@@ -6,9 +6,9 @@ ghost use Rattle.snapshot.specs.Txn.{at_snapshot, with_put, IsFullFor};
 ghost use Rattle.shared.specs.Posted.{write_of, wrote, written, IsBarred, AreBarred, IsUncopied, AreUncopied};
 
 use crate::change::Change;
+use any_store::{Txn, TxnFault};
 use history::{Key, KeyWrite};
 use std::alloc::{AllocError, Global};
-use store::{Txn, TxnFault};
 use wire::{Value, ValueFault};
 
 /// The changes in memory of their own: a value, or none where the key is to be deleted.
@@ -107,7 +107,7 @@ pub(crate) fn apply(
 ) -> Result<(), TxnFault>
     ensures ok { OnOk result (txn.new.writes ≡ written (at_snapshot txn.old.state txn.old.snapshot) txn.old.writes writes.now) }
     ensures err { IfErr result (AreBarred (at_snapshot txn.old.state txn.old.snapshot) txn.old.writes writes.now) }
-    ensures snapshot { txn.new.snapshot ≡ txn.old.snapshot }
+    ensures kept { txn.new ≡ record txn.old { writes = txn.new.writes } }
 {
     for write in writes {
         make_change(alloc, txn, write)?;

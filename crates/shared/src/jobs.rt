@@ -7,19 +7,20 @@ use crate::naming::Opening;
 use crate::noting::is_done;
 use crate::observer::Observer;
 use crate::shared::SharedStore;
+use any_store::{JobDid, PumpFault, StartFault};
 use disk::Disk;
 use std::sync::Wait;
-use store::{JobDid, PumpFault, StartFault};
 
 impl<D: Disk, L: Opening> SharedStore<D, L> {
-    /// Begins an archive of the versions that ended by `upto`, in microseconds since 1970.
+    /// Begins an archive of the versions that ended by `upto`, in microseconds since 1970. A store whose log
+    /// lies in the heap answers `WrongProfile`, and so it does to a reclaim and to a floor.
     pub fn archive_start<R: Wait>(
         &self,
         rt: &R,
         upto: u64,
         me: &mut Observer<L>,
     ) -> Result<(), StartFault>
-        ensures happens { ArchiveHappens L.start upto result me.new }
+        ensures happens { ArchiveHappens L.start L.kind upto result me.new }
         ensures later { IsLater me.old me.new }
     {
         self.locked.lock(rt).archive_start(rt, &self.cell, upto, me)
@@ -27,7 +28,7 @@ impl<D: Disk, L: Opening> SharedStore<D, L> {
 
     /// Begins a reclaim: the heap and memory are to hold only what ended after the archive mark.
     pub fn reclaim_start<R: Wait>(&self, rt: &R, me: &mut Observer<L>) -> Result<(), StartFault>
-        ensures happens { ReclaimHappens L.start result me.new }
+        ensures happens { ReclaimHappens L.start L.kind result me.new }
         ensures later { IsLater me.old me.new }
     {
         self.locked.lock(rt).reclaim_start(rt, &self.cell, me)
@@ -68,7 +69,7 @@ impl<D: Disk, L: Opening> SharedStore<D, L> {
     }
 
     /// Begins to make 256 slots more, which the store has once the job is done. It takes no slot and no
-    /// memory, and no commit waits for it. A store of profile 1, or of more than 65,280 slots, answers
+    /// memory, and no commit waits for it. A store of profile 1 or 4, or of more than 65,280 slots, answers
     /// `NotGrowable`.
     pub fn grow_start<R: Wait>(&self, rt: &R, me: &mut Observer<L>) -> Result<(), StartFault>
         ensures happens { GrowthHappens L.start result me.new }

@@ -22,6 +22,7 @@ mod shared;
 mod shared_txn;
 mod shared_view;
 mod signals;
+mod txn_pass;
 mod vacuuming;
 
 pub use cell::{PublishedCell, PublishedTime, Sight, WriterPass};

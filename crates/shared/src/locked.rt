@@ -8,21 +8,20 @@ ghost use Rattle.history.specs.Machine.{Machine};
 ghost use Rattle.law_image.specs.Values.{Value};
 ghost use Rattle.law_refinement.specs.Homes.{IsSure};
 ghost use Rattle.law_refinement.specs.Laws.{SaysAt, SaysScanAt, SaysBetween, SaysScanBetween};
-ghost use Rattle.law_refinement.specs.Stands.{Stands, raising_of};
-ghost use Rattle.store.specs.Archives.{StartsArchive};
-ghost use Rattle.store.specs.Calls.{Begins, Aborts, Submits, Redeems};
-ghost use Rattle.store.specs.Floors.{StartsFloor};
-ghost use Rattle.store.specs.Growths.{StartsGrowth};
-ghost use Rattle.store.specs.Jobs.{PumpsJob};
-ghost use Rattle.store.specs.Pumps.{Pumps};
-ghost use Rattle.store.specs.Reclaims.{StartsReclaim};
+ghost use Rattle.any_store.specs.Calls.{Begins, Aborts, Submits, Redeems, Pumps};
+ghost use Rattle.any_store.specs.Jobs.{StartsArchive, StartsReclaim, StartsFloor, StartsGrowth, PumpsJob};
+ghost use Rattle.any_store.specs.Values.{commits_of};
+ghost use Rattle.law_any_store.specs.Names.{AreTimesFrom};
+ghost use Rattle.law_any_store.specs.Standing.{Stands};
 ghost use Rattle.shared.specs.Archives.{no_archive};
 ghost use Rattle.shared.specs.Counts.{told_count, unredeemed};
-ghost use Rattle.shared.specs.Moments.{OfSeen};
+ghost use Rattle.shared.specs.Kinds.{kind_of};
+ghost use Rattle.shared.specs.Moments.{OfSeen, GoesWith, begun_txn};
 ghost use Rattle.shared.specs.Reached.{Reached};
 ghost use Rattle.shared.specs.Seen.{IsLater, seen_of};
+ghost use Rattle.shared.specs.Tokens.{no_tokens};
 ghost use Rattle.shared.specs.Shared.{BeginHappens, AbortHappens, SubmitHappens, SeenReached, PumpHappens, JobHappens, FloorHappens, ArchiveHappens};
-ghost use Rattle.shared.specs.Shared.{ReclaimHappens, GrowthHappens, RedeemSays, done_in};
+ghost use Rattle.shared.specs.Shared.{ReclaimHappens, GrowthHappens, RedeemSays, done_in, raising_in};
 
 use crate::cell::{PublishedCell, WriterPass};
 use crate::latest::KeptView;
@@ -32,18 +31,20 @@ use crate::noting::{
     count_done, has_failed, note_archive, note_failed, note_job, note_published, note_queued,
 };
 use crate::observer::Observer;
+use crate::shared_txn::SharedTxn;
 use crate::shared_view::{SharedView, taken_at};
 use crate::signals::Signals;
+use crate::txn_pass::TxnPass;
+use any_store::{
+    BeginFault, Did, JobDid, PumpFault, QueryFault, Redeemed, SharedValue, StartFault, Store,
+    SubmitFault, Submitted, Ticket, Txn,
+};
 use disk::Disk;
 use history::{Key, Version};
 use std::alloc::AllocError;
 use std::marker::Model;
 use std::sync::Wait;
 use std::sync::ledger::{Book, Share};
-use store::{
-    BeginFault, Did, JobDid, PumpFault, QueryFault, Redeemed, SharedValue, StartFault, Store,
-    SubmitFault, Submitted, Ticket, Txn,
-};
 
 /// A store that stands for a state that steps of the machine lead to from the opening one, the book
 /// of the commits that callers were told of, and the pass that writes the published time. To a
@@ -58,26 +59,28 @@ pub struct Locked<D: Disk, L: Opening> {
 
 impl<D: Disk, L: Opening> Model for Locked<D, L> {
     ghost use Rattle.crossbeam_utils.specs.Seq.{cell_view};
-    ghost use Rattle.store.specs.Values.{StoreValue};
+    ghost use Rattle.any_store.specs.Values.{StoreValue};
     ghost use Rattle.shared.specs.Shared.{IsShared};
 
     ghost Value = { StoreValue };
 
     ghost view = { λ s. s.store };
 
-    ghost invariant = { λ s. IsShared D.tells L.start L.mark L.table s.store s.book.total s.writer.table_id (cell_view s.writer) };
+    ghost invariant = { λ s. IsShared D.tells L.start L.kind L.mark L.table s.store s.book.total s.writer.table_id (cell_view s.writer) };
 }
 
 impl<D: Disk, L: Opening> Locked<D, L> {
     /// A store as it was opened, with an empty book.
     pub(crate) fn new(store: Store<D>, book: Book<L>, writer: WriterPass) -> Locked<D, L>
         requires stands { Stands D.tells store L.start }
-        requires mark { store.transactions.mark ≡ L.mark }
-        requires fresh { told_count store.transactions.heads ≡ length L.start.published }
+        requires layout { kind_of store ≡ L.kind }
+        requires mark { (commits_of store).mark ≡ L.mark }
+        requires fresh { told_count (commits_of store).heads ≡ length (commits_of store).heads }
         requires queue { L.start.queue ≡ [] }
         requires book { book.total ≡ 0 }
         requires cell { writer.table_id ≡ L.table }
-        requires writer { ((cell_view writer).seen ≡ seen_of L.start) × ((cell_view writer).archive ≡ no_archive) × ((cell_view writer).writes ≡ true) }
+        requires writer { ((cell_view writer).seen ≡ seen_of L.start) × ((cell_view writer).archive ≡ no_archive) × ((cell_view writer).writes ≡ true)
+            × ((cell_view writer).tokens ≡ no_tokens) }
         ensures { result ≡ store }
     {
         Locked {
@@ -122,32 +125,42 @@ impl<D: Disk, L: Opening> Locked<D, L> {
         rt: &R,
         cell: &PublishedCell,
         me: &mut Observer<L>,
-    ) -> Result<Txn, BeginFault>
+    ) -> Result<SharedTxn<L>, BeginFault>
         requires { cell.now.table.shared.table_id ≡ L.table }
-        ensures is { Begins self.old result self.new }
-        ensures happens { BeginHappens L.start L.mark result me.new }
+        ensures is { Begins self.old (begun_txn result) self.new }
+        ensures happens { BeginHappens L.start L.mark (begun_txn result) me.new }
+        ensures moment { IfOk result (λ t. t.seen ≡ me.new) }
         ensures later { IsLater me.old me.new }
     {
         me.meet(rt, cell, &mut self.writer);
-        self.store.begin()
+        match self.store.begin() {
+            Ok(txn) => {
+                let (number, snapshot) = (txn.number(), txn.snapshot());
+                let pass = TxnPass::given_by(rt, cell, &mut self.writer, number, snapshot);
+                Ok(SharedTxn::of(txn, pass))
+            }
+            Err(fault) => Err(fault),
+        }
     }
 
     pub(crate) fn abort<R: Wait>(
         &mut self,
         rt: &R,
         cell: &PublishedCell,
-        txn: Txn,
+        txn: SharedTxn<L>,
         me: &mut Observer<L>,
     )
         requires { cell.now.table.shared.table_id ≡ L.table }
-        ensures is { Aborts self.old txn self.new }
-        ensures happens { AbortHappens L.start txn.snapshot me.new }
+        ensures is { Aborts self.old txn.txn self.new }
+        ensures happens { AbortHappens L.start txn.txn.snapshot me.new }
         ensures later { IsLater me.old me.new }
     {
+        let (txn, pass) = txn.spend();
         // A transaction's writes are in range.
         let _count = txn.writes().len();
-        me.meet(rt, cell, &mut self.writer);
+        pass.give_back(rt, cell, &mut self.writer);
         self.store.abort(txn);
+        me.meet(rt, cell, &mut self.writer);
         self.signals.note_move();
     }
 
@@ -155,17 +168,18 @@ impl<D: Disk, L: Opening> Locked<D, L> {
         &mut self,
         rt: &R,
         cell: &PublishedCell,
-        txn: Txn,
+        txn: SharedTxn<L>,
         label: u64,
         now: u64,
         me: &mut Observer<L>,
     ) -> Result<Submitted, SubmitFault>
         requires { cell.now.table.shared.table_id ≡ L.table }
-        ensures is { Submits self.old txn label now result self.new }
-        ensures happens { SubmitHappens L.start L.mark txn label now result me.new }
+        ensures is { Submits self.old txn.txn label now result self.new }
+        ensures happens { SubmitHappens L.start L.mark txn.txn label now result me.new }
         ensures later { IsLater me.old me.new }
     {
-        let submitted = self.submit_writes(rt, cell, txn, label, now, me);
+        let (txn, pass) = txn.spend();
+        let submitted = self.submit_writes(rt, cell, txn, pass, label, now, me);
         self.signals.note_submitted(&submitted);
         submitted
     }
@@ -180,7 +194,7 @@ impl<D: Disk, L: Opening> Locked<D, L> {
     ) -> Result<Did, PumpFault>
         requires { cell.now.table.shared.table_id ≡ L.table }
         ensures is { Pumps D.tells self.old result self.new }
-        ensures happens { PumpHappens L.start result me.new }
+        ensures happens { PumpHappens L.start L.kind result me.new }
         ensures later { IsLater me.old me.new }
     {
         let did = self.store.pump();
@@ -201,7 +215,7 @@ impl<D: Disk, L: Opening> Locked<D, L> {
     ) -> Result<(), StartFault>
         requires { cell.now.table.shared.table_id ≡ L.table }
         ensures is { StartsArchive self.old upto result self.new }
-        ensures happens { ArchiveHappens L.start upto result me.new }
+        ensures happens { ArchiveHappens L.start L.kind upto result me.new }
         ensures later { IsLater me.old me.new }
     {
         me.meet(rt, cell, &mut self.writer);
@@ -216,7 +230,7 @@ impl<D: Disk, L: Opening> Locked<D, L> {
     ) -> Result<(), StartFault>
         requires { cell.now.table.shared.table_id ≡ L.table }
         ensures is { StartsReclaim self.old result self.new }
-        ensures happens { ReclaimHappens L.start result me.new }
+        ensures happens { ReclaimHappens L.start L.kind result me.new }
         ensures later { IsLater me.old me.new }
     {
         me.meet(rt, cell, &mut self.writer);
@@ -375,7 +389,7 @@ impl<D: Disk, L: Opening> Locked<D, L> {
     ) -> Result<Vec<u64>, AllocError>
         requires { cell.now.table.shared.table_id ≡ L.table }
         ensures same { self.new ≡ self.old }
-        ensures times { IfOk result (λ times. times.items ≡ answers.times_of me.new.published label) }
+        ensures times { IfOk result (λ times. AreTimesFrom L.kind.names_from times.items (answers.times_of me.new.published label)) }
         ensures reached { SeenReached L.start me.new }
         ensures later { IsLater me.old me.new }
     {
@@ -421,7 +435,7 @@ impl<D: Disk, L: Opening> Locked<D, L> {
     ) -> Result<JobDid, PumpFault>
         ghost raising: { Option Raising }
         requires cell { cell.now.table.shared.table_id ≡ L.table }
-        requires raising { raising_of self.old.job ≡ raising }
+        requires raising { raising_in self.old ≡ raising }
         ensures is { PumpsJob D.tells self.old result self.new }
         ensures happens { JobHappens L.start result me.new }
         ensures later { IsLater me.old me.new }
@@ -439,6 +453,7 @@ impl<D: Disk, L: Opening> Locked<D, L> {
         rt: &R,
         cell: &PublishedCell,
         txn: Txn,
+        pass: TxnPass<L>,
         label: u64,
         now: u64,
         me: &mut Observer<L>,
@@ -446,12 +461,14 @@ impl<D: Disk, L: Opening> Locked<D, L> {
         ghost writes: { List (KeyWrite Value) }
         requires cell { cell.now.table.shared.table_id ≡ L.table }
         requires writes { txn.writes ≡ writes }
+        requires goes { GoesWith L.start L.mark txn pass }
         ensures is { Submits self.old txn label now result self.new }
         ensures happens { SubmitHappens L.start L.mark txn label now result me.new }
         ensures later { IsLater me.old me.new }
     {
         // A transaction's writes are in range.
         let _count = txn.writes().len();
+        pass.give_back(rt, cell, &mut self.writer);
         let submitted = self.store.submit(txn, label, now);
         note_queued(rt, cell, &mut self.writer, &submitted, label);
         me.meet(rt, cell, &mut self.writer);

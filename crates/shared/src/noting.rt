@@ -12,10 +12,10 @@ ghost use Rattle.shared.specs.Shared.{published_seen, queued_seen, done_seen, fa
 
 use crate::cell::{PublishedCell, WriterPass};
 use crate::observer::{go_on, publish_next, queue_next, see_next};
+use any_store::{Did, JobDid, PumpFault, Redeemed, Store, SubmitFault, Submitted};
 use disk::Disk;
 use std::marker::Brand;
 use std::sync::Wait;
-use store::{Did, JobDid, PumpFault, Redeemed, Store, SubmitFault, Submitted};
 
 // A commit of this time and label is queued.
 fn queue_commit<R: Wait>(
@@ -33,6 +33,7 @@ fn queue_commit<R: Wait>(
     ensures writes { (cell_view writer.new).writes ≡ true }
     ensures seen { (cell_view writer.new).seen ≡ queued_seen (cell_view writer.old).seen (record { time = time; label = label; writes = writes }) }
     ensures archive { (cell_view writer.new).archive ≡ (cell_view writer.old).archive }
+    ensures tokens { (cell_view writer.new).tokens ≡ (cell_view writer.old).tokens }
 {
     queue_next(rt, cell, writer, time, label);
 }
@@ -53,6 +54,7 @@ pub(crate) fn note_queued<R: Wait>(
     ensures writes { (cell_view writer.new).writes ≡ true }
     ensures seen { (cell_view writer.new).seen ≡ noted submitted.now (cell_view writer.old).seen label writes }
     ensures archive { (cell_view writer.new).archive ≡ (cell_view writer.old).archive }
+    ensures tokens { (cell_view writer.new).tokens ≡ (cell_view writer.old).tokens }
 {
     match submitted {
         Ok(Submitted::Queued(ticket)) => queue_commit(rt, cell, writer, ticket.time(), label),
@@ -77,6 +79,7 @@ pub(crate) fn note_published<R: Wait>(
     ensures writes { (cell_view writer.new).writes ≡ true }
     ensures seen { (cell_view writer.new).seen ≡ published_seen (cell_view writer.old).seen (count_in did.now) }
     ensures archive { (cell_view writer.new).archive ≡ (cell_view writer.old).archive }
+    ensures tokens { (cell_view writer.new).tokens ≡ (cell_view writer.old).tokens }
 {
     let count = published_in(did);
     if count > 0 {
@@ -101,6 +104,7 @@ pub(crate) fn note_job<R: Wait>(
     ensures writes { (cell_view writer.new).writes ≡ true }
     ensures seen { (cell_view writer.new).seen ≡ done_seen did.now raising (cell_view writer.old).seen }
     ensures archive { (cell_view writer.new).archive ≡ (cell_view writer.old).archive }
+    ensures tokens { (cell_view writer.new).tokens ≡ (cell_view writer.old).tokens }
 {
     if is_done(did) {
         see_next(rt, cell, writer);
@@ -121,6 +125,7 @@ pub(crate) fn note_failed<R: Wait>(
     ensures writes { (cell_view writer.new).writes ≡ true }
     ensures seen { (cell_view writer.new).seen ≡ failed_seen failed (cell_view writer.old).seen }
     ensures archive { (cell_view writer.new).archive ≡ (cell_view writer.old).archive }
+    ensures tokens { (cell_view writer.new).tokens ≡ (cell_view writer.old).tokens }
 {
     if failed {
         see_failure(rt, cell, writer);
@@ -136,6 +141,7 @@ fn see_failure<R: Wait>(rt: &R, cell: &PublishedCell, writer: &mut WriterPass)
     ensures writes { (cell_view writer.new).writes ≡ true }
     ensures seen { (cell_view writer.new).seen ≡ record (cell_view writer.old).seen { failed = true } }
     ensures archive { (cell_view writer.new).archive ≡ (cell_view writer.old).archive }
+    ensures tokens { (cell_view writer.new).tokens ≡ (cell_view writer.old).tokens }
 {
     see_next(rt, cell, writer);
 }
@@ -154,6 +160,7 @@ pub(crate) fn note_archive<D: Disk, R: Wait>(
     ensures writes { (cell_view writer.new).writes ≡ true }
     ensures seen { (cell_view writer.new).seen ≡ (cell_view writer.old).seen }
     ensures archive { (cell_view writer.new).archive ≡ archive_seen D.tells store.now }
+    ensures tokens { (cell_view writer.new).tokens ≡ (cell_view writer.old).tokens }
 {
     go_on::<Brand, D, R>(rt, cell, writer, store);
 }

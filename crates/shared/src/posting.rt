@@ -8,19 +8,19 @@ ghost use Rattle.shared.specs.Shared.{SeenReached, RedeemSays, done_in};
 
 use crate::change::Change;
 use crate::committed::{CommitFault, Committed};
-use crate::copied::{apply, copy_changes};
+use crate::copied::copy_changes;
 use crate::naming::Opening;
 use crate::observer::Observer;
 use crate::posts::{Doing, Posts};
 use crate::served::{Request, Served};
 use crate::shared::SharedStore;
 use crate::signals::Signals;
+use any_store::{Did, PumpFault, Redeemed, Submitted, Ticket, TxnFault};
 use disk::Disk;
 use history::KeyWrite;
 use std::alloc::AllocError;
 use std::sync::ledger::Share;
 use std::sync::{MutexGuard, Wait};
-use store::{Did, PumpFault, Redeemed, Submitted, Ticket, TxnFault};
 use wire::Value;
 
 impl<D: Disk, L: Opening> SharedStore<D, L> {
@@ -252,18 +252,18 @@ impl<D: Disk, L: Opening> SharedStore<D, L> {
     ) -> Result<Submitted, CommitFault>
         ensures { ServedSays L.start L.mark writes.now label result me.new }
     {
-        let mut txn = match self.begin_txn(rt, me) {
+        let mut txn = match self.begin(rt, me) {
             Ok(txn) => txn,
             Err(fault) => return Err(CommitFault::Begin(fault)),
         };
-        match apply(self.alloc, &mut txn, writes) {
+        match txn.apply(self.alloc, writes) {
             Ok(()) => {}
             Err(fault) => {
-                self.abort_txn(rt, txn, me);
+                self.abort(rt, txn, me);
                 return Err(CommitFault::Txn(fault));
             }
         }
-        match self.submit_txn(rt, txn, label, now, me) {
+        match self.submit(rt, txn, label, now, me) {
             Ok(submitted) => Ok(submitted),
             Err(fault) => Err(CommitFault::Submit(fault)),
         }
@@ -320,7 +320,7 @@ impl<D: Disk, L: Opening> SharedStore<D, L> {
         mut pause: F,
     ) -> Result<Did, PumpFault>
         requires { F.IsAlwaysCallable pause }
-        ensures ends { CommitterEnds L.start result me.new }
+        ensures ends { CommitterEnds L.start L.kind result me.new }
         ensures later { IsLater me.old me.new }
     {
         self.posts.lock(rt).attend();

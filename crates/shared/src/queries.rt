@@ -1,6 +1,7 @@
 //! Queries through the lock.
 ghost use Rattle.std.specs.Prelude.{◌≡◌, IfOk};
 ghost use Rattle.history.specs.Answers as answers;
+ghost use Rattle.law_any_store.specs.Names.{AreTimesFrom};
 ghost use Rattle.law_refinement.specs.Homes.{IsSure};
 ghost use Rattle.law_refinement.specs.Laws.{SaysAt, SaysScanAt, SaysBetween, SaysScanBetween};
 ghost use Rattle.shared.specs.Moments.{OfSeen};
@@ -11,11 +12,11 @@ use crate::naming::Opening;
 use crate::observer::Observer;
 use crate::shared::SharedStore;
 use crate::shared_view::SharedView;
+use any_store::{QueryFault, SharedValue};
 use disk::Disk;
 use history::{Key, Version};
 use std::alloc::AllocError;
 use std::sync::Wait;
-use store::{QueryFault, SharedValue};
 
 impl<D: Disk, L: Opening> SharedStore<D, L> {
     /// The value of a key at a time, as the view's moment knows it: from memory, and below the reclaim
@@ -89,14 +90,15 @@ impl<D: Disk, L: Opening> SharedStore<D, L> {
             .scan_between(rt, &self.cell, view, relation, a, b)
     }
 
-    /// The times of the published commits with a label, rising, in microseconds since 1970.
+    /// The times of the published commits with a label, rising, in microseconds since 1970. Where names of
+    /// commits may have left memory, so it is of those that are later.
     pub fn times_of<R: Wait>(
         &self,
         rt: &R,
         label: u64,
         me: &mut Observer<L>,
     ) -> Result<Vec<u64>, AllocError>
-        ensures times { IfOk result (λ times. times.items ≡ answers.times_of me.new.published label) }
+        ensures times { IfOk result (λ times. AreTimesFrom L.kind.names_from times.items (answers.times_of me.new.published label)) }
         ensures reached { SeenReached L.start me.new }
         ensures later { IsLater me.old me.new }
     {

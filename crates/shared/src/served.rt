@@ -7,9 +7,9 @@ use crate::committed::CommitFault;
 use crate::copied::are_copies;
 use crate::naming::Opening;
 use crate::observer::Observer;
+use any_store::Submitted;
 use history::KeyWrite;
 use std::marker::Model;
-use store::Submitted;
 use wire::Value;
 
 /// Changes that are to be one commit, with what its caller has seen.

@@ -3,7 +3,7 @@ ghost use Rattle.std.specs.Prelude.{◌≡◌, ◌≤◌, ◌+◌, ◌<◌, leng
 ghost use Rattle.history.specs.Histories.{last};
 ghost use Rattle.history.specs.Machine.{Machine};
 ghost use Rattle.law_image.specs.Values.{Value};
-ghost use Rattle.law_refinement.specs.Stands.{Stands};
+ghost use Rattle.law_any_store.specs.Standing.{Stands};
 ghost use Rattle.shared.specs.Counts.{unredeemed};
 ghost use Rattle.shared.specs.Moments.{begun_txn};
 ghost use Rattle.shared.specs.Reached.{Reached};
@@ -19,13 +19,13 @@ use crate::posts::Posts;
 use crate::shared_txn::SharedTxn;
 use crate::shared_view::SharedView;
 use crate::signals::Signals;
+use any_store::{BeginFault, Did, PumpFault, Redeemed, Store, SubmitFault, Submitted, Ticket};
 use crossbeam_utils::sync::EventCount;
 use disk::Disk;
 use std::alloc::{AllocError, Global};
 use std::sync::atomic::AtomicBool;
 use std::sync::ledger::Share;
 use std::sync::{Condvar, Mutex, Wait};
-use store::{BeginFault, Did, PumpFault, Redeemed, Store, SubmitFault, Submitted, Ticket, Txn};
 
 /// A store under a lock, and the cell of its published time, which needs none. One holding of the lock
 /// makes at most one call of the store. The posts of those who call `commit` have a lock of their own, and
@@ -95,10 +95,7 @@ impl<D: Disk, L: Opening> SharedStore<D, L> {
         ensures moment { IfOk result (λ t. t.seen ≡ me.new) }
         ensures later { IsLater me.old me.new }
     {
-        match self.begin_txn(rt, me) {
-            Ok(txn) => Ok(SharedTxn::of(txn, me.another(&self.cell))),
-            Err(fault) => Err(fault),
-        }
+        self.locked.lock(rt).begin(rt, &self.cell, me)
     }
 
     /// Gives the transaction's snapshot up.
@@ -106,7 +103,8 @@ impl<D: Disk, L: Opening> SharedStore<D, L> {
         ensures happens { AbortHappens L.start txn.txn.snapshot me.new }
         ensures later { IsLater me.old me.new }
     {
-        self.abort_txn(rt, txn.spend(), me);
+        self.locked.lock(rt).abort(rt, &self.cell, txn, me);
+        self.moved.notify_all();
     }
 
     /// Ends a transaction: its writes are queued as a commit, or it is refused.
@@ -119,35 +117,6 @@ impl<D: Disk, L: Opening> SharedStore<D, L> {
         me: &mut Observer<L>,
     ) -> Result<Submitted, SubmitFault>
         ensures happens { SubmitHappens L.start L.mark txn.txn label now result me.new }
-        ensures later { IsLater me.old me.new }
-    {
-        self.submit_txn(rt, txn.spend(), label, now, me)
-    }
-
-    pub(crate) fn abort_txn<R: Wait>(&self, rt: &R, txn: Txn, me: &mut Observer<L>)
-        ensures happens { AbortHappens L.start txn.snapshot me.new }
-        ensures later { IsLater me.old me.new }
-    {
-        self.locked.lock(rt).abort(rt, &self.cell, txn, me);
-        self.moved.notify_all();
-    }
-
-    pub(crate) fn begin_txn<R: Wait>(&self, rt: &R, me: &mut Observer<L>) -> Result<Txn, BeginFault>
-        ensures happens { BeginHappens L.start L.mark result me.new }
-        ensures later { IsLater me.old me.new }
-    {
-        self.locked.lock(rt).begin(rt, &self.cell, me)
-    }
-
-    pub(crate) fn submit_txn<R: Wait>(
-        &self,
-        rt: &R,
-        txn: Txn,
-        label: u64,
-        now: u64,
-        me: &mut Observer<L>,
-    ) -> Result<Submitted, SubmitFault>
-        ensures happens { SubmitHappens L.start L.mark txn label now result me.new }
         ensures later { IsLater me.old me.new }
     {
         let submitted = self
@@ -176,7 +145,7 @@ impl<D: Disk, L: Opening> SharedStore<D, L> {
     /// One step of the group that is written. A step that publishes writes the published time before
     /// the lock is given up.
     pub fn pump<R: Wait>(&self, rt: &R, me: &mut Observer<L>) -> Result<Did, PumpFault>
-        ensures happens { PumpHappens L.start result me.new }
+        ensures happens { PumpHappens L.start L.kind result me.new }
         ensures later { IsLater me.old me.new }
     {
         let mut after = Signals::new();
@@ -190,7 +159,7 @@ impl<D: Disk, L: Opening> SharedStore<D, L> {
         after: &mut Signals,
         me: &mut Observer<L>,
     ) -> Result<Did, PumpFault>
-        ensures happens { PumpHappens L.start result me.new }
+        ensures happens { PumpHappens L.start L.kind result me.new }
         ensures later { IsLater me.old me.new }
     {
         let mut locked = self.locked.lock(rt);

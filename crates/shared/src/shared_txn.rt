@@ -1,45 +1,48 @@
 //! Transactions of a shared store.
-ghost use Rattle.std.specs.Prelude.{◌≡◌, ◌≢◌, ◌↔◌, map, IfOk, OnOk, OnErr, Err, None, Some, IsSome, if◌then◌else◌};
+ghost use Rattle.std.specs.Prelude.{◌≡◌, ◌≢◌, ◌↔◌, map, IfOk, IfErr, OnOk, OnErr, Err, None, Some, IsSome, if◌then◌else◌};
 ghost use Rattle.std.specs.Option.{option_copied};
 ghost use Rattle.history.specs.declared.key.Key.{Key};
 ghost use Rattle.history.specs.Histories.{last};
 ghost use Rattle.history.specs.Key.{same_key};
 ghost use Rattle.history.specs.Queries.{IsScan};
 ghost use Rattle.wire.specs.Values.{HasSizes};
-ghost use Rattle.snapshot.specs.Txn.{IsFullFor, with_put, with_delete};
-ghost use Rattle.shared.specs.Moments.{WorksOn, value_for};
+ghost use Rattle.snapshot.specs.Txn.{IsFullFor, at_snapshot, with_put, with_delete};
+ghost use Rattle.shared.specs.Moments.{GoesWith, value_for};
+ghost use Rattle.shared.specs.Posted.{written, AreBarred};
 ghost use Rattle.shared.specs.Shared.{SeenReached};
 
+use crate::copied::apply;
 use crate::naming::Opening;
-use crate::observer::Observer;
-use history::Key;
+use crate::txn_pass::TxnPass;
+use any_store::{SharedValue, Txn, TxnFault};
+use history::{Key, KeyWrite};
 use std::alloc::{AllocError, Global};
 use std::marker::Model;
-use store::{SharedValue, Txn, TxnFault};
+use wire::Value;
 
 /// An open transaction: it reads what was published when it began, with its own writes over it, and
 /// takes no lock. It is submitted or aborted; it can't be dropped.
 pub struct SharedTxn<L: Opening> {
     txn: Txn,
-    moment: Observer<L>,
+    pass: TxnPass<L>,
 }
 
 impl<L: Opening> Model for SharedTxn<L> {
-    ghost use Rattle.shared.specs.Moments.{TxnMoment, WorksOn};
+    ghost use Rattle.shared.specs.Moments.{TxnMoment, GoesWith};
 
     ghost Value = { TxnMoment };
 
-    ghost view = { λ t. record { txn = t.txn; seen = t.moment } };
+    ghost view = { λ t. record { txn = t.txn; seen = t.pass.seen } };
 
-    ghost invariant = { λ t. WorksOn L.start L.mark t.txn t.moment };
+    ghost invariant = { λ t. GoesWith L.start L.mark t.txn t.pass };
 }
 
 impl<L: Opening> SharedTxn<L> {
-    pub(crate) fn of(txn: Txn, moment: Observer<L>) -> SharedTxn<L>
-        requires { WorksOn L.start L.mark txn moment }
-        ensures { result ≡ record { txn = txn; seen = moment } }
+    pub(crate) fn of(txn: Txn, pass: TxnPass<L>) -> SharedTxn<L>
+        requires { GoesWith L.start L.mark txn pass }
+        ensures { result ≡ record { txn = txn; seen = pass.seen } }
     {
-        SharedTxn { txn, moment }
+        SharedTxn { txn, pass }
     }
 
     /// The time of the last commit that it reads, in microseconds since 1970; 0 for none.
@@ -47,7 +50,7 @@ impl<L: Opening> SharedTxn<L> {
         ensures is { result ≡ last self.now.seen.published }
         ensures reached { SeenReached L.start self.now.seen }
     {
-        let _ = &self.moment;
+        let _ = &self.pass;
         self.txn.snapshot()
     }
 
@@ -56,7 +59,7 @@ impl<L: Opening> SharedTxn<L> {
         ensures is { option_copied result ≡ value_for self.now key }
         ensures reached { SeenReached L.start self.now.seen }
     {
-        let _ = &self.moment;
+        let _ = &self.pass;
         self.txn.get(key)
     }
 
@@ -70,7 +73,7 @@ impl<L: Opening> SharedTxn<L> {
         ensures is { IfOk result (λ found. IsScan (value_for self.now) relation found.items) }
         ensures reached { SeenReached L.start self.now.seen }
     {
-        let _ = &self.moment;
+        let _ = &self.pass;
         self.txn.scan(alloc, relation)
     }
 
@@ -88,7 +91,7 @@ impl<L: Opening> SharedTxn<L> {
         ensures bad { (result ≡ Err TxnFault.BadValue) ↔ ((¬ IsFullFor self.old.txn.writes key) × (¬ HasSizes (map (λ field. field.now) fields.now))) }
         ensures err { OnErr result (self.new ≡ self.old) }
     {
-        let _ = &self.moment;
+        let _ = &self.pass;
         self.txn.put(alloc, key, fields)
     }
 
@@ -106,14 +109,31 @@ impl<L: Opening> SharedTxn<L> {
         ensures bad { result ≢ Err TxnFault.BadValue }
         ensures err { OnErr result (self.new ≡ self.old) }
     {
-        let _ = &self.moment;
+        let _ = &self.pass;
         self.txn.delete(key)
     }
 
-    pub(crate) fn spend(self) -> Txn
-        ensures { result ≡ self.txn }
+    /// Makes these changes in turn, which have memory of their own.
+    pub(crate) fn apply(
+        &mut self,
+        alloc: Global,
+        writes: &[KeyWrite<Value>],
+    ) -> Result<(), TxnFault>
+        ensures ok { OnOk result
+            (self.new.txn.writes ≡ written (at_snapshot self.old.txn.state self.old.txn.snapshot) self.old.txn.writes writes.now) }
+        ensures err { IfErr result (AreBarred (at_snapshot self.old.txn.state self.old.txn.snapshot) self.old.txn.writes writes.now) }
+        ensures snapshot { self.new.txn.snapshot ≡ self.old.txn.snapshot }
     {
-        let SharedTxn { txn, moment: _ } = self;
-        txn
+        let _ = &self.pass;
+        apply(alloc, &mut self.txn, writes)
+    }
+
+    /// The transaction, and the pass that goes with it.
+    pub(crate) fn spend(self) -> (Txn, TxnPass<L>)
+        ensures is { (result.0 ≡ self.txn) × (result.1.seen ≡ self.seen) }
+        ensures goes { GoesWith L.start L.mark result.0 result.1 }
+    {
+        let SharedTxn { txn, pass } = self;
+        (txn, pass)
     }
 }

@@ -11,11 +11,11 @@ ghost use Rattle.shared.specs.Shared.{Shows};
 use crate::cell::{PublishedCell, WriterPass};
 use crate::moment::Moment;
 use crate::naming::Opening;
+use any_store::{QueryFault, RowWalk, SharedValue, View};
 use history::{Key, Version};
 use std::alloc::{AllocError, Global};
 use std::marker::Model;
 use std::sync::Wait;
-use store::{QueryFault, RowWalk, SharedValue, View};
 
 /// What was published at one moment, with the commits and the floors that its caller had seen then.
 /// Later commits do not change it, nor does a vacuum or a floor that is raised, and it may go to
@@ -154,7 +154,8 @@ impl<L: Opening> SharedView<L> {
         ensures kept { self.new ≡ self.old }
         ensures shows { Shows L.start L.mark (cell_view writer.old).archive self.new.shown self.new.seen }
         ensures writer { (writer.new.table_id ≡ writer.old.table_id) × ((cell_view writer.new).writes ≡ true)
-            × ((cell_view writer.new).seen ≡ (cell_view writer.old).seen) × ((cell_view writer.new).archive ≡ (cell_view writer.old).archive) }
+            × ((cell_view writer.new).seen ≡ (cell_view writer.old).seen) × ((cell_view writer.new).archive ≡ (cell_view writer.old).archive)
+            × ((cell_view writer.new).tokens ≡ (cell_view writer.old).tokens) }
     {
         self.moment.compare(rt, cell, writer);
     }

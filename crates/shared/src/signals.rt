@@ -1,5 +1,5 @@
 //! What happened under the lock.
-use store::{Did, JobDid, PumpFault, SubmitFault, Submitted};
+use any_store::{Did, JobDid, PumpFault, SubmitFault, Submitted};
 
 /// What happened under the lock, for those who sleep until it does. The counts wrap.
 #[derive(Clone, Copy, Debug)]

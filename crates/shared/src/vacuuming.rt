@@ -6,9 +6,9 @@ ghost use Rattle.shared.specs.Seen.{IsLater};
 use crate::naming::Opening;
 use crate::observer::Observer;
 use crate::shared::SharedStore;
+use any_store::{JobDid, PumpFault, StartFault};
 use disk::Disk;
 use std::sync::Wait;
-use store::{JobDid, PumpFault, StartFault};
 
 /// What `run_vacuum` was answered.
 #[derive(Clone, Copy, Debug, PartialEq, Eq)]
@@ -60,7 +60,7 @@ impl<D: Disk, L: Opening> SharedStore<D, L> {
         mut pause: F,
     ) -> VacuumEnd
         requires { F.IsAlwaysCallable pause }
-        ensures ends { VacuumEnds L.start result me.new }
+        ensures ends { VacuumEnds L.start L.kind result me.new }
         ensures later { IsLater me.old me.new }
     {
         let mut doing = Doing::Archives;
@@ -87,7 +87,7 @@ impl<D: Disk, L: Opening> SharedStore<D, L> {
 
     // One call of the store.
     fn vacuum<R: Wait>(&self, rt: &R, doing: Doing, me: &mut Observer<L>) -> Vacuumed
-        ensures happens { VacuumHappens L.start result me.new }
+        ensures happens { VacuumHappens L.start L.kind result me.new }
         ensures kind { IsAnswerFor doing result }
         ensures later { IsLater me.old me.new }
     {

@@ -5,6 +5,7 @@ ghost use Rattle.shared.specs.Naming.{IsFresh};
 
 use crate::loops::{await_count, count_one};
 use crate::written::{key_of, publish_four};
+use any_store::{Did, Layout, TxnFault};
 use disk::{Disk, MemDisk};
 use shared::{Change, CommitFault, Committed, Observer, Opened, Opening, SharedStore, fresh_store};
 use std::alloc::{AllocError, Global};
@@ -15,7 +16,6 @@ use std::sync::atomic::AtomicU64;
 use std::sync::ledger::Share;
 use std::test::Fail;
 use std::thread::{Threads, join};
-use store::{Did, TxnFault};
 
 /// How often it calls.
 const CALLS: u64 = 50;
@@ -154,7 +154,7 @@ fn comes_back<D: Disk + Drop + Send, L: Opening + Send + Sync, R: Threads + Wait
 )
     requires name { (opened.blank.name ≡ L.name) × (opened.blank.parts ≡ L.parts) × (opened.cell.table.shared.table_id ≡ L.table) }
     requires parts { L.parts ≡ 2 }
-    requires fresh { IsFresh D.tells L.start L.mark opened.store (cell_view opened.writer) }
+    requires fresh { IsFresh D.tells L.start L.kind L.mark opened.store (cell_view opened.writer) }
 {
     let (store, mut share, mut me) = opened.named::<L>();
     publish_four(rt, alloc, &store, &mut me);
@@ -168,7 +168,7 @@ fn comes_back<D: Disk + Drop + Send, L: Opening + Send + Sync, R: Threads + Wait
 #[test]
 fn a_caller_has_one_place_and_comes_back(rt: HostRuntime) -> Result<(), Fail> {
     let alloc = rt.alloc();
-    let Ok(store) = fresh_store(alloc, MemDisk::new(alloc), 256, 1) else {
+    let Ok(store) = fresh_store(alloc, MemDisk::new(alloc), Layout::Slots(256), 1) else {
         return Err(Fail::from("no store"));
     };
     match Opened::new(&rt, alloc, 2, store) {

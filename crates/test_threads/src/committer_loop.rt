@@ -6,6 +6,7 @@ ghost use Rattle.shared.specs.Naming.{IsFresh};
 use crate::loops::{await_count, count_one, note_step};
 use crate::noted::Step;
 use crate::written::{publish_four, pump_job, queued};
+use any_store::{Did, JobDid, Layout, PumpFault};
 use disk::{Disk, MemDisk};
 use shared::{Observer, Opened, Opening, SharedStore, fresh_store};
 use std::alloc::{AllocError, Global};
@@ -15,7 +16,6 @@ use std::sync::Wait;
 use std::sync::atomic::AtomicU64;
 use std::test::Fail;
 use std::thread::{Threads, join};
-use store::{Did, JobDid, PumpFault};
 
 /// Its steps: three commits in turn, one that waits for a job, and its end. Between the commits, and where the
 /// job's slot is in the writing, it sleeps.
@@ -147,7 +147,7 @@ fn goes_on<D: Disk + Drop + Send, L: Opening + Send + Sync, R: Threads + Wait + 
     opened: Opened<D>,
 )
     requires name { (opened.blank.name ≡ L.name) × (opened.blank.parts ≡ L.parts) × (opened.cell.table.shared.table_id ≡ L.table) }
-    requires fresh { IsFresh D.tells L.start L.mark opened.store (cell_view opened.writer) }
+    requires fresh { IsFresh D.tells L.start L.kind L.mark opened.store (cell_view opened.writer) }
 {
     let (store, mut share, mut me) = opened.named::<L>();
     publish_four(rt, alloc, &store, &mut me);
@@ -159,7 +159,7 @@ fn goes_on<D: Disk + Drop + Send, L: Opening + Send + Sync, R: Threads + Wait + 
 #[test]
 fn a_committer_goes_on_until_it_is_told_to_end(rt: HostRuntime) -> Result<(), Fail> {
     let alloc = rt.alloc();
-    let Ok(store) = fresh_store(alloc, MemDisk::new(alloc), 64, 1) else {
+    let Ok(store) = fresh_store(alloc, MemDisk::new(alloc), Layout::Slots(64), 1) else {
         return Err(Fail::from("no store"));
     };
     match Opened::new(&rt, alloc, 1, store) {

@@ -6,6 +6,7 @@ ghost use Rattle.shared.specs.Naming.{IsFresh};
 use crate::counted_disk::CountedDisk;
 use crate::noted::{Notes, Step, note, step_of, take_all};
 use crate::written::{has, has_rows, key_of, publish_four, queued};
+use any_store::{Did, JobDid, Layout, PumpFault, Redeemed, Ticket};
 use disk::{Disk, MemDisk};
 use shared::{
     Change, CommitFault, Committed, Observer, Opened, Opening, SharedStore, VacuumEnd, Vacuumed,
@@ -20,7 +21,6 @@ use std::sync::{Arc, Wait};
 use std::test::Fail;
 use std::thread;
 use std::thread::{Threads, join};
-use store::{Did, JobDid, PumpFault, Redeemed, Ticket};
 
 /// An archive beside the body of a group of two: while the one's slot is in the writing, the other has to wait.
 const BESIDE: [Step; 8] = [
@@ -265,7 +265,7 @@ fn one_call_a_holding<
 >(rt: &R, alloc: Global, opened: Opened<D>, calls: &AtomicU64)
     requires name { (opened.blank.name ≡ L.name) × (opened.blank.parts ≡ L.parts) × (opened.cell.table.shared.table_id ≡ L.table) }
     requires parts { L.parts ≡ 1 }
-    requires fresh { IsFresh D.tells L.start L.mark opened.store (cell_view opened.writer) }
+    requires fresh { IsFresh D.tells L.start L.kind L.mark opened.store (cell_view opened.writer) }
 {
     let (store, mut share, mut me) = opened.named::<L>();
     publish_four(rt, alloc, &store, &mut me);
@@ -282,7 +282,7 @@ fn each_step_makes_one_call_of_the_device(rt: HostRuntime) -> Result<(), Fail> {
     let alloc = rt.alloc();
     let calls = Arc::new(alloc, AtomicU64::new(0))?;
     let disk = CountedDisk::new(MemDisk::new(alloc), Arc::try_clone(&calls)?);
-    let Ok(store) = fresh_store(alloc, disk, 64, 1) else {
+    let Ok(store) = fresh_store(alloc, disk, Layout::Slots(64), 1) else {
         return Err(Fail::from("no store"));
     };
     match Opened::new(&rt, alloc, 1, store) {

@@ -6,6 +6,7 @@ ghost use Rattle.shared.specs.Naming.{IsFresh};
 use crate::written::{
     begun, has, has_none, is_field, key_of, publish_four, pump_to, queued, refuses,
 };
+use any_store::{Did, JobDid, Layout, QueryFault, StartFault};
 use disk::{Disk, MemDisk};
 use shared::{Observer, Opened, Opening, SharedStore, SharedView, fresh_store};
 use std::alloc::{AllocError, Global};
@@ -13,7 +14,6 @@ use std::marker::Brand;
 use std::process::Abort;
 use std::sync::Wait;
 use std::test::Fail;
-use store::{Did, JobDid, QueryFault, StartFault};
 
 /// The steps of a floor.
 const STEPS: [JobDid; 4] = [
@@ -130,7 +130,7 @@ fn answers_by_its_floor<D: Disk + Drop, L: Opening, R: Wait + Abort>(
     opened: Opened<D>,
 )
     requires name { (opened.blank.name ≡ L.name) × (opened.blank.parts ≡ L.parts) × (opened.cell.table.shared.table_id ≡ L.table) }
-    requires fresh { IsFresh D.tells L.start L.mark opened.store (cell_view opened.writer) }
+    requires fresh { IsFresh D.tells L.start L.kind L.mark opened.store (cell_view opened.writer) }
 {
     let (store, mut share, mut me) = opened.named::<L>();
     publish_four(rt, alloc, &store, &mut me);
@@ -152,7 +152,7 @@ fn answers_by_its_floor<D: Disk + Drop, L: Opening, R: Wait + Abort>(
 #[test]
 fn a_floor_is_raised_and_views_go_on(rt: HostRuntime) -> Result<(), Fail> {
     let alloc = rt.alloc();
-    let Ok(store) = fresh_store(alloc, MemDisk::new(alloc), 64, 1) else {
+    let Ok(store) = fresh_store(alloc, MemDisk::new(alloc), Layout::Slots(64), 1) else {
         return Err(Fail::from("no store"));
     };
     match Opened::new(&rt, alloc, 1, store) {

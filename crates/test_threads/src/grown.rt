@@ -4,6 +4,7 @@ ghost use Rattle.crossbeam_utils.specs.Seq.{cell_view};
 ghost use Rattle.shared.specs.Naming.{IsFresh};
 
 use crate::written::{pump_to, queued};
+use any_store::{Did, JobDid, Layout, StartFault, Store};
 use disk::{Area, Disk, MemDisk};
 use shared::{Observer, Opened, Opening, SharedStore, fresh_store};
 use std::alloc::{AllocError, Global};
@@ -12,7 +13,6 @@ use std::process::Abort;
 use std::sync::Wait;
 use std::test::Fail;
 use std::thread::{Threads, join};
-use store::{Did, JobDid, StartFault, Store};
 
 /// The steps of a growth behind its zeros.
 const GATE_STEPS: [JobDid; 4] = [
@@ -82,7 +82,7 @@ fn fills_new_slots<
     R: Threads + Wait + Abort + Sync,
 >(rt: &R, alloc: Global, opened: Opened<D>)
     requires name { (opened.blank.name ≡ L.name) × (opened.blank.parts ≡ L.parts) × (opened.cell.table.shared.table_id ≡ L.table) }
-    requires fresh { IsFresh D.tells L.start L.mark opened.store (cell_view opened.writer) }
+    requires fresh { IsFresh D.tells L.start L.kind L.mark opened.store (cell_view opened.writer) }
 {
     let (store, mut share, mut me) = opened.named::<L>();
     let other = store.another(&mut me);
@@ -98,7 +98,7 @@ fn fills_new_slots<
 #[test]
 fn a_store_grows_beside_commits(rt: HostRuntime) -> Result<(), Fail> {
     let alloc = rt.alloc();
-    let Ok(store) = fresh_store(alloc, MemDisk::new(alloc), 16, 1) else {
+    let Ok(store) = fresh_store(alloc, MemDisk::new(alloc), Layout::Slots(16), 1) else {
         return Err(Fail::from("no store"));
     };
     match Opened::new(&rt, alloc, 1, store) {

@@ -4,6 +4,7 @@ ghost use Rattle.crossbeam_utils.specs.Seq.{cell_view};
 ghost use Rattle.shared.specs.Naming.{IsFresh};
 
 use crate::written::{is_field, key_of, publish_four, pump_job, pump_to, queued};
+use any_store::{Did, Layout, QueryFault};
 use disk::{Disk, MemDisk};
 use shared::{Observer, Opened, Opening, SharedStore, SharedView, fresh_store};
 use std::alloc::{AllocError, Global};
@@ -13,7 +14,6 @@ use std::sync::Wait;
 use std::test::Fail;
 use std::thread;
 use std::thread::{Threads, join};
-use store::{Did, QueryFault};
 
 /// Whether the view ends with a commit of this time, at which record 7 has this one field.
 fn ends_with<L: Opening>(view: &SharedView<L>, time: u64, field: &str) -> bool {
@@ -171,7 +171,7 @@ fn shows_what_is_published<
     R: Threads + Wait + Abort + Sync,
 >(rt: &R, alloc: Global, opened: Opened<D>)
     requires name { (opened.blank.name ≡ L.name) × (opened.blank.parts ≡ L.parts) × (opened.cell.table.shared.table_id ≡ L.table) }
-    requires fresh { IsFresh D.tells L.start L.mark opened.store (cell_view opened.writer) }
+    requires fresh { IsFresh D.tells L.start L.kind L.mark opened.store (cell_view opened.writer) }
 {
     let (store, mut share, mut me) = opened.named::<L>();
     publish_four(rt, alloc, &store, &mut me);
@@ -187,7 +187,7 @@ fn shows_what_is_published<
 #[test]
 fn readers_share_a_view_of_what_is_published(rt: HostRuntime) -> Result<(), Fail> {
     let alloc = rt.alloc();
-    let Ok(store) = fresh_store(alloc, MemDisk::new(alloc), 256, 1) else {
+    let Ok(store) = fresh_store(alloc, MemDisk::new(alloc), Layout::Slots(256), 1) else {
         return Err(Fail::from("no store"));
     };
     match Opened::new(&rt, alloc, 1, store) {

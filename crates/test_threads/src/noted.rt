@@ -1,11 +1,11 @@
 //! The steps of a shared store, each with the calls of the device that it makes.
 use crate::written::begun;
+use any_store::{Did, JobDid, PumpFault, StartFault};
 use disk::Disk;
 use shared::{Observer, Opening, SharedStore, Vacuumed};
 use std::process::Abort;
 use std::sync::Wait;
 use std::sync::atomic::{AtomicU64, Ordering};
-use store::{Did, JobDid, PumpFault, StartFault};
 
 /// What a step answered.
 #[derive(Clone, Copy, Debug, PartialEq, Eq)]

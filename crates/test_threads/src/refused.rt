@@ -4,6 +4,7 @@ ghost use Rattle.crossbeam_utils.specs.Seq.{cell_view};
 ghost use Rattle.shared.specs.Naming.{IsFresh};
 
 use crate::written::{key_of, publish_four, pump_job, pump_to, queued};
+use any_store::{Did, Layout, SubmitFault, TxnFault};
 use disk::{Disk, MemDisk};
 use shared::{Change, CommitFault, Observer, Opened, Opening, SharedStore, fresh_store};
 use std::alloc::{AllocError, Global};
@@ -12,7 +13,6 @@ use std::process::Abort;
 use std::sync::Wait;
 use std::sync::ledger::Share;
 use std::test::Fail;
-use store::{Did, SubmitFault, TxnFault};
 
 /// Commits one change, which is refused for this reason.
 fn refuse<D: Disk, L: Opening, R: Wait + Abort>(
@@ -66,7 +66,7 @@ fn refuses_commits<D: Disk + Drop, L: Opening, R: Wait + Abort>(
 )
     requires name { (opened.blank.name ≡ L.name) × (opened.blank.parts ≡ L.parts) × (opened.cell.table.shared.table_id ≡ L.table) }
     requires parts { L.parts ≡ 1 }
-    requires fresh { IsFresh D.tells L.start L.mark opened.store (cell_view opened.writer) }
+    requires fresh { IsFresh D.tells L.start L.kind L.mark opened.store (cell_view opened.writer) }
 {
     let (store, mut share, mut me) = opened.named::<L>();
     publish_four(rt, alloc, &store, &mut me);
@@ -82,7 +82,7 @@ fn refuses_commits<D: Disk + Drop, L: Opening, R: Wait + Abort>(
 #[test]
 fn a_refused_commit_is_told_why(rt: HostRuntime) -> Result<(), Fail> {
     let alloc = rt.alloc();
-    let Ok(store) = fresh_store(alloc, MemDisk::new(alloc), 64, 1) else {
+    let Ok(store) = fresh_store(alloc, MemDisk::new(alloc), Layout::Slots(64), 1) else {
         return Err(Fail::from("no store"));
     };
     match Opened::new(&rt, alloc, 1, store) {

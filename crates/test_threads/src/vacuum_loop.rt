@@ -6,6 +6,7 @@ ghost use Rattle.shared.specs.Naming.{IsFresh};
 use crate::loops::{await_count, count_one, note_step};
 use crate::noted::{Step, step_of};
 use crate::written::{begun, publish_four, pump_to, queued};
+use any_store::{Did, JobDid, Layout, StartFault};
 use disk::{Disk, MemDisk};
 use shared::{Observer, Opened, Opening, SharedStore, SharedTxn, VacuumEnd, Vacuumed, fresh_store};
 use std::alloc::{AllocError, Global};
@@ -15,7 +16,6 @@ use std::sync::Wait;
 use std::sync::atomic::AtomicU64;
 use std::test::Fail;
 use std::thread::{Threads, join};
-use store::{Did, JobDid, StartFault};
 
 /// Its steps: both jobs; nothing, where a commit is queued; once it is published an archive, and a reclaim
 /// that a transaction bars; and the reclaim once that has ended. Between these it sleeps.
@@ -148,7 +148,7 @@ fn goes_on<D: Disk + Drop + Send, L: Opening + Send + Sync, R: Threads + Wait + 
     opened: Opened<D>,
 )
     requires name { (opened.blank.name ≡ L.name) × (opened.blank.parts ≡ L.parts) × (opened.cell.table.shared.table_id ≡ L.table) }
-    requires fresh { IsFresh D.tells L.start L.mark opened.store (cell_view opened.writer) }
+    requires fresh { IsFresh D.tells L.start L.kind L.mark opened.store (cell_view opened.writer) }
 {
     let (store, mut share, mut me) = opened.named::<L>();
     publish_four(rt, alloc, &store, &mut me);
@@ -160,7 +160,7 @@ fn goes_on<D: Disk + Drop + Send, L: Opening + Send + Sync, R: Threads + Wait + 
 #[test]
 fn a_vacuum_goes_on_until_it_is_told_to_end(rt: HostRuntime) -> Result<(), Fail> {
     let alloc = rt.alloc();
-    let Ok(store) = fresh_store(alloc, MemDisk::new(alloc), 64, 1) else {
+    let Ok(store) = fresh_store(alloc, MemDisk::new(alloc), Layout::Slots(64), 1) else {
         return Err(Fail::from("no store"));
     };
     match Opened::new(&rt, alloc, 1, store) {

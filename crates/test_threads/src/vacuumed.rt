@@ -9,6 +9,7 @@ use crate::written::{
     are_rows, are_rows_of_seven, begun, has, has_none, has_rows, is_field, is_seven_alone, key_of,
     publish_four, pump_job, pump_to, queued, refuses,
 };
+use any_store::{Did, JobDid, Layout, QueryFault, StartFault};
 use disk::{Disk, MemDisk};
 use shared::{
     Observer, Opened, Opening, SharedStore, SharedView, VacuumEnd, Vacuumed, fresh_store,
@@ -19,7 +20,6 @@ use std::process::Abort;
 use std::sync::atomic::AtomicU64;
 use std::sync::{Arc, Wait};
 use std::test::Fail;
-use store::{Did, JobDid, QueryFault, StartFault};
 
 /// An archive, and then a reclaim with one extent of anchors.
 const BOTH: [(Step, u64); 14] = [
@@ -221,7 +221,7 @@ fn answers_from_both<D: Disk + Drop, L: Opening, R: Wait + Abort>(
     calls: &AtomicU64,
 )
     requires name { (opened.blank.name ≡ L.name) × (opened.blank.parts ≡ L.parts) × (opened.cell.table.shared.table_id ≡ L.table) }
-    requires fresh { IsFresh D.tells L.start L.mark opened.store (cell_view opened.writer) }
+    requires fresh { IsFresh D.tells L.start L.kind L.mark opened.store (cell_view opened.writer) }
 {
     let (store, mut share, mut me) = opened.named::<L>();
     publish_four(rt, alloc, &store, &mut me);
@@ -248,7 +248,7 @@ fn a_vacuum_reclaims_and_views_go_on(rt: HostRuntime) -> Result<(), Fail> {
     let alloc = rt.alloc();
     let calls = Arc::new(alloc, AtomicU64::new(0))?;
     let disk = CountedDisk::new(MemDisk::new(alloc), Arc::try_clone(&calls)?);
-    let Ok(store) = fresh_store(alloc, disk, 64, 1) else {
+    let Ok(store) = fresh_store(alloc, disk, Layout::Slots(64), 1) else {
         return Err(Fail::from("no store"));
     };
     match Opened::new(&rt, alloc, 1, store) {

@@ -1,5 +1,6 @@
 //! A view asks for as many growths of memory at a thousand keys as at sixteen.
 use crate::written::key_of;
+use any_store::{Did, Layout, Store, Submitted, View};
 use disk::MemDisk;
 use shared::fresh_store;
 use std::alloc::Global;
@@ -7,7 +8,6 @@ use std::fs;
 use std::process::Abort;
 use std::rt::Files;
 use std::test::Fail;
-use store::{Did, Store, Submitted, View};
 
 /// So many views that one growth for each could not be missed: it would take some hundred pages at least.
 const VIEWS: usize = 200_000;
@@ -79,7 +79,7 @@ fn pages_of_views(
 fn views_ask_for_no_memory_whatever_they_show(rt: HostRuntime) -> Result<(), Fail> {
     let alloc = rt.alloc();
     for keys in [16, 1024] {
-        let Ok(mut store) = fresh_store(alloc, MemDisk::new(alloc), 64, 1) else {
+        let Ok(mut store) = fresh_store(alloc, MemDisk::new(alloc), Layout::Slots(64), 1) else {
             return Err(Fail::from("no store"));
         };
         write_keys(&rt, alloc, &mut store, keys);

@@ -1,12 +1,12 @@
 //! Many writers and readers at once, and how many commits they made.
+use any_store::{Layout, Store};
 use disk::MemDisk;
 use shared::fresh_store;
 use std::alloc::{AllocError, Global};
 use std::process::Abort;
 use std::sync::Wait;
 use std::thread::Threads;
-use store::Store;
-use workload::{Plan, holds_last_rounds, stress, stress_on};
+use workload::{Plan, SLOTS, holds_last_rounds, stress, stress_on};
 
 #[test]
 fn a_stress_counts_each_round_of_each_writer(rt: HostRuntime) {
@@ -16,7 +16,24 @@ fn a_stress_counts_each_round_of_each_writer(rt: HostRuntime) {
             readers,
             rounds,
         };
-        assert_eq!(rt; stress(&rt, rt.alloc(), plan), Some((commits, commits)));
+        assert_eq!(rt;
+            stress(&rt, rt.alloc(), SLOTS, plan),
+            Some((commits, commits))
+        );
+    }
+}
+
+/// The same over a store whose log lies in the heap, of 4,096 extents.
+#[test]
+fn a_stress_counts_each_round_where_the_log_lies_in_the_heap(rt: HostRuntime) {
+    for (writers, readers, rounds, commits) in [(4, 2, 25, 100), (1, 0, 1, 1)] {
+        let plan = Plan {
+            writers,
+            readers,
+            rounds,
+        };
+        let done = stress(&rt, rt.alloc(), Layout::Log(4_096), plan);
+        assert_eq!(rt; done, Some((commits, commits)));
     }
 }
 
@@ -36,7 +53,7 @@ fn run_plan<R: Threads + Wait + Sync>(
     alloc: Global,
     plan: Plan,
 ) -> Option<(Store<MemDisk>, Option<u64>)> {
-    let store = match fresh_store(alloc, MemDisk::new(alloc), 1_024, 1) {
+    let store = match fresh_store(alloc, MemDisk::new(alloc), Layout::Slots(1_024), 1) {
         Ok(store) => store,
         Err(_disk) => return None,
     };

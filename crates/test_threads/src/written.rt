@@ -1,11 +1,11 @@
 //! What the examples write through a shared store, and what they find.
+use any_store::{Did, JobDid, PumpFault, QueryFault, SharedValue, Submitted, Ticket};
 use disk::Disk;
 use history::{Key, Version};
 use shared::{Observer, Opening, SharedStore, SharedTxn, SharedView};
 use std::alloc::Global;
 use std::process::Abort;
 use std::sync::Wait;
-use store::{Did, JobDid, PumpFault, QueryFault, SharedValue, Submitted, Ticket};
 
 /// A key of the examples' relation.
 pub fn key_of(record: u64) -> Key {

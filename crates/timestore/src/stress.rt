@@ -8,7 +8,7 @@ use std::alloc::Global;
 use std::io::Write;
 use std::sync::Wait;
 use std::thread::Threads;
-use workload::{Plan, stress};
+use workload::{Plan, SLOTS, stress};
 
 /// The status of a run whose answer was written in full.
 const DONE: u8 = 0;
@@ -29,7 +29,7 @@ pub fn run_stress<R: Threads + Wait + Sync, W: Write>(
         (codes "commits " ++ (decimal (plan.writers * plan.rounds) ++ (codes " last " ++ (decimal last ++ codes "\n")))) }
     ensures status { result ≤ 1 }
 {
-    let Some((commits, last)) = stress(rt, alloc, plan) else {
+    let Some((commits, last)) = stress(rt, alloc, SLOTS, plan) else {
         return REFUSED;
     };
     match write_stress_answer(output, commits, last) {

@@ -1,41 +1,48 @@
 //! Many threads at once over a new store in memory.
 ghost use Rattle.std.specs.Prelude.{◌≡◌, ◌*◌, ◌+◌, [], true, length, IfOk, IfSome};
-ghost use Rattle.history.specs.Machine.{Machine, opened};
+ghost use Rattle.any_store.specs.Values.{commits_of};
+ghost use Rattle.history.specs.Machine.{Machine};
 ghost use Rattle.law_image.specs.Values.{Value};
-ghost use Rattle.law_refinement.specs.Stands.{Stands};
+ghost use Rattle.law_any_store.specs.Formatted.{header_of};
+ghost use Rattle.law_any_store.specs.Standing.{Stands, opened_as};
 ghost use Rattle.shared.specs.Counts.{told_count, unredeemed};
 ghost use Rattle.shared.specs.Reached.{Reached};
 ghost use Rattle.workload.specs.Reading.{HasCommitted};
 
 use crate::workers::{Plan, field_of, key_of, run_workers};
+use any_store::{Layout, QueryFault, SharedValue, Store};
 use disk::{Disk, MemDisk};
 use shared::{Opened, fresh_store};
 use std::alloc::{AllocError, Global};
 use std::marker::Brand;
 use std::sync::Wait;
 use std::thread::Threads;
-use store::{QueryFault, SharedValue, Store};
 
-/// The slots of the log of a stress's store.
-const SLOTS: u32 = 32_768;
+/// The layout of a stress's store whose log is slots.
+pub const SLOTS: Layout = Layout::Slots(32_768);
 
 /// The mark of a stress's store.
 const MARK: u64 = 1;
 
-/// Writers commit their own keys, and readers read them, in threads of their own over a new store in
-/// memory, beside a committer and a vacuum. Gives how many commits there were, and the time of the
+/// Writers commit their own keys, and readers read them, in threads of their own over a new store of this
+/// layout in memory, beside a committer and a vacuum. Gives how many commits there were, and the time of the
 /// last, in microseconds since 1970. None where a caller was refused, memory ran out, or a writer's key
 /// has not the value of its last round.
-pub fn stress<R: Threads + Wait + Sync>(rt: &R, alloc: Global, plan: Plan) -> Option<(u64, u64)>
+pub fn stress<R: Threads + Wait + Sync>(
+    rt: &R,
+    alloc: Global,
+    layout: Layout,
+    plan: Plan,
+) -> Option<(u64, u64)>
     ensures counted { IfSome result (λ done. done.0 ≡ plan.writers * plan.rounds) }
-    ensures last { IfSome result (λ done. HasCommitted done.0 done.1) }
+    ensures last { IfSome result (λ done. HasCommitted layout done.0 done.1) }
 {
-    let store = match fresh_store(alloc, MemDisk::new(alloc), SLOTS, MARK) {
+    let store = match fresh_store(alloc, MemDisk::new(alloc), layout, MARK) {
         Ok(store) => store,
         Err(_disk) => return None,
     };
     match stress_on(rt, alloc, store, plan) {
-        Ok((store, done)) => count_all(store, done, plan),
+        Ok((store, done)) => count_all(store, done, layout, plan),
         Err((AllocError, store)) => {
             let _disk = store.close();
             None
@@ -45,12 +52,18 @@ pub fn stress<R: Threads + Wait + Sync>(rt: &R, alloc: Global, plan: Plan) -> Op
 
 // Ends the store in which so many commits were counted. Gives them and the time of the last commit,
 // where they are all that the plan makes and each writer's key has the value of its last round.
-fn count_all(store: Store<MemDisk>, done: Option<u64>, plan: Plan) -> Option<(u64, u64)>
-    requires { (m : Machine Value) × Stands true store m × Reached (opened [] (λ relation. 0)) m
+fn count_all(
+    store: Store<MemDisk>,
+    done: Option<u64>,
+    layout: Layout,
+    plan: Plan,
+) -> Option<(u64, u64)>
+    requires { (m : Machine Value) × Stands true store m × Reached (opened_as (header_of layout) [] (λ relation. 0)) m
         × IfSome done (λ count. length m.published ≡ count + unredeemed store) }
     ensures counted { IfSome result (λ done. done.0 ≡ plan.writers * plan.rounds) }
-    ensures last { IfSome result (λ done. HasCommitted done.0 done.1) }
+    ensures last { IfSome result (λ done. HasCommitted layout done.0 done.1) }
 {
+    let _ = layout;
     let mut store = store;
     let last = store.last();
     let holds = holds_last_rounds(&mut store, plan);
@@ -72,7 +85,7 @@ pub fn stress_on<D: Disk + Send, R: Threads + Wait + Sync>(
 ) -> Result<(Store<D>, Option<u64>), (AllocError, Store<D>)>
     ghost start: { Machine Value }
     requires stands { Stands D.tells store start }
-    requires fresh { told_count store.transactions.heads ≡ length start.published }
+    requires fresh { told_count (commits_of store).heads ≡ length (commits_of store).heads }
     requires queue { start.queue ≡ [] }
     ensures counted { IfOk result (λ ended. (m : Machine Value) × Stands D.tells ended.0 m × Reached start m
         × IfSome ended.1 (λ done. length m.published ≡ length start.published + done + unredeemed ended.0)) }

@@ -4,5 +4,5 @@
 mod in_memory;
 mod workers;
 
-pub use in_memory::{holds_last_rounds, stress, stress_on};
+pub use in_memory::{SLOTS, holds_last_rounds, stress, stress_on};
 pub use workers::{Badge, Plan, Worked, read, run_workers};

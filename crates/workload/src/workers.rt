@@ -3,13 +3,14 @@ ghost use Rattle.std.specs.Prelude.{◌≡◌, ◌+◌, ◌≤◌, ◌<◌, ◌^
 ghost use Rattle.crossbeam_utils.specs.Seq.{cell_view};
 ghost use Rattle.history.specs.Machine.{Machine};
 ghost use Rattle.law_image.specs.Values.{Value};
-ghost use Rattle.law_refinement.specs.Stands.{Stands};
+ghost use Rattle.law_any_store.specs.Standing.{Stands};
 ghost use Rattle.shared.specs.Naming.{IsFresh};
 ghost use Rattle.shared.specs.Counts.{told_count, unredeemed};
 ghost use Rattle.shared.specs.Reached.{Reached};
 ghost use Rattle.workload.specs.Reading.{ReadSays};
 ghost use Rattle.shared.specs.Seen.{IsLater, seen_of};
 
+use any_store::{QueryFault, SharedValue, Store};
 use disk::Disk;
 use history::Key;
 use shared::{Change, Committed, Observer, Opened, Opening, SharedStore};
@@ -18,7 +19,6 @@ use std::sync::Wait;
 use std::sync::ledger::Share;
 use std::thread;
 use std::thread::{Threads, join, map_vec};
-use store::{QueryFault, SharedValue, Store};
 
 /// The relation of the keys that the writers commit.
 const RELATION: u16 = 1;
@@ -249,7 +249,7 @@ fn call_all<D: Disk + Send, L: Opening + Send + Sync, R: Threads + Wait + Sync>(
     }
 }
 
-// Publishes, archives and reclaims, until told to end.
+// Publishes, archives and reclaims, until told to end. Where the log lies in the heap there is nothing to archive.
 fn keep_up<D: Disk + Send, L: Opening + Send + Sync, R: Threads + Wait + Sync>(
     rt: &R,
     store: &SharedStore<D, L>,
@@ -302,7 +302,7 @@ pub fn run_workers<D: Disk + Send, L: Opening + Send + Sync, R: Threads + Wait +
 ) -> (Store<D>, Option<u64>)
     requires name { (opened.blank.name ≡ L.name) × (opened.blank.parts ≡ L.parts) × (opened.cell.table.shared.table_id ≡ L.table) }
     requires parts { L.parts ≡ plan.writers + 1 }
-    requires fresh { IsFresh D.tells L.start L.mark opened.store (cell_view opened.writer) }
+    requires fresh { IsFresh D.tells L.start L.kind L.mark opened.store (cell_view opened.writer) }
     ensures counted { (m : Machine Value) × Stands D.tells result.0 m × Reached L.start m
         × IfSome result.1 (λ done. length m.published ≡ length L.start.published + done + unredeemed result.0) }
 {

@@ -8,6 +8,7 @@ use crate::many_callers::groups::{Spent, Watch};
 use crate::numbers::nanoseconds;
 use crate::records;
 use crate::records::KEYS;
+use any_store::{Did, Store};
 use disk::Disk;
 use shared::{Change, Committed, Observer, Opened, Opening, SharedStore};
 use std::alloc::{AllocError, Global};
@@ -16,7 +17,6 @@ use std::sync::atomic::{AtomicU64, Ordering};
 use std::sync::ledger::Share;
 use std::thread::{Threads, join, map_vec};
 use std::time::{Clock, Instant};
-use store::{Did, Store};
 
 /// What the readers do.
 #[derive(Clone, Copy)]
@@ -370,7 +370,7 @@ pub(crate) fn run<D: Disk + Send, L: Opening + Send + Sync, R: Threads + Wait + 
 ) -> (Store<D>, Result<Work, Fault>)
     requires name { (opened.blank.name ≡ L.name) × (opened.blank.parts ≡ L.parts) × (opened.cell.table.shared.table_id ≡ L.table) }
     requires parts { L.parts ≡ load.writers + 1 }
-    requires fresh { IsFresh D.tells L.start L.mark opened.store (cell_view opened.writer) }
+    requires fresh { IsFresh D.tells L.start L.kind L.mark opened.store (cell_view opened.writer) }
 {
     let (store, mut all, mut me) = opened.named::<L>();
     let loaded = if load.readers > 0 {

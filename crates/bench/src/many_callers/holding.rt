@@ -1,8 +1,10 @@
 //! How long the lock of a shared store is held: the time of each of its calls, with nobody else there.
 ghost use Rattle.std.specs.Prelude.{◌≡◌, ◌<◌, [], true, false, length};
 ghost use Rattle.crossbeam_utils.specs.Seq.{cell_view};
-ghost use Rattle.history.specs.Machine.{opened};
-ghost use Rattle.law_refinement.specs.Stands.{Stands};
+ghost use Rattle.any_store.specs.Values.{commits_of};
+ghost use Rattle.history.specs.Machine.{Machine};
+ghost use Rattle.law_image.specs.Values.{Value};
+ghost use Rattle.law_any_store.specs.Standing.{Stands};
 ghost use Rattle.shared.specs.Naming.{IsFresh};
 ghost use Rattle.shared.specs.Counts.{told_count};
 
@@ -11,6 +13,7 @@ use crate::many_callers::sharing::{MOST_SLOTS, fresh};
 use crate::numbers::{Times, microseconds, nanoseconds};
 use crate::records;
 use crate::records::KEYS;
+use any_store::{Did, JobDid, Layout, Redeemed, Store, Submitted, Ticket};
 use disk::Disk;
 use disk_file::FileDisk;
 use shared::{Observer, Opened, Opening, SharedStore};
@@ -21,7 +24,6 @@ use std::rt::Files;
 use std::sync::Wait;
 use std::sync::ledger::Share;
 use std::time::{Clock, Instant};
-use store::{Did, JobDid, Redeemed, Store, Submitted, Ticket};
 
 /// The commits of a round, which are one group.
 const MEMBERS: u64 = 16;
@@ -244,7 +246,7 @@ fn run<D: Disk, L: Opening, R: Wait + Clock>(
 ) -> (Store<D>, Result<Held, Fault>)
     requires name { (opened.blank.name ≡ L.name) × (opened.blank.parts ≡ L.parts) × (opened.cell.table.shared.table_id ≡ L.table) }
     requires parts { L.parts ≡ 1 }
-    requires fresh { IsFresh D.tells L.start L.mark opened.store (cell_view opened.writer) }
+    requires fresh { IsFresh D.tells L.start L.kind L.mark opened.store (cell_view opened.writer) }
 {
     let (store, mut share, mut me) = opened.named::<L>();
     let held = all_rounds(rt, alloc, &store, &mut share, &mut me, count);
@@ -257,8 +259,10 @@ fn run_over<R: Wait + Clock>(
     store: Store<FileDisk>,
     count: u64,
 ) -> Result<Held, Fault>
-    requires stands { Stands false store (opened [] (λ relation. 0)) }
-    requires fresh { told_count store.transactions.heads ≡ 0 }
+    ghost start: { Machine Value }
+    requires stands { Stands false store start }
+    requires fresh { told_count (commits_of store).heads ≡ length (commits_of store).heads }
+    requires queue { start.queue ≡ [] }
 {
     match Opened::new(rt, alloc, 1, store) {
         Ok(opened) => {
@@ -303,6 +307,6 @@ pub(crate) fn measure<R: Files<File = File> + AllocGlobal + Print + Clock + Wait
     folder: &str,
     count: u64,
 ) -> Result<(), Fault> {
-    let store = fresh(rt, alloc, folder, MOST_SLOTS)?;
+    let store = fresh(rt, alloc, folder, Layout::Slots(MOST_SLOTS))?;
     print(rt, run_over(rt, alloc, store, count)?)
 }

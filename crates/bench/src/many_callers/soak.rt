@@ -1,8 +1,10 @@
 //! A soak: writers of the same records and readers, beside a committer and a vacuum.
 ghost use Rattle.std.specs.Prelude.{◌≡◌, ◌+◌, ◌<◌, [], true, false, length};
 ghost use Rattle.crossbeam_utils.specs.Seq.{cell_view};
-ghost use Rattle.history.specs.Machine.{opened};
-ghost use Rattle.law_refinement.specs.Stands.{Stands};
+ghost use Rattle.any_store.specs.Values.{commits_of};
+ghost use Rattle.history.specs.Machine.{Machine};
+ghost use Rattle.law_image.specs.Values.{Value};
+ghost use Rattle.law_any_store.specs.Standing.{Stands};
 ghost use Rattle.shared.specs.Naming.{IsFresh};
 ghost use Rattle.shared.specs.Counts.{told_count};
 
@@ -12,6 +14,7 @@ use crate::many_callers::notes;
 use crate::many_callers::notes::Note;
 use crate::many_callers::sharing::{MOST_SLOTS, fresh};
 use crate::many_callers::soaking::{Worker, read_once, source, write};
+use any_store::{Layout, Store};
 use disk::Disk;
 use disk_file::FileDisk;
 use shared::{Observer, Opened, Opening, SharedStore};
@@ -24,7 +27,6 @@ use std::sync::atomic::{AtomicU64, Ordering};
 use std::thread;
 use std::thread::{Threads, join, map_vec};
 use std::time::{Clock, Duration};
-use store::Store;
 
 const WRITERS: u8 = 8;
 
@@ -252,7 +254,7 @@ fn run<D: Disk + Send, L: Opening + Send + Sync, R: Threads + Wait + Clock + Syn
 ) -> (Store<D>, Result<(Noted, Noted), Fault>)
     requires name { (opened.blank.name ≡ L.name) × (opened.blank.parts ≡ L.parts) × (opened.cell.table.shared.table_id ≡ L.table) }
     requires parts { L.parts ≡ 9 }
-    requires fresh { IsFresh D.tells L.start L.mark opened.store (cell_view opened.writer) }
+    requires fresh { IsFresh D.tells L.start L.kind L.mark opened.store (cell_view opened.writer) }
 {
     let (store, mut all, mut me) = opened.named::<L>();
     let writers = writers_for(alloc, &store, &mut all, &mut me, WRITERS, plan.rounds);
@@ -270,8 +272,10 @@ fn run_over<R: Threads + Wait + Clock + Sync>(
     store: Store<FileDisk>,
     plan: Plan,
 ) -> Result<(Noted, Noted), Fault>
-    requires stands { Stands false store (opened [] (λ relation. 0)) }
-    requires fresh { told_count store.transactions.heads ≡ 0 }
+    ghost start: { Machine Value }
+    requires stands { Stands false store start }
+    requires fresh { told_count (commits_of store).heads ≡ length (commits_of store).heads }
+    requires queue { start.queue ≡ [] }
 {
     match Opened::new(rt, alloc, u64::from(WRITERS) + 1, store) {
         Ok(opened) => {
@@ -311,7 +315,7 @@ pub(crate) fn measure<R: Files<File = File> + AllocGlobal + Print + Clock + Thre
     seed: u64,
     pace: u64,
 ) -> Result<(), Fault> {
-    let store = fresh(rt, alloc, folder, MOST_SLOTS)?;
+    let store = fresh(rt, alloc, folder, Layout::Slots(MOST_SLOTS))?;
     let plan = Plan { seed, rounds, pace };
     let (written, read) = run_over(rt, alloc, store, plan)?;
     print_all(rt, "writer", written)?;

@@ -1,17 +1,20 @@
 //! Commits and views of many threads, beside the raw writes and syncs of as many groups.
-ghost use Rattle.std.specs.Prelude.{◌≡◌, [], false, IfOk};
-ghost use Rattle.history.specs.Machine.{opened};
-ghost use Rattle.law_refinement.specs.Stands.{Stands};
+ghost use Rattle.std.specs.Prelude.{◌≡◌, [], false, length, IfOk};
+ghost use Rattle.any_store.specs.Values.{commits_of};
+ghost use Rattle.history.specs.Machine.{Machine};
+ghost use Rattle.law_image.specs.Values.{Value};
+ghost use Rattle.law_any_store.specs.Standing.{Stands};
 ghost use Rattle.shared.specs.Counts.{told_count};
 
 use crate::fault::Fault;
 use crate::many_callers::crew::{Load, Reading, Work};
-use crate::many_callers::sharing::{MOST_SLOTS, fresh};
+use crate::many_callers::sharing::{MOST_EXTENTS, MOST_SLOTS, fresh};
 use crate::many_callers::verb::Verb;
 use crate::many_callers::{crew, holding, soak};
 use crate::numbers::{Thousandths, nanoseconds, quotient, rate};
 use crate::raw::RawFiles;
 use crate::words::Request;
+use any_store::{Layout, Store};
 use disk_file::FileDisk;
 use shared::Opened;
 use std::alloc::{AllocError, Global};
@@ -21,10 +24,18 @@ use std::rt::Files;
 use std::sync::Wait;
 use std::thread::Threads;
 use std::time::{Clock, Instant};
-use store::Store;
 
-/// The most commits under one gate.
+/// The layout of a store whose log is slots.
+const SLOTS: Layout = Layout::Slots(MOST_SLOTS);
+
+/// The layout of a store whose log lies in the heap.
+const LOG: Layout = Layout::Log(MOST_EXTENTS);
+
+/// The most commits under one gate where the log is slots.
 const FULL_GROUP: u64 = 16;
+
+/// The most commits under one gate where the log lies in the heap.
+const FULL_LOG_GROUP: u64 = 1_024;
 
 /// The most raw groups.
 const MOST_RAW_GROUPS: u64 = 1_000;
@@ -48,8 +59,12 @@ fn load_of(writers: u8, readers: u8, reading: Reading, count: u64) -> Load {
 }
 
 /// The commits of a group that all writers are in.
-fn members_of(load: Load) -> u64 {
-    u64::from(load.writers).min(FULL_GROUP)
+fn members_of(layout: Layout, load: Load) -> u64 {
+    let most = match layout {
+        Layout::Slots(_) => FULL_GROUP,
+        Layout::Log(_) => FULL_LOG_GROUP,
+    };
+    u64::from(load.writers).min(most)
 }
 
 /// The nanoseconds of so many groups of raw writes and syncs.
@@ -68,8 +83,10 @@ fn run_load<R: Threads + Wait + Clock + Sync>(
     store: Store<FileDisk>,
     load: Load,
 ) -> Result<Work, Fault>
-    requires stands { Stands false store (opened [] (λ relation. 0)) }
-    requires fresh { told_count store.transactions.heads ≡ 0 }
+    ghost start: { Machine Value }
+    requires stands { Stands false store start }
+    requires fresh { told_count (commits_of store).heads ≡ length (commits_of store).heads }
+    requires queue { start.queue ≡ [] }
 {
     match Opened::new(rt, alloc, u64::from(load.writers) + 1, store) {
         Ok(opened) => {
@@ -91,9 +108,10 @@ fn each(nanoseconds: u64, groups: u64) -> Thousandths {
 
 /// Prints how many commits or, where some read, reads there were in a second; both; how many groups, with
 /// the microseconds of each; and how many commits a second raw groups of three syncs would make of as many
-/// members as there are writers, up to 16.
+/// members as there are writers, up to as many as a group of this layout has.
 fn print<R: Print>(
     rt: &R,
+    layout: Layout,
     load: Load,
     work: Work,
     raw_groups: u64,
@@ -102,7 +120,7 @@ fn print<R: Print>(
     let commits = rate(work.commits, work.nanoseconds);
     let reads = rate(work.reads, work.nanoseconds);
     let value = if load.readers == 0 { commits } else { reads };
-    let raw_commits = raw_groups.saturating_mul(members_of(load));
+    let raw_commits = raw_groups.saturating_mul(members_of(layout, load));
     let of_raw = quotient(
         work.commits.saturating_mul(raws / 1000),
         raw_commits.saturating_mul(work.nanoseconds / 1000),
@@ -133,15 +151,16 @@ pub(crate) fn measure<R: Files<File = File> + AllocGlobal + Print + Clock + Thre
     let (folder, count) = (request.folder, request.count);
     match verb {
         Verb::Writers(writers) => {
-            measure_load(
-                rt,
-                alloc,
-                folder,
-                load_of(writers, 0, Reading::Views, count),
-            )
+            let load = load_of(writers, 0, Reading::Views, count);
+            measure_load(rt, alloc, folder, SLOTS, load)
+        }
+        Verb::LogWriters(writers) => {
+            let load = load_of(writers, 0, Reading::Views, count);
+            measure_load(rt, alloc, folder, LOG, load)
         }
         Verb::Readers(readers, reading) => {
-            measure_load(rt, alloc, folder, load_of(1, readers, reading, count))
+            let load = load_of(1, readers, reading, count);
+            measure_load(rt, alloc, folder, SLOTS, load)
         }
         Verb::Holding => holding::measure(rt, alloc, folder, count),
         Verb::Soak(pace) => {
@@ -156,16 +175,17 @@ fn measure_load<R: Files<File = File> + AllocGlobal + Print + Clock + Threads + 
     rt: &R,
     alloc: Global,
     folder: &str,
+    layout: Layout,
     load: Load,
 ) -> Result<(), Fault> {
     let place = format!(in alloc; "{folder}/raw")?;
     let mut raw = RawFiles::new(rt, alloc, place.as_str(), MOST_SLOTS)?;
-    let members = members_of(load);
+    let members = members_of(layout, load);
     let half = (load.commits.min(MOST_RAW_GROUPS) / 2).max(1);
     let before = time_raw(rt, &mut raw, half, members)?;
-    let store = fresh(rt, alloc, folder, MOST_SLOTS)?;
+    let store = fresh(rt, alloc, folder, layout)?;
     let work = run_load(rt, alloc, store, load)?;
     let after = time_raw(rt, &mut raw, half, members)?;
     let raws = before.saturating_add(after);
-    print(rt, load, work, half.saturating_mul(2), raws)
+    print(rt, layout, load, work, half.saturating_mul(2), raws)
 }

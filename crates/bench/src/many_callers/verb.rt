@@ -10,6 +10,8 @@ const SOAK_MS: u64 = 40;
 pub(crate) enum Verb {
     /// Commits of so many writers.
     Writers(u8),
+    /// The same of a store whose log lies in the heap.
+    LogWriters(u8),
     /// What so many readers read beside one writer.
     Readers(u8, Reading),
     /// How long the lock is held.
@@ -28,6 +30,12 @@ pub(crate) fn known(name: &str) -> Option<(Verb, u64)> {
         "c8" => Some((Verb::Writers(8), 16_000)),
         "c16" => Some((Verb::Writers(16), 32_000)),
         "c32" => Some((Verb::Writers(32), 32_000)),
+        "ec1" => Some((Verb::LogWriters(1), 2_000)),
+        "ec2" => Some((Verb::LogWriters(2), 4_000)),
+        "ec4" => Some((Verb::LogWriters(4), 8_000)),
+        "ec8" => Some((Verb::LogWriters(8), 16_000)),
+        "ec16" => Some((Verb::LogWriters(16), 32_000)),
+        "ec32" => Some((Verb::LogWriters(32), 32_000)),
         "r1" => Some((Verb::Readers(1, Reading::Views), 10_000)),
         "r2" => Some((Verb::Readers(2, Reading::Views), 10_000)),
         "r3" => Some((Verb::Readers(3, Reading::Views), 10_000)),

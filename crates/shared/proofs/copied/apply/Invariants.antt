@@ -6,7 +6,7 @@ use Rattle.shared.proofs.copied.apply.Given as goal
 
 abbrev pub invariant-loop-write : goal.invariant-loop-write
 invariant-loop-write l =
-    (l.txn.snapshot ≡ l.initial.txn.snapshot) × (l.txn.state ≡ l.initial.txn.state)
+    (l.txn ≡ record l.initial.txn { writes = l.txn.writes })
     × (written (at_snapshot l.initial.txn.state l.initial.txn.snapshot) l.txn.writes (drop l.write-index l.initial.writes)
     ≡ written (at_snapshot l.initial.txn.state l.initial.txn.snapshot) l.initial.txn.writes l.initial.writes)
     × ((why : TxnFault) → AreBarred (at_snapshot l.initial.txn.state l.initial.txn.snapshot) l.txn.writes (drop l.write-index l.initial.writes) why

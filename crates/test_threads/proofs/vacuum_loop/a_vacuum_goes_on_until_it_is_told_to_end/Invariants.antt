@@ -1,5 +1,7 @@
 use Rattle.std.proofs.Common.{[]}
 use Rattle.history.specs.Machine.{opened}
+use Rattle.any_store.specs.Values.{commits_of}
+use Rattle.shared.specs.Kinds.{kind_of}
 use Rattle.test_threads.proofs.vacuum_loop.a_vacuum_goes_on_until_it_is_told_to_end.Given as goal
 
 abbrev pub ghost-new : goal.ghost-new
@@ -10,4 +12,9 @@ ghosts-goes_on-L-Ledger g a = record { name = a.opened.blank.name; parts = a.ope
 
 abbrev pub ghosts-goes_on-L-Opening : goal.ghosts-goes_on-L-Opening
 ghosts-goes_on-L-Opening g a =
-    record { start = opened [] (λ relation. 0); mark = a.opened.store.transactions.mark; table = a.opened.cell.table.shared.table_id }
+    record {
+      start = opened [] (λ relation. 0);
+      kind = kind_of a.opened.store;
+      mark = (commits_of a.opened.store).mark;
+      table = a.opened.cell.table.shared.table_id;
+    }

@@ -1,5 +1,7 @@
 use Rattle.std.proofs.Common.{[]}
 use Rattle.history.specs.Machine.{opened}
+use Rattle.any_store.specs.Values.{commits_of}
+use Rattle.shared.specs.Kinds.{kind_of}
 use Rattle.test_threads.proofs.vacuumed.a_vacuum_reclaims_and_views_go_on.Given as goal
 
 abbrev pub ghost-new : goal.ghost-new
@@ -10,4 +12,9 @@ ghosts-answers_from_both-L-Ledger g a = record { name = a.opened.blank.name; par
 
 abbrev pub ghosts-answers_from_both-L-Opening : goal.ghosts-answers_from_both-L-Opening
 ghosts-answers_from_both-L-Opening g a =
-    record { start = opened [] (λ relation. 0); mark = a.opened.store.transactions.mark; table = a.opened.cell.table.shared.table_id }
+    record {
+      start = opened [] (λ relation. 0);
+      kind = kind_of a.opened.store;
+      mark = (commits_of a.opened.store).mark;
+      table = a.opened.cell.table.shared.table_id;
+    }

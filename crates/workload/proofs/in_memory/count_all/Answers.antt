@@ -1,6 +1,6 @@
 use Rattle.std.proofs.Common.{◌≡◌, ◌≤◌, ℕ, ◌+◌, ◌∙◌, length, Option, Some, arith, subst}
 use Rattle.std.specs.Prelude.{IfSome}
-use Rattle.law_refinement.proofs.Memory.{last-is}
+use Rattle.law_any_store.proofs.Memory.{last-published}
 use Rattle.workload.proofs.in_memory.count_all.Goals as goal
 
 -- so many are among those that were made
@@ -12,4 +12,4 @@ counts made others o count is told =
 pub returns-in-Some-clause-last : goal.returns-in-Some-clause-last
 returns-in-Some-clause-last c =
     let r = c.requires in
-    (r.0, r.2, counts (length r.0.published) _ _ _ c.in-Some.is r.3, c.last-last.ensures ∙ last-is _ _ r.1.memory)
+    (r.0, r.2, counts (length r.0.published) _ _ _ c.in-Some.is r.3, c.last-last.ensures ∙ last-published _ _ _ r.1)

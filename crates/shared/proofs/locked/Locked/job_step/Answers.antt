@@ -3,10 +3,10 @@ use Rattle.crossbeam_utils.specs.Seq.{cell_view}
 use Rattle.history.specs.Floors.{Raising}
 use Rattle.history.specs.Histories.{History, IsHistory}
 use Rattle.law_image.specs.Values.{Value, IsValue}
-use Rattle.store.specs.Values.{StoreValue}
-use Rattle.law_refinement.specs.Stands.{raising_of}
+use Rattle.any_store.specs.Values.{StoreValue}
 use Rattle.shared.specs.Seen.{Seen, order_of, seen_of}
-use Rattle.shared.specs.Shared.{failed_seen, has_failed, job_seen}
+use Rattle.shared.specs.Shared.{failed_seen, has_failed, job_seen, raising_in}
+use Rattle.shared.proofs.Engines.{is-machine}
 use Rattle.shared.proofs.Moves.{job-pumped, job-later, job-keeps}
 use Rattle.shared.proofs.Stepping.{done-order, failed-order}
 use Rattle.shared.proofs.locked.Locked.job_step.Goals as goal
@@ -17,9 +17,9 @@ note_job-requires g c =
     let p = job-pumped _ _ _ _ _ _ h.reached h.stands c.job_pump-did.ensures.sound c.job_pump-did.ensures.is in
     let cell = h.cell ∙ sym c.requires.1.1.1.0 in
     let writes = h.writes in
-    let raising = ap (λ (v : StoreValue). raising_of v.job) c.self.view_is ∙ c.requires.1.1.1.1 in
-    let later = job-later _ _ _ _ _ _ _ _ _ _ h _ raising p in
-    let legal = subst (λ (s : Seen). IsHistory IsValue (order_of s)) (sym h.seen) h.stands.machine.history in
+    let raising = ap (λ (v : StoreValue). raising_in v) c.self.view_is ∙ c.requires.1.1.1.1 in
+    let later = job-later _ _ _ _ _ _ _ _ _ _ _ h _ raising p in
+    let legal = subst (λ (s : Seen). IsHistory IsValue (order_of s)) (sym h.seen) (is-machine _ _ _ h.stands).history in
     search rules
 
 pub note_failed-requires-clause-legal : goal.note_failed-requires-clause-legal
@@ -27,7 +27,7 @@ note_failed-requires-clause-legal g c =
     let h = c.self.invariant in
     let seen = (cell_view c.self.inside.writer).seen in
     let same = ap order_of c.note_job.ensures.seen ∙ done-order c.job_pump-did.result g.raising seen ∙ ap order_of h.seen in
-    subst (λ (l : History Value). IsHistory IsValue l) (sym same) h.stands.machine.history
+    subst (λ (l : History Value). IsHistory IsValue l) (sym same) (is-machine _ _ _ h.stands).history
 
 pub meet-requires-clause-legal : goal.meet-requires-clause-legal
 meet-requires-clause-legal g c =
@@ -37,7 +37,7 @@ meet-requires-clause-legal g c =
     let same =
     ap order_of c.note_failed.ensures.seen ∙ failed-order c.has_failed.result noted ∙ ap order_of c.note_job.ensures.seen
     ∙ done-order c.job_pump-did.result g.raising seen ∙ ap order_of h.seen in
-    subst (λ (l : History Value). IsHistory IsValue l) (sym same) h.stands.machine.history
+    subst (λ (l : History Value). IsHistory IsValue l) (sym same) (is-machine _ _ _ h.stands).history
 
 pub invariant_of-self : goal.invariant_of-self
 invariant_of-self g c =
@@ -47,16 +47,16 @@ invariant_of-self g c =
     let n = c.note_job.ensures in
     let f = c.note_failed.ensures in
     let w = c.meet.ensures.writer in
-    let raising = ap (λ (v : StoreValue). raising_of v.job) c.self.view_is ∙ c.requires.1.1.1.1 in
+    let raising = ap (λ (v : StoreValue). raising_in v) c.self.view_is ∙ c.requires.1.1.1.1 in
     let seen = f.seen ∙ ap (λ (b : Bool). failed_seen b (cell_view c.note_job.new.writer).seen) c.has_failed.ensures ∙ ap (failed_seen (has_failed r)) n.seen in
-    job-keeps _ _ _ _ _ _ _ _ _ _ _ _ h _ raising p (w.0 ∙ f.cell ∙ n.cell) w.1 (w.2 ∙ seen) (w.3 ∙ f.archive ∙ n.archive)
+    job-keeps _ _ _ _ _ _ _ _ _ _ _ _ _ h _ raising p (w.0 ∙ f.cell ∙ n.cell) w.1 (w.2 ∙ seen) (w.3 ∙ f.archive ∙ n.archive) (w.4 ∙ f.tokens ∙ n.tokens)
 
 pub returns-clause-happens : goal.returns-clause-happens
 returns-clause-happens g c =
     let h = c.self.invariant in
     let p = job-pumped _ _ _ _ _ _ h.reached h.stands c.job_pump-did.ensures.sound c.job_pump-did.ensures.is in
     let r = c.job_pump-did.result in
-    let raising = ap (λ (v : StoreValue). raising_of v.job) c.self.view_is ∙ c.requires.1.1.1.1 in
+    let raising = ap (λ (v : StoreValue). raising_in v) c.self.view_is ∙ c.requires.1.1.1.1 in
     let seen =
     c.note_failed.ensures.seen ∙ ap (λ (b : Bool). failed_seen b (cell_view c.note_job.new.writer).seen) c.has_failed.ensures
     ∙ ap (failed_seen (has_failed r)) c.note_job.ensures.seen in

@@ -1,3 +1,4 @@
+use Rattle.law_any_store.proofs.Views.{scan_between-stands}
 use Rattle.shared.proofs.Asked.{scan_between-says}
 use Rattle.shared.proofs.Moves.{repass, query-keeps}
 use Rattle.shared.proofs.locked.Locked.scan_between.Goals as goal
@@ -5,9 +6,12 @@ use Rattle.shared.proofs.locked.Locked.scan_between.Goals as goal
 pub invariant_of-self : goal.invariant_of-self
 invariant_of-self g c =
     let w = c.compare.ensures.writer in
-    query-keeps _ _ _ _ _ _ _ _ _ _ _ _ _ _ _ _ (repass _ _ _ _ _ _ _ _ _ _ c.self.invariant w.0 w.1 w.2 w.3) c.scan_between.ensures
+    repass _ _ _ _ _ _ _ _ _ _ _
+    (query-keeps _ _ _ _ _ _ _ _ _ _ c.self.invariant (scan_between-stands _ _ _ _ _ _ _ _ _ c.self.invariant.stands
+    c.scan_between.ensures)) w.0 w.1 w.2 w.3 w.4
 
 pub returns-clause-says : goal.returns-clause-says
 returns-clause-says g c =
-    scan_between-says _ _ _ _ _ _ _ _ _ c.self.invariant _ _ _ c.shown.ensures c.compare.ensures.kept c.compare.ensures.shows c.args.relation c.args.a c.args.b
+    scan_between-says _ _ _ _ _ _ _ _ _ _ c.self.invariant _ _ _ c.shown.ensures c.compare.ensures.kept c.compare.ensures.shows c.args.relation c.args.a
+    c.args.b
     c.scan_between.result c.scan_between.ensures

@@ -1,6 +1,6 @@
 use Rattle.std.proofs.Common.{rules, refl, ap, subst, sym, ◌∙◌, [], ◌∷◌}
-use Rattle.law_refinement.specs.Stands.{Stands}
-use Rattle.law_refinement.proofs.Memory.{last-is}
+use Rattle.law_any_store.specs.Standing.{Stands}
+use Rattle.law_any_store.proofs.Memory.{memory-stands, last-published}
 use Rattle.shared.specs.Seen.{SightValue, IsLater, seen_of}
 use Rattle.shared.proofs.Fronts.{later-nothing}
 use Rattle.shared.proofs.Passes.{begins}
@@ -15,6 +15,6 @@ publish_next-requires g c =
     let on = ap (λ (v : SightValue). v.writes) first in
     let later = subst (λ (v : SightValue). IsLater v.seen (seen_of g.start)) (sym first) (later-nothing (seen_of g.start)) in
     let stands : Stands g.D.Disk.tells c.args.store g.start = search rules in
-    let legal = stands.machine.history in
-    let time = c.last-last.ensures ∙ last-is _ _ stands.memory in
+    let legal = (memory-stands _ _ _ stands).1.history in
+    let time = c.last-last.ensures ∙ last-published _ _ _ stands in
     search rules

@@ -6,5 +6,5 @@ abbrev pub invariant-loop : goal.invariant-loop
 invariant-loop g l =
     (goal.iterator-loop g).can_next l.iterator' × (goal.iterator-loop g).is_finite l.iterator'
     × IsLater l.initial.me l.me
-    × IsSoFar g.L.Opening.start l.doing l.last l.me
+    × IsSoFar g.L.Opening.start g.L.Opening.kind l.doing l.last l.me
     × goal.F-IsAlwaysCallable g l.pause

@@ -16,26 +16,28 @@ invariant_of-self g c =
 
 pub returns-clause-ok : goal.returns-clause-ok
 returns-clause-ok g c =
-    changed-ok c.delete.result c.self.inside.txn c.delete.new.self c.self.inside.moment c.args.self.now (λ (t : TxnValue). with_delete t c.args.key)
+    changed-ok c.delete.result c.self.inside.txn c.delete.new.self c.self.inside.pass.seen c.args.self.now (λ (t : TxnValue). with_delete t c.args.key)
     c.self.view_is c.delete.ensures.ok
 
 pub returns-clause-by_key : goal.returns-clause-by_key
 returns-clause-by_key g c =
-    sees-after c.delete.result _ _ c.self.inside.txn c.delete.new.self c.self.inside.moment c.args.self.now (writes_after_delete c.self.inside.txn c.args.key)
+    sees-after c.delete.result _ _ c.self.inside.txn c.delete.new.self c.self.inside.pass.seen c.args.self.now
+    (writes_after_delete c.self.inside.txn c.args.key)
     (λ (q : Key). same_key c.args.key q) None
-    c.self.view_is c.self.invariant c.delete.ensures.ok c.delete.ensures.by_key
+    c.self.view_is c.self.invariant.0 c.delete.ensures.ok c.delete.ensures.by_key
 
 pub returns-clause-missing : goal.returns-clause-missing
 returns-clause-missing g c =
-    of-seen _ _ c.self.inside.txn c.self.inside.moment c.args.self.now c.args.key (λ (o : Option Value). (c.delete.result ≡ Err fault.Missing)
-    ↔ (o ≡ None)) c.self.view_is c.self.invariant c.delete.ensures.missing
+    of-seen _ _ c.self.inside.txn c.self.inside.pass.seen c.args.self.now c.args.key (λ (o : Option Value). (c.delete.result ≡ Err fault.Missing)
+    ↔ (o ≡ None)) c.self.view_is c.self.invariant.0 c.delete.ensures.missing
 
 pub returns-clause-too_many : goal.returns-clause-too_many
 returns-clause-too_many g c =
     subst (λ (t : TxnMoment). (c.delete.result ≡ Err fault.TooManyKeys)
     ↔ (IsSome (value_for c.args.self.now c.args.key) × IsFullFor t.txn.writes c.args.key)) c.self.view_is
-    (of-seen _ _ c.self.inside.txn c.self.inside.moment c.args.self.now c.args.key (λ (o : Option Value). (c.delete.result ≡ Err fault.TooManyKeys)
-    ↔ (IsSome o × IsFullFor c.self.inside.txn.writes c.args.key)) c.self.view_is c.self.invariant c.delete.ensures.too_many)
+    (of-seen _ _ c.self.inside.txn c.self.inside.pass.seen c.args.self.now c.args.key (λ (o : Option Value). (c.delete.result ≡ Err fault.TooManyKeys)
+    ↔ (IsSome o × IsFullFor c.self.inside.txn.writes c.args.key)) c.self.view_is c.self.invariant.0 c.delete.ensures.too_many)
 
 pub returns-clause-err : goal.returns-clause-err
-returns-clause-err g c = kept-err c.delete.result c.self.inside.txn c.delete.new.self c.self.inside.moment c.args.self.now c.self.view_is c.delete.ensures.err
+returns-clause-err g c = kept-err c.delete.result c.self.inside.txn c.delete.new.self c.self.inside.pass.seen c.args.self.now c.self.view_is
+    c.delete.ensures.err

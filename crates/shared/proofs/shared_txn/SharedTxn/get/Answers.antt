@@ -6,7 +6,8 @@ use Rattle.shared.proofs.shared_txn.SharedTxn.get.Goals as goal
 
 pub returns-clause-is : goal.returns-clause-is
 returns-clause-is g c =
-    c.get.ensures ∙ sees _ _ c.self.inside.txn c.self.inside.moment c.self.invariant c.args.key ∙ ap (λ (t : TxnMoment). value_for t c.args.key) c.self.view_is
+    c.get.ensures ∙ sees _ _ c.self.inside.txn c.self.inside.pass.seen c.self.invariant.0 c.args.key ∙ ap (λ (t : TxnMoment). value_for t c.args.key)
+    c.self.view_is
 
 pub returns-clause-reached : goal.returns-clause-reached
-returns-clause-reached g c = subst (λ (t : TxnMoment). SeenReached g.L.Opening.start t.seen) c.self.view_is (works-reached _ _ _ _ c.self.invariant)
+returns-clause-reached g c = subst (λ (t : TxnMoment). SeenReached g.L.Opening.start t.seen) c.self.view_is (works-reached _ _ _ _ c.self.invariant.0)

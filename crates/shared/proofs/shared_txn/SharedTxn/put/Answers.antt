@@ -15,15 +15,16 @@ invariant_of-self g c =
 pub returns-clause-ok : goal.returns-clause-ok
 returns-clause-ok g c =
     let value = map (λ field. field.now) c.args.fields.now in
-    changed-ok c.put.result c.self.inside.txn c.put.new.self c.self.inside.moment c.args.self.now (λ (t : TxnValue). with_put t c.args.key value) c.self.view_is
+    changed-ok c.put.result c.self.inside.txn c.put.new.self c.self.inside.pass.seen c.args.self.now (λ (t : TxnValue). with_put t c.args.key value)
+    c.self.view_is
     c.put.ensures.ok
 
 pub returns-clause-by_key : goal.returns-clause-by_key
 returns-clause-by_key g c =
     let value = map (λ field. field.now) c.args.fields.now in
-    sees-after c.put.result _ _ c.self.inside.txn c.put.new.self c.self.inside.moment c.args.self.now
+    sees-after c.put.result _ _ c.self.inside.txn c.put.new.self c.self.inside.pass.seen c.args.self.now
     (with_write c.self.inside.txn.writes (record { key = c.args.key; write = Some value })) (λ (q : Key). same_key c.args.key q) (Some value)
-    c.self.view_is c.self.invariant c.put.ensures.ok c.put.ensures.by_key
+    c.self.view_is c.self.invariant.0 c.put.ensures.ok c.put.ensures.by_key
 
 pub returns-clause-err : goal.returns-clause-err
-returns-clause-err g c = kept-err c.put.result c.self.inside.txn c.put.new.self c.self.inside.moment c.args.self.now c.self.view_is c.put.ensures.err
+returns-clause-err g c = kept-err c.put.result c.self.inside.txn c.put.new.self c.self.inside.pass.seen c.args.self.now c.self.view_is c.put.ensures.err
