@@ -1,6 +1,6 @@
 #!/usr/bin/env bash
 # Tests the library that stands in a folder: run.sh OUT [PROGRAM]. With the program `timestore`, which stands
-# where the gate builds it, images go from the one to the other.
+# where `make test` builds it, images go from the one to the other.
 set -eu
 here=$(cd "$(dirname "$0")" && pwd)
 top=$(dirname "$here")

@@ -1,5 +1,5 @@
 #!/usr/bin/env bash
-# Builds the library over what the gate has proved, and tests it. It fails where it cannot: then the library is not tested.
+# Builds the library over what `make test` has proved, and tests it. It fails where it cannot: then the library is not tested.
 set -u
 cd "$(dirname "$0")/.." || exit 1
 
@@ -11,13 +11,13 @@ not_tested() {
 for tool in gcc make python3 nm rt; do
     command -v "$tool" > /dev/null || not_tested "there is no $tool"
 done
-[ -x ../crates/timestore/out/timestore ] || not_tested "the gate left no program crates/timestore/out/timestore"
+[ -x ../crates/timestore/out/timestore ] || not_tested "\`make test\` left no program crates/timestore/out/timestore"
 log=$(mktemp)
 trap 'rm -f "$log"' EXIT
 start=$(date +%s)
-if ! { timeout 1200 make gate-core && make all; } > "$log" 2>&1; then
+if ! { timeout 1200 make proved-core && make all; } > "$log" 2>&1; then
     tail -n 20 "$log"
-    not_tested "it was not built over what the gate has left"
+    not_tested "it was not built over what \`make test\` has left"
 fi
 echo "the library was built in $(($(date +%s) - start)) seconds"
 make test

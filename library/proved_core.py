@@ -1,7 +1,7 @@
 #!/usr/bin/env python3
-"""Builds the proved part over the libraries that `rt ci` has just left in crates/*/out: gate_core.py KIT CRATE.
+"""Builds the proved part over the libraries that `rt ci` has just left in crates/*/out: proved_core.py KIT CRATE.
 
-`rt lib` would prove each of them again, since the gate leaves no stamp there. Only the crate itself is proved here.
+`rt lib` would prove each of them again, since `rt ci` leaves no stamp there. Only the crate itself is proved here.
 """
 
 import os
@@ -17,10 +17,10 @@ def main(kit: str, folder: str) -> int:
     import rtlib
 
     crate = rtlib.Crate(str(crate_folder), str(crate_folder.parents[1]), {})
-    # (a gate that was ended leaves folders with nothing in them)
+    # (a run that was ended leaves folders with nothing in them)
     missing = [it.name for it in crate.below() if not os.path.isfile(f"{it.rlib}/format")]
     if missing:
-        print(f"the gate left no library of {', '.join(missing)}", file=sys.stderr)
+        print(f"`rt ci` left no library of {', '.join(missing)}", file=sys.stderr)
         return 1
     os.makedirs("out", exist_ok=True)
     return crate.build_static([])
