@@ -1,5 +1,5 @@
-use Rattle.std.proofs.Common.{rules, ℕ, ◌+◌, ◌≡◌, [], true, length, sym, subst, ap, arith, ◌∙◌}
-use Rattle.std.proofs.lemmas.Option.{IfSome_then}
+use Rattle.std.proofs.Common.{rules, ℕ, ◌+◌, ◌≡◌, [], true, length, Option, None, Some, sym, subst, ap, arith}
+use Rattle.std.specs.Prelude.{IfSome}
 use denote.Param.Send.{sendable}
 use Rattle.disk.proofs.mem_disk.MemDisk.TheSendSync as mem_disk
 use Rattle.history.specs.Histories.{History}
@@ -24,6 +24,11 @@ stress_on-requires g c κs within =
       ),
     )
 
+-- what is counted from none on
+from-none : (made first others : ℕ) (o : Option ℕ) → first ≡ 0 → IfSome o (λ n. made ≡ first + n + others) → IfSome o (λ n. made ≡ n + others)
+from-none made first others None none told = tt
+from-none made first others (Some n) none told = omega (arith, none, told)
+
 -- it began with no commit
 pub count_all-requires : goal.count_all-requires
 count_all-requires g c =
@@ -34,5 +39,5 @@ count_all-requires g c =
       told.0,
       told.1,
       subst (λ (m : Machine Value). Reached m told.0) same told.2,
-      IfSome_then _ told.3 (λ count many. omega (arith, many, none)),
+      from-none _ _ _ _ none told.3,
     )
