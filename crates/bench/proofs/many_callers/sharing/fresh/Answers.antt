@@ -8,4 +8,7 @@ use Rattle.bench.proofs.many_callers.sharing.fresh.Goals as goal
 pub over_files-requires : goal.over_files-requires
 over_files-requires g c =
     let e = c.in-Ok.ensures in
-    (subst (λ (m : Machine Value). Stands true c.in-Ok.store m) (sym (opened-as _ _ e.size [] (λ relation. 0))) e.stands, e.fresh)
+    record {
+      stands = subst (λ (m : Machine Value). Stands true c.in-Ok.store m) (sym (opened-as _ _ e.size [] (λ relation. 0))) e.stands;
+      fresh = e.fresh;
+    }
