@@ -73,7 +73,9 @@ impl<D: Disk> Store<D> {
         match &mut self.engine {
             Engine::Slots(store) => store.job_pump(),
             Engine::Log(store) => {
-                store.job_pump()?;
+                if store.has_failed() {
+                    return Err(PumpFault::Failed);
+                }
                 Ok(JobDid::Idle)
             }
         }

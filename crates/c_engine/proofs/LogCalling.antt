@@ -11,7 +11,7 @@ use Rattle.group.specs.declared.answers.PumpFault.TheVariants as fault
 use Rattle.log_writer.specs.Turns.{Turn, Stage, Writing, Syncing, Opening, Settling, Done, IsCallOf}
 use Rattle.log_writer.specs.Writer.{WriterState, turn}
 use Rattle.log_writer.specs.Writer as writers
-use Rattle.log_store.specs.Pumps.{Pumps, TakesStep, BeginsGroup, AdvancesGroup, Advances, did_of}
+use Rattle.log_store.specs.Pumps.{Pumps, TakesStep, bars_groups, BeginsOrWaits, BeginsGroup, AdvancesGroup, Advances, did_of}
 use Rattle.log_store.specs.Values.{LogStoreValue}
 use Rattle.c_engine.specs.Steps.{group_call}
 use Rattle.c_engine.proofs.Leading.{LeadsBy, by-write, by-sync, of-did}
@@ -48,11 +48,16 @@ log-pump-leads old new what pumps = by-failed old.commits.failed pumps
     by-turn : (o : Option WriterState) → TakesStep true old o (Ok what) new → LeadsBy old.disk.areas (group_call Heap what) new.disk.areas
     by-turn None takes = by-idle (length old.commits.queue == 0) takes
       where
-        by-idle : (b : Bool) → MatchBool b ((said what ≡ said did.Idle) × (new ≡ old)) (BeginsGroup true old (Ok what) new)
+        by-job : (b : Bool) → MatchBool b ((said what ≡ Err fault.Busy) × (new ≡ old)) (BeginsGroup true old (Ok what) new)
+            → LeadsBy old.disk.areas (group_call Heap what) new.disk.areas
+        by-job true busy = absurd (let e = busy.0 in cc)
+        by-job false begins = begins-lead old new what begins
+
+        by-idle : (b : Bool) → MatchBool b ((said what ≡ said did.Idle) × (new ≡ old)) (BeginsOrWaits true old (Ok what) new)
             → LeadsBy old.disk.areas (group_call Heap what) new.disk.areas
         by-idle true idle = let same : what ≡ did.Idle =
             (let e = idle.0 in cc) in of-did Heap _ _ what did.Idle same (ap (λ (v : LogStoreValue). v.disk.areas) idle.1)
-        by-idle false begins = begins-lead old new what begins
+        by-idle false begins = by-job (bars_groups old.job) begins
     by-turn (Some w) advances = advances-lead w old new what advances
 
     by-failed : (b : Bool) → MatchBool b ((Ok what ≡ Err fault.Failed) × (new ≡ old)) (TakesStep true old old.turn (Ok what) new)

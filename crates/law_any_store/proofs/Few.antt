@@ -241,9 +241,13 @@ log-pump tells l l' answer pumps = by-failed l.commits.failed pumps
     begins (inl none) = log-rests l l' none.1
     begins (inr begun) = by-standing begun.0 (begun.0).turn (ap (λ (x : LogStoreValue). x.disk) (begun.1).new_is) begun.2
 
-    by-queue : (b : Bool) → MatchBool b ((answer ≡ Ok group_did.Idle) × (l' ≡ l)) (log_pumps.BeginsGroup tells l answer l') → MakesFew (Log l) (Log l')
+    by-job : (b : Bool) → MatchBool b ((answer ≡ Err pump.Busy) × (l' ≡ l)) (log_pumps.BeginsGroup tells l answer l') → MakesFew (Log l) (Log l')
+    by-job true busy = log-rests l l' busy.1
+    by-job false begun = begins begun
+
+    by-queue : (b : Bool) → MatchBool b ((answer ≡ Ok group_did.Idle) × (l' ≡ l)) (log_pumps.BeginsOrWaits tells l answer l') → MakesFew (Log l) (Log l')
     by-queue true idle = log-rests l l' idle.1
-    by-queue false begun = begins begun
+    by-queue false begun = by-job (log_pumps.bars_groups l.job) begun
 
     by-turn : (t : Option WriterState) → log_pumps.TakesStep tells l t answer l' → MakesFew (Log l) (Log l')
     by-turn None step = by-queue (length l.commits.queue == 0) step

@@ -34,7 +34,7 @@ use Rattle.log_writer.specs.Writer.{WriterState}
 use Rattle.log_writer.specs.Writer as writers
 use Rattle.log_store.specs.Values.{LogStoreValue}
 use Rattle.log_store.specs.Pumps as log_steps
-use Rattle.log_store.specs.Pumps.{Advances, AdvancesGroup, BeginsGroup, TakesStep, after_call}
+use Rattle.log_store.specs.Pumps.{Advances, AdvancesGroup, bars_groups, BeginsOrWaits, BeginsGroup, TakesStep, after_call}
 use Rattle.log_store.specs.Submits as log_submits
 use Rattle.any_store.specs.declared.engine.Engine.TheVariants.{Slots, Log}
 use Rattle.any_store.specs.Values.{StoreValue, commits_in, commits_of}
@@ -106,13 +106,17 @@ log-pump-leaves tells l l' answer pumps = by-failed l.commits.failed pumps
         let then = advance-left tells w x l' answer advances in
         record { mark = then.mark ∙ left.mark; opened = then.opened ∙ left.opened; heads = then.heads ∙ left.heads }
 
-    by-queue : (b : Bool) → MatchBool b ((answer ≡ Ok did.Idle) × (l' ≡ l)) (BeginsGroup tells l answer l') → Leaves l.commits l'.commits
-    by-queue true idle = same idle.1
-    by-queue false (inl none) = same none.1
-    by-queue false (inr begun) =
+    by-job : (b : Bool) → MatchBool b ((answer ≡ Err pump.Busy) × (l' ≡ l)) (BeginsGroup tells l answer l') → Leaves l.commits l'.commits
+    by-job true busy = same busy.1
+    by-job false (inl none) = same none.1
+    by-job false (inr begun) =
         by-standing begun.0 (begun.0).turn
         (left-then l.commits (commit_steps.grouped 1024 l.commits) (begun.0).commits (grouped-left l.commits)
         (ap (λ (x : LogStoreValue). x.commits) (begun.1).new_is)) begun.2
+
+    by-queue : (b : Bool) → MatchBool b ((answer ≡ Ok did.Idle) × (l' ≡ l)) (BeginsOrWaits tells l answer l') → Leaves l.commits l'.commits
+    by-queue true idle = same idle.1
+    by-queue false so = by-job (bars_groups l.job) so
 
     by-turn : (t : Option WriterState) → TakesStep tells l t answer l' → Leaves l.commits l'.commits
     by-turn None next = by-queue (length l.commits.queue == 0) next

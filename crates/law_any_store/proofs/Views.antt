@@ -152,6 +152,7 @@ log-asked tells l l' m view from Refuses Recent OfHistory Exact answer is says =
         few = (is.0).few;
         many = (is.0).many;
         turn = (is.0).turn;
+        beside = (is.0).beside;
       }),
     )
     by-own false strange = (ap (λ (x : LogStoreValue). x.commits) strange.1, subst IsInStep (sym strange.1) is.0)

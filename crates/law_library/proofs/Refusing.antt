@@ -163,10 +163,15 @@ log-pump old new why pumps = by-failed old.commits.failed pumps
         subst (λ (d : DiskState). IfUncountedOn d new.disk) (ap (λ (v : LogStoreValue). v.disk) begun.1.new_is)
         (by-standing begun.0 begun.0.turn begun.2)
 
-    by-queue : (b : Bool) → MatchBool b ((pump_said why ≡ Ok did.Idle) × (new ≡ old)) (logs.BeginsGroup true old (Err why) new)
+    by-job : (b : Bool) → MatchBool b ((pump_said why ≡ pump_said fault.Busy) × (new ≡ old)) (logs.BeginsGroup true old (Err why) new)
+        → IfUncountedOn old.disk new.disk
+    by-job true busy = log-nothing old new busy.1
+    by-job false begun = begins begun
+
+    by-queue : (b : Bool) → MatchBool b ((pump_said why ≡ Ok did.Idle) × (new ≡ old)) (logs.BeginsOrWaits true old (Err why) new)
         → IfUncountedOn old.disk new.disk
     by-queue true idle = log-nothing old new idle.1
-    by-queue false begun = begins begun
+    by-queue false begun = by-job (logs.bars_groups old.job) begun
 
     by-turn : (t : Option WriterState) → logs.TakesStep true old t (Err why) new → IfUncountedOn old.disk new.disk
     by-turn None takes = by-queue (length old.commits.queue == 0) takes

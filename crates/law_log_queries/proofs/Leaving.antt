@@ -28,7 +28,7 @@ use Rattle.commits.specs.Steps.{grouped}
 use Rattle.log_store.specs.Values.{LogStoreValue}
 use Rattle.log_store.specs.Calls.{with_commits}
 use Rattle.log_store.specs.Submits.{Submits, SubmitsOwn, AnswersSubmit, with_queued, spent}
-use Rattle.log_store.specs.Pumps.{Pumps, TakesStep, BeginsGroup, AdvancesGroup, Advances, Begins, after_call, with_failure, did_of, disk_answer}
+use Rattle.log_store.specs.Pumps.{Pumps, TakesStep, bars_groups, BeginsOrWaits, BeginsGroup, AdvancesGroup, Advances, Begins, after_call, with_failure, did_of, disk_answer}
 use Rattle.group.specs.declared.answers.Did.{Did}
 use Rattle.group.specs.declared.answers.Did.TheVariants as did
 use Rattle.law_refinement.specs.Homes.{AreArchived}
@@ -172,9 +172,13 @@ pump-leaves tells old new answer pumps = by-failed old.commits.failed pumps
     begins (inl none) = same none.1
     begins (inr begun) = advanced begun.0 begun.0.turn (begin-leaves tells old begun.0 begun.1) begun.2
 
-    by-queue : (b : Bool) → MatchBool b ((answer ≡ Ok did.Idle) × (new ≡ old)) (BeginsGroup tells old answer new) → LeavesArchive tells old new
+    by-job : (b : Bool) → MatchBool b ((answer ≡ Err pump.Busy) × (new ≡ old)) (BeginsGroup tells old answer new) → LeavesArchive tells old new
+    by-job true busy = same busy.1
+    by-job false begun = begins begun
+
+    by-queue : (b : Bool) → MatchBool b ((answer ≡ Ok did.Idle) × (new ≡ old)) (BeginsOrWaits tells old answer new) → LeavesArchive tells old new
     by-queue true idle = same idle.1
-    by-queue false begun = begins begun
+    by-queue false begun = by-job (bars_groups old.job) begun
 
     by-turn : (t : Option WriterState) → TakesStep tells old t answer new → LeavesArchive tells old new
     by-turn None step = by-queue (length old.commits.queue == 0) step

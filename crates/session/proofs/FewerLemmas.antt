@@ -23,16 +23,22 @@ chain-fewer tells None old new what takes = absurd takes
 chain-fewer tells (Some w) old new what takes = counted-fewer old.disk new.disk takes.counts
 
 begun-fewer : (tells b : Bool) (old new : LogStoreValue) (what : Did)
-    → MatchBool b (Path (Result Did PumpFault) (Ok what) (Ok group.Idle) × (new ≡ old)) (log.BeginsGroup tells old (Ok what) new)
+    → MatchBool b (Path (Result Did PumpFault) (Ok what) (Err fault.Busy) × (new ≡ old)) (log.BeginsGroup tells old (Ok what) new)
     → what ≢ group.Idle → IsFewer old.disk new.disk
-begun-fewer tells true old new what takes some = absurd (some (let is = takes.0 in cc))
+begun-fewer tells true old new what takes some = absurd (let is = takes.0 in cc)
 begun-fewer tells false old new what (inl short) some = absurd (let is = short.0 in cc)
 begun-fewer tells false old new what (inr (begun, begins, takes)) some =
     subst (λ (d : DiskState). IsFewer d new.disk) (ap (λ (v : LogStoreValue). v.disk) begins.new_is) (chain-fewer tells begun.turn begun new what takes)
 
+waits-fewer : (tells b : Bool) (old new : LogStoreValue) (what : Did)
+    → MatchBool b (Path (Result Did PumpFault) (Ok what) (Ok group.Idle) × (new ≡ old)) (log.BeginsOrWaits tells old (Ok what) new)
+    → what ≢ group.Idle → IsFewer old.disk new.disk
+waits-fewer tells true old new what takes some = absurd (some (let is = takes.0 in cc))
+waits-fewer tells false old new what takes some = begun-fewer tells (log.bars_groups old.job) old new what takes some
+
 step-fewer : (tells : Bool) (o : Option WriterState) (old new : LogStoreValue) (what : Did) → log.TakesStep tells old o (Ok what) new → what ≢ group.Idle
     → IsFewer old.disk new.disk
-step-fewer tells None old new what takes some = begun-fewer tells (length old.commits.queue == 0) old new what takes some
+step-fewer tells None old new what takes some = waits-fewer tells (length old.commits.queue == 0) old new what takes some
 step-fewer tells (Some w) old new what takes some = counted-fewer old.disk new.disk takes.counts
 
 log-fewer : (tells b : Bool) (old new : LogStoreValue) (what : Did)
