@@ -34,6 +34,7 @@ use Rattle.law_log_store.specs.Standing.{StandsOnHeap, StopsOnHeap}
 use Rattle.law_log_store.proofs.Jobs.{floor-begins}
 use Rattle.law_log_steps.specs.Store.{gate_of, gate_left, raising_of, IsStoreOf}
 use Rattle.law_log_steps.specs.Laws.{StartsOn}
+use Rattle.law_log_steps.proofs.InStep.{floor-in-step}
 use Rattle.law_log_steps.proofs.Jobs.{making-memory}
 
 -- ---- the tests in their order
@@ -220,6 +221,23 @@ module _ (tells : Bool) (v : LogStoreValue) (m : Machine Value) (is : IsStoreOf 
       }
 
 -- ---- the start
+
+-- the store stays in step
+pub starts-in-step : (old new : LogStoreValue) (scope : Option ℕ) (floor : ℕ) (answer : Result (Unit {0}) StartFault) → IsInStep old
+    → StartsFloor old scope floor answer new → IsInStep new
+starts-in-step old new scope floor answer is starts = by-refusal (floor_refusal old scope floor) refl starts
+  where
+    begun : (s : Option ℕ) (a : Result (Unit {0}) StartFault) → floor_refusal old s floor ≡ None → BeginsFloor old s floor a new → IsInStep new
+    begun None a none begins = absurd begins
+    begun (Some relation) (Ok done) none begins =
+        let may = may-begin old relation floor none in
+        subst IsInStep (sym begins.1) (floor-in-step old relation floor may.free may.room is)
+    begun (Some relation) (Err why) none begins = subst IsInStep (sym begins.1) is
+
+    by-refusal : (o : Option StartFault) → floor_refusal old scope floor ≡ o
+        → MatchOption o (BeginsFloor old scope floor answer new) (λ why. (answer ≡ Err why) × (new ≡ old)) → IsInStep new
+    by-refusal None none begins = begun scope answer none begins
+    by-refusal (Some why) some refused = subst IsInStep (sym refused.1) is
 
 pub floor-starts : (tells : Bool) (old new : LogStoreValue) (scope : Option ℕ) (floor : ℕ) (answer : Result (Unit {0}) StartFault) (m : Machine Value)
     → IsStoreOf tells old m → StartsFloor old scope floor answer new → StartsOn tells m (raising_to scope floor) answer new
