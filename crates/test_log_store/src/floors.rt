@@ -3,7 +3,7 @@ use crate::images::{Left, disk_of};
 use crate::on_disk::{ONE_EXTENT, has_bytes, has_run, new_store, pumps, queue};
 use crate::queries::is_value;
 use disk::{Area, MemDisk};
-use group::PumpFault;
+use group::{PumpFault, SubmitFault, Submitted};
 use history::Key;
 use log_store::{Did, JobDid, LogStore, StartFault};
 use std::alloc::Global;
@@ -42,6 +42,24 @@ fn enters(rt: &impl Abort, store: &mut LogStore<MemDisk>) {
         assert!(rt; store.job_pump() == Ok(*did));
     }
     assert!(rt; store.job_pump() == Ok(JobDid::Idle));
+}
+
+// Whether a commit of one extent has no room.
+fn is_full(rt: &impl Abort, alloc: Global, store: &mut LogStore<MemDisk>) -> bool {
+    let mut txn = match store.begin() {
+        Ok(txn) => txn,
+        Err(fault) => panic!(rt; "{fault:?}"),
+    };
+    assert!(rt; txn.put(alloc, SEVEN, &[b"a"]).is_ok());
+    match store.submit(txn, 1, 100) {
+        Ok(Submitted::Queued(ticket)) => {
+            ticket.give_up();
+            false
+        }
+        Err(SubmitFault::HeapFull) => true,
+        Ok(Submitted::ReadOnly(_)) => panic!(rt; "nothing was written"),
+        Err(fault) => panic!(rt; "{fault:?}"),
+    }
 }
 
 // Whether record 7 is told from 130 on alone, where it has the value "c".
@@ -140,6 +158,21 @@ fn an_entry_and_a_group_wait_for_each_other(rt: HostRuntime) -> Result<(), Fail>
     assert!(rt; store.job_pump() == Ok(JobDid::JobDone));
     pumps(&rt, &mut store, ONE_EXTENT);
     assert!(rt; store.last() == 102);
+    let _disk = store.close();
+    Ok(())
+}
+
+#[test]
+fn an_entry_is_promised_its_extent(rt: HostRuntime) -> Result<(), Fail> {
+    let mut store = new_store(&rt, rt.alloc());
+    for label in 0..26 {
+        queue(&rt, rt.alloc(), &mut store, &[7], &[b"a"], label).give_up();
+        pumps(&rt, &mut store, ONE_EXTENT);
+    }
+    assert!(rt; store.start_floor(Some(1), 125) == Ok(()));
+    assert!(rt; is_full(&rt, rt.alloc(), &mut store));
+    assert!(rt; store.job_pump() == Ok(JobDid::WroteEntry));
+    assert!(rt; is_full(&rt, rt.alloc(), &mut store));
     let _disk = store.close();
     Ok(())
 }
