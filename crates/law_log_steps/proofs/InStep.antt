@@ -37,7 +37,8 @@ use Rattle.log_store.specs.declared.job.JobStage.TheVariants.{Ready, Entering}
 use Rattle.log_store.specs.Values as stores
 use Rattle.log_store.specs.Calls as calls
 use Rattle.log_store.specs.Calls.{with_commits}
-use Rattle.log_store.specs.Pumps.{Pumps, TakesStep, bars_groups, BeginsOrWaits, BeginsGroup, AdvancesGroup, Advances, after_call, at_next, with_published, with_failure, did_of}
+use Rattle.log_store.specs.Pumps.{Pumps, TakesStep, bars_groups, BeginsOrWaits, BeginsGroup, AdvancesGroup, Advances, after_call, at_next, with_published}
+use Rattle.log_store.specs.Pumps.{with_failure, did_of}
 use Rattle.log_store.specs.declared.job.JobDid.{JobDid}
 use Rattle.log_store.specs.declared.job.JobWork.{JobWork}
 use Rattle.log_store.specs.declared.job.JobWork.TheVariants.{Floor}

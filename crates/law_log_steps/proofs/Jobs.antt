@@ -11,7 +11,8 @@ use Rattle.history.specs.FloorStarts.{in_use_below, in_use_refusal}
 use Rattle.history.specs.Histories as histories
 use Rattle.history.specs.Histories.{History}
 use Rattle.history.specs.Machine.{Machine, Gate, Shut, Due, MayBeOpen, OfGroup, OfFloor, IsMachine, MayRaise}
-use Rattle.history.specs.Steps.{Event, Step, Run, FloorStarted, FloorRefused, FloorPublished, GateDue, GateWritten, Broke, gated, floor_started, floor_published}
+use Rattle.history.specs.Steps.{Event, Step, Run, FloorStarted, FloorRefused, FloorPublished, GateDue, GateWritten, Broke, gated, floor_started}
+use Rattle.history.specs.Steps.{floor_published}
 use Rattle.history.specs.Steps as steps
 use Rattle.history.proofs.Machines.{run-machine, step-machine}
 use Rattle.history.proofs.Members.{Contains-head, Contains-tail}
@@ -32,7 +33,8 @@ use Rattle.commits.specs.Values.{CommitsValue, last}
 use Rattle.commits.specs.Calls.{oldest}
 use Rattle.log_store.specs.Values.{LogStoreValue, IsInStep, IsBeside, IsStageBeside}
 use Rattle.log_store.specs.Pumps.{with_failure}
-use Rattle.log_store.specs.Jobs.{PumpsJob, StepsJob, StepsAt, StepsReady, Enters, AdvancesEntry, AdvancesAt, Advances, BeginsEntry, at_stage, with_entry, after_call}
+use Rattle.log_store.specs.Jobs.{PumpsJob, StepsJob, StepsAt, StepsReady, Enters, AdvancesEntry, AdvancesAt, Advances, BeginsEntry, at_stage, with_entry}
+use Rattle.log_store.specs.Jobs.{after_call}
 use Rattle.log_store.specs.Jobs.{did_of, entry_of, with_work, with_floor, StartsFloor, BeginsFloor, floor_refusal, floor_refusal_of, refusal_for_use}
 use Rattle.log_store.specs.declared.job.Job.{Job}
 use Rattle.log_store.specs.declared.job.JobDid.{JobDid}
@@ -129,7 +131,8 @@ module _ (tells : Bool) (job : Job) (w : WriterState) (old new : LogStoreValue) 
     most = refl;
     raising = raising ∙ ap (λ (v : LogStoreValue). raising_of v.job) (sym is);
     made = subst (λ (v : LogStoreValue). HasAllMade v.commits.floors v.job) (sym is) made;
-    gate = λ still. next-is ∙ sym (ap (λ (t : Option WriterState). gate_of t (Some (record job { stage = Entering (with_stage w (stage_after w.stage)) }))) at_rest)
+    gate = λ still. next-is
+        ∙ sym (ap (λ (t : Option WriterState). gate_of t (Some (record job { stage = Entering (with_stage w (stage_after w.stage)) }))) at_rest)
         ∙ ap (λ (v : LogStoreValue). gate_of v.turn v.job) (sym is);
     left = λ fails. absurd (let no : false ≡ true = sym works ∙ fails in cc);
     fresh = subst AreFresh (sym (ap (λ (v : LogStoreValue). v.commits) is)) fresh;

@@ -27,7 +27,8 @@ use Rattle.log_store.specs.declared.job.JobStage.TheVariants.{Ready, Entering}
 use Rattle.log_store.proofs.InStep.{beside_group}
 use Rattle.floors.specs.Floors.{FloorsValue}
 use Rattle.log_store.specs.Values as stores
-use Rattle.log_store.specs.Pumps.{Pumps, TakesStep, bars_at, bars_groups, BeginsOrWaits, Begins, BeginsGroup, AdvancesGroup, Advances, after_call, at_next, with_failure, did_of, group_size}
+use Rattle.log_store.specs.Pumps.{Pumps, TakesStep, bars_at, bars_groups, BeginsOrWaits, Begins, BeginsGroup, AdvancesGroup, Advances, after_call, at_next}
+use Rattle.log_store.specs.Pumps.{with_failure, did_of, group_size}
 use Rattle.log_store.specs.Pumps.{group_content}
 use Rattle.group.specs.declared.answers.Did.{Did}
 use Rattle.group.specs.declared.answers.Did.TheVariants as did

@@ -1,5 +1,6 @@
 -- The way of a store's group to the disk, call by call.
-use Rattle.std.proofs.Common.{◌≡◌, ◌≤◌, ℕ, arith, Bool, true, false, List, [], ◌∷◌, ◌++◌, map, take, drop, Option, None, Some, Result, Ok, Err, refl, ap, sym, subst}
+use Rattle.std.proofs.Common.{◌≡◌, ◌≤◌, ℕ, arith, Bool, true, false, List, [], ◌∷◌, ◌++◌, map, take, drop, Option, None, Some, Result, Ok, Err, refl, ap, sym}
+use Rattle.std.proofs.Common.{subst}
 use Rattle.std.proofs.Common.{⊎_elim, inl, inr}
 use Rattle.std.specs.Prelude.{IsTrue, MatchBool, MatchResult}
 use Rattle.history.specs.Histories.{History, MayAllFollow, HasRisingTimes, last, last_after}
@@ -22,7 +23,8 @@ use Rattle.log_entries.specs.Spelling.{entry_bytes}
 use Rattle.log_writer.specs.Turns.{open_gate, written_parts, Turn, Stage, Writing, Syncing, Opening, Settling, Done, IsCallOf, stage_after}
 use Rattle.log_writer.specs.Writer.{WriterState, turn, with_stage}
 use Rattle.log_writer.specs.Writer as writers
-use Rattle.law_log_layout.specs.HeapLog.{HeapLog, PlacedChain, heap_parts, member_told, IsLogOf, KeepsShares, MayJoin, with_chain, placed_group, turn_of, HeapStandsFor}
+use Rattle.law_log_layout.specs.HeapLog.{HeapLog, PlacedChain, heap_parts, member_told, IsLogOf, KeepsShares, MayJoin, with_chain, placed_group, turn_of}
+use Rattle.law_log_layout.specs.HeapLog.{HeapStandsFor}
 use Rattle.law_log_layout.specs.Laws.{KeepsArchive, IsEntryWay}
 use Rattle.law_log_layout.specs.Turns.{IsAt, MayBe, MayBecome}
 use Rattle.law_log_layout.proofs.Parts.{all-left, closed-left}
@@ -243,7 +245,9 @@ module _ (v : LogStoreValue) (h queue : History Value) (floors : ℕ → ℕ) (s
         anchors = anchors-rest s.reading h next floors (map member_told o.group) s.stands stands-then front o.told v.roots.extents v.room.anchors
             (drop v.commits.group queue)
             (subst (λ (l : History Value). HasAnchors v.roots.extents s.reading l v.room.anchors) (sym (taken-and-rest v.commits.group queue)) s.anchors);
-        turn = at-rest (record (with_published v) { disk = u.disk }) (with_chain s.l chain) then w v.job o.alone (record { log = done.rests refl; room = o.room });
+        turn =
+            at-rest (record (with_published v) { disk = u.disk }) (with_chain s.l chain) then w v.job o.alone
+            (record { log = done.rests refl; room = o.room });
         job = enters-later h next floors v.job (later h next front) s.job;
       })
 

@@ -20,7 +20,8 @@ use Rattle.log_store.specs.declared.job.JobWork.{JobWork}
 use Rattle.log_store.specs.declared.job.Job.{Job}
 use Rattle.log_store.specs.declared.job.JobStage.{JobStage}
 use Rattle.log_store.specs.declared.job.JobStage.TheVariants.{Ready, Entering}
-use Rattle.log_store.specs.Pumps.{Pumps, TakesStep, bars_groups, BeginsOrWaits, BeginsGroup, AdvancesGroup, Advances, after_call, with_failure, did_of, disk_answer}
+use Rattle.log_store.specs.Pumps.{Pumps, TakesStep, bars_groups, BeginsOrWaits, BeginsGroup, AdvancesGroup, Advances, after_call, with_failure, did_of}
+use Rattle.log_store.specs.Pumps.{disk_answer}
 use Rattle.group.specs.declared.answers.Did.{Did}
 use Rattle.group.specs.declared.answers.Did.TheVariants as did
 use Rattle.law_log_store.specs.Standing.{StandsOnHeap, IsImageOf, MayStand, MayStandAt, MayStandOn, MayStandBy, StopsOnHeap, floors_with}

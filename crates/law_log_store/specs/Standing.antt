@@ -1,5 +1,6 @@
 -- What the disk of a store whose log lies in the heap stands for, and what a stop may leave of it.
-use Rattle.std.specs.Prelude.{ℕ, ◌≡◌, ◌+◌, ◌*◌, ◌/◌, ◌^◌, ◌<◌, ◌≤◌, ◌↔◌, Bool, MatchBool, List, ◌∷◌, ◌++◌, length, map, flat_map, take, drop, Option, None, Some}
+use Rattle.std.specs.Prelude.{ℕ, ◌≡◌, ◌+◌, ◌*◌, ◌/◌, ◌^◌, ◌<◌, ◌≤◌, ◌↔◌, Bool, MatchBool, List, ◌∷◌, ◌++◌, length, map, flat_map, take, drop, Option, None}
+use Rattle.std.specs.Prelude.{Some}
 use Rattle.std.specs.List.{AllByRecursion}
 use Rattle.history.specs.declared.key.Key.{Key}
 use Rattle.history.specs.Floors.{raised}

@@ -1,5 +1,6 @@
 //! Laws of the disk of a store whose log lies in the heap.
-ghost use Rattle.law_log_store.specs.Calls.{AbortKeeps, BeginKeeps, FailedQueuesNone, FailedRests, FloorBegins, JobLeaves, JobSteps, PumpLeaves, PumpSteps, RedeemKeeps, SubmitSteps};
+ghost use Rattle.law_log_store.specs.Calls.{AbortKeeps, BeginKeeps, FailedQueuesNone, FailedRests, FloorBegins, JobLeaves, JobSteps, PumpLeaves};
+ghost use Rattle.law_log_store.specs.Calls.{PumpSteps, RedeemKeeps, SubmitSteps};
 ghost use Rattle.law_log_store.specs.Opened.{OpenedStands, OpensAny, OpenStands, RoomOpens};
 ghost use Rattle.law_log_store.specs.Laws.{GroupBegins, GroupGoesOn, GroupJoins, StandingStops, SubmitKeeps};
 

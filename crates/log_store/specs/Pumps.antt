@@ -1,5 +1,6 @@
 -- The steps of a group to the disk.
-use Rattle.std.specs.Prelude.{ℕ, ◌≡◌, ◌⊎◌, ◌==◌, min, Bool, false, IsTrue, List, [], length, take, drop, Option, Some, None, Result, Ok, Err, MatchBool, MatchResult, true}
+use Rattle.std.specs.Prelude.{ℕ, ◌≡◌, ◌⊎◌, ◌==◌, min, Bool, false, IsTrue, List, [], length, take, drop, Option, Some, None, Result, Ok, Err, MatchBool}
+use Rattle.std.specs.Prelude.{MatchResult, true}
 use Rattle.disk.specs.Calls.{Counts, refused_answer}
 use Rattle.disk.specs.declared.area.DeviceFault.{DeviceFault}
 use Rattle.group.specs.declared.answers.PumpFault.{PumpFault}
