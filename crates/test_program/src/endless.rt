@@ -120,10 +120,7 @@ job | gate written
 job | job done
 ";
 
-const RAISED: &[Step] = &[
-    At("99", "refused: before kept 100"),
-    At("100", "value 61"),
-];
+const RAISED: &[Step] = &[At("99", "refused: before kept 100"), At("100", "value 61")];
 
 const NOT_RAISED: &[Step] = &[At("99", "none"), At("100", "value 61")];
 
