@@ -199,7 +199,8 @@ def endless(program, folder):
     assert (status, said, told.count("\n")) == (0, "formatted 64\n", 1) and "profile 4" in told, (status, said, told)
     for words in ([], ["--profile", "4"]):
         assert run(program, ["format", store, *words])[:2] == (1, "refused: occupied\n"), words
-    script = "begin t\nput t 1 7 61\nsubmit t 5 100\nflush\nredeem t\nreopen\nat 1 7 100\narchive 100\nreclaim\nfloor 100\ngrow\nfinish\nfloorof 2 100\nfinish\n"
+    script = "begin t\nput t 1 7 61\nsubmit t 5 100\nflush\nredeem t\nreopen\nat 1 7 100\narchive 100\nreclaim\nfloor 100\ngrow\nfinish\n"
+    script += "floorof 2 100\nfinish\n"
     answers = "snapshot 0\nok\nqueued\nidle\ndone 100\nlast 100 floors 0\nvalue 61\n" + "refused: wrong profile\n" * 3
     answers += "refused: not growable\nidle\nstarted\nidle\n"
     assert run(program, ["run", store], script) == (0, answers, "")
