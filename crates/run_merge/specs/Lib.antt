@@ -1,3 +1,4 @@
 pub mod Merges
 pub mod Aheads
+pub mod Mergers
 pub mod Laws

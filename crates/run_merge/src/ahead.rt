@@ -1,5 +1,7 @@
 //! A run that is merged, and its next record, once that is read.
-ghost use Rattle.std.specs.Prelude.{◌≡◌, ℕ, ◌<◌, List, None, Some, IsTrue, OnOk, OnErr, MatchOption, MatchResult, ⊤};
+ghost use Rattle.std.specs.Prelude.{◌≡◌, ℕ, List, None, OnOk, OnErr, MatchOption, option_map, ⊤};
+ghost use Rattle.archive.specs.Answers.{record_of};
+ghost use Rattle.run_merge.specs.Mergers.{record_held};
 ghost use Rattle.law_image.specs.Reading.{ArchiveRecord};
 ghost use Rattle.archive.specs.Cursors.{first_of};
 ghost use Rattle.archive.specs.Readers.{kept_of};
@@ -53,6 +55,23 @@ impl Ahead {
             Some((head, _)) => Some(*head),
             None => None,
         }
+    }
+
+    /// The next record, where that is read.
+    pub fn record(&self) -> Option<(Head, &Value)>
+        ensures { option_map (λ p. record_of p.0 p.1.now) result ≡ record_held self.now }
+    {
+        match &self.held {
+            Some((head, value)) => Some((*head, value)),
+            None => None,
+        }
+    }
+
+    /// The next record, if it is read, is behind.
+    pub fn pass(&mut self)
+        ensures { self.new ≡ record self.old { held = None } }
+    {
+        self.held = None;
     }
 
     /// Reads the next record, if there is one and it is not read.

@@ -3,5 +3,6 @@
 
 mod ahead;
 pub mod laws;
+mod merger;
 
 pub(crate) use ahead::Ahead;
