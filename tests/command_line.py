@@ -206,7 +206,7 @@ def shown(program, store):
 
 
 def endless(program, folder):
-    """A store of profile 4, which is still being built: format says so, what is done stays and is shown, and jobs are refused."""
+    """A store of profile 4, which is still being built: format says so, what is done stays and is shown, and jobs but floors are refused."""
     store = os.path.join(folder, "endless")
     os.mkdir(store)
     for words in (["--profile", "4", "--slots", "64"], ["--extents", "64"], ["--profile", "3", "--extents", "64"]):
@@ -218,8 +218,10 @@ def endless(program, folder):
     assert (status, said, told.count("\n")) == (0, "formatted 64\n", 1) and "profile 4" in told, (status, said, told)
     for words in ([], ["--profile", "4"]):
         assert run(program, ["format", store, *words])[:2] == (1, "refused: occupied\n"), words
-    script = "begin t\nput t 1 7 61\nsubmit t 5 100\nflush\nredeem t\nreopen\nat 1 7 100\narchive 100\nreclaim\nfloorof 1 100\nfloor 100\ngrow\nfinish\n"
-    answers = "snapshot 0\nok\nqueued\nidle\ndone 100\nlast 100 floors 0\nvalue 61\n" + "refused: wrong profile\n" * 4 + "refused: not growable\nidle\n"
+    script = "begin t\nput t 1 7 61\nsubmit t 5 100\nflush\nredeem t\nreopen\nat 1 7 100\narchive 100\nreclaim\nfloor 100\ngrow\nfinish\n"
+    script += "floorof 2 100\nfinish\n"
+    answers = "snapshot 0\nok\nqueued\nidle\ndone 100\nlast 100 floors 0\nvalue 61\n" + "refused: wrong profile\n" * 3
+    answers += "refused: not growable\nidle\nstarted\nidle\n"
     assert run(program, ["run", store], script) == (0, answers, "")
     assert run(program, ["run", store], "begin t\ndel t 1 7\nput t 1 8 62 -\nsubmit t 6 200\nflush\nredeem t\n")[:2] == (
         0, "snapshot 100\nok\nok\nqueued\nidle\ndone 200\n")
@@ -232,9 +234,12 @@ def endless(program, folder):
     assert (status, told) == (0, "") and said.startswith("done "), (status, said, told)
     assert run(program, ["get", store, "1", "7", "--json"])[1].endswith('"value":["Ada"]}\n')
     assert run(program, ["del", store, "1", "7"])[0] == 0 and run(program, ["get", store, "1", "7"]) == (0, "none\n", "")
-    for words in (["vacuum", store, "200"], ["floor", store, "1", "200"]):
-        assert run(program, words)[:2] == (1, "refused: wrong profile\n"), words
+    assert run(program, ["vacuum", store, "200"])[:2] == (1, "refused: wrong profile\n")
     assert run(program, ["grow", store])[:2] == (1, "refused: not growable\n")
+    assert run(program, ["floor", store, "1", "200"]) == (0, "floor 200\n", "")
+    assert run(program, ["floor", store, "1", "200"])[:2] == (1, "refused: nothing to do\n")
+    assert run(program, ["at", store, "1", "8", "199"])[:2] == (1, "refused: before kept 200\n")
+    assert run(program, ["at", store, "1", "8", "200"]) == (0, "value 62 -\n", "")
 
 
 def main():

@@ -1,22 +1,26 @@
 -- The beginnings and steps of jobs.
-use Rattle.std.specs.Prelude.{◌≡◌, ℕ, Bool, Option, Result, Ok, Err, MatchBool, if◌then◌else◌}
+use Rattle.std.specs.Prelude.{◌≡◌, ℕ, Bool, Option, Result, Ok, Err, if◌then◌else◌}
 use Rattle.group.specs.declared.answers.PumpFault.{PumpFault}
-use Rattle.group.specs.declared.answers.PumpFault.TheVariants as pump
 use Rattle.store.specs.Archives as archives
 use Rattle.store.specs.Floors as raises
 use Rattle.store.specs.Growths as growths
 use Rattle.store.specs.Jobs as jobs
 use Rattle.store.specs.Reclaims as reclaims
 use Rattle.store.specs.declared.job.JobDid.{JobDid}
-use Rattle.store.specs.declared.job.JobDid.TheVariants.{Idle}
+use Rattle.store.specs.declared.job.JobDid.TheVariants as did
 use Rattle.store.specs.declared.job.StartFault.{StartFault}
-use Rattle.store.specs.declared.job.StartFault.TheVariants.{Failed, WrongProfile, NotGrowable}
+use Rattle.store.specs.declared.job.StartFault.TheVariants as fault
+use Rattle.log_store.specs.Jobs as log_jobs
 use Rattle.log_store.specs.Values.{LogStoreValue}
+use Rattle.log_store.specs.declared.job.JobDid as log_steps
+use Rattle.log_store.specs.declared.job.JobDid.TheVariants as log_did
+use Rattle.log_store.specs.declared.job.StartFault as log_starts
+use Rattle.log_store.specs.declared.job.StartFault.TheVariants as log_fault
 use Rattle.any_store.specs.Values.{StoreValue, ByEngine}
 
 -- why no job begins in a store of a profile that has none of its kind
 abbrev pub none_of : Bool → StartFault → StartFault
-none_of failed why = if failed then Failed else why
+none_of failed why = if failed then fault.Failed else why
 
 -- no job begins, and nothing has changed
 abbrev pub BeginsNone : StartFault → Result (Unit {0}) StartFault → LogStoreValue → LogStoreValue → Type 0
@@ -24,24 +28,57 @@ BeginsNone why answer old new = (answer ≡ Err (none_of old.commits.failed why)
 
 -- an archive begins, where the log is slots
 abbrev pub StartsArchive : StoreValue → ℕ → Result (Unit {0}) StartFault → StoreValue → Type 0
-StartsArchive old upto answer new = ByEngine (λ s s'. archives.StartsArchive s upto answer s') (BeginsNone WrongProfile answer) old new
+StartsArchive old upto answer new = ByEngine (λ s s'. archives.StartsArchive s upto answer s') (BeginsNone fault.WrongProfile answer) old new
 
 -- so does a reclaim
 abbrev pub StartsReclaim : StoreValue → Result (Unit {0}) StartFault → StoreValue → Type 0
-StartsReclaim old answer new = ByEngine (λ s s'. reclaims.StartsReclaim s answer s') (BeginsNone WrongProfile answer) old new
+StartsReclaim old answer new = ByEngine (λ s s'. reclaims.StartsReclaim s answer s') (BeginsNone fault.WrongProfile answer) old new
 
--- so does a floor
+-- why none begins where the log lies in the heap
+abbrev pub told_fault : log_starts.StartFault → StartFault
+told_fault log_fault.Failed = fault.Failed
+told_fault log_fault.WrongProfile = fault.WrongProfile
+told_fault log_fault.JobBusy = fault.JobBusy
+told_fault log_fault.NothingToDo = fault.NothingToDo
+told_fault (log_fault.NotYet time) = fault.NotYet time
+told_fault (log_fault.InUse snapshot) = fault.InUse snapshot
+told_fault log_fault.HeapFull = fault.HeapFull
+told_fault log_fault.NoMemory = fault.NoMemory
+
+abbrev pub told_start : Result (Unit {0}) log_starts.StartFault → Result (Unit {0}) StartFault
+told_start (Ok done) = Ok tt
+told_start (Err why) = Err (told_fault why)
+
+-- a floor begins in either layout; where the log lies in the heap it is one of one relation
+abbrev pub StartsLogFloor : Option ℕ → ℕ → Result (Unit {0}) StartFault → LogStoreValue → LogStoreValue → Type 0
+StartsLogFloor scope floor answer old new =
+    (said : Result (Unit {0}) log_starts.StartFault) × log_jobs.StartsFloor old scope floor said new × (answer ≡ told_start said)
+
 abbrev pub StartsFloor : StoreValue → Option ℕ → ℕ → Result (Unit {0}) StartFault → StoreValue → Type 0
-StartsFloor old scope floor answer new = ByEngine (λ s s'. raises.StartsFloor s scope floor answer s') (BeginsNone WrongProfile answer) old new
+StartsFloor old scope floor answer new = ByEngine (λ s s'. raises.StartsFloor s scope floor answer s') (StartsLogFloor scope floor answer) old new
 
 -- and so does a growth; a log in the heap has no slots
 abbrev pub StartsGrowth : StoreValue → Result (Unit {0}) StartFault → StoreValue → Type 0
-StartsGrowth old answer new = ByEngine (λ s s'. growths.StartsGrowth s answer s') (BeginsNone NotGrowable answer) old new
+StartsGrowth old answer new = ByEngine (λ s s'. growths.StartsGrowth s answer s') (BeginsNone fault.NotGrowable answer) old new
 
--- no job runs
-abbrev pub PumpsNone : Result JobDid PumpFault → LogStoreValue → LogStoreValue → Type 0
-PumpsNone answer old new = MatchBool old.commits.failed (answer ≡ Err pump.Failed) (answer ≡ Ok Idle) × (new ≡ old)
+-- what a step of a job did where the log lies in the heap: its entry is a chain of one extent, and is written as a group's chain is
+abbrev pub told_did : log_steps.JobDid → JobDid
+told_did log_did.Idle = did.Idle
+told_did log_did.WroteEntry = did.WroteExtent
+told_did log_did.GateClosed = did.BodyWritten
+told_did log_did.HeapSynced = did.BodySynced
+told_did log_did.GateWritten = did.GateWritten
+told_did log_did.JobDone = did.JobDone
+
+abbrev pub told_step : Result log_steps.JobDid PumpFault → Result JobDid PumpFault
+told_step (Ok what) = Ok (told_did what)
+told_step (Err why) = Err why
+
+-- a step of a job there
+abbrev pub PumpsLogJob : Bool → Result JobDid PumpFault → LogStoreValue → LogStoreValue → Type 0
+PumpsLogJob tells answer old new =
+    (said : Result log_steps.JobDid PumpFault) × log_jobs.PumpsJob tells old said new × (answer ≡ told_step said)
 
 -- a step of the job that runs
 abbrev pub PumpsJob : Bool → StoreValue → Result JobDid PumpFault → StoreValue → Type 0
-PumpsJob tells old answer new = ByEngine (λ s s'. jobs.PumpsJob tells s answer s') (PumpsNone answer) old new
+PumpsJob tells old answer new = ByEngine (λ s s'. jobs.PumpsJob tells s answer s') (PumpsLogJob tells answer) old new

@@ -3,11 +3,13 @@ ghost use Rattle.std.specs.Prelude.{◌≡◌, IsTrue, None, Some};
 ghost use Rattle.disk.specs.Areas.{AreSound};
 ghost use Rattle.any_store.specs.Values.{disk_of};
 ghost use Rattle.any_store.specs.Jobs.{none_of, StartsArchive, StartsReclaim, StartsFloor, StartsGrowth, PumpsJob};
+ghost use Rattle.any_store.specs.Jobs.{told_fault, told_start, told_did, told_step, StartsLogFloor, PumpsLogJob};
 
 use crate::any::Store;
 use crate::engine::Engine;
 use disk::Disk;
 use group::PumpFault;
+use log_store::{JobDid as LogJobDid, LogStore, StartFault as LogStartFault};
 use store::{JobDid, StartFault};
 
 impl<D: Disk> Store<D> {
@@ -31,14 +33,14 @@ impl<D: Disk> Store<D> {
         }
     }
 
-    /// Begins to raise the floor of every relation. No device call is made.
+    /// Begins to raise the floor of every relation, in a store that has one for all. No device call is made.
     pub fn floor_start(&mut self, floor: u64) -> Result<(), StartFault>
         ensures { StartsFloor self.old None floor result self.new }
     {
         self.start_floor(None, floor)
     }
 
-    /// Begins to raise the floor of one relation. No device call is made.
+    /// Begins to raise the floor of one relation, in a store that has one for each. No device call is made.
     pub fn floor_of_start(&mut self, relation: u16, floor: u64) -> Result<(), StartFault>
         ensures { StartsFloor self.old (Some relation) floor result self.new }
     {
@@ -51,7 +53,7 @@ impl<D: Disk> Store<D> {
     {
         match &mut self.engine {
             Engine::Slots(store) => store.start_floor(scope, floor),
-            Engine::Log(store) => Err(none_of(store.has_failed(), StartFault::WrongProfile)),
+            Engine::Log(store) => start_log_floor(store, scope, floor),
         }
     }
 
@@ -72,10 +74,7 @@ impl<D: Disk> Store<D> {
     {
         match &mut self.engine {
             Engine::Slots(store) => store.job_pump(),
-            Engine::Log(store) => {
-                store.job_pump()?;
-                Ok(JobDid::Idle)
-            }
+            Engine::Log(store) => pump_log_job(store),
         }
     }
 }
@@ -85,4 +84,71 @@ fn none_of(failed: bool, why: StartFault) -> StartFault
     ensures { result ≡ none_of failed why }
 {
     if failed { StartFault::Failed } else { why }
+}
+
+// ---- where the log lies in the heap
+
+// Why no job begins.
+fn told_fault(why: LogStartFault) -> StartFault
+    ensures { result ≡ told_fault why }
+{
+    match why {
+        LogStartFault::Failed => StartFault::Failed,
+        LogStartFault::WrongProfile => StartFault::WrongProfile,
+        LogStartFault::JobBusy => StartFault::JobBusy,
+        LogStartFault::NothingToDo => StartFault::NothingToDo,
+        LogStartFault::NotYet(last) => StartFault::NotYet(last),
+        LogStartFault::InUse(snapshot) => StartFault::InUse(snapshot),
+        LogStartFault::HeapFull => StartFault::HeapFull,
+        LogStartFault::NoMemory => StartFault::NoMemory,
+    }
+}
+
+fn told_start(said: Result<(), LogStartFault>) -> Result<(), StartFault>
+    ensures { result ≡ told_start said }
+{
+    match said {
+        Ok(()) => Ok(()),
+        Err(why) => Err(told_fault(why)),
+    }
+}
+
+fn start_log_floor<D: Disk>(
+    store: &mut LogStore<D>,
+    scope: Option<u16>,
+    floor: u64,
+) -> Result<(), StartFault>
+    ensures { StartsLogFloor scope floor result store.old store.new }
+{
+    told_start(store.start_floor(scope, floor))
+}
+
+// What a step of a job did. Its entry is a chain of one extent, and is written as a group's chain is.
+fn told_did(what: LogJobDid) -> JobDid
+    ensures { result ≡ told_did what }
+{
+    match what {
+        LogJobDid::Idle => JobDid::Idle,
+        LogJobDid::WroteEntry => JobDid::WroteExtent,
+        LogJobDid::GateClosed => JobDid::BodyWritten,
+        LogJobDid::HeapSynced => JobDid::BodySynced,
+        LogJobDid::GateWritten => JobDid::GateWritten,
+        LogJobDid::JobDone => JobDid::JobDone,
+    }
+}
+
+fn told_step(said: Result<LogJobDid, PumpFault>) -> Result<JobDid, PumpFault>
+    ensures { result ≡ told_step said }
+{
+    match said {
+        Ok(what) => Ok(told_did(what)),
+        Err(why) => Err(why),
+    }
+}
+
+fn pump_log_job<D: Disk>(store: &mut LogStore<D>) -> Result<JobDid, PumpFault>
+    ensures is { PumpsLogJob D.tells result store.old store.new }
+    ensures sound { IsTrue D.tells → AreSound store.new.disk.areas }
+{
+    told_step(store.job_pump())
 }

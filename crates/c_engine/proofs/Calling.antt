@@ -6,12 +6,11 @@ use Rattle.disk.specs.Areas.{Areas, AreSound}
 use Rattle.disk.specs.declared.area.Area.TheVariants.{Heap}
 use Rattle.group.specs.declared.answers.Did.{Did}
 use Rattle.group.specs.declared.answers.PumpFault.{PumpFault}
-use Rattle.group.specs.declared.answers.PumpFault.TheVariants as fault
 use Rattle.store.specs.declared.job.JobDid.{JobDid}
-use Rattle.store.specs.declared.job.JobDid.TheVariants as job
-use Rattle.log_store.specs.Values.{LogStoreValue}
+use Rattle.log_store.specs.Jobs as log_jobs
+use Rattle.log_store.specs.declared.job.JobDid as log_steps
 use Rattle.any_store.specs.Calls.{Pumps}
-use Rattle.any_store.specs.Jobs.{PumpsJob}
+use Rattle.any_store.specs.Jobs.{PumpsJob, told_did, told_step}
 use Rattle.any_store.specs.Places.{log_area}
 use Rattle.any_store.specs.Values.{StoreValue, disk_of}
 use Rattle.any_store.specs.declared.engine.Engine.TheVariants.{Slots, Log}
@@ -29,7 +28,7 @@ use Rattle.c_engine.specs.declared.step.Step.{Step}
 use Rattle.c_engine.specs.declared.step.Step.TheVariants.{Group, Job}
 use Rattle.c_engine.proofs.Leading.{LeadsBy, of-job-did}
 use Rattle.c_engine.proofs.SlotCalling.{slot-pump-leads, slot-job-leads}
-use Rattle.c_engine.proofs.LogCalling.{log-pump-leads}
+use Rattle.c_engine.proofs.LogCalling.{log-pump-leads, log-job-leads}
 
 -- ---- a step, in either layout
 
@@ -48,12 +47,13 @@ pub job-leads : (old new : StoreValue) (what : JobDid) → PumpsJob true old (Ok
 job-leads (Slots s) (Slots s') what pumps = slot-job-leads s s' what pumps
 job-leads (Slots s) (Log l') what pumps = absurd pumps
 job-leads (Log l) (Slots s') what pumps = absurd pumps
-job-leads (Log l) (Log l') what pumps = by-failed l.commits.failed pumps.0
+job-leads (Log l) (Log l') what pumps = by-answer pumps.0 pumps.1 pumps.2
   where
-    by-failed : (b : Bool) → MatchBool b (job_said what ≡ Err fault.Failed) (job_said what ≡ job_said job.Idle)
+    by-answer : (said : Result log_steps.JobDid PumpFault) → log_jobs.PumpsJob true l said l' → job_said what ≡ told_step said
         → LeadsBy l.disk.areas (job_call Heap what) l'.disk.areas
-    by-failed true fails = absurd cc
-    by-failed false idle = let same : what ≡ job.Idle = cc in of-job-did Heap _ _ what job.Idle same (ap (λ (v : LogStoreValue). v.disk.areas) pumps.1)
+    by-answer (Ok done) takes is =
+        let same : what ≡ told_did done = (let e = is in cc) in of-job-did Heap _ _ what (told_did done) same (log-job-leads l l' done takes)
+    by-answer (Err why) takes is = absurd (let e = is in cc)
 
 -- ---- what stands out
 

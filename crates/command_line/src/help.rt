@@ -45,8 +45,8 @@ groups, and its heap as many extents of 8 KiB; one that is full answers
 `refused: status full` to each further commit.
 
 Profile 4 has no slots: its log lies in the heap, and does not end. It is still
-being built. Its bytes may change, and it has no jobs yet: `vacuum` and `floor`
-answer it by `wrong profile`. So is a size refused that is of the other profile.";
+being built. Its bytes may change, and nothing gives extents back yet: `vacuum`
+answers it by `wrong profile`. So is a size refused that is of the other profile.";
 
 /// Of `run`.
 pub const RUN: &str = "A line has one command, words parted by one space:

@@ -58,10 +58,16 @@ use Rattle.store.specs.declared.job.JobStage.TheVariants as stages
 use Rattle.store.specs.declared.job.JobWork.{JobWork}
 use Rattle.store.specs.declared.job.JobWork.TheVariants.{Archive, Reclaim, Floor, Grow}
 use Rattle.store.specs.declared.job.StartFault.{StartFault}
+use Rattle.log_store.specs.Jobs as log_jobs
 use Rattle.log_store.specs.Queries.{in_log_store}
 use Rattle.log_store.specs.Pumps as log_pumps
 use Rattle.log_store.specs.Submits as log_submits
 use Rattle.log_store.specs.Values.{LogStoreValue}
+use Rattle.log_store.specs.declared.job.Job as log_job
+use Rattle.log_store.specs.declared.job.JobDid as log_did
+use Rattle.log_store.specs.declared.job.JobStage as log_stages
+use Rattle.log_store.specs.declared.job.JobStage.TheVariants as log_stage
+use Rattle.log_store.specs.declared.job.StartFault as log_starts
 use Rattle.any_store.specs.declared.engine.Engine.TheVariants.{Slots, Log}
 use Rattle.any_store.specs.Values.{StoreValue}
 use Rattle.any_store.specs.Calls as stores
@@ -241,9 +247,13 @@ log-pump tells l l' answer pumps = by-failed l.commits.failed pumps
     begins (inl none) = log-rests l l' none.1
     begins (inr begun) = by-standing begun.0 (begun.0).turn (ap (λ (x : LogStoreValue). x.disk) (begun.1).new_is) begun.2
 
-    by-queue : (b : Bool) → MatchBool b ((answer ≡ Ok group_did.Idle) × (l' ≡ l)) (log_pumps.BeginsGroup tells l answer l') → MakesFew (Log l) (Log l')
+    by-job : (b : Bool) → MatchBool b ((answer ≡ Err pump.Busy) × (l' ≡ l)) (log_pumps.BeginsGroup tells l answer l') → MakesFew (Log l) (Log l')
+    by-job true busy = log-rests l l' busy.1
+    by-job false begun = begins begun
+
+    by-queue : (b : Bool) → MatchBool b ((answer ≡ Ok group_did.Idle) × (l' ≡ l)) (log_pumps.BeginsOrWaits tells l answer l') → MakesFew (Log l) (Log l')
     by-queue true idle = log-rests l l' idle.1
-    by-queue false begun = begins begun
+    by-queue false begun = by-job (log_pumps.bars_groups l.job) begun
 
     by-turn : (t : Option WriterState) → log_pumps.TakesStep tells l t answer l' → MakesFew (Log l) (Log l')
     by-turn None step = by-queue (length l.commits.queue == 0) step
@@ -252,6 +262,56 @@ log-pump tells l l' answer pumps = by-failed l.commits.failed pumps
     by-failed : (b : Bool) → MatchBool b ((answer ≡ Err pump.Failed) × (l' ≡ l)) (log_pumps.TakesStep tells l l.turn answer l') → MakesFew (Log l) (Log l')
     by-failed true failed = log-rests l l' failed.1
     by-failed false step = by-turn l.turn step
+
+-- a step of a job
+advance-entry : (tells : Bool) (job : log_job.Job) (w : WriterState) (l x l' : LogStoreValue) (said : Result log_did.JobDid PumpFault) → x.disk ≡ l.disk
+    → log_jobs.Advances tells job w x said l' → MakesFew (Log l) (Log l')
+advance-entry tells job w l x l' said same advances =
+    let before = ap (λ (d : DiskState). d.made) same in omega (arith, before, advances.counts.made, counted-few x.disk.made)
+
+log-pumped : (tells : Bool) (l l' : LogStoreValue) (said : Result log_did.JobDid PumpFault) → log_jobs.PumpsJob tells l said l' → MakesFew (Log l) (Log l')
+log-pumped tells l l' said pumps = by-failed l.commits.failed pumps
+  where
+    by-at : (x : LogStoreValue) (job : log_job.Job) (k : log_stages.JobStage) → x.disk ≡ l.disk → log_jobs.AdvancesAt tells job k x said l'
+        → MakesFew (Log l) (Log l')
+    by-at x job (log_stage.Ready waited) same advances = absurd advances
+    by-at x job (log_stage.Entering w) same advances = advance-entry tells job w l x l' said same advances
+
+    by-begun : (x : LogStoreValue) (j : Option log_job.Job) → x.disk ≡ l.disk → log_jobs.AdvancesEntry tells j x said l' → MakesFew (Log l) (Log l')
+    by-begun x None same advances = absurd advances
+    by-begun x (Some job) same advances = by-at x job job.stage same advances
+
+    by-turn : (job : log_job.Job) (t : Option WriterState) → log_jobs.StepsReady tells job t l said l' → MakesFew (Log l) (Log l')
+    by-turn job None (inl none) = log-rests l l' none.1
+    by-turn job None (inr enters) = by-begun enters.0 (enters.0).job (ap (λ (x : LogStoreValue). x.disk) (enters.1).new_is) enters.2
+    by-turn job (Some w) busy = log-same l l' (ap (λ (x : LogStoreValue). x.disk) busy.1)
+
+    by-stage : (job : log_job.Job) (k : log_stages.JobStage) → log_jobs.StepsAt tells job k l said l' → MakesFew (Log l) (Log l')
+    by-stage job (log_stage.Ready waited) step = by-turn job l.turn step
+    by-stage job (log_stage.Entering w) step = advance-entry tells job w l l l' said refl step
+
+    by-job : (j : Option log_job.Job) → log_jobs.StepsJob tells j l said l' → MakesFew (Log l) (Log l')
+    by-job None idle = log-rests l l' idle.1
+    by-job (Some job) step = by-stage job job.stage step
+
+    by-failed : (b : Bool) → MatchBool b ((said ≡ Err pump.Failed) × (l' ≡ l)) (log_jobs.StepsJob tells l.job l said l') → MakesFew (Log l) (Log l')
+    by-failed true failed = log-rests l l' failed.1
+    by-failed false step = by-job l.job step
+
+-- a floor that begins
+log-floor : (l l' : LogStoreValue) (scope : Option ℕ) (floor : ℕ) (said : Result (Unit {0}) log_starts.StartFault) → log_jobs.StartsFloor l scope floor said l'
+    → MakesFew (Log l) (Log l')
+log-floor l l' scope floor said starts = by-refusal (log_jobs.floor_refusal l scope floor) starts
+  where
+    begins : (s : Option ℕ) (a : Result (Unit {0}) log_starts.StartFault) → log_jobs.BeginsFloor l s floor a l' → MakesFew (Log l) (Log l')
+    begins None a begun = absurd begun
+    begins (Some relation) (Ok done) begun = log-same l l' (ap (λ (x : LogStoreValue). x.disk) begun.1)
+    begins (Some relation) (Err why) begun = log-rests l l' begun.1
+
+    by-refusal : (o : Option log_starts.StartFault) → MatchOption o (log_jobs.BeginsFloor l scope floor said l') (λ why. (said ≡ Err why) × (l' ≡ l))
+        → MakesFew (Log l) (Log l')
+    by-refusal None begun = begins scope said begun
+    by-refusal (Some why) refused = log-rests l l' refused.1
 
 -- what only the commits in memory show
 log-in-memory : (l l' : LogStoreValue) (commits : CommitsValue) → l' ≡ record l { commits = commits } → MakesFew (Log l) (Log l')
@@ -360,7 +420,7 @@ pub floor-few : (old new : StoreValue) (scope : Option ℕ) (floor : ℕ) (answe
 floor-few (Slots s) (Slots s') scope floor answer starts = slots-floor s s' scope floor answer starts
 floor-few (Slots s) (Log l') scope floor answer starts = absurd starts
 floor-few (Log l) (Slots s') scope floor answer starts = absurd starts
-floor-few (Log l) (Log l') scope floor answer starts = log-rests l l' starts.1
+floor-few (Log l) (Log l') scope floor answer starts = log-floor l l' scope floor starts.0 starts.1
 
 pub grow-few : (old new : StoreValue) (answer : Result (Unit {0}) StartFault) → StartsGrowth old answer new → MakesFew old new
 grow-few (Slots s) (Slots s') answer starts = slots-grow s s' answer starts
@@ -372,7 +432,7 @@ pub pumped-few : (tells : Bool) (old new : StoreValue) (answer : Result JobDid P
 pumped-few tells (Slots s) (Slots s') answer pumps = slots-pumped tells s s' answer pumps
 pumped-few tells (Slots s) (Log l') answer pumps = absurd pumps
 pumped-few tells (Log l) (Slots s') answer pumps = absurd pumps
-pumped-few tells (Log l) (Log l') answer pumps = log-rests l l' pumps.1
+pumped-few tells (Log l) (Log l') answer pumps = log-pumped tells l l' pumps.0 pumps.1
 
 pub at-few : (tells : Bool) (v new : StoreValue) (view : ViewValue) (key : Key) (time : ℕ) (answer : Result (Option Value) QueryFault)
     → queries.AnswersAtView tells v view key time answer new → MakesFew v new

@@ -1,28 +1,40 @@
--- The jobs of a store, in either layout. None runs yet where the log lies in the heap.
-use Rattle.std.proofs.Common.{◌≡◌, ℕ, Bool, true, false, List, [], Option, None, Some, Result, Ok, Err, refl, ap, sym, subst, ◌∙◌}
+-- The jobs of a store, in either layout. Where the log lies in the heap floors alone begin.
+use Rattle.std.proofs.Common.{◌≡◌, ℕ, Bool, true, false, cond, List, [], ◌∷◌, Option, None, Some, Result, Ok, Err, refl, ap, sym, subst, ◌∙◌}
 use Rattle.std.specs.Prelude.{IsTrue, MatchBool}
 use Rattle.disk.specs.Areas.{AreSound}
 use Rattle.history.specs.Floors.{Raising}
 use Rattle.history.specs.Machine.{Machine}
-use Rattle.history.specs.Steps.{Event, Run}
+use Rattle.history.specs.Steps.{Event, Run, FloorStarted, floor_started}
 use Rattle.law_image.specs.Values.{Value, IsValue}
 use Rattle.group.specs.declared.answers.PumpFault.{PumpFault}
 use Rattle.group.specs.declared.answers.PumpFault.TheVariants as pump
 use Rattle.store.specs.declared.job.JobDid.{JobDid}
-use Rattle.store.specs.declared.job.JobDid.TheVariants as job_did
 use Rattle.store.specs.declared.job.StartFault.{StartFault}
 use Rattle.store.specs.declared.job.StartFault.TheVariants as start
+use Rattle.log_store.specs.Jobs as log_jobs
 use Rattle.log_store.specs.Values.{LogStoreValue}
+use Rattle.log_store.specs.declared.job.JobDid as log_steps
+use Rattle.log_store.specs.declared.job.JobDid.TheVariants as log_did
+use Rattle.log_store.specs.declared.job.StartFault as log_starts
+use Rattle.log_store.specs.declared.job.StartFault.TheVariants as log_fault
 use Rattle.any_store.specs.declared.engine.Engine.TheVariants.{Slots, Log}
-use Rattle.any_store.specs.Values.{StoreValue, disk_of}
-use Rattle.any_store.specs.Jobs.{none_of, BeginsNone, StartsArchive, StartsReclaim, StartsFloor, StartsGrowth, PumpsJob}
+use Rattle.any_store.specs.Values.{StoreValue, is_log, disk_of}
+use Rattle.any_store.specs.Jobs.{BeginsNone, StartsArchive, StartsReclaim, StartsFloor, StartsGrowth, PumpsJob}
+use Rattle.any_store.specs.Jobs.{told_start, told_did, told_step}
 use Rattle.law_refinement.specs.Calls.{raising_to}
 use Rattle.law_refinement.specs.Calls as slot_calls
-use Rattle.law_refinement.specs.Laws.{floor_ends, job_ends_in}
+use Rattle.law_refinement.specs.Laws.{floor_ends_in, floor_ends, job_breaks_in, job_ends_in}
 use Rattle.law_refinement.specs.Stands as slots
 use Rattle.law_refinement.proofs.GrowingCalls as slot_laws
 use Rattle.law_refinement.proofs.GrowingJobs as slot_jobs
 use Rattle.law_refinement.proofs.GrowingPiece as slot_pieces
+use Rattle.law_log_steps.specs.Laws as log_calls
+use Rattle.law_log_steps.specs.Store.{IsStoreOf}
+use Rattle.law_log_steps.proofs.FloorStarts.{floor-starts, starts-in-step}
+use Rattle.law_log_steps.proofs.InStep.{job-in-step}
+use Rattle.law_log_steps.proofs.Jobs.{job-stands}
+use Rattle.law_log_queries.specs.Calls.{OfFloor, OfJob}
+use Rattle.law_log_queries.proofs.Calls.{call-keeps}
 use Rattle.law_any_store.specs.Standing.{Stands}
 use Rattle.law_any_store.specs.Calls.{StartsOn, RunsTo}
 
@@ -52,13 +64,41 @@ grow-start-stands tells (Slots s) (Log l') answer m is starts = absurd starts
 grow-start-stands tells (Log l) (Slots s') answer m is starts = absurd starts
 grow-start-stands tells (Log l) (Log l') answer m is starts = none-begins tells start.NotGrowable answer l l' m is starts
 
+-- a floor of one whose log lies in the heap
+log-floor-stands : (tells : Bool) (l l' : LogStoreValue) (scope : Option ℕ) (floor : ℕ) (said : Result (Unit {0}) log_starts.StartFault) (m : Machine Value)
+    → Stands tells (Log l) m → log_jobs.StartsFloor l scope floor said l' → StartsOn tells true m (raising_to scope floor) (told_start said) (Log l')
+log-floor-stands tells l l' scope floor said m is starts = by-answer said (floor-starts tells l l' scope floor said m (is.1).store starts)
+  where
+    r : Raising
+    r = raising_to scope floor
+
+    stands : (after : Machine Value) (events : List (Event Value)) → Run IsValue m events after → IsStoreOf tells l' after → Stands tells (Log l') after
+    stands after events run store = (
+      starts-in-step l l' scope floor said is.0 starts,
+      (call-keeps tells l l' m after events is.1 (OfFloor scope floor said starts) run store).0,
+    )
+
+    rests : IsStoreOf tells l' m → Stands tells (Log l') m
+    rests store = stands m [] refl store
+
+    by-answer : (a : Result (Unit {0}) log_starts.StartFault) → log_calls.StartsOn tells m r a l' → StartsOn tells true m r (told_start a) (Log l')
+    by-answer (Ok done) to = (to.0, stands (floor_started m r) (FloorStarted r ∷ []) (floor_started m r, to.0, refl) to.1)
+    by-answer (Err log_fault.NothingToDo) to = (to.0, rests to.1)
+    by-answer (Err (log_fault.NotYet time)) to = (to.0, rests to.1)
+    by-answer (Err (log_fault.InUse snapshot)) to = (to.0, rests to.1)
+    by-answer (Err log_fault.Failed) to = (to.0, rests to.1)
+    by-answer (Err log_fault.WrongProfile) to = rests to.1
+    by-answer (Err log_fault.JobBusy) to = rests to
+    by-answer (Err log_fault.HeapFull) to = (refl, rests to)
+    by-answer (Err log_fault.NoMemory) to = (to.0, rests to.1)
+
 pub floor-start-stands : (tells : Bool) (old new : StoreValue) (scope : Option ℕ) (floor : ℕ) (answer : Result (Unit {0}) StartFault) (m : Machine Value)
-    → Stands tells old m → StartsFloor old scope floor answer new → StartsOn tells m (raising_to scope floor) answer new
+    → Stands tells old m → StartsFloor old scope floor answer new → StartsOn tells (is_log old) m (raising_to scope floor) answer new
 floor-start-stands tells (Slots s) (Slots s') scope floor answer m is starts =
     so answer (slot_laws.floor-start-stands tells s s' scope floor answer m is starts)
   where
     so : (a : Result (Unit {0}) StartFault) → slot_calls.StartsOn tells m (raising_to scope floor) a s'
-        → StartsOn tells m (raising_to scope floor) a (Slots s')
+        → StartsOn tells false m (raising_to scope floor) a (Slots s')
     so (Ok done) to = to
     so (Err start.NothingToDo) to = to
     so (Err (start.NotYet time)) to = to
@@ -68,32 +108,64 @@ floor-start-stands tells (Slots s) (Slots s') scope floor answer m is starts =
     so (Err start.JobBusy) to = to
     so (Err start.StatusFull) to = to
     so (Err start.ArchiveFull) to = to
-    so (Err start.HeapFull) to = to
+    so (Err start.HeapFull) to = absurd to
     so (Err start.NoMemory) to = to
     so (Err start.NotGrowable) to = to
 floor-start-stands tells (Slots s) (Log l') scope floor answer m is starts = absurd starts
 floor-start-stands tells (Log l) (Slots s') scope floor answer m is starts = absurd starts
-floor-start-stands tells (Log l) (Log l') scope floor answer m is starts = by-failed l.commits.failed refl starts.0
-  where
-    same : Stands tells (Log l') m
-    same = none-begins tells start.WrongProfile answer l l' m is starts
+floor-start-stands tells (Log l) (Log l') scope floor answer m is starts =
+    subst (λ (a : Result (Unit {0}) StartFault). StartsOn tells true m (raising_to scope floor) a (Log l')) (sym starts.2)
+    (log-floor-stands tells l l' scope floor starts.0 m is starts.1)
 
-    by-failed : (b : Bool) → l.commits.failed ≡ b → answer ≡ Err (none_of b start.WrongProfile)
-        → StartsOn tells m (raising_to scope floor) answer (Log l')
-    by-failed true fails said =
-        let store = (is.1).store in
-        subst (λ (a : Result (Unit {0}) StartFault). StartsOn tells m (raising_to scope floor) a (Log l')) (sym said)
-        (sym store.memory.failed ∙ fails, same)
-    by-failed false works said =
-        subst (λ (a : Result (Unit {0}) StartFault). StartsOn tells m (raising_to scope floor) a (Log l')) (sym said) same
+-- ---- the steps of a job
 
--- a step in which no job runs is none of the machine's
-idle-ends : (m : Machine Value) → job_ends_in m (Ok job_did.Idle) ≡ []
-idle-ends m = by-raising m.raising
+-- the machine's events are those that its words tell
+floor-told : (what : log_steps.JobDid) (r : Raising) → log_calls.floor_events what r ≡ floor_ends_in (told_did what) r
+floor-told log_did.Idle r = refl
+floor-told log_did.WroteEntry r = refl
+floor-told log_did.GateClosed r = refl
+floor-told log_did.HeapSynced r = refl
+floor-told log_did.GateWritten r = refl
+floor-told log_did.JobDone r = refl
+
+floors-told : (what : log_steps.JobDid) (o : Option Raising) → log_calls.floor_ends what o ≡ floor_ends (told_did what) o
+floors-told what None = refl
+floors-told what (Some r) = floor-told what r
+
+job-told : (m : Machine Value) (said : Result log_steps.JobDid PumpFault) → m.failed ≡ false
+    → log_calls.job_events_in m said ≡ job_ends_in m (told_step said)
+job-told m (Ok what) works = floors-told what m.raising
+job-told m (Err pump.Busy) works = refl
+job-told m (Err pump.NoMemory) works = refl
+job-told m (Err pump.Failed) works = ap (λ (b : Bool). cond b [] (job_breaks_in m.gate)) works
+
+-- a step of a job of one whose log lies in the heap
+log-job-stands : (tells : Bool) (l l' : LogStoreValue) (said : Result log_steps.JobDid PumpFault) (m : Machine Value) → Stands tells (Log l) m
+    → (IsTrue tells → AreSound l'.disk.areas) → log_jobs.PumpsJob tells l said l'
+    → MatchBool m.failed ((told_step said ≡ Err pump.Failed) × Stands tells (Log l') m) (RunsTo tells m (job_ends_in m (told_step said)) (Log l'))
+log-job-stands tells l l' said m is sound pumps = so m.failed refl
   where
-    by-raising : (r : Option Raising) → floor_ends job_did.Idle r ≡ []
-    by-raising None = refl
-    by-raising (Some r) = refl
+    stands_then : IsStoreOf tells l m
+    stands_then = (is.1).store
+
+    failed-rests : l.commits.failed ≡ true → (said ≡ Err pump.Failed) × (l' ≡ l)
+    failed-rests failed =
+        subst (λ (b : Bool). MatchBool b ((said ≡ Err pump.Failed) × (l' ≡ l)) (log_jobs.StepsJob tells l.job l said l')) failed pumps
+
+    so : (b : Bool) → m.failed ≡ b
+        → MatchBool b ((told_step said ≡ Err pump.Failed) × Stands tells (Log l') m) (RunsTo tells m (job_ends_in m (told_step said)) (Log l'))
+    so true fails =
+        let rests = failed-rests (stands_then.memory.failed ∙ fails) in
+        (ap told_step rests.0, subst (λ (x : LogStoreValue). Stands tells (Log x) m) (sym rests.1) is)
+    so false works =
+        let runs = job-stands tells l l' said m is.0 sound stands_then pumps in record {
+          after = runs.after;
+          run = subst (λ (events : List (Event Value)). Run IsValue m events runs.after) (job-told m said works) runs.run;
+          stands = (
+            job-in-step tells l l' said is.0 pumps,
+            (call-keeps tells l l' m runs.after (log_calls.job_events_in m said) is.1 (OfJob said sound pumps) runs.run runs.stands).0,
+          );
+        }
 
 pub job-pump-stands : (tells : Bool) (old new : StoreValue) (answer : Result JobDid PumpFault) (m : Machine Value) → Stands tells old m
     → (IsTrue tells → AreSound (disk_of new).areas) → PumpsJob tells old answer new
@@ -108,19 +180,6 @@ job-pump-stands tells (Slots s) (Slots s') answer m is sound pumps = so m.failed
     so false to = record { after = to.0; run = to.1; stands = to.2 }
 job-pump-stands tells (Slots s) (Log l') answer m is sound pumps = absurd pumps
 job-pump-stands tells (Log l) (Slots s') answer m is sound pumps = absurd pumps
-job-pump-stands tells (Log l) (Log l') answer m is sound pumps = so m.failed (subst Says (let store = (is.1).store in store.memory.failed) pumps.0)
-  where
-    Says : Bool → Type 0
-    Says b = MatchBool b (answer ≡ Err pump.Failed) (answer ≡ Ok job_did.Idle)
-
-    same : Stands tells (Log l') m
-    same = subst (λ (x : LogStoreValue). Stands tells (Log x) m) (sym pumps.1) is
-
-    so : (b : Bool) → Says b
-        → MatchBool b ((answer ≡ Err pump.Failed) × Stands tells (Log l') m) (RunsTo tells m (job_ends_in m answer) (Log l'))
-    so true said = (said, same)
-    so false said = record {
-      after = m;
-      run = subst (λ (events : List (Event Value)). Run IsValue m events m) (sym (ap (job_ends_in m) said ∙ idle-ends m)) refl;
-      stands = same;
-    }
+job-pump-stands tells (Log l) (Log l') answer m is sound pumps =
+    subst (λ (a : Result JobDid PumpFault). MatchBool m.failed ((a ≡ Err pump.Failed) × Stands tells (Log l') m) (RunsTo tells m (job_ends_in m a) (Log l')))
+    (sym pumps.2) (log-job-stands tells l l' pumps.0 m is sound pumps.1)

@@ -2,7 +2,7 @@
 use Rattle.std.proofs.Common.{◌≡◌, ℕ, ◌==◌, ◌≤◌, nat_le, nat_lt, min, max, ◌&&◌, Bool, true, false, cond, length, Option, None, Some}
 use Rattle.std.proofs.Common.{Result, Ok, Err}
 use Rattle.std.proofs.Common.{refl, arith, ap, sym, subst, ◌∙◌, inl, inr}
-use Rattle.std.specs.Prelude.{MatchBool, MatchResult}
+use Rattle.std.specs.Prelude.{MatchBool, MatchOption, MatchResult}
 use Rattle.std.proofs.lemmas.Bool.Decides.{nat_tests}
 use Rattle.snapshot.specs.Txn.{TxnValue}
 use Rattle.group.specs.Calls as slot_memory
@@ -34,8 +34,16 @@ use Rattle.log_writer.specs.Writer.{WriterState}
 use Rattle.log_writer.specs.Writer as writers
 use Rattle.log_store.specs.Values.{LogStoreValue}
 use Rattle.log_store.specs.Pumps as log_steps
-use Rattle.log_store.specs.Pumps.{Advances, AdvancesGroup, BeginsGroup, TakesStep, after_call}
+use Rattle.log_store.specs.Pumps.{Advances, AdvancesGroup, bars_groups, BeginsOrWaits, BeginsGroup, TakesStep, after_call}
 use Rattle.log_store.specs.Submits as log_submits
+use Rattle.log_store.specs.Jobs as log_jobs
+use Rattle.log_store.specs.declared.job.Job as log_job
+use Rattle.log_store.specs.declared.job.JobDid as log_did
+use Rattle.log_store.specs.declared.job.JobStage as log_stages
+use Rattle.log_store.specs.declared.job.JobStage.TheVariants as log_stage
+use Rattle.log_store.specs.declared.job.JobWork.{JobWork}
+use Rattle.log_store.specs.declared.job.JobWork.TheVariants.{Floor}
+use Rattle.log_store.specs.declared.job.StartFault as log_starts
 use Rattle.any_store.specs.declared.engine.Engine.TheVariants.{Slots, Log}
 use Rattle.any_store.specs.Values.{StoreValue, commits_in, commits_of}
 use Rattle.any_store.specs.Calls as stores
@@ -106,13 +114,17 @@ log-pump-leaves tells l l' answer pumps = by-failed l.commits.failed pumps
         let then = advance-left tells w x l' answer advances in
         record { mark = then.mark ∙ left.mark; opened = then.opened ∙ left.opened; heads = then.heads ∙ left.heads }
 
-    by-queue : (b : Bool) → MatchBool b ((answer ≡ Ok did.Idle) × (l' ≡ l)) (BeginsGroup tells l answer l') → Leaves l.commits l'.commits
-    by-queue true idle = same idle.1
-    by-queue false (inl none) = same none.1
-    by-queue false (inr begun) =
+    by-job : (b : Bool) → MatchBool b ((answer ≡ Err pump.Busy) × (l' ≡ l)) (BeginsGroup tells l answer l') → Leaves l.commits l'.commits
+    by-job true busy = same busy.1
+    by-job false (inl none) = same none.1
+    by-job false (inr begun) =
         by-standing begun.0 (begun.0).turn
         (left-then l.commits (commit_steps.grouped 1024 l.commits) (begun.0).commits (grouped-left l.commits)
         (ap (λ (x : LogStoreValue). x.commits) (begun.1).new_is)) begun.2
+
+    by-queue : (b : Bool) → MatchBool b ((answer ≡ Ok did.Idle) × (l' ≡ l)) (BeginsOrWaits tells l answer l') → Leaves l.commits l'.commits
+    by-queue true idle = same idle.1
+    by-queue false so = by-job (bars_groups l.job) so
 
     by-turn : (t : Option WriterState) → TakesStep tells l t answer l' → Leaves l.commits l'.commits
     by-turn None next = by-queue (length l.commits.queue == 0) next
@@ -121,6 +133,79 @@ log-pump-leaves tells l l' answer pumps = by-failed l.commits.failed pumps
     by-failed : (b : Bool) → MatchBool b ((answer ≡ Err pump.Failed) × (l' ≡ l)) (TakesStep tells l l.turn answer l') → Leaves l.commits l'.commits
     by-failed true is = same is.1
     by-failed false takes = by-turn l.turn takes
+
+-- what the work of a job puts into memory
+work-left : (v : CommitsValue) (work : JobWork) → Leaves v (log_jobs.with_work work v)
+work-left v (Floor floor kept) = record { mark = refl; opened = refl; heads = refl }
+
+entry-left : (l : LogStoreValue) (job : log_job.Job) (w : WriterState) (stage : Stage) → Leaves l.commits (log_jobs.after_call l job w stage).commits
+entry-left l job w (Writing done rest) = record { mark = refl; opened = refl; heads = refl }
+entry-left l job w Syncing = record { mark = refl; opened = refl; heads = refl }
+entry-left l job w Opening = record { mark = refl; opened = refl; heads = refl }
+entry-left l job w Settling = work-left l.commits job.work
+entry-left l job w Done = record { mark = refl; opened = refl; heads = refl }
+
+advance-entry-left : (tells : Bool) (job : log_job.Job) (w : WriterState) (l l' : LogStoreValue) (said : Result log_did.JobDid PumpFault)
+    → log_jobs.Advances tells job w l said l' → Leaves l.commits l'.commits
+advance-entry-left tells job w l l' said advances = by-answer said advances.answer
+  where
+    by-answer : (a : Result log_did.JobDid PumpFault)
+        → MatchResult a (λ what. (what ≡ log_jobs.did_of (writers.did w.stage)) × (l' ≡ record (log_jobs.after_call l job w w.stage) { disk = l'.disk }))
+        (λ why. (why ≡ pump.Failed) × (l' ≡ record (log_steps.with_failure l) { disk = l'.disk }))
+        → Leaves l.commits l'.commits
+    by-answer (Ok what) so = left-then l.commits (log_jobs.after_call l job w w.stage).commits l'.commits (entry-left l job w w.stage)
+        (ap (λ (x : LogStoreValue). x.commits) so.1)
+    by-answer (Err why) so =
+        left-then l.commits (commit_steps.broken l.commits) l'.commits (record { mark = refl; opened = refl; heads = refl })
+        (ap (λ (x : LogStoreValue). x.commits) so.1)
+
+log-job-leaves : (tells : Bool) (l l' : LogStoreValue) (said : Result log_did.JobDid PumpFault) → log_jobs.PumpsJob tells l said l'
+    → Leaves l.commits l'.commits
+log-job-leaves tells l l' said pumps = by-failed l.commits.failed pumps
+  where
+    same : (x : LogStoreValue) → x.commits ≡ l.commits → l' ≡ x → Leaves l.commits l'.commits
+    same x kept is = same-left l.commits l'.commits (ap (λ (x : LogStoreValue). x.commits) is ∙ kept)
+
+    by-at : (x : LogStoreValue) (job : log_job.Job) (k : log_stages.JobStage) → x.commits ≡ l.commits → log_jobs.AdvancesAt tells job k x said l'
+        → Leaves l.commits l'.commits
+    by-at x job (log_stage.Ready waited) kept advances = absurd advances
+    by-at x job (log_stage.Entering w) kept advances =
+        subst (λ (v : CommitsValue). Leaves v l'.commits) kept (advance-entry-left tells job w x l' said advances)
+
+    by-begun : (x : LogStoreValue) (j : Option log_job.Job) → x.commits ≡ l.commits → log_jobs.AdvancesEntry tells j x said l' → Leaves l.commits l'.commits
+    by-begun x None kept advances = absurd advances
+    by-begun x (Some job) kept advances = by-at x job job.stage kept advances
+
+    by-turn : (job : log_job.Job) (t : Option WriterState) → log_jobs.StepsReady tells job t l said l' → Leaves l.commits l'.commits
+    by-turn job None (inl none) = same l refl none.1
+    by-turn job None (inr enters) = by-begun enters.0 (enters.0).job (ap (λ (x : LogStoreValue). x.commits) (enters.1).new_is) enters.2
+    by-turn job (Some w) busy = same (log_jobs.at_stage l job (log_stage.Ready true)) refl busy.1
+
+    by-stage : (job : log_job.Job) (k : log_stages.JobStage) → log_jobs.StepsAt tells job k l said l' → Leaves l.commits l'.commits
+    by-stage job (log_stage.Ready waited) step = by-turn job l.turn step
+    by-stage job (log_stage.Entering w) step = advance-entry-left tells job w l l' said step
+
+    by-job : (j : Option log_job.Job) → log_jobs.StepsJob tells j l said l' → Leaves l.commits l'.commits
+    by-job None idle = same l refl idle.1
+    by-job (Some job) step = by-stage job job.stage step
+
+    by-failed : (b : Bool) → MatchBool b ((said ≡ Err pump.Failed) × (l' ≡ l)) (log_jobs.StepsJob tells l.job l said l') → Leaves l.commits l'.commits
+    by-failed true failed = same l refl failed.1
+    by-failed false step = by-job l.job step
+
+log-floor-leaves : (l l' : LogStoreValue) (scope : Option ℕ) (floor : ℕ) (said : Result (Unit {0}) log_starts.StartFault)
+    → log_jobs.StartsFloor l scope floor said l' → Leaves l.commits l'.commits
+log-floor-leaves l l' scope floor said starts = by-refusal (log_jobs.floor_refusal l scope floor) starts
+  where
+    begins : (s : Option ℕ) (a : Result (Unit {0}) log_starts.StartFault) → log_jobs.BeginsFloor l s floor a l' → Leaves l.commits l'.commits
+    begins None a begun = absurd begun
+    begins (Some relation) (Ok done) begun = same-left l.commits l'.commits (ap (λ (x : LogStoreValue). x.commits) begun.1)
+    begins (Some relation) (Err why) begun = same-left l.commits l'.commits (ap (λ (x : LogStoreValue). x.commits) begun.1)
+
+    by-refusal : (o : Option log_starts.StartFault) → MatchOption o (log_jobs.BeginsFloor l scope floor said l') (λ why. (said ≡ Err why) × (l' ≡ l))
+        → Leaves l.commits l'.commits
+    by-refusal None begun = begins scope said begun
+    by-refusal (Some why) refused = same-left l.commits l'.commits (ap (λ (x : LogStoreValue). x.commits) refused.1)
 
 pub pump-leaves : (tells : Bool) (old new : StoreValue) (answer : Result Did PumpFault) → stores.Pumps tells old answer new
     → Leaves (commits_of old) (commits_of new)
@@ -147,7 +232,7 @@ pub floor-leaves : (old new : StoreValue) (scope : Option ℕ) (floor : ℕ) (an
 floor-leaves (Slots s) (Slots s') scope floor answer starts = of-slots s.transactions s'.transactions (job_leaves.floor-leaves s s' scope floor answer starts)
 floor-leaves (Slots s) (Log l') scope floor answer starts = absurd starts
 floor-leaves (Log l) (Slots s') scope floor answer starts = absurd starts
-floor-leaves (Log l) (Log l') scope floor answer starts = same-left l.commits l'.commits (ap (λ (x : LogStoreValue). x.commits) starts.1)
+floor-leaves (Log l) (Log l') scope floor answer starts = log-floor-leaves l l' scope floor starts.0 starts.1
 
 pub grow-leaves : (old new : StoreValue) (answer : Result (Unit {0}) StartFault) → StartsGrowth old answer new → Leaves (commits_of old) (commits_of new)
 grow-leaves (Slots s) (Slots s') answer starts = of-slots s.transactions s'.transactions (job_leaves.grow-leaves s s' answer starts)
@@ -160,7 +245,7 @@ pub pumped-leaves : (tells : Bool) (old new : StoreValue) (answer : Result JobDi
 pumped-leaves tells (Slots s) (Slots s') answer pumps = of-slots s.transactions s'.transactions (job_leaves.pumped-leaves tells s s' answer pumps)
 pumped-leaves tells (Slots s) (Log l') answer pumps = absurd pumps
 pumped-leaves tells (Log l) (Slots s') answer pumps = absurd pumps
-pumped-leaves tells (Log l) (Log l') answer pumps = same-left l.commits l'.commits (ap (λ (x : LogStoreValue). x.commits) pumps.1)
+pumped-leaves tells (Log l) (Log l') answer pumps = log-job-leaves tells l l' pumps.0 pumps.1
 
 -- ---- transactions
 

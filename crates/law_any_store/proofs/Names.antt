@@ -159,7 +159,7 @@ pub floor-names : (old new : StoreValue) (scope : Option ℕ) (floor : ℕ) (ans
 floor-names (Slots s) (Slots s') scope floor answer starts = refl
 floor-names (Slots s) (Log l') scope floor answer starts = absurd starts
 floor-names (Log l) (Slots s') scope floor answer starts = absurd starts
-floor-names (Log l) (Log l') scope floor answer starts = same-names l l' starts.1
+floor-names (Log l) (Log l') scope floor answer starts = (log_leaves.floor-leaves true l l' scope floor starts.0 starts.1).reclaimed
 
 pub grow-names : (old new : StoreValue) (answer : Result (Unit {0}) StartFault) → StartsGrowth old answer new → KeepsNames old new
 grow-names (Slots s) (Slots s') answer starts = refl
@@ -171,7 +171,7 @@ pub pumped-names : (tells : Bool) (old new : StoreValue) (answer : Result JobDid
 pumped-names tells (Slots s) (Slots s') answer pumps = refl
 pumped-names tells (Slots s) (Log l') answer pumps = absurd pumps
 pumped-names tells (Log l) (Slots s') answer pumps = absurd pumps
-pumped-names tells (Log l) (Log l') answer pumps = same-names l l' pumps.1
+pumped-names tells (Log l) (Log l') answer pumps = (log_leaves.job-leaves tells l l' pumps.0 pumps.1).reclaimed
 
 pub kept-names : (tells : Bool) (old new : StoreValue) → GoesOn tells old new → commits_of new ≡ commits_of old → KeepsNames old new
 kept-names tells (Slots s) (Slots s') goes same = refl

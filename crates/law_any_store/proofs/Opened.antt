@@ -19,12 +19,13 @@ use Rattle.log_writer.specs.Writer.{WriterState}
 use Rattle.log_store.specs.Formats.{HasLogHeader}
 use Rattle.log_store.specs.Opens as log_opens
 use Rattle.log_store.specs.Values.{LogStoreValue, IsInStep}
+use Rattle.log_store.specs.declared.job.Job.{Job}
 use Rattle.any_store.specs.declared.engine.Engine.TheVariants.{Slots, Log}
 use Rattle.any_store.specs.Values.{StoreValue}
 use Rattle.any_store.specs.Opens.{Opens}
 use Rattle.law_refinement.specs.OnDisk as slot_images
 use Rattle.law_log_store.specs.Standing as log_images
-use Rattle.law_log_store.specs.Standing.{StopsOnHeap, StandsOnHeap, HasTurn}
+use Rattle.law_log_store.specs.Standing.{StopsOnHeap, StandsOnHeap, HasTurn, HasJob}
 use Rattle.law_log_queries.specs.Archive as logs
 use Rattle.law_log_queries.proofs.Opening.{opened-stands}
 use Rattle.law_opening.proofs.Opened as slot_opened
@@ -80,9 +81,13 @@ module _ (tells : Bool) (old : DiskState) (mark : ℕ) (l : LogStoreValue) (root
       by-failed true works on = absurd cc
       by-failed false works on = on
 
+      by-job : (j : Option Job) → j ≡ None → (heap : StandsOnHeap l h [] floors) → HasJob l heap.l heap.reading j → length l.room.used ≡ l.roots.extents
+      by-job None none heap rests = rests.room.many
+      by-job (Some job) none heap way = absurd cc
+
       by-turn : (t : Option WriterState) → t ≡ None → (heap : StandsOnHeap l h [] floors) → HasTurn l [] heap.l heap.reading h t
           → length l.room.used ≡ l.roots.extents
-      by-turn None none heap rests = rests.room.many
+      by-turn None none heap rests = by-job l.job (ap (λ (x : LogStoreValue). x.job) opens.new_is) heap rests
       by-turn (Some w) none heap way = absurd cc
 
       at-rest : StandsOnHeap l h [] floors → length l.room.used ≡ l.roots.extents
@@ -104,6 +109,7 @@ module _ (tells : Bool) (old : DiskState) (mark : ℕ) (l : LogStoreValue) (root
         few = omega arith;
         many = subst (λ (x : LogStoreValue). length x.room.used ≤ 2 ^ 20) opens.new_is log-few;
         turn = refl;
+        beside = tt;
       })
 
 -- ---- in either

@@ -152,6 +152,7 @@ log-asked tells l l' m view from Refuses Recent OfHistory Exact answer is says =
         few = (is.0).few;
         many = (is.0).many;
         turn = (is.0).turn;
+        beside = (is.0).beside;
       }),
     )
     by-own false strange = (ap (λ (x : LogStoreValue). x.commits) strange.1, subst IsInStep (sym strange.1) is.0)
@@ -269,7 +270,7 @@ pub job-pump-goes : (tells : Bool) (old new : StoreValue) (answer : Result JobDi
 job-pump-goes tells (Slots s) (Slots s') answer m is pumps = slot_asked.job-pump-goes tells s s' answer m is pumps
 job-pump-goes tells (Slots s) (Log l') answer m is pumps = absurd pumps
 job-pump-goes tells (Log l) (Slots s') answer m is pumps = absurd pumps
-job-pump-goes tells (Log l) (Log l') answer m is pumps = same-goes tells l l' pumps.1
+job-pump-goes tells (Log l) (Log l') answer m is pumps = leaves-goes tells l l' (log_leaves.job-leaves tells l l' pumps.0 pumps.1)
 
 pub archive-start-goes : (tells : Bool) (old new : StoreValue) (upto : ℕ) (answer : Result (Unit {0}) StartFault) (m : Machine Value) → Stands tells old m
     → StartsArchive old upto answer new → GoesOn tells old new
@@ -290,7 +291,8 @@ pub floor-start-goes : (tells : Bool) (old new : StoreValue) (scope : Option ℕ
 floor-start-goes tells (Slots s) (Slots s') scope floor answer m is starts = slot_asked.floor-start-goes tells s s' scope floor answer m is starts
 floor-start-goes tells (Slots s) (Log l') scope floor answer m is starts = absurd starts
 floor-start-goes tells (Log l) (Slots s') scope floor answer m is starts = absurd starts
-floor-start-goes tells (Log l) (Log l') scope floor answer m is starts = same-goes tells l l' starts.1
+floor-start-goes tells (Log l) (Log l') scope floor answer m is starts =
+    leaves-goes tells l l' (log_leaves.floor-leaves tells l l' scope floor starts.0 starts.1)
 
 pub grow-start-goes : (tells : Bool) (old new : StoreValue) (answer : Result (Unit {0}) StartFault) (m : Machine Value) → Stands tells old m
     → StartsGrowth old answer new → GoesOn tells old new

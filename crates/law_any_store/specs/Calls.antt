@@ -101,27 +101,27 @@ abbrev pub ReclaimStartStands : Type 0
 ReclaimStartStands = (tells : Bool) (old new : StoreValue) (answer : Result (Unit {0}) StartFault) (m : Machine Value) → Stands tells old m
     → StartsReclaim old answer new → Stands tells new m
 
--- A floor begins, or it is refused as the machine says; or another job runs, the log has no slot for it, or the store's profile no such floors. One of one
--- relation may want for memory.
-abbrev pub StartsOn : Bool → Machine Value → Raising → Result (Unit {0}) StartFault → StoreValue → Type 0
-StartsOn tells m r (Ok done) new = Step IsValue m (FloorStarted r) (floor_started m r) × Stands tells new (floor_started m r)
-StartsOn tells m r (Err start.NothingToDo) new = Step IsValue m (FloorRefused r floors.NothingToDo) m × Stands tells new m
-StartsOn tells m r (Err (start.NotYet time)) new = Step IsValue m (FloorRefused r (floors.NotYet time)) m × Stands tells new m
-StartsOn tells m r (Err (start.InUse snapshot)) new = Step IsValue m (FloorRefused r (floors.InUse snapshot)) m × Stands tells new m
-StartsOn tells m r (Err start.Failed) new = (m.failed ≡ true) × Stands tells new m
-StartsOn tells m r (Err start.WrongProfile) new = Stands tells new m
-StartsOn tells m r (Err start.JobBusy) new = Stands tells new m
-StartsOn tells m r (Err start.StatusFull) new = Stands tells new m
-StartsOn tells m r (Err start.ArchiveFull) new = ⊥
-StartsOn tells m r (Err start.HeapFull) new = ⊥
-StartsOn tells m r (Err start.NoMemory) new = IsSome r.scope × Stands tells new m
-StartsOn tells m r (Err start.NotGrowable) new = ⊥
+-- A floor begins, or it is refused as the machine says; or another job runs, the log has no slot for it, the heap no room where the log lies in it, or the
+-- store's profile no such floors. One of one relation may want for memory.
+abbrev pub StartsOn : Bool → Bool → Machine Value → Raising → Result (Unit {0}) StartFault → StoreValue → Type 0
+StartsOn tells in_heap m r (Ok done) new = Step IsValue m (FloorStarted r) (floor_started m r) × Stands tells new (floor_started m r)
+StartsOn tells in_heap m r (Err start.NothingToDo) new = Step IsValue m (FloorRefused r floors.NothingToDo) m × Stands tells new m
+StartsOn tells in_heap m r (Err (start.NotYet time)) new = Step IsValue m (FloorRefused r (floors.NotYet time)) m × Stands tells new m
+StartsOn tells in_heap m r (Err (start.InUse snapshot)) new = Step IsValue m (FloorRefused r (floors.InUse snapshot)) m × Stands tells new m
+StartsOn tells in_heap m r (Err start.Failed) new = (m.failed ≡ true) × Stands tells new m
+StartsOn tells in_heap m r (Err start.WrongProfile) new = Stands tells new m
+StartsOn tells in_heap m r (Err start.JobBusy) new = Stands tells new m
+StartsOn tells in_heap m r (Err start.StatusFull) new = Stands tells new m
+StartsOn tells in_heap m r (Err start.ArchiveFull) new = ⊥
+StartsOn tells in_heap m r (Err start.HeapFull) new = IsTrue in_heap × Stands tells new m
+StartsOn tells in_heap m r (Err start.NoMemory) new = IsSome r.scope × Stands tells new m
+StartsOn tells in_heap m r (Err start.NotGrowable) new = ⊥
 
 -- a floor begins or is refused so, and the store stands for the machine after it
 abbrev pub FloorStartStands : Type 0
 FloorStartStands =
     (tells : Bool) (old new : StoreValue) (scope : Option ℕ) (floor : ℕ) (answer : Result (Unit {0}) StartFault) (m : Machine Value) → Stands tells old m
-    → StartsFloor old scope floor answer new → StartsOn tells m (raising_to scope floor) answer new
+    → StartsFloor old scope floor answer new → StartsOn tells (is_log old) m (raising_to scope floor) answer new
 
 -- a growth begins, or it is refused: nothing of the machine's happens
 abbrev pub GrowStartStands : Type 0

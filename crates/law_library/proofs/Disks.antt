@@ -22,8 +22,10 @@ use Rattle.store.specs.Reclaims.{BeginsReclaim, reclaim_refusal}
 use Rattle.store.specs.Reclaims as reclaims
 use Rattle.store.specs.Values as slots
 use Rattle.store.specs.declared.job.StartFault.{StartFault}
+use Rattle.log_store.specs.Jobs as log_jobs
 use Rattle.log_store.specs.Submits as submits
 use Rattle.log_store.specs.Values.{LogStoreValue}
+use Rattle.log_store.specs.declared.job.StartFault as log_starts
 use Rattle.any_store.specs.declared.engine.Engine.TheVariants.{Slots, Log}
 use Rattle.any_store.specs.Values.{StoreValue, disk_of}
 use Rattle.any_store.specs.Calls as stores
@@ -118,7 +120,22 @@ slots-grow v v' r starts = by-refusal (refusal_to_grow v) starts
 
 -- ---- jobs that begin
 
--- none begins where the log lies in the heap
+-- where the log lies in the heap a floor may begin
+log-floor : (l l' : LogStoreValue) (scope : Option ℕ) (time : ℕ) (said : Result (Unit {0}) log_starts.StartFault) → log_jobs.StartsFloor l scope time said l'
+    → l'.disk ≡ l.disk
+log-floor l l' scope time said starts = by-refusal (log_jobs.floor_refusal l scope time) starts
+  where
+    begins : (s : Option ℕ) (a : Result (Unit {0}) log_starts.StartFault) → log_jobs.BeginsFloor l s time a l' → l'.disk ≡ l.disk
+    begins None a begun = absurd begun
+    begins (Some relation) (Ok done) begun = ap (λ (x : LogStoreValue). x.disk) begun.1
+    begins (Some relation) (Err why) begun = ap (λ (x : LogStoreValue). x.disk) begun.1
+
+    by-refusal : (o : Option log_starts.StartFault) → MatchOption o (log_jobs.BeginsFloor l scope time said l') (λ why. (said ≡ Err why) × (l' ≡ l))
+        → l'.disk ≡ l.disk
+    by-refusal None begun = begins scope said begun
+    by-refusal (Some why) refused = ap (λ (x : LogStoreValue). x.disk) refused.1
+
+-- and no other job
 none-begins : (l l' : LogStoreValue) (why : StartFault) (r : Result (Unit {0}) StartFault) → BeginsNone why r l l' → l'.disk ≡ l.disk
 none-begins l l' why r none = ap (λ (x : LogStoreValue). x.disk) none.1
 
@@ -138,7 +155,7 @@ pub floor-disk : (v v' : StoreValue) (scope : Option ℕ) (time : ℕ) (r : Resu
 floor-disk (Slots s) (Slots s') scope time r starts = slots-floor s s' scope time r starts
 floor-disk (Slots s) (Log l') scope time r starts = absurd starts
 floor-disk (Log l) (Slots s') scope time r starts = absurd starts
-floor-disk (Log l) (Log l') scope time r starts = none-begins l l' _ r starts
+floor-disk (Log l) (Log l') scope time r starts = log-floor l l' scope time starts.0 starts.1
 
 pub grow-disk : (v v' : StoreValue) (r : Result (Unit {0}) StartFault) → StartsGrowth v r v' → disk_of v' ≡ disk_of v
 grow-disk (Slots s) (Slots s') r starts = slots-grow s s' r starts

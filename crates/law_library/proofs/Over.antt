@@ -10,6 +10,10 @@ use Rattle.history.specs.Machine.{Machine, opened}
 use Rattle.law_image.specs.Values.{Value}
 use Rattle.law_image.specs.Reading.{Reading}
 use Rattle.log_store.specs.Values.{LogStoreValue, IsInStep}
+use Rattle.log_store.specs.declared.job.Job.{Job}
+use Rattle.log_store.specs.declared.job.JobStage.{JobStage}
+use Rattle.log_store.specs.declared.job.JobStage.TheVariants.{Ready, Entering}
+use Rattle.log_store.specs.declared.job.JobWork.{JobWork}
 use Rattle.log_writer.specs.Writer.{WriterState}
 use Rattle.status.specs.declared.header.Header.{Header}
 use Rattle.store.specs.Opens as slot_opens
@@ -20,7 +24,7 @@ use Rattle.any_store.specs.Values.{StoreValue, disk_of, with_disk}
 use Rattle.law_log_layout.specs.HeapLog.{HeapLog, heap_parts, placed_group, turn_of}
 use Rattle.law_log_layout.specs.Laws.{KeepsArchive, KeepsLog}
 use Rattle.law_log_layout.specs.Turns.{IsAt}
-use Rattle.law_log_store.specs.Standing.{HasCommits, HasTurn, KeepsRoots, StandsOnHeap, StopsOnHeap}
+use Rattle.law_log_store.specs.Standing.{HasCommits, HasTurn, HasJob, HasStage, IsAtRest, KeepsRoots, StandsOnHeap, StopsOnHeap, placed_entry}
 use Rattle.law_log_steps.specs.Store.{IsStoreOf, IsWriting}
 use Rattle.law_log_queries.specs.Archive as logs
 use Rattle.law_log_queries.specs.Archive.{RunsStand}
@@ -39,14 +43,32 @@ module _ (l : LogStoreValue) (disk : DiskState) (same : disk.areas ≡ l.disk.ar
   other = record l { disk = disk }
 
   over-step : IsInStep l → IsInStep other
-  over-step is = record { contents = is.contents; bytes = is.bytes; promised = is.promised; few = is.few; many = is.many; turn = is.turn }
+  over-step is =
+      record { contents = is.contents; bytes = is.bytes; promised = is.promised; few = is.few; many = is.many; turn = is.turn; beside = is.beside }
 
   over-commits : (h queue : History Value) → HasCommits l h queue → HasCommits other h queue
   over-commits h queue is = record { ordered = is.ordered; values = is.values; told = is.told; contents = is.contents; may = is.may }
 
+  over-rest : (log : HeapLog) → IsAtRest l log → IsAtRest other log
+  over-rest log is = record { log = subst (λ (a : Areas). KeepsLog log a.heap) (sym same) is.log; room = is.room }
+
+  over-stage : (log : HeapLog) (reading : Reading) (work : JobWork) (k : JobStage) → HasStage l log reading work k → HasStage other log reading work k
+  over-stage log reading work (Ready waited) is = over-rest log is
+  over-stage log reading work (Entering w) is = record {
+    content = is.content;
+    joins = is.joins;
+    shares = is.shares;
+    at = subst (λ (a : Areas). IsAt (heap_parts log) (turn_of log.next (placed_entry w work)) w.stage a.heap) (sym same) is.at;
+    room = is.room;
+  }
+
+  over-job : (log : HeapLog) (reading : Reading) (j : Option Job) → HasJob l log reading j → HasJob other log reading j
+  over-job log reading None is = over-rest log is
+  over-job log reading (Some job) is = over-stage log reading job.work job.stage is
+
   over-turn : (t : Option WriterState) (queue : History Value) (log : HeapLog) (reading : Reading) (h : History Value) → HasTurn l queue log reading h t
       → HasTurn other queue log reading h t
-  over-turn None queue log reading h is = record { log = subst (λ (a : Areas). KeepsLog log a.heap) (sym same) is.log; room = is.room }
+  over-turn None queue log reading h is = over-job log reading l.job is
   over-turn (Some w) queue log reading h is = record {
     group = is.group;
     told = is.told;
@@ -56,6 +78,7 @@ module _ (l : LogStoreValue) (disk : DiskState) (same : disk.areas ≡ l.disk.ar
     shares = is.shares;
     at = subst (λ (a : Areas). IsAt (heap_parts log) (turn_of log.next (placed_group w.numbers w.link is.group)) w.stage a.heap) (sym same) is.at;
     room = is.room;
+    alone = is.alone;
   }
 
   over-heap : (h queue : History Value) (floors : ℕ → ℕ) → StandsOnHeap l h queue floors → StandsOnHeap other h queue floors
@@ -70,6 +93,7 @@ module _ (l : LogStoreValue) (disk : DiskState) (same : disk.areas ≡ l.disk.ar
     commits = over-commits h queue is.commits;
     anchors = is.anchors;
     turn = over-turn l.turn queue is.l is.reading h is.turn;
+    job = is.job;
   }
 
   over-stops : (h queue : History Value) (floors : ℕ → ℕ) → StopsOnHeap l h queue floors → StopsOnHeap other h queue floors
@@ -81,7 +105,7 @@ module _ (l : LogStoreValue) (disk : DiskState) (same : disk.areas ≡ l.disk.ar
   over-disk false h queue floors is = over-heap h queue floors is
 
   over-writing : (m : Machine Value) → IsWriting l m → IsWriting other m
-  over-writing m is = record { most = is.most; group = is.group; raising = is.raising; gate = is.gate; left = is.left }
+  over-writing m is = record { most = is.most; group = is.group; raising = is.raising; made = is.made; gate = is.gate; left = is.left }
 
   over-store : (m : Machine Value) → IsStoreOf true l m → IsStoreOf true other m
   over-store m is = record {

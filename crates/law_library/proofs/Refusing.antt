@@ -30,8 +30,13 @@ use Rattle.store.specs.declared.job.JobStage.TheVariants as stages
 use Rattle.store.specs.declared.job.JobWork.{JobWork}
 use Rattle.store.specs.declared.job.JobWork.TheVariants as works
 use Rattle.log_writer.specs.Writer.{WriterState}
+use Rattle.log_store.specs.Jobs as log_jobs
 use Rattle.log_store.specs.Pumps as logs
 use Rattle.log_store.specs.Values.{LogStoreValue}
+use Rattle.log_store.specs.declared.job.Job as log_job
+use Rattle.log_store.specs.declared.job.JobDid as log_steps
+use Rattle.log_store.specs.declared.job.JobStage as log_stages
+use Rattle.log_store.specs.declared.job.JobStage.TheVariants as log_stage
 use Rattle.any_store.specs.declared.engine.Engine.TheVariants.{Slots, Log}
 use Rattle.any_store.specs.Calls as stores
 use Rattle.any_store.specs.Jobs as jobs
@@ -163,10 +168,15 @@ log-pump old new why pumps = by-failed old.commits.failed pumps
         subst (λ (d : DiskState). IfUncountedOn d new.disk) (ap (λ (v : LogStoreValue). v.disk) begun.1.new_is)
         (by-standing begun.0 begun.0.turn begun.2)
 
-    by-queue : (b : Bool) → MatchBool b ((pump_said why ≡ Ok did.Idle) × (new ≡ old)) (logs.BeginsGroup true old (Err why) new)
+    by-job : (b : Bool) → MatchBool b ((pump_said why ≡ pump_said fault.Busy) × (new ≡ old)) (logs.BeginsGroup true old (Err why) new)
+        → IfUncountedOn old.disk new.disk
+    by-job true busy = log-nothing old new busy.1
+    by-job false begun = begins begun
+
+    by-queue : (b : Bool) → MatchBool b ((pump_said why ≡ Ok did.Idle) × (new ≡ old)) (logs.BeginsOrWaits true old (Err why) new)
         → IfUncountedOn old.disk new.disk
     by-queue true idle = log-nothing old new idle.1
-    by-queue false begun = begins begun
+    by-queue false begun = by-job (logs.bars_groups old.job) begun
 
     by-turn : (t : Option WriterState) → logs.TakesStep true old t (Err why) new → IfUncountedOn old.disk new.disk
     by-turn None takes = by-queue (length old.commits.queue == 0) takes
@@ -176,6 +186,36 @@ log-pump old new why pumps = by-failed old.commits.failed pumps
         → IfUncountedOn old.disk new.disk
     by-failed true fails = log-nothing old new fails.1
     by-failed false takes = by-turn old.turn takes
+
+log-job : (old new : LogStoreValue) (said : Result log_steps.JobDid PumpFault) → log_jobs.PumpsJob true old said new → IfUncountedOn old.disk new.disk
+log-job old new said pumps = by-failed old.commits.failed pumps
+  where
+    by-at : (x : LogStoreValue) (j : log_job.Job) (k : log_stages.JobStage) → log_jobs.AdvancesAt true j k x said new → IfUncountedOn x.disk new.disk
+    by-at x j (log_stage.Ready waited) never = absurd never
+    by-at x j (log_stage.Entering w) advances = uncounted-on (log_jobs.disk_answer said) x.disk new.disk advances.counts
+
+    by-begun : (x : LogStoreValue) (o : Option log_job.Job) → log_jobs.AdvancesEntry true o x said new → IfUncountedOn x.disk new.disk
+    by-begun x None never = absurd never
+    by-begun x (Some j) advances = by-at x j j.stage advances
+
+    by-turn : (j : log_job.Job) (t : Option WriterState) → log_jobs.StepsReady true j t old said new → IfUncountedOn old.disk new.disk
+    by-turn j None (inl none) = log-nothing old new none.1
+    by-turn j None (inr begun) =
+        subst (λ (d : DiskState). IfUncountedOn d new.disk) (ap (λ (v : LogStoreValue). v.disk) begun.1.new_is) (by-begun begun.0 begun.0.job begun.2)
+    by-turn j (Some w) busy = λ same. ap (λ (v : LogStoreValue). v.disk.areas) busy.1
+
+    by-stage : (j : log_job.Job) (k : log_stages.JobStage) → log_jobs.StepsAt true j k old said new → IfUncountedOn old.disk new.disk
+    by-stage j (log_stage.Ready waited) takes = by-turn j old.turn takes
+    by-stage j (log_stage.Entering w) advances = uncounted-on (log_jobs.disk_answer said) old.disk new.disk advances.counts
+
+    by-job : (o : Option log_job.Job) → log_jobs.StepsJob true o old said new → IfUncountedOn old.disk new.disk
+    by-job None idle = log-nothing old new idle.1
+    by-job (Some j) takes = by-stage j j.stage takes
+
+    by-failed : (b : Bool) → MatchBool b ((said ≡ Err fault.Failed) × (new ≡ old)) (log_jobs.StepsJob true old.job old said new)
+        → IfUncountedOn old.disk new.disk
+    by-failed true fails = log-nothing old new fails.1
+    by-failed false takes = by-job old.job takes
 
 -- ---- in either
 
@@ -189,4 +229,4 @@ pub job-same : (old new : StoreValue) (why : PumpFault) → jobs.PumpsJob true o
 job-same (Slots s) (Slots s') why pumps = slots-job s s' why pumps
 job-same (Slots s) (Log l') why pumps = absurd pumps
 job-same (Log l) (Slots s') why pumps = absurd pumps
-job-same (Log l) (Log l') why pumps = log-nothing l l' pumps.1
+job-same (Log l) (Log l') why pumps = log-job l l' pumps.0 pumps.1

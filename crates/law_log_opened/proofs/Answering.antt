@@ -1,6 +1,6 @@
 -- Views are answered by the history, after a stop as before it.
 use Rattle.std.proofs.Common.{◌≡◌, inl, inr, ℕ, zero, suc, ◌≤◌, ◌==◌, nat_lt, Bool, true, false, IsTrue, List, [], ◌∷◌, ◌++◌, map, take, Option, Result}
-use Rattle.std.proofs.Common.{◌⊎◌, refl, arith, ap, sym, subst, ◌∙◌}
+use Rattle.std.proofs.Common.{◌⊎◌, Some, MatchOption, refl, arith, ap, sym, subst, ◌∙◌}
 use Rattle.std.specs.List.{filter}
 use Rattle.std.proofs.lemmas.Bool.Decides.{nat_tests}
 use Rattle.std.proofs.lemmas.List.{append-nil, map-append}
@@ -9,8 +9,9 @@ use Rattle.disk.specs.Calls.{DiskState}
 use Rattle.history.specs.declared.key.Key.{Key}
 use Rattle.history.specs.Histories.{Commit, History, HasRisingTimes, last, last_after}
 use Rattle.history.specs.Answers.{at_answer, times_of}
+use Rattle.history.specs.Floors.{Raising, covers, raised}
 use Rattle.history.specs.Fronts.{OnFront, with_group}
-use Rattle.history.specs.Machine.{Machine, opened_by}
+use Rattle.history.specs.Machine.{Machine, MayRaise, opened_by}
 use Rattle.history.proofs.Filters.{filter-filter}
 use Rattle.history.proofs.Histories.{state-append, last_after-append, rising-from_following, times-earlier, may_follow-behind}
 use Rattle.law_image.specs.Values.{Value, IsValue}
@@ -28,8 +29,8 @@ use Rattle.law_refinement.proofs.Queries.{recent-answered}
 use Rattle.law_log_queries.specs.Archive.{Stands, GoesOn}
 use Rattle.law_log_queries.proofs.Views.{view-of-history, view-goes-on, at-answered, scan_at-answered, between-answered, scan_between-answered}
 use Rattle.law_log_opened.specs.Laws.{OpensAgain}
-use Rattle.law_log_opened.specs.Answers.{AnswersBy}
-use Rattle.law_log_opened.proofs.Fronts.{two-fronts}
+use Rattle.law_log_opened.specs.Answers.{AnswersBy, IsKeptThen}
+use Rattle.law_log_opened.proofs.Fronts.{WithFloor, each-front}
 use Rattle.law_log_opened.proofs.Reopened.{reopen-stands}
 
 -- ---- a store's own views
@@ -78,19 +79,41 @@ answer-append h more floors key time up early =
     let after : nat_lt (last (h ++ more)) time ≡ false = let upto : time ≤ last (h ++ more) = omega (arith, later, early) in grind (arith, nat_tests) in
     rw (before, after, state-append h more time key (times-earlier time (last h) more early up)) refl
 
+-- a time that a floor keeps is answered as before it
+answer-raised : (m : Machine Value) (r : Raising) (key : Key) (time : ℕ) → MayRaise m r → (IsTrue (covers r.scope key.relation) → r.floor ≤ time)
+    → at_answer m.published (raised r.scope r.floor m.floors) key time ≡ at_answer m.published m.floors key time
+answer-raised m r key time may keeps = by-scope (covers r.scope key.relation) refl
+  where
+    by-scope : (b : Bool) → covers r.scope key.relation ≡ b → at_answer m.published (raised r.scope r.floor m.floors) key time
+        ≡ at_answer m.published m.floors key time
+    by-scope true is =
+        let kept = keeps is in
+        let low = may.rises key.relation is in
+        let now : nat_lt time r.floor ≡ false = grind (arith, nat_tests) in
+        let before : nat_lt time (m.floors key.relation) ≡ false =
+        (let early : m.floors key.relation ≤ time = omega (arith, low, kept) in grind (arith, nat_tests)) in
+        rw (is, now, before) refl
+    by-scope false is = rw is refl
+
 pub answers-stay : (tells : Bool) (v : LogStoreValue) (m : Machine Value) (disk : DiskState) (mark : ℕ) (again asked new : LogStoreValue)
     (later : Machine Value) (view : ViewValue) (key : Key) (time : ℕ) (answer : Result (Option Value) QueryFault)
     → IsInStep v → Stands tells v m → IsTrue tells → OpensAgain tells v disk mark again → IsViewOf again view → Stands tells asked later
     → GoesOn tells again asked → AnswersAtView tells asked view key time answer new
-    → time ≤ last m.published → SaysAt (IsSure tells view.reclaimed time) (at_answer m.published m.floors key time) answer
-answers-stay tells v m disk mark again asked new later view key time answer step stands told opens is now goes answers early =
-    by-front
-    (two-fronts (AnswersBy tells again) m stands.store.writing.raising (kept-answers tells v m disk mark again step stands told opens))
+    → time ≤ last m.published → IsKeptThen m key.relation time → SaysAt (IsSure tells view.reclaimed time) (at_answer m.published m.floors key time) answer
+answers-stay tells v m disk mark again asked new later view key time answer step stands told opens is now goes answers early kept =
+    by-front (each-front (AnswersBy tells again) m (kept-answers tells v m disk mark again step stands told opens))
   where
-    by-front : AnswersBy tells again m.published m.floors ⊎ AnswersBy tells again (with_group m) m.floors
+    by-front : AnswersBy tells again m.published m.floors ⊎ AnswersBy tells again (with_group m) m.floors ⊎ WithFloor (AnswersBy tells again) m
         → SaysAt (IsSure tells view.reclaimed time) (at_answer m.published m.floors key time) answer
     by-front (inl by) = by.at view asked new later key time answer is now goes answers
-    by-front (inr by) =
+    by-front (inr (inr floor)) =
+        let r = floor.0 in
+        let may : MayRaise m r = subst (λ (o : Option Raising). MatchOption o (Unit {0}) (MayRaise m)) floor.1 stands.store.machine.raising in
+        let keeps : IsTrue (covers r.scope key.relation) → r.floor ≤ time =
+        subst (λ (o : Option Raising). MatchOption o (Unit {0}) (λ x. IsTrue (covers x.scope key.relation) → x.floor ≤ time)) floor.1 kept in
+        subst (λ said. SaysAt (IsSure tells view.reclaimed time) said answer) (answer-raised m r key time may keeps)
+        (floor.2.at view asked new later key time answer is now goes answers)
+    by-front (inr (inl by)) =
         let up : HasRisingTimes (last m.published) (take m.group m.queue) =
         rising-take (last m.published) m.group m.queue
         (rising-from_following IsValue m.published m.queue (may_follow-behind IsValue [] m.published m.queue stands.store.machine.history)) in
@@ -127,22 +150,28 @@ pub labels-stay : (tells : Bool) (v : LogStoreValue) (m : Machine Value) (disk :
     ≡ filter (nat_lt since) (orders.times_of label (order_of v.commits)) ++ more)
 labels-stay tells v m disk mark again label since step stands told opens from to =
     by-front
-    (two-fronts (λ h floors. Stands tells again (opened_by 1024 h floors)) m stands.store.writing.raising
-    (reopen-stands tells v m disk mark again step stands told opens))
+    (each-front (λ h floors. Stands tells again (opened_by 1024 h floors)) m (reopen-stands tells v m disk mark again step stands told opens))
   where
     before : List ℕ
     before = filter (nat_lt since) (orders.times_of label (order_of v.commits))
 
-    by-front : Stands tells again (opened_by 1024 m.published m.floors) ⊎ Stands tells again (opened_by 1024 (with_group m) m.floors)
+    same : (floors : ℕ → ℕ) → Stands tells again (opened_by 1024 m.published floors)
         → (more : List ℕ) × (filter (nat_lt since) (orders.times_of label (order_of again.commits))
         ≡ filter (nat_lt since) (orders.times_of label (order_of v.commits)) ++ more)
-    by-front (inl now) = (
+    same floors now = (
       [],
-      late-of tells again (opened_by 1024 m.published m.floors) label since now to
+      late-of tells again (opened_by 1024 m.published floors) label since now to
           ∙ sym (late-of tells v m label since stands from)
           ∙ sym (append-nil (filter (nat_lt since) (orders.times_of label (order_of v.commits)))),
     )
-    by-front (inr now) =
+
+    by-front : Stands tells again (opened_by 1024 m.published m.floors) ⊎ Stands tells again (opened_by 1024 (with_group m) m.floors)
+        ⊎ WithFloor (λ h floors. Stands tells again (opened_by 1024 h floors)) m
+        → (more : List ℕ) × (filter (nat_lt since) (orders.times_of label (order_of again.commits))
+        ≡ filter (nat_lt since) (orders.times_of label (order_of v.commits)) ++ more)
+    by-front (inl now) = same m.floors now
+    by-front (inr (inr floor)) = same (raised (floor.0).scope (floor.0).floor m.floors) floor.2
+    by-front (inr (inl now)) =
         let group : History Value = take m.group m.queue in (
           filter (nat_lt since) (times_of group label),
           late-of tells again (opened_by 1024 (with_group m) m.floors) label since now to

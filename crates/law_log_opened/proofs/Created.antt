@@ -61,6 +61,7 @@ module _ (mark extents : ℕ) (old : Areas) (disk : DiskState) (size : IsHeapSiz
         commits = record { ordered = tt; values = λ key. refl; told = tt; contents = tt; may = tt };
         anchors = record { len = refl; fit = tt };
         turn = record { log = log; room = (leaves-room extents 1 (empty_log 1) (empty_heap extents) [] (λ relation. 0) is stands).room };
+        job = tt;
       }
 
   -- ---- memory
@@ -100,7 +101,7 @@ module _ (mark extents : ℕ) (old : Areas) (disk : DiskState) (size : IsHeapSiz
   store : (tells : Bool) → IsStoreOf tells v (opened_by 1024 [] (λ relation. 0))
   store tells =
       stands-opened tells v [] (λ relation. 0) (empty_heap extents) (empty-stands (new_roots extents) (new-in_range extents size)) on-heap refl refl
-      (record { most = refl; group = refl; raising = refl; gate = λ works. refl; left = λ fails. absurd (let no : false ≡ true = fails in cc) })
+      (record { most = refl; group = refl; raising = refl; made = tt; gate = λ works. refl; left = λ fails. absurd (let no : false ≡ true = fails in cc) })
       memory
 
   runs : RunsStand v [] (λ relation. 0)

@@ -1,10 +1,11 @@
 -- A store that is opened again.
-use Rattle.std.proofs.Common.{◌≡◌, ℕ, Bool, IsTrue, List, [], ◌∷◌, take, inl, inr, ⊎_elim, ap, sym, subst, ◌∙◌}
+use Rattle.std.proofs.Common.{◌≡◌, ◌⊎◌, ℕ, Bool, IsTrue, List, [], ◌∷◌, take, inl, inr, ap, sym, subst, ◌∙◌}
 use Rattle.std.specs.List.{AllByRecursion}
 use Rattle.disk.specs.Areas.{Areas, Image, AreSound, LeavesImage, LeavesNoMore, image_of}
 use Rattle.disk.specs.Calls.{DiskState}
 use Rattle.disk.proofs.Stops.{LeavesImage-read}
 use Rattle.history.specs.Fronts.{OnFront, with_group}
+use Rattle.history.specs.Floors.{raised}
 use Rattle.history.specs.Histories.{History}
 use Rattle.history.specs.Machine.{Machine, opened_by}
 use Rattle.law_image.specs.Values.{Value}
@@ -23,7 +24,7 @@ use Rattle.law_log_steps.proofs.Fronts as steps
 use Rattle.law_log_queries.specs.Archive.{Stands}
 use Rattle.law_log_queries.proofs.Opening.{stop-reopens}
 use Rattle.law_log_opened.specs.Laws.{RecoversHeader, OpensAgain, LeavesFronts}
-use Rattle.law_log_opened.proofs.Fronts.{two-fronts}
+use Rattle.law_log_opened.proofs.Fronts.{WithFloor, each-front}
 
 -- ---- a refusal
 
@@ -77,25 +78,29 @@ pub reopen-stands : (tells : Bool) (v : LogStoreValue) (m : Machine Value) (disk
 reopen-stands tells v m disk mark again step stands told opens =
     stop-reopens tells v m disk mark again told step stands.store opens.left opens.sound opens.opens
 
--- what is left is an image of what is published, or of that with the whole group
-either-image : (tells : Bool) (v : LogStoreValue) (m : Machine Value) (image : Image) → IsInStep v → Stands tells v m → IsTrue tells
-    → LeavesImage v.disk.areas image → (R : Type 0) → ((h : History Value) → IsImageOf v.roots image h m.floors → R) → R
-either-image tells v m image step stands told left R say =
-    ⊎_elim (λ old. say m.published old) (λ new. say (with_group m) new)
-    (two-fronts (IsImageOf v.roots image) m stands.store.writing.raising (leaves-front tells v m step stands told image left))
+-- what is left is an image of a front
+front-image : (tells : Bool) (v : LogStoreValue) (m : Machine Value) (image : Image) → IsInStep v → Stands tells v m → IsTrue tells
+    → LeavesImage v.disk.areas image → (R : Type 0) → ((h : History Value) (floors : ℕ → ℕ) → IsImageOf v.roots image h floors → R) → R
+front-image tells v m image step stands told left R say =
+    by-front (each-front (IsImageOf v.roots image) m (leaves-front tells v m step stands told image left))
+  where
+    by-front : IsImageOf v.roots image m.published m.floors ⊎ IsImageOf v.roots image (with_group m) m.floors ⊎ WithFloor (IsImageOf v.roots image) m → R
+    by-front (inl old) = say m.published m.floors old
+    by-front (inr (inl grouped)) = say (with_group m) m.floors grouped
+    by-front (inr (inr floor)) = say m.published (raised (floor.0).scope (floor.0).floor m.floors) floor.2
 
 pub reopen-roots : (tells : Bool) (v : LogStoreValue) (m : Machine Value) (disk : DiskState) (mark : ℕ) (again : LogStoreValue)
     → IsInStep v → Stands tells v m → IsTrue tells → OpensAgain tells v disk mark again → again.roots ≡ v.roots
 reopen-roots tells v m disk mark again step stands told opens =
-    either-image tells v m (image_of disk.areas) step stands told opens.left (again.roots ≡ v.roots)
-    (λ h image. open-roots tells disk mark again v.roots h m.floors opens.opens told image)
+    front-image tells v m (image_of disk.areas) step stands told opens.left (again.roots ≡ v.roots)
+    (λ h floors image. open-roots tells disk mark again v.roots h floors opens.opens told image)
 
 pub reopen-refuses : (tells : Bool) (v : LogStoreValue) (m : Machine Value) (disk new : DiskState) (why : OpenFault)
     → IsInStep v → Stands tells v m → IsTrue tells → LeavesImage v.disk.areas (image_of disk.areas) → OpenRefuses tells disk why new → IsReadFault why
     × (image_of new.areas ≡ image_of disk.areas)
 reopen-refuses tells v m disk new why step stands told left refuses =
-    either-image tells v m (image_of disk.areas) step stands told left (IsReadFault why × (image_of new.areas ≡ image_of disk.areas))
-    (λ h image. let said = open-refuses tells disk new why v.roots h m.floors refuses told image in (said.0, said.1))
+    front-image tells v m (image_of disk.areas) step stands told left (IsReadFault why × (image_of new.areas ≡ image_of disk.areas))
+    (λ h floors image. let said = open-refuses tells disk new why v.roots h floors refuses told image in (said.0, said.1))
 
 -- ---- a stop while it is opened, and a second stop
 

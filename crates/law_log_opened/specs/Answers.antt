@@ -1,11 +1,12 @@
 -- Views and labels are answered after a stop as before it.
-use Rattle.std.specs.Prelude.{ℕ, ◌≡◌, ◌≤◌, ◌++◌, nat_lt, Bool, IsTrue, List, filter, Option, Result, MatchResult}
+use Rattle.std.specs.Prelude.{ℕ, ◌≡◌, ◌≤◌, ◌++◌, nat_lt, Bool, IsTrue, List, filter, Option, Result, MatchOption, MatchResult}
 use Rattle.std.specs.declared.alloc.Global.{Global}
 use Rattle.std.specs.declared.vec.Vec.{Vec}
 use Rattle.disk.specs.Calls.{DiskState}
 use Rattle.history.specs.declared.key.Key.{Key}
 use Rattle.history.specs.declared.time.Version.{Version}
 use Rattle.history.specs.Answers.{at_answer}
+use Rattle.history.specs.Floors.{covers}
 use Rattle.history.specs.Fronts.{OnFront}
 use Rattle.history.specs.Histories.{History, last}
 use Rattle.history.specs.Machine.{Machine}
@@ -61,14 +62,18 @@ abbrev pub KeptAnswers : Type 0
 KeptAnswers = (tells : Bool) (v : LogStoreValue) (m : Machine Value) (disk : DiskState) (mark : ℕ) (again : LogStoreValue)
     → IsInStep v → Stands tells v m → IsTrue tells → OpensAgain tells v disk mark again → OnFront (AnswersBy tells again) m
 
--- and up to the last time that was published they are answered as before; no floor is in the making
+-- the floor in the making, if it covers the relation, keeps the time
+abbrev pub IsKeptThen : Machine Value → ℕ → ℕ → Type 0
+IsKeptThen m relation time = MatchOption m.raising (Unit {0}) (λ r. IsTrue (covers r.scope relation) → r.floor ≤ time)
+
+-- and up to the last time that was published they are answered as before, but for what a floor in the making does not keep
 abbrev pub AnswersStay : Type 0
 AnswersStay =
     (tells : Bool) (v : LogStoreValue) (m : Machine Value) (disk : DiskState) (mark : ℕ) (again asked new : LogStoreValue) (later : Machine Value)
     (view : ViewValue) (key : Key) (time : ℕ) (answer : Result (Option Value) QueryFault)
     → IsInStep v → Stands tells v m → IsTrue tells → OpensAgain tells v disk mark again → IsViewOf again view → Stands tells asked later
     → GoesOn tells again asked → AnswersAtView tells asked view key time answer new
-    → time ≤ last m.published → SaysAt (IsSure tells view.reclaimed time) (at_answer m.published m.floors key time) answer
+    → time ≤ last m.published → IsKeptThen m key.relation time → SaysAt (IsSure tells view.reclaimed time) (at_answer m.published m.floors key time) answer
 
 -- ---- labels
 

@@ -15,14 +15,16 @@ use Rattle.timequery.specs.declared.fault.QueryFault.{QueryFault}
 use Rattle.timequery.specs.declared.fault.QueryFault.TheVariants as query
 use Rattle.log_writer.specs.Writer.{WriterState}
 use Rattle.log_store.specs.Values.{LogStoreValue}
+use Rattle.log_store.specs.declared.job.Job.{Job}
+use Rattle.log_store.specs.declared.job.JobStage.{JobStage}
+use Rattle.log_store.specs.declared.job.JobStage.TheVariants.{Ready, Entering}
+use Rattle.log_store.specs.declared.job.JobWork.{JobWork}
 use Rattle.log_store.specs.Queries.{in_log_store}
 use Rattle.law_refinement.proofs.Asking.{after-is, own-front}
 use Rattle.law_refinement.proofs.RunsKept.{up_to-same}
 use Rattle.law_refinement.proofs.RunsStep.{front-ends}
-use Rattle.law_log_store.specs.Standing.{StandsOnHeap, HasTurn}
-use Rattle.law_log_store.specs.Calls.{KeepsDisk}
+use Rattle.law_log_store.specs.Standing.{StandsOnHeap, StopsOnHeap, HasTurn, HasJob, HasStage}
 use Rattle.law_log_steps.specs.Store.{IsStoreOf}
-use Rattle.law_log_steps.proofs.Keeping.{store-keeps, itself}
 use Rattle.law_log_queries.specs.Archive.{RunsStand, Stands, GoesOn, end_of}
 use Rattle.law_log_queries.proofs.Runs.{ends-all}
 use Rattle.law_log_queries.proofs.Leaving.{leaves-same, leaves-goes}
@@ -50,10 +52,19 @@ module _ (v : LogStoreValue) (archive : ArchiveValue) (refused : ℕ) where
     };
     anchors = s.anchors;
     turn = by-turn v.turn s.turn;
+    job = s.job;
   }
     where
+      by-stage : (work : JobWork) (k : JobStage) → HasStage v s.l s.reading work k → HasStage asked s.l s.reading work k
+      by-stage work (Ready waited) is = record { log = is.log; room = is.room }
+      by-stage work (Entering w) is = record { content = is.content; joins = is.joins; shares = is.shares; at = is.at; room = is.room }
+
+      by-job : (j : Option Job) → HasJob v s.l s.reading j → HasJob asked s.l s.reading j
+      by-job None is = record { log = is.log; room = is.room }
+      by-job (Some job) is = by-stage job.work job.stage is
+
       by-turn : (t : Option WriterState) → HasTurn v queue s.l s.reading h t → HasTurn asked queue s.l s.reading h t
-      by-turn None is = record { log = is.log; room = is.room }
+      by-turn None is = by-job v.job is
       by-turn (Some w) is = record {
         group = is.group;
         told = is.told;
@@ -63,15 +74,29 @@ module _ (v : LogStoreValue) (archive : ArchiveValue) (refused : ℕ) where
         shares = is.shares;
         at = is.at;
         room = is.room;
+        alone = is.alone;
       }
 
-  asked-keeps : KeepsDisk v asked
-  asked-keeps = record { stands = λ h queue floors s. asked-heap h queue floors s; stops = λ h queue floors stops. stops }
+  asked-disk : (b : Bool) (h queue : History Value) (floors : ℕ → ℕ) → MatchBool b (StopsOnHeap v h queue floors) (StandsOnHeap v h queue floors)
+      → MatchBool b (StopsOnHeap asked h queue floors) (StandsOnHeap asked h queue floors)
+  asked-disk true h queue floors stops = stops
+  asked-disk false h queue floors s = asked-heap h queue floors s
 
   asked-store : (tells : Bool) (m : Machine Value) → IsStoreOf tells v m → IsStoreOf tells asked m
-  asked-store tells m is =
-      store-keeps tells v asked m m is asked-keeps (record { opened = v.commits.opened; heads = v.commits.heads; new_is = refl }) refl is.memory is.machine
-      (itself m)
+  asked-store tells m is = record {
+    memory = is.memory;
+    machine = is.machine;
+    writing = record {
+      most = is.writing.most;
+      group = is.writing.group;
+      raising = is.writing.raising;
+      made = is.writing.made;
+      gate = is.writing.gate;
+      left = is.writing.left;
+    };
+    fresh = is.fresh;
+    disk = λ told. asked-disk v.commits.failed m.published m.queue m.floors (is.disk told);
+  }
 
 pub asks-stands : {T : Type 0} (tells : Bool) (v new : LogStoreValue) (m : Machine Value) (view : ViewValue) (answer : Result T QueryFault)
     → Stands tells v m → is_front view.runs v.archive.runs ≡ true → Asks in_log_store tells v view answer new

@@ -13,16 +13,25 @@ use Rattle.log_store.specs.Values.{LogStoreValue, IsInStep}
 use Rattle.law_refinement.specs.Laws.{submission_of, event_of}
 use Rattle.law_refinement.proofs.RunsKept.{IsLater, machine-rises, run-later}
 use Rattle.law_log_store.proofs.Calls.{begin-alone, abort-alone, redeem-alone}
-use Rattle.law_log_steps.specs.Laws.{BeginsTo, Goes, events_in}
+use Rattle.log_store.specs.declared.job.StartFault.{StartFault}
+use Rattle.log_store.specs.declared.job.StartFault.TheVariants as start
+use Rattle.history.specs.Floors.{Raising}
+use Rattle.history.specs.Steps.{FloorStarted, floor_started}
+use Rattle.law_refinement.specs.Calls.{raising_to}
+use Rattle.law_log_steps.specs.Laws.{BeginsTo, Goes, events_in, job_events_in, StartsOn}
 use Rattle.law_log_steps.specs.Store.{IsStoreOf}
 use Rattle.law_log_steps.proofs.Keeping.{begin-stands, abort-stands, redeem-stands}
 use Rattle.law_log_steps.proofs.Submitting.{submit-stands}
 use Rattle.law_log_steps.proofs.Pumping.{pump-stands}
+use Rattle.law_log_steps.proofs.Jobs.{job-stands}
+use Rattle.law_log_steps.proofs.FloorStarts.{floor-starts}
 use Rattle.law_log_queries.specs.Archive.{Stands, GoesOn, end_of}
-use Rattle.law_log_queries.specs.Calls.{IsCall, LeadsTo, OfBegin, OfAbort, OfRedeem, OfSubmit, OfPump, OfAt, OfScanAt, OfBetween, OfScanBetween}
+use Rattle.law_log_queries.specs.Calls.{IsCall, LeadsTo, OfBegin, OfAbort, OfRedeem, OfSubmit, OfPump, OfFloor, OfJob, OfAt, OfScanAt}
+use Rattle.law_log_queries.specs.Calls.{OfBetween, OfScanBetween}
 use Rattle.law_log_queries.specs.Laws.{GoesTo}
 use Rattle.law_log_queries.proofs.Runs.{end-more}
-use Rattle.law_log_queries.proofs.Leaving.{LeavesArchive, alone-leaves, submit-leaves, pump-leaves, leaves-goes, leaves-same, runs-left}
+use Rattle.law_log_queries.proofs.Leaving.{LeavesArchive, alone-leaves, submit-leaves, pump-leaves, floor-leaves, job-leaves, leaves-goes, leaves-same}
+use Rattle.law_log_queries.proofs.Leaving.{runs-left}
 use Rattle.law_log_queries.proofs.Asking.{query-stands}
 
 -- ---- one call
@@ -61,6 +70,8 @@ call-keeps tells old new m after events stands call run is = by-call call
         leaving (alone-leaves tells old new (redeem-alone old.commits new.commits ticket answer redeems.is) redeems.new_is)
     by-call (OfSubmit txn label now answer are range submits) = leaving (submit-leaves tells old new txn label now answer submits)
     by-call (OfPump answer sound pumps) = leaving (pump-leaves tells old new answer pumps)
+    by-call (OfFloor scope floor answer starts) = leaving (floor-leaves tells old new scope floor answer starts)
+    by-call (OfJob answer sound pumps) = leaving (job-leaves tells old new answer pumps)
     by-call (OfAt view key time answer says) =
         asked tells old new m after later is (query-stands tells old new m view time _ _ _ _ answer stands says)
     by-call (OfScanAt view relation time answer says) =
@@ -94,6 +105,17 @@ module _ (tells : Bool) (old new : LogStoreValue) (m : Machine Value) (told : Is
   by-own true event goes = one event goes
   by-own false event is = stays is
 
+  started-on : (r : Raising) (answer : Result (Unit {0}) StartFault) → StartsOn tells m r answer new → GoesTo tells old new
+  started-on r (Ok done) to = one (FloorStarted r) (floor_started m r, to.0, to.1)
+  started-on r (Err start.NothingToDo) to = stays to.1
+  started-on r (Err (start.NotYet time)) to = stays to.1
+  started-on r (Err (start.InUse snapshot)) to = stays to.1
+  started-on r (Err start.Failed) to = stays to.1
+  started-on r (Err start.WrongProfile) to = stays to.1
+  started-on r (Err start.JobBusy) to = stays to
+  started-on r (Err start.HeapFull) to = stays to
+  started-on r (Err start.NoMemory) to = stays to.1
+
   queried : Stands tells new m × GoesOn tells old new → GoesTo tells old new
   queried done = record { after = m; stands = done.0; goes = done.1 }
 
@@ -106,6 +128,10 @@ module _ (tells : Bool) (old new : LogStoreValue) (m : Machine Value) (told : Is
       (submit-stands tells old new txn label now answer m step stands.store submits are range)
   by-call (OfPump answer sound pumps) =
       let runs = pump-stands tells old new answer m step sound stands.store pumps in through (events_in m answer) runs.after runs.run runs.stands
+  by-call (OfFloor scope floor answer starts) =
+      started-on (raising_to scope floor) answer (floor-starts tells old new scope floor answer m stands.store starts)
+  by-call (OfJob answer sound pumps) =
+      let runs = job-stands tells old new answer m step sound stands.store pumps in through (job_events_in m answer) runs.after runs.run runs.stands
   by-call (OfAt view key time answer says) = queried (query-stands tells old new m view time _ _ _ _ answer stands says)
   by-call (OfScanAt view relation time answer says) = queried (query-stands tells old new m view time _ _ _ _ answer stands says)
   by-call (OfBetween view key a b answer says) = queried (query-stands tells old new m view a _ _ _ _ answer stands says)

@@ -2,7 +2,7 @@
 use Rattle.std.proofs.Common.{◌≡◌, ℕ, ◌==◌, ◌&&◌, min, nat_lt, Bool, true, false, cond, List, [], ◌∷◌, length, Option, None, Some}
 use Rattle.std.proofs.Common.{Result, Ok, Err, refl}
 use Rattle.std.proofs.Common.{arith, ap, sym, subst, ◌∙◌, inl, inr, append-nil}
-use Rattle.std.specs.Prelude.{IsTrue, MatchBool, MatchResult}
+use Rattle.std.specs.Prelude.{IsTrue, MatchBool, MatchOption, MatchResult}
 use Rattle.disk.specs.Areas.{Areas}
 use Rattle.disk.specs.declared.area.DeviceFault.{DeviceFault}
 use Rattle.history.specs.Histories.{History, HasRisingTimes}
@@ -28,7 +28,18 @@ use Rattle.commits.specs.Steps.{grouped}
 use Rattle.log_store.specs.Values.{LogStoreValue}
 use Rattle.log_store.specs.Calls.{with_commits}
 use Rattle.log_store.specs.Submits.{Submits, SubmitsOwn, AnswersSubmit, with_queued, spent}
-use Rattle.log_store.specs.Pumps.{Pumps, TakesStep, BeginsGroup, AdvancesGroup, Advances, Begins, after_call, with_failure, did_of, disk_answer}
+use Rattle.log_store.specs.Pumps.{Pumps, TakesStep, bars_groups, BeginsOrWaits, BeginsGroup, AdvancesGroup, Advances, Begins, after_call, with_failure}
+use Rattle.log_store.specs.Pumps.{did_of, disk_answer}
+use Rattle.log_store.specs.Jobs as jobs
+use Rattle.log_store.specs.Jobs.{PumpsJob, StepsJob, StepsAt, StepsReady, AdvancesEntry, AdvancesAt, StartsFloor, BeginsFloor, BeginsEntry, at_stage}
+use Rattle.log_store.specs.Jobs.{with_floor, floor_refusal}
+use Rattle.log_store.specs.declared.job.Job.{Job}
+use Rattle.log_store.specs.declared.job.JobDid.{JobDid}
+use Rattle.log_store.specs.declared.job.JobStage.{JobStage}
+use Rattle.log_store.specs.declared.job.JobStage.TheVariants.{Ready, Entering}
+use Rattle.log_store.specs.declared.job.JobWork.{JobWork}
+use Rattle.log_store.specs.declared.job.JobWork.TheVariants.{Floor}
+use Rattle.log_store.specs.declared.job.StartFault.{StartFault}
 use Rattle.group.specs.declared.answers.Did.{Did}
 use Rattle.group.specs.declared.answers.Did.TheVariants as did
 use Rattle.law_refinement.specs.Homes.{AreArchived}
@@ -172,9 +183,13 @@ pump-leaves tells old new answer pumps = by-failed old.commits.failed pumps
     begins (inl none) = same none.1
     begins (inr begun) = advanced begun.0 begun.0.turn (begin-leaves tells old begun.0 begun.1) begun.2
 
-    by-queue : (b : Bool) → MatchBool b ((answer ≡ Ok did.Idle) × (new ≡ old)) (BeginsGroup tells old answer new) → LeavesArchive tells old new
+    by-job : (b : Bool) → MatchBool b ((answer ≡ Err pump.Busy) × (new ≡ old)) (BeginsGroup tells old answer new) → LeavesArchive tells old new
+    by-job true busy = same busy.1
+    by-job false begun = begins begun
+
+    by-queue : (b : Bool) → MatchBool b ((answer ≡ Ok did.Idle) × (new ≡ old)) (BeginsOrWaits tells old answer new) → LeavesArchive tells old new
     by-queue true idle = same idle.1
-    by-queue false begun = begins begun
+    by-queue false begun = by-job (bars_groups old.job) begun
 
     by-turn : (t : Option WriterState) → TakesStep tells old t answer new → LeavesArchive tells old new
     by-turn None step = by-queue (length old.commits.queue == 0) step
@@ -183,6 +198,100 @@ pump-leaves tells old new answer pumps = by-failed old.commits.failed pumps
     by-failed : (b : Bool) → MatchBool b ((answer ≡ Err pump.Failed) × (new ≡ old)) (TakesStep tells old old.turn answer new) → LeavesArchive tells old new
     by-failed true failed = same failed.1
     by-failed false step = by-turn old.turn step
+
+-- ---- jobs
+
+-- what the work of a job puts into memory leaves it
+work-leaves : (old : LogStoreValue) (work : JobWork) → LeavesMemory old (record old { commits = jobs.with_work work old.commits; job = None })
+work-leaves old (Floor floor kept) = record { archive = refl; reclaimed = refl; mark = refl }
+
+entry-leaves : (old : LogStoreValue) (job : Job) (w : WriterState) (stage : Stage) → LeavesMemory old (jobs.after_call old job w stage)
+entry-leaves old job w (Writing done rest) = record { archive = refl; reclaimed = refl; mark = refl }
+entry-leaves old job w Syncing = record { archive = refl; reclaimed = refl; mark = refl }
+entry-leaves old job w Opening = record { archive = refl; reclaimed = refl; mark = refl }
+entry-leaves old job w Settling = work-leaves old job.work
+entry-leaves old job w Done = record { archive = refl; reclaimed = refl; mark = refl }
+
+-- a call of the entry's chain
+entry-call-leaves : (tells : Bool) (job : Job) (w : WriterState) (old new : LogStoreValue) (answer : Result JobDid PumpFault)
+    → jobs.Advances tells job w old answer new → LeavesArchive tells old new
+entry-call-leaves tells job w old new answer advances =
+    let is = memory answer advances.answer in
+    record {
+      archive = is.archive;
+      reclaimed = is.reclaimed;
+      mark = is.mark;
+      bytes = λ told. call-bytes (turn w) w.stage (jobs.disk_answer answer) old.disk.areas new.disk.areas (advances.call told);
+    }
+  where
+    memory : (a : Result JobDid PumpFault)
+        → MatchResult a (λ what. (what ≡ jobs.did_of (writers.did w.stage)) × (new ≡ record (jobs.after_call old job w w.stage) { disk = new.disk }))
+        (λ why. (why ≡ pump.Failed) × (new ≡ record (with_failure old) { disk = new.disk }))
+        → LeavesMemory old new
+    memory (Ok what) is =
+        let after = entry-leaves old job w w.stage in
+        subst (λ (v : LogStoreValue). LeavesMemory old v) (sym is.1) (record { archive = after.archive; reclaimed = after.reclaimed; mark = after.mark })
+    memory (Err why) is = subst (λ (v : LogStoreValue). LeavesMemory old v) (sym is.1) (record { archive = refl; reclaimed = refl; mark = refl })
+
+entry-begins-leaves : (tells : Bool) (old : LogStoreValue) (job : Job) (begun : LogStoreValue) → BeginsEntry old job begun → LeavesArchive tells old begun
+entry-begins-leaves tells old job begun begins = record {
+  archive = ap (λ (v : LogStoreValue). v.archive) begins.new_is;
+  reclaimed = ap (λ (v : LogStoreValue). v.commits.reclaimed) begins.new_is;
+  mark = ap (λ (v : LogStoreValue). v.commits.mark) begins.new_is;
+  bytes = λ told. ap (λ (v : LogStoreValue). archive_of v.disk) begins.new_is;
+}
+
+pub job-leaves : (tells : Bool) (old new : LogStoreValue) (answer : Result JobDid PumpFault) → PumpsJob tells old answer new → LeavesArchive tells old new
+job-leaves tells old new answer pumps = by-failed old.commits.failed pumps
+  where
+    same : new ≡ old → LeavesArchive tells old new
+    same is = moved tells old old new is (leaves-same tells old)
+
+    by-at : (begun : LogStoreValue) (job : Job) (k : JobStage) → LeavesArchive tells old begun → AdvancesAt tells job k begun answer new
+        → LeavesArchive tells old new
+    by-at begun job (Ready waited) leaves advances = absurd advances
+    by-at begun job (Entering w) leaves advances = both-leave tells old begun new leaves (entry-call-leaves tells job w begun new answer advances)
+
+    by-begun : (begun : LogStoreValue) (j : Option Job) → LeavesArchive tells old begun → AdvancesEntry tells j begun answer new
+        → LeavesArchive tells old new
+    by-begun begun None leaves advances = absurd advances
+    by-begun begun (Some job) leaves advances = by-at begun job job.stage leaves advances
+
+    by-turn : (job : Job) (t : Option WriterState) → StepsReady tells job t old answer new → LeavesArchive tells old new
+    by-turn job None (inl none) = same none.1
+    by-turn job None (inr enters) = by-begun enters.0 enters.0.job (entry-begins-leaves tells old job enters.0 enters.1) enters.2
+    by-turn job (Some w) busy =
+        moved tells old (at_stage old job (Ready true)) new busy.1 (record { archive = refl; reclaimed = refl; mark = refl; bytes = λ told. refl })
+
+    by-stage : (job : Job) (k : JobStage) → StepsAt tells job k old answer new → LeavesArchive tells old new
+    by-stage job (Ready waited) step = by-turn job old.turn step
+    by-stage job (Entering w) step = entry-call-leaves tells job w old new answer step
+
+    by-job : (j : Option Job) → StepsJob tells j old answer new → LeavesArchive tells old new
+    by-job None idle = same idle.1
+    by-job (Some job) step = by-stage job job.stage step
+
+    by-failed : (b : Bool) → MatchBool b ((answer ≡ Err pump.Failed) × (new ≡ old)) (StepsJob tells old.job old answer new) → LeavesArchive tells old new
+    by-failed true failed = same failed.1
+    by-failed false step = by-job old.job step
+
+pub floor-leaves : (tells : Bool) (old new : LogStoreValue) (scope : Option ℕ) (floor : ℕ) (answer : Result (Unit {0}) StartFault)
+    → StartsFloor old scope floor answer new → LeavesArchive tells old new
+floor-leaves tells old new scope floor answer starts = by-refusal (floor_refusal old scope floor) starts
+  where
+    same : new ≡ old → LeavesArchive tells old new
+    same is = moved tells old old new is (leaves-same tells old)
+
+    begins : (s : Option ℕ) (a : Result (Unit {0}) StartFault) → BeginsFloor old s floor a new → LeavesArchive tells old new
+    begins None a begun = absurd begun
+    begins (Some relation) (Ok done) begun =
+        moved tells old (with_floor old relation floor) new begun.1 (record { archive = refl; reclaimed = refl; mark = refl; bytes = λ told. refl })
+    begins (Some relation) (Err why) begun = same begun.1
+
+    by-refusal : (o : Option StartFault) → MatchOption o (BeginsFloor old scope floor answer new) (λ why. (answer ≡ Err why) × (new ≡ old))
+        → LeavesArchive tells old new
+    by-refusal None begun = begins scope answer begun
+    by-refusal (Some why) refused = same refused.1
 
 -- ---- what is left
 

@@ -19,6 +19,9 @@ use Rattle.log_store.specs.Values.{LogStoreValue, IsInStep}
 use Rattle.log_store.specs.Calls.{Begins, Aborts, Redeems}
 use Rattle.log_store.specs.Submits.{Submits}
 use Rattle.log_store.specs.Pumps.{Pumps}
+use Rattle.log_store.specs.Jobs.{StartsFloor, PumpsJob}
+use Rattle.log_store.specs.declared.job.JobDid.{JobDid}
+use Rattle.log_store.specs.declared.job.StartFault.{StartFault}
 use Rattle.log_store.specs.Queries.{AnswersAtView, AnswersScanAt, AnswersRows, AnswersScanRows}
 use Rattle.group.specs.declared.answers.Did.{Did}
 
@@ -30,6 +33,8 @@ pub data IsCall (tells : Bool) (old new : LogStoreValue) : Type 0 where
   OfSubmit : (txn : TxnValue) (label now : ℕ) (answer : Result Submitted SubmitFault) → AreTxnWrites txn.state txn.snapshot txn.writes → label < 2 ^ 64
       → Submits old txn label now answer new → IsCall tells old new
   OfPump : (answer : Result Did PumpFault) → (IsTrue tells → AreSound new.disk.areas) → Pumps tells old answer new → IsCall tells old new
+  OfFloor : (scope : Option ℕ) (floor : ℕ) (answer : Result (Unit {0}) StartFault) → StartsFloor old scope floor answer new → IsCall tells old new
+  OfJob : (answer : Result JobDid PumpFault) → (IsTrue tells → AreSound new.disk.areas) → PumpsJob tells old answer new → IsCall tells old new
   OfAt : (view : ViewValue) (key : Key) (time : ℕ) (answer : Result (Option Value) QueryFault) → AnswersAtView tells old view key time answer new
       → IsCall tells old new
   OfScanAt : (view : ViewValue) (relation time : ℕ) (answer : Result (Vec (ℕ × Value) Global) QueryFault)

@@ -22,17 +22,28 @@ use Rattle.group.specs.declared.answers.SubmitFault.{SubmitFault}
 use Rattle.group.specs.declared.answers.SubmitFault.TheVariants as refused
 use Rattle.log_extents.specs.Chains.{count_of}
 use Rattle.log_writer.specs.Turns.{Stage, Writing, Syncing, Opening, Settling, Done, stage_after}
-use Rattle.log_writer.specs.Writer.{WriterState, IsOnItsWay}
+use Rattle.log_writer.specs.Writer.{WriterState, IsOnItsWay, with_stage}
 use Rattle.log_writer.specs.Writer as writers
-use Rattle.log_room.specs.Rooms.{fits, promised_to}
-use Rattle.log_room.specs.Contents.{content_over, extents_over}
+use Rattle.log_room.specs.Rooms as rooms
+use Rattle.log_room.specs.Rooms.{RoomValue, fits, has_entry_room}
+use Rattle.log_room.proofs.Taken.{used_len}
+use Rattle.log_room.specs.Contents.{content_over, extents_over, extents_of}
 use Rattle.commits.specs.Values.{CommitsValue, ordered, is_own, over}
 use Rattle.commits.specs.Steps.{with_waiting, published, broken}
-use Rattle.log_store.specs.Values.{LogStoreValue, IsInStep}
+use Rattle.log_store.specs.Values.{LogStoreValue, IsBeside, IsStageBeside, promised_at, promised_to, IsInStep}
+use Rattle.log_store.specs.declared.job.Job.{Job}
+use Rattle.log_store.specs.declared.job.JobStage.{JobStage}
+use Rattle.log_store.specs.declared.job.JobStage.TheVariants.{Ready, Entering}
 use Rattle.log_store.specs.Values as stores
 use Rattle.log_store.specs.Calls as calls
 use Rattle.log_store.specs.Calls.{with_commits}
-use Rattle.log_store.specs.Pumps.{Pumps, TakesStep, BeginsGroup, AdvancesGroup, Advances, after_call, at_next, with_published, with_failure, did_of}
+use Rattle.log_store.specs.Pumps.{Pumps, TakesStep, bars_groups, BeginsOrWaits, BeginsGroup, AdvancesGroup, Advances, after_call, at_next, with_published}
+use Rattle.log_store.specs.Pumps.{with_failure, did_of}
+use Rattle.log_store.specs.declared.job.JobDid.{JobDid}
+use Rattle.log_store.specs.declared.job.JobWork.{JobWork}
+use Rattle.log_store.specs.declared.job.JobWork.TheVariants.{Floor}
+use Rattle.log_store.specs.Jobs as jobs
+use Rattle.log_store.specs.Jobs.{PumpsJob, StepsJob, StepsAt, StepsReady, AdvancesEntry, BeginsEntry, at_stage, with_entry, with_work, with_floor}
 use Rattle.log_store.specs.Submits.{Submits, SubmitsOwn, AnswersSubmit, anchors_behind, has_room, spent, with_queued}
 use Rattle.log_store.proofs.InStep.{queued_in_step, begun_in_step}
 use Rattle.law_log_store.proofs.Calls.{AreNamesAlone, begin-alone, abort-alone, redeem-alone, has-room}
@@ -49,6 +60,7 @@ names-in-step old new is alone new_is =
       few = is.few;
       many = is.many;
       turn = is.turn;
+      beside = is.beside;
     })
 
 pub begin-in-step : (old new : LogStoreValue) (answer : Result TxnValue BeginFault) → IsInStep old → calls.Begins old answer new → IsInStep new
@@ -64,7 +76,7 @@ redeem-in-step old new ticket answer is redeems = names-in-step old new is (rede
 
 spent-in-step : (v : LogStoreValue) (number : ℕ) → IsInStep v → IsInStep (spent v number)
 spent-in-step v number is =
-    record { contents = is.contents; bytes = is.bytes; promised = is.promised; few = is.few; many = is.many; turn = is.turn }
+    record { contents = is.contents; bytes = is.bytes; promised = is.promised; few = is.few; many = is.many; turn = is.turn; beside = is.beside }
 
 -- a commit that fits leaves few extents promised
 fits-few : (v : LogStoreValue) (count anchors : ℕ) → IsInStep v → IsTrue (fits v.room count anchors) → v.room.promised + count ≤ 2 ^ 20
@@ -82,7 +94,7 @@ queued-in-step v label time writes is fit =
     let anchors = anchors_behind v writes in
     let content = content_over (ordered v.commits) label time writes in
     queued_in_step v label time count anchors writes content (with_waiting v.commits label time writes) (v.contents ++ content ∷ [])
-    (promised_to v.room count anchors) is refl refl refl refl refl (fits-few v count anchors is fit)
+    (rooms.promised_to v.room count anchors) is refl refl refl refl refl (fits-few v count anchors is fit)
 
 answer-in-step : (v new : LogStoreValue) (txn : TxnValue) (label now : ℕ) (answer : Result Submitted SubmitFault) → IsInStep v
     → AnswersSubmit v txn label now answer new → IsInStep new
@@ -108,8 +120,26 @@ submit-in-step old new txn label now answer is submits = by-own (is_own old.comm
 
 -- ---- steps of a group
 
+-- where a group's chain is in the writing no entry is, whichever the chain is; and where none is, an entry may be
+other-beside : (w x : WriterState) (j : Option Job) → IsBeside (Some w) j → IsBeside (Some x) j
+other-beside w x None beside = tt
+other-beside w x (Some job) beside = by-stage job.stage beside
+  where
+    by-stage : (k : JobStage) → IsStageBeside (Some w) k → IsStageBeside (Some x) k
+    by-stage (Ready waited) beside = tt
+    by-stage (Entering e) beside = absurd (let no = beside.0 in cc)
+
+none-beside : (t : Option WriterState) (j : Option Job) → IsBeside t j → IsBeside None j
+none-beside t None beside = tt
+none-beside t (Some job) beside = by-stage job.stage beside
+  where
+    by-stage : (k : JobStage) → IsStageBeside t k → IsStageBeside None k
+    by-stage (Ready waited) beside = tt
+    by-stage (Entering e) beside = (refl, beside.1)
+
 failed-in-step : (v : LogStoreValue) → IsInStep v → IsInStep (with_failure v)
-failed-in-step v is = record { contents = is.contents; bytes = is.bytes; promised = is.promised; few = is.few; many = is.many; turn = is.turn }
+failed-in-step v is =
+    record { contents = is.contents; bytes = is.bytes; promised = is.promised; few = is.few; many = is.many; turn = is.turn; beside = is.beside }
 
 published-in-step : (v : LogStoreValue) → IsInStep v → IsInStep (with_published v)
 published-in-step v is = record {
@@ -119,38 +149,49 @@ published-in-step v is = record {
   few = is.few;
   many = is.many;
   turn = refl;
+  beside = none-beside v.turn v.job is.beside;
 }
 
-next-in-step : (v : LogStoreValue) (w : WriterState) → IsInStep v → 0 < v.commits.group → IsOnItsWay (stage_after w.stage) → IsInStep (at_next v w)
-next-in-step v w is some on =
-    record { contents = is.contents; bytes = is.bytes; promised = is.promised; few = is.few; many = is.many; turn = (some, on) }
+next-in-step : (v : LogStoreValue) (w : WriterState) → v.turn ≡ Some w → IsInStep v → 0 < v.commits.group → IsOnItsWay (stage_after w.stage)
+    → IsInStep (at_next v w)
+next-in-step v w standing is some on = record {
+  contents = is.contents;
+  bytes = is.bytes;
+  promised = is.promised;
+  few = is.few;
+  many = is.many;
+  turn = (some, on);
+  beside = other-beside w (with_stage w (stage_after w.stage)) v.job (subst (λ (t : Option WriterState). IsBeside t v.job) standing is.beside);
+}
 
-call-in-step : (v : LogStoreValue) (w : WriterState) (stage : Stage) → w.stage ≡ stage → IsInStep v → 0 < v.commits.group → IsInStep (after_call v w stage)
-call-in-step v w (Writing done []) same is some =
-    next-in-step v w is some (subst (λ (k : Stage). IsOnItsWay (stage_after k)) (sym same) tt)
-call-in-step v w (Writing done (part ∷ [])) same is some =
-    next-in-step v w is some (subst (λ (k : Stage). IsOnItsWay (stage_after k)) (sym same) tt)
-call-in-step v w (Writing done (part ∷ next ∷ rest)) same is some =
-    next-in-step v w is some (subst (λ (k : Stage). IsOnItsWay (stage_after k)) (sym same) tt)
-call-in-step v w Syncing same is some = next-in-step v w is some (subst (λ (k : Stage). IsOnItsWay (stage_after k)) (sym same) tt)
-call-in-step v w Opening same is some = next-in-step v w is some (subst (λ (k : Stage). IsOnItsWay (stage_after k)) (sym same) tt)
-call-in-step v w Settling same is some = published-in-step v is
-call-in-step v w Done same is some = is
+call-in-step : (v : LogStoreValue) (w : WriterState) (stage : Stage) → v.turn ≡ Some w → w.stage ≡ stage → IsInStep v → 0 < v.commits.group
+    → IsInStep (after_call v w stage)
+call-in-step v w (Writing done []) standing same is some =
+    next-in-step v w standing is some (subst (λ (k : Stage). IsOnItsWay (stage_after k)) (sym same) tt)
+call-in-step v w (Writing done (part ∷ [])) standing same is some =
+    next-in-step v w standing is some (subst (λ (k : Stage). IsOnItsWay (stage_after k)) (sym same) tt)
+call-in-step v w (Writing done (part ∷ next ∷ rest)) standing same is some =
+    next-in-step v w standing is some (subst (λ (k : Stage). IsOnItsWay (stage_after k)) (sym same) tt)
+call-in-step v w Syncing standing same is some = next-in-step v w standing is some (subst (λ (k : Stage). IsOnItsWay (stage_after k)) (sym same) tt)
+call-in-step v w Opening standing same is some = next-in-step v w standing is some (subst (λ (k : Stage). IsOnItsWay (stage_after k)) (sym same) tt)
+call-in-step v w Settling standing same is some = published-in-step v is
+call-in-step v w Done standing same is some = is
 
 -- a store over another disk
 disk-in-step : (v : LogStoreValue) (disk : DiskState) → IsInStep v → IsInStep (record v { disk = disk })
-disk-in-step v disk is = record { contents = is.contents; bytes = is.bytes; promised = is.promised; few = is.few; many = is.many; turn = is.turn }
+disk-in-step v disk is =
+    record { contents = is.contents; bytes = is.bytes; promised = is.promised; few = is.few; many = is.many; turn = is.turn; beside = is.beside }
 
-advance-in-step : (tells : Bool) (w : WriterState) (old new : LogStoreValue) (answer : Result Did PumpFault) → IsInStep old → 0 < old.commits.group
-    → Advances tells w old answer new → IsInStep new
-advance-in-step tells w old new answer is some advances = by-answer answer advances.answer
+advance-in-step : (tells : Bool) (w : WriterState) (old new : LogStoreValue) (answer : Result Did PumpFault) → old.turn ≡ Some w → IsInStep old
+    → 0 < old.commits.group → Advances tells w old answer new → IsInStep new
+advance-in-step tells w old new answer standing is some advances = by-answer answer advances.answer
   where
     by-answer : (a : Result Did PumpFault)
         → MatchResult a (λ what. (what ≡ did_of (writers.did w.stage) old.commits.group) × (new ≡ record (after_call old w w.stage) { disk = new.disk }))
         (λ why. (why ≡ pump.Failed) × (new ≡ record (with_failure old) { disk = new.disk }))
         → IsInStep new
     by-answer (Ok what) so =
-        subst IsInStep (sym so.1) (disk-in-step (after_call old w w.stage) new.disk (call-in-step old w w.stage refl is some))
+        subst IsInStep (sym so.1) (disk-in-step (after_call old w w.stage) new.disk (call-in-step old w w.stage standing refl is some))
     by-answer (Err why) so = subst IsInStep (sym so.1) (disk-in-step (with_failure old) new.disk (failed-in-step old is))
 
 pub pump-in-step : (tells : Bool) (old new : LogStoreValue) (answer : Result Did PumpFault) → IsInStep old → Pumps tells old answer new → IsInStep new
@@ -160,14 +201,19 @@ pump-in-step tells old new answer is pumps = by-failed old.commits.failed pumps
     by-standing v None none step advances = absurd advances
     by-standing v (Some w) some step advances =
         let has : stores.HasTurn v.commits.group (Some w) = subst (stores.HasTurn v.commits.group) some step.turn in
-        advance-in-step tells w v new answer step has.0 advances
+        advance-in-step tells w v new answer some step has.0 advances
+
+    by-job : (b : Bool) → bars_groups old.job ≡ b → old.turn ≡ None → 0 < length old.commits.queue
+        → MatchBool b ((answer ≡ Err pump.Busy) × (new ≡ old)) (BeginsGroup tells old answer new) → IsInStep new
+    by-job true barred at_rest some so = subst IsInStep (sym so.1) is
+    by-job false unbarred at_rest some (inl none) = subst IsInStep (sym none.1) is
+    by-job false unbarred at_rest some (inr begun) =
+        by-standing begun.0 (begun.0).turn refl (begun_in_step old begun.0 is at_rest unbarred some begun.1) begun.2
 
     by-queue : (b : Bool) → (length old.commits.queue == 0) ≡ b → old.turn ≡ None
-        → MatchBool b ((answer ≡ Ok did.Idle) × (new ≡ old)) (BeginsGroup tells old answer new) → IsInStep new
+        → MatchBool b ((answer ≡ Ok did.Idle) × (new ≡ old)) (BeginsOrWaits tells old answer new) → IsInStep new
     by-queue true none at_rest idle = subst IsInStep (sym idle.1) is
-    by-queue false some at_rest (inl none) = subst IsInStep (sym none.1) is
-    by-queue false some at_rest (inr begun) =
-        by-standing begun.0 (begun.0).turn refl (begun_in_step old begun.0 is at_rest (grind (arith, nat_tests)) begun.1) begun.2
+    by-queue false some at_rest so = by-job (bars_groups old.job) refl at_rest (grind (arith, nat_tests)) so
 
     by-turn : (t : Option WriterState) → old.turn ≡ t → TakesStep tells old t answer new → IsInStep new
     by-turn None at_rest next = by-queue (length old.commits.queue == 0) refl at_rest next
@@ -176,3 +222,140 @@ pump-in-step tells old new answer is pumps = by-failed old.commits.failed pumps
     by-failed : (b : Bool) → MatchBool b ((answer ≡ Err pump.Failed) × (new ≡ old)) (TakesStep tells old old.turn answer new) → IsInStep new
     by-failed true so = subst IsInStep (sym so.1) is
     by-failed false takes = by-turn old.turn refl takes
+
+-- ---- jobs
+
+-- a floor that begins is promised an extent
+pub floor-in-step : (v : LogStoreValue) (relation time : ℕ) → v.job ≡ None → IsTrue (has_entry_room v.room) → IsInStep v → IsInStep (with_floor v relation time)
+floor-in-step v relation time none room is = record {
+  contents = is.contents;
+  bytes = is.bytes;
+  promised = let was = is.promised in let nothing : promised_to v.job ≡ 0 = ap promised_to none in omega (arith, was, nothing);
+  few = let many = is.many in
+      let test : nat_le (v.room.log + v.room.promised + 1) (length v.room.used / 2 - 2) ≡ true = room in
+      let fits : v.room.log + v.room.promised + 1 ≤ length v.room.used / 2 - 2 = grind (arith, nat_tests) in
+      omega (arith, many, fits);
+  many = is.many;
+  turn = is.turn;
+  beside = tt;
+}
+
+-- a job waits for a group
+waits-in-step : (v : LogStoreValue) (job : Job) (waited : Bool) → v.job ≡ Some job → job.stage ≡ Ready waited → IsInStep v
+    → IsInStep (at_stage v job (Ready true))
+waits-in-step v job waited is-job e is = record {
+  contents = is.contents;
+  bytes = is.bytes;
+  promised = is.promised ∙ ap (λ (n : ℕ). extents_of v.contents + n) (ap promised_to is-job ∙ ap promised_at e);
+  few = is.few;
+  many = is.many;
+  turn = is.turn;
+  beside = tt;
+}
+
+-- an entry begins
+begun-entry-in-step : (old new : LogStoreValue) (job : Job) (waited : Bool) → old.job ≡ Some job → job.stage ≡ Ready waited → old.turn ≡ None → IsInStep old
+    → BeginsEntry old job new → IsInStep new
+begun-entry-in-step old new job waited is-job e at_rest is b =
+    subst IsInStep (sym b.new_is) (record {
+      contents = is.contents;
+      bytes = is.bytes;
+      promised =
+          let was = is.promised in
+          let one : promised_to old.job ≡ 1 = ap promised_to is-job ∙ ap promised_at e in
+          let now = ap (λ (r : RoomValue). r.promised) b.takes.new_is in
+          omega (arith, was, one, now);
+      few = let was = is.few in let now = ap (λ (r : RoomValue). r.promised) b.takes.new_is in omega (arith, was, now);
+      many = subst (λ (n : ℕ). n ≤ 2 ^ 20)
+          (sym (ap (λ (r : RoomValue). length r.used) b.takes.new_is ∙ used_len old.room.used (b.takes.others ++ b.link ∷ []))) is.many;
+      turn = is.turn;
+      beside = (at_rest, tt);
+    })
+
+-- a call of the entry's chain
+next-entry-in-step : (v : LogStoreValue) (job : Job) (w : WriterState) → v.turn ≡ None → v.job ≡ Some job → job.stage ≡ Entering w → IsInStep v
+    → IsOnItsWay (stage_after w.stage) → IsInStep (at_stage v job (Entering (with_stage w (stage_after w.stage))))
+next-entry-in-step v job w at_rest is-job e is on = record {
+  contents = is.contents;
+  bytes = is.bytes;
+  promised = is.promised ∙ ap (λ (n : ℕ). extents_of v.contents + n) (ap promised_to is-job ∙ ap promised_at e);
+  few = is.few;
+  many = is.many;
+  turn = is.turn;
+  beside = (at_rest, on);
+}
+
+entered-in-step : (v : LogStoreValue) (job : Job) (w : WriterState) → v.job ≡ Some job → job.stage ≡ Entering w → IsInStep v → IsInStep (with_entry v job)
+entered-in-step v job w is-job e is = by-work job.work
+  where
+    by-work : (work : JobWork) → IsInStep (record v { commits = with_work work v.commits; job = None })
+    by-work (Floor floor kept) = record {
+      contents = is.contents;
+      bytes = is.bytes;
+      promised = is.promised ∙ ap (λ (n : ℕ). extents_of v.contents + n) (ap promised_to is-job ∙ ap promised_at e);
+      few = is.few;
+      many = is.many;
+      turn = is.turn;
+      beside = tt;
+    }
+
+entry-call-in-step : (v : LogStoreValue) (job : Job) (w : WriterState) (stage : Stage) → v.turn ≡ None → v.job ≡ Some job → job.stage ≡ Entering w
+    → w.stage ≡ stage → IsInStep v → IsInStep (jobs.after_call v job w stage)
+entry-call-in-step v job w (Writing done []) at_rest is-job e same is =
+    next-entry-in-step v job w at_rest is-job e is (subst (λ (k : Stage). IsOnItsWay (stage_after k)) (sym same) tt)
+entry-call-in-step v job w (Writing done (part ∷ [])) at_rest is-job e same is =
+    next-entry-in-step v job w at_rest is-job e is (subst (λ (k : Stage). IsOnItsWay (stage_after k)) (sym same) tt)
+entry-call-in-step v job w (Writing done (part ∷ next ∷ rest)) at_rest is-job e same is =
+    next-entry-in-step v job w at_rest is-job e is (subst (λ (k : Stage). IsOnItsWay (stage_after k)) (sym same) tt)
+entry-call-in-step v job w Syncing at_rest is-job e same is =
+    next-entry-in-step v job w at_rest is-job e is (subst (λ (k : Stage). IsOnItsWay (stage_after k)) (sym same) tt)
+entry-call-in-step v job w Opening at_rest is-job e same is =
+    next-entry-in-step v job w at_rest is-job e is (subst (λ (k : Stage). IsOnItsWay (stage_after k)) (sym same) tt)
+entry-call-in-step v job w Settling at_rest is-job e same is = entered-in-step v job w is-job e is
+entry-call-in-step v job w Done at_rest is-job e same is = is
+
+advance-entry-in-step : (tells : Bool) (job : Job) (w : WriterState) (old new : LogStoreValue) (answer : Result JobDid PumpFault) → old.job ≡ Some job
+    → job.stage ≡ Entering w → IsInStep old → jobs.Advances tells job w old answer new → IsInStep new
+advance-entry-in-step tells job w old new answer is-job e is advances = by-answer answer advances.answer
+  where
+    at_rest : old.turn ≡ None
+    at_rest = (subst (λ (k : JobStage). IsStageBeside old.turn k) e (subst (λ (j : Option Job). IsBeside old.turn j) is-job is.beside)).0
+
+    by-answer : (a : Result JobDid PumpFault)
+        → MatchResult a (λ what. (what ≡ jobs.did_of (writers.did w.stage)) × (new ≡ record (jobs.after_call old job w w.stage) { disk = new.disk }))
+        (λ why. (why ≡ pump.Failed) × (new ≡ record (with_failure old) { disk = new.disk }))
+        → IsInStep new
+    by-answer (Ok what) so =
+        subst IsInStep (sym so.1)
+        (disk-in-step (jobs.after_call old job w w.stage) new.disk (entry-call-in-step old job w w.stage at_rest is-job e refl is))
+    by-answer (Err why) so = subst IsInStep (sym so.1) (disk-in-step (with_failure old) new.disk (failed-in-step old is))
+
+pub job-in-step : (tells : Bool) (old new : LogStoreValue) (answer : Result JobDid PumpFault) → IsInStep old → PumpsJob tells old answer new → IsInStep new
+job-in-step tells old new answer is pumps = by-failed old.commits.failed pumps
+  where
+    by-begun : (v : LogStoreValue) (j : Option Job) → v.job ≡ j → IsInStep v → AdvancesEntry tells j v answer new → IsInStep new
+    by-begun v None none step advances = absurd advances
+    by-begun v (Some job) is-job step advances = by-at job.stage refl advances
+      where
+        by-at : (k : JobStage) → job.stage ≡ k → jobs.AdvancesAt tells job k v answer new → IsInStep new
+        by-at (Ready waited) e advances = absurd advances
+        by-at (Entering w) e advances = advance-entry-in-step tells job w v new answer is-job e step advances
+
+    by-turn : (job : Job) (waited : Bool) → old.job ≡ Some job → job.stage ≡ Ready waited → (t : Option WriterState) → old.turn ≡ t
+        → StepsReady tells job t old answer new → IsInStep new
+    by-turn job waited is-job e None at_rest (inl none) = subst IsInStep (sym none.1) is
+    by-turn job waited is-job e None at_rest (inr enters) =
+        by-begun enters.0 (enters.0).job refl (begun-entry-in-step old enters.0 job waited is-job e at_rest is enters.1) enters.2
+    by-turn job waited is-job e (Some w) standing so = subst IsInStep (sym so.1) (waits-in-step old job waited is-job e is)
+
+    by-stage : (job : Job) → old.job ≡ Some job → (k : JobStage) → job.stage ≡ k → StepsAt tells job k old answer new → IsInStep new
+    by-stage job is-job (Ready waited) e so = by-turn job waited is-job e old.turn refl so
+    by-stage job is-job (Entering w) e so = advance-entry-in-step tells job w old new answer is-job e is so
+
+    by-job : (j : Option Job) → old.job ≡ j → StepsJob tells j old answer new → IsInStep new
+    by-job None none so = subst IsInStep (sym so.1) is
+    by-job (Some job) is-job so = by-stage job is-job job.stage refl so
+
+    by-failed : (b : Bool) → MatchBool b ((answer ≡ Err pump.Failed) × (new ≡ old)) (StepsJob tells old.job old answer new) → IsInStep new
+    by-failed true so = subst IsInStep (sym so.1) is
+    by-failed false steps = by-job old.job refl steps

@@ -1,5 +1,6 @@
 -- Calls that change only which transactions are open and which commits are awaited.
 use Rattle.std.proofs.Common.{◌≡◌, ℕ, Bool, true, false, List, Result, Ok, Err, refl, ap, sym, subst, ◌∙◌}
+use Rattle.std.proofs.Common.{Option}
 use Rattle.std.specs.Prelude.{MatchBool}
 use Rattle.history.specs.Histories.{History}
 use Rattle.history.specs.Machine.{Machine, IsMachine}
@@ -15,6 +16,9 @@ use Rattle.group.specs.declared.answers.Redeemed.{Redeemed}
 use Rattle.commits.specs.Values.{CommitsValue, is_own}
 use Rattle.log_store.specs.Values.{LogStoreValue}
 use Rattle.log_store.specs.Calls as calls
+use Rattle.log_store.specs.Calls.{with_commits}
+use Rattle.log_store.specs.declared.job.Job.{Job}
+use Rattle.floors.specs.Floors.{FloorsValue}
 use Rattle.law_refinement.specs.Laws.{RedeemsAs}
 use Rattle.law_commits.specs.Standing.{StandsInMemory}
 use Rattle.law_commits.specs.Laws as memory
@@ -23,7 +27,7 @@ use Rattle.law_commits.proofs.Answering.{redeem-step}
 use Rattle.law_log_store.specs.Standing.{StandsOnHeap, StopsOnHeap}
 use Rattle.law_log_store.specs.Calls.{KeepsDisk}
 use Rattle.law_log_store.proofs.Calls.{AreNamesAlone, begin-alone, abort-alone, redeem-alone, begin-keeps, abort-keeps, redeem-keeps}
-use Rattle.law_log_steps.specs.Store.{OnDisk, AreFresh, gate_of, gate_left, IsWriting, IsStoreOf}
+use Rattle.law_log_steps.specs.Store.{OnDisk, AreFresh, gate_of, gate_left, raising_of, HasAllMade, IsWriting, IsStoreOf}
 use Rattle.law_log_steps.specs.Laws.{BeginsTo, Goes}
 
 -- what the disk stands for is kept
@@ -48,14 +52,30 @@ pub record HasSameGroup (m n : Machine Value) : Type 0 where
 pub same-group : (m : Machine Value) → HasSameGroup m m
 same-group m = record { most = refl; group = refl; raising = refl; gate = refl; failed = refl }
 
-pub writes-on : (old new : LogStoreValue) (m n : Machine Value) → IsWriting old m → new.commits.group ≡ old.commits.group → new.turn ≡ old.turn
-    → HasSameGroup m n → IsWriting new n
-writes-on old new m n is group turn same = record {
+-- the store writes the same: its group and its job are as far as they were
+pub record WritesSame (old new : LogStoreValue) : Type 0 where
+  pub group : new.commits.group ≡ old.commits.group
+  pub floors : new.commits.floors ≡ old.commits.floors
+  pub turn : new.turn ≡ old.turn
+  pub job : new.job ≡ old.job
+
+pub writes-all-same : (old new : LogStoreValue) → new ≡ old → WritesSame old new
+writes-all-same old new is = record {
+  group = ap (λ (v : LogStoreValue). v.commits.group) is;
+  floors = ap (λ (v : LogStoreValue). v.commits.floors) is;
+  turn = ap (λ (v : LogStoreValue). v.turn) is;
+  job = ap (λ (v : LogStoreValue). v.job) is;
+}
+
+pub writes-on : (old new : LogStoreValue) (m n : Machine Value) → IsWriting old m → WritesSame old new → HasSameGroup m n → IsWriting new n
+writes-on old new m n is writes same = record {
   most = same.most ∙ is.most;
-  group = same.group ∙ is.group ∙ sym group;
-  raising = same.raising ∙ is.raising;
-  gate = λ works. same.gate ∙ is.gate (sym same.failed ∙ works) ∙ ap gate_of (sym turn);
-  left = λ fails. same.gate ∙ is.left (sym same.failed ∙ fails) ∙ ap gate_left (sym turn);
+  group = same.group ∙ is.group ∙ sym writes.group;
+  raising = same.raising ∙ is.raising ∙ ap raising_of (sym writes.job);
+  made = subst (λ (f : FloorsValue). HasAllMade f new.job) (sym writes.floors)
+      (subst (λ (j : Option Job). HasAllMade old.commits.floors j) (sym writes.job) is.made);
+  gate = λ works. same.gate ∙ is.gate (sym same.failed ∙ works) ∙ (λ i. gate_of (sym writes.turn i) (sym writes.job i));
+  left = λ fails. same.gate ∙ is.left (sym same.failed ∙ fails) ∙ (λ i. gate_left (sym writes.turn i) (sym writes.job i));
 }
 
 -- the machine has the same history, queue and floors
@@ -84,11 +104,16 @@ other-snapshots m n snapshots is = record {
 
 pub store-keeps : (tells : Bool) (old new : LogStoreValue) (m n : Machine Value) → IsStoreOf tells old m → KeepsDisk old new
     → AreNamesAlone old.commits new.commits
-    → new.turn ≡ old.turn → StandsInMemory new.commits n → IsMachine IsValue n → IsAlike m n → IsStoreOf tells new n
-store-keeps tells old new m n is keeps alone turn stands machine alike = record {
+    → new ≡ with_commits old new.commits → StandsInMemory new.commits n → IsMachine IsValue n → IsAlike m n → IsStoreOf tells new n
+store-keeps tells old new m n is keeps alone new_is stands machine alike = record {
   memory = stands;
   machine = machine;
-  writing = writes-on old new m n is.writing (ap (λ (c : CommitsValue). c.group) alone.new_is) turn alike.group;
+  writing = writes-on old new m n is.writing (record {
+    group = ap (λ (c : CommitsValue). c.group) alone.new_is;
+    floors = ap (λ (c : CommitsValue). c.floors) alone.new_is;
+    turn = ap (λ (v : LogStoreValue). v.turn) new_is;
+    job = ap (λ (v : LogStoreValue). v.job) new_is;
+  }) alike.group;
   fresh = subst AreFresh (sym alone.new_is) is.fresh;
   disk = λ told.
       disk-alike new m n alike
@@ -103,8 +128,8 @@ begin-stands tells old new answer m is begins = by-answer answer (begin-step old
   where
     keeps : (n : Machine Value) → StandsInMemory new.commits n → IsMachine IsValue n → IsAlike m n → IsStoreOf tells new n
     keeps n stands machine alike =
-        store-keeps tells old new m n is (begin-keeps old new answer begins) (begin-alone old.commits new.commits answer begins.is) (ap (λ
-        (v : LogStoreValue). v.turn) begins.new_is) stands machine alike
+        store-keeps tells old new m n is (begin-keeps old new answer begins) (begin-alone old.commits new.commits answer begins.is)
+        begins.new_is stands machine alike
 
     by-answer : (a : Result TxnValue BeginFault) → memory.BeginsTo m a new.commits → BeginsTo tells m a new
     by-answer (Ok txn) to = (
@@ -125,8 +150,8 @@ abort-stands tells old new txn m is aborts = by-own (is_own old.commits txn) (ab
   where
     keeps : (n : Machine Value) → StandsInMemory new.commits n → IsMachine IsValue n → IsAlike m n → IsStoreOf tells new n
     keeps n stands machine alike =
-        store-keeps tells old new m n is (abort-keeps old new txn aborts) (abort-alone old.commits new.commits txn aborts.is) (ap (λ
-        (v : LogStoreValue). v.turn) aborts.new_is) stands machine alike
+        store-keeps tells old new m n is (abort-keeps old new txn aborts) (abort-alone old.commits new.commits txn aborts.is)
+        aborts.new_is stands machine alike
 
     by-own : (b : Bool) → MatchBool b (memory.Goes new.commits m (Aborted txn.snapshot)) (StandsInMemory new.commits m)
         → MatchBool b (Goes tells new m (Aborted txn.snapshot)) (IsStoreOf tells new m)
@@ -142,7 +167,6 @@ pub redeem-stands : (tells : Bool) (old new : LogStoreValue) (ticket : TicketVal
 redeem-stands tells old new ticket answer m is redeems =
     let to = redeem-step old.commits new.commits ticket answer m is.memory is.machine redeems.is in (
       to.0,
-      store-keeps tells old new m m is (redeem-keeps old new ticket answer redeems) (redeem-alone old.commits new.commits ticket answer redeems.is) (ap (λ
-          (v : LogStoreValue). v.turn) redeems.new_is) to.1 is.machine
-          (itself m),
+      store-keeps tells old new m m is (redeem-keeps old new ticket answer redeems) (redeem-alone old.commits new.commits ticket answer redeems.is)
+          redeems.new_is to.1 is.machine (itself m),
     )

@@ -5,3 +5,5 @@ pub mod Resting
 pub mod Opening
 pub mod Fronts
 pub mod InStep
+pub mod Jobs
+pub mod FloorStarts

@@ -1,5 +1,6 @@
 -- A store that was opened on an image which stands for a history stands for a machine that is opened on it.
 use Rattle.std.proofs.Common.{◌≡◌, ℕ, ◌+◌, ◌<◌, ◌≤◌, ◌^◌, nat_lt, Bool, true, false, cond, IsTrue, List, [], ◌∷◌, ◌++◌, length, map, filter, refl, arith, ap}
+use Rattle.std.proofs.Common.{Option}
 use Rattle.std.proofs.Common.{sym, subst, ◌∙◌, ⊎_elim, length-append}
 use Rattle.std.specs.Prelude.{if◌then◌else◌}
 use Rattle.std.specs.List.{AllByRecursion}
@@ -49,7 +50,8 @@ use Rattle.log_store.specs.Opens.{Opens, commits_on, head_as}
 use Rattle.log_store.proofs.Places.{has-place}
 use Rattle.law_log_store.specs.Standing.{IsImageOf, StandsOnHeap}
 use Rattle.law_log_store.proofs.Opening.{facts-are, members-same, open-stands, read as read-is, same as same-log}
-use Rattle.law_log_steps.specs.Store.{gate_of, IsStoreOf}
+use Rattle.law_log_steps.specs.Store.{gate_of, raising_of, HasAllMade, IsStoreOf}
+use Rattle.log_store.specs.declared.job.Job.{Job}
 use Rattle.law_log_steps.proofs.Resting.{stands-opened}
 
 -- ---- names
@@ -278,8 +280,9 @@ module _ (tells : Bool) (old : DiskState) (mark : ℕ) (v : LogStoreValue) (root
       (record {
         most = refl;
         group = sym (ap (λ (c : CommitsValue). c.group) same);
-        raising = refl;
-        gate = λ works. ap gate_of (sym (ap (λ (x : LogStoreValue). x.turn) opens.new_is));
+        raising = ap raising_of (sym (ap (λ (x : LogStoreValue). x.job) opens.new_is));
+        made = subst (λ (j : Option Job). HasAllMade v.commits.floors j) (sym (ap (λ (x : LogStoreValue). x.job) opens.new_is)) tt;
+        gate = λ works. ap (λ (x : LogStoreValue). gate_of x.turn x.job) (sym opens.new_is);
         left = λ fails. absurd (let no : false ≡ true = fails in cc);
       })
       (subst (λ (c : CommitsValue). StandsInMemory c (opened_by 1024 h floors)) (sym same) memory)

@@ -19,9 +19,16 @@ use Rattle.log_writer.specs.Writer.{WriterState, IsOnItsWay}
 use Rattle.log_writer.specs.Writer as writers
 use Rattle.commits.specs.Values.{CommitsValue, WaitingValue, mark_after}
 use Rattle.commits.specs.Steps.{members, published}
-use Rattle.log_store.specs.Values.{LogStoreValue, IsInStep}
+use Rattle.commits.specs.Steps as commit_steps
+use Rattle.log_store.specs.Values.{LogStoreValue, IsBeside, IsStageBeside, IsInStep}
+use Rattle.log_store.specs.declared.job.Job.{Job}
+use Rattle.log_store.specs.declared.job.JobStage.{JobStage}
+use Rattle.log_store.specs.declared.job.JobStage.TheVariants.{Ready, Entering}
+use Rattle.log_store.proofs.InStep.{beside_group}
+use Rattle.floors.specs.Floors.{FloorsValue}
 use Rattle.log_store.specs.Values as stores
-use Rattle.log_store.specs.Pumps.{Pumps, TakesStep, Begins, BeginsGroup, AdvancesGroup, Advances, after_call, at_next, with_failure, did_of, group_size}
+use Rattle.log_store.specs.Pumps.{Pumps, TakesStep, bars_at, bars_groups, BeginsOrWaits, Begins, BeginsGroup, AdvancesGroup, Advances, after_call, at_next}
+use Rattle.log_store.specs.Pumps.{with_failure, did_of, group_size}
 use Rattle.log_store.specs.Pumps.{group_content}
 use Rattle.group.specs.declared.answers.Did.{Did}
 use Rattle.group.specs.declared.answers.Did.TheVariants as did
@@ -35,7 +42,7 @@ use Rattle.law_log_store.specs.Calls.{count_in, StepsTo}
 use Rattle.law_log_store.proofs.Beginning.{grouped-is}
 use Rattle.law_log_store.proofs.Pumping.{pump-steps, failed-rests}
 use Rattle.law_log_store.proofs.Submitting.{group-within}
-use Rattle.law_log_steps.specs.Store.{HaveMark, AreFresh, gate_at, gate_of, gate_behind, gate_left, IsStoreOf}
+use Rattle.law_log_steps.specs.Store.{HaveMark, AreFresh, gate_at, gate_on, gate_by, gate_of, gate_behind, gate_left, raising_of, HasAllMade, IsStoreOf}
 use Rattle.law_refinement.specs.Laws.{begins_in, ends_in, breaks_in}
 use Rattle.law_log_steps.specs.Laws.{events_in, Runs}
 
@@ -126,6 +133,25 @@ gated-memory v m group gate stands = record {
   failed = stands.failed;
 }
 
+-- ---- gates
+
+-- where a group's chain is in the writing, and where no job bars groups, no entry is
+shut-beside : (w : WriterState) (j : Option Job) → IsBeside (Some w) j → gate_by j ≡ Shut
+shut-beside w None alone = refl
+shut-beside w (Some job) alone = by-stage job.stage alone
+  where
+    by-stage : (k : JobStage) → IsStageBeside (Some w) k → gate_on k ≡ Shut
+    by-stage (Ready waited) alone = refl
+    by-stage (Entering e) alone = absurd (let no = alone.0 in cc)
+
+shut-unbarred : (j : Option Job) → bars_groups j ≡ false → gate_by j ≡ Shut
+shut-unbarred None unbarred = refl
+shut-unbarred (Some job) unbarred = by-stage job.stage unbarred
+  where
+    by-stage : (k : JobStage) → bars_at k ≡ false → gate_on k ≡ Shut
+    by-stage (Ready waited) unbarred = refl
+    by-stage (Entering e) barred = absurd (let no : true ≡ false = barred in cc)
+
 -- ---- events
 
 begins-some : (m : Machine Value) → m.group ≡ 0 → 0 < length m.queue → begins_in m ≡ GroupBegan ∷ []
@@ -151,7 +177,7 @@ record Gone (m : Machine Value) (events : List (Event Value)) (count : ℕ) (new
   gate : Gate
   run : Run IsValue m events (record (with_published count m) { group = group; gate = gate })
   group_is : group ≡ new.commits.group
-  gate_is : gate ≡ gate_of new.turn
+  gate_is : gate ≡ gate_of new.turn new.job
 
 -- or it has failed
 record Failing (m : Machine Value) (events : List (Event Value)) (new : LogStoreValue) : Type 0 where
@@ -159,7 +185,7 @@ record Failing (m : Machine Value) (events : List (Event Value)) (new : LogStore
   gate : Gate
   run : Run IsValue m events (record (steps.broken m) { group = group; gate = gate })
   group_is : group ≡ new.commits.group
-  gate_is : gate ≡ gate_left new.turn
+  gate_is : gate ≡ gate_left new.turn new.job
 
 abbrev GoesBy : Result Did PumpFault → Machine Value → LogStoreValue → Type 0
 GoesBy (Ok what) m new = Gone m (ends_in m.gate (Ok what)) (count_in what) new
@@ -167,7 +193,8 @@ GoesBy (Err why) m new = Failing m (breaks_in m.gate) new
 
 -- a call of the group's chain
 module _ (tells : Bool) (w : WriterState) (old new : LogStoreValue) (m : Machine Value) (on : IsOnItsWay w.stage) (works : m.failed ≡ false)
-    (group_is : m.group ≡ old.commits.group) (some : 0 < old.commits.group) (gate_is : m.gate ≡ gate_at w.stage) where
+    (group_is : m.group ≡ old.commits.group) (some : 0 < old.commits.group) (gate_is : m.gate ≡ gate_at OfGroup w.stage)
+    (alone : IsBeside (Some w) old.job) where
   some-here : 0 < m.group
   some-here = omega (arith, some, group_is)
 
@@ -178,8 +205,10 @@ module _ (tells : Bool) (w : WriterState) (old new : LogStoreValue) (m : Machine
   call-goes what advances =
       subst (λ (d : Did). Gone m (ends_in m.gate (Ok d)) (count_in d) new) (sym advances.answer.0) (by-stage w.stage refl on advances.answer.1)
     where
-      next-turn : (k : Stage) → w.stage ≡ k → new ≡ record (at_next old w) { disk = new.disk } → gate_at (stage_after k) ≡ gate_of new.turn
-      next-turn k same next = ap (λ (j : Stage). gate_at (stage_after j)) (sym same) ∙ ap (λ (v : LogStoreValue). gate_of v.turn) (sym next)
+      next-turn : (k : Stage) → w.stage ≡ k → new ≡ record (at_next old w) { disk = new.disk } → gate_at OfGroup (stage_after k)
+          ≡ gate_of new.turn new.job
+      next-turn k same next =
+          ap (λ (j : Stage). gate_at OfGroup (stage_after j)) (sym same) ∙ ap (λ (v : LogStoreValue). gate_of v.turn v.job) (sym next)
 
       by-stage : (k : Stage) → w.stage ≡ k → IsOnItsWay k → new ≡ record (after_call old w k) { disk = new.disk }
           → Gone m (ends_in m.gate (Ok (did_of (writers.did k) old.commits.group))) (count_in (did_of (writers.did k) old.commits.group)) new
@@ -188,26 +217,26 @@ module _ (tells : Bool) (w : WriterState) (old new : LogStoreValue) (m : Machine
         gate = m.gate;
         run = stays m.gate m refl;
         group_is = group_is ∙ ap (λ (v : LogStoreValue). v.commits.group) (sym next);
-        gate_is = gate_is ∙ ap gate_at same ∙ next-turn (Writing d []) same next;
+        gate_is = gate_is ∙ ap (gate_at OfGroup) same ∙ next-turn (Writing d []) same next;
       }
       by-stage (Writing d (p ∷ rest)) same call next = record {
         group = m.group;
         gate = m.gate;
         run = stays m.gate m refl;
         group_is = group_is ∙ ap (λ (v : LogStoreValue). v.commits.group) (sym next);
-        gate_is = gate_is ∙ ap gate_at same ∙ next-turn (Writing d (p ∷ rest)) same next;
+        gate_is = gate_is ∙ ap (gate_at OfGroup) same ∙ next-turn (Writing d (p ∷ rest)) same next;
       }
       by-stage Syncing same call next = record {
         group = m.group;
         gate = Due OfGroup;
-        run = (gated m (Due OfGroup), (works, some-here, gate_is ∙ ap gate_at same, refl), stays (Due OfGroup) (gated m (Due OfGroup)) refl);
+        run = (gated m (Due OfGroup), (works, some-here, gate_is ∙ ap (gate_at OfGroup) same, refl), stays (Due OfGroup) (gated m (Due OfGroup)) refl);
         group_is = group_is ∙ ap (λ (v : LogStoreValue). v.commits.group) (sym next);
         gate_is = next-turn Syncing same next;
       }
       by-stage Opening same call next = record {
         group = m.group;
         gate = MayBeOpen OfGroup;
-        run = (gated m (MayBeOpen OfGroup), (works, gate_is ∙ ap gate_at same, refl), stays (MayBeOpen OfGroup) (gated m (MayBeOpen OfGroup)) refl);
+        run = (gated m (MayBeOpen OfGroup), (works, gate_is ∙ ap (gate_at OfGroup) same, refl), stays (MayBeOpen OfGroup) (gated m (MayBeOpen OfGroup)) refl);
         group_is = group_is ∙ ap (λ (v : LogStoreValue). v.commits.group) (sym next);
         gate_is = next-turn Opening same next;
       }
@@ -216,11 +245,11 @@ module _ (tells : Bool) (w : WriterState) (old new : LogStoreValue) (m : Machine
         gate = Shut;
         run = (
           group_published m,
-          (works, some, sym group_is, gate_is ∙ ap gate_at same, refl),
+          (works, some, sym group_is, gate_is ∙ ap (gate_at OfGroup) same, refl),
           ap (λ (n : ℕ). record m { published = m.published ++ take n m.queue; queue = drop n m.queue; group = 0; gate = Shut }) (sym group_is),
         );
         group_is = ap (λ (v : LogStoreValue). v.commits.group) (sym next);
-        gate_is = ap (λ (v : LogStoreValue). gate_of v.turn) (sym next);
+        gate_is = sym (shut-beside w old.job alone) ∙ ap (λ (v : LogStoreValue). gate_of v.turn v.job) (sym next);
       }
       by-stage Done same call next = absurd call
 
@@ -230,21 +259,23 @@ module _ (tells : Bool) (w : WriterState) (old new : LogStoreValue) (m : Machine
       same-group : m.group ≡ new.commits.group
       same-group = group_is ∙ ap (λ (v : LogStoreValue). v.commits.group) (sym advances.answer.1)
 
-      left-behind : (k : Stage) → w.stage ≡ k → gate_behind k ≡ gate_left new.turn
-      left-behind k same = ap gate_behind (sym same) ∙ ap gate_left (sym turn_is) ∙ ap (λ (v : LogStoreValue). gate_left v.turn) (sym advances.answer.1)
+      left-behind : (k : Stage) → w.stage ≡ k → gate_behind OfGroup k ≡ gate_left new.turn new.job
+      left-behind k same =
+          ap (gate_behind OfGroup) (sym same) ∙ ap (λ (t : Option WriterState). gate_left t old.job) (sym turn_is)
+          ∙ ap (λ (v : LogStoreValue). gate_left v.turn v.job) (sym advances.answer.1)
 
       here : (k : Gate) → m.gate ≡ k → Failing m (breaks_in k) new → Failing m (breaks_in m.gate) new
       here k same fails = subst (λ (g : Gate). Failing m (breaks_in g) new) (sym same) fails
 
-      only-breaks : m.gate ≡ gate_left new.turn → Failing m (Broke ∷ []) new
+      only-breaks : m.gate ≡ gate_left new.turn new.job → Failing m (Broke ∷ []) new
       only-breaks left = record { group = m.group; gate = m.gate; run = (steps.broken m, (works, refl), refl); group_is = same-group; gate_is = left }
 
       by-stage : (k : Stage) → w.stage ≡ k → Failing m (breaks_in m.gate) new
       by-stage (Writing d rest) same =
-          let shut : m.gate ≡ Shut = gate_is ∙ ap gate_at same in here Shut shut (only-breaks (shut ∙ left-behind (Writing d rest) same))
-      by-stage Syncing same = let shut : m.gate ≡ Shut = gate_is ∙ ap gate_at same in here Shut shut (only-breaks (shut ∙ left-behind Syncing same))
+          let shut : m.gate ≡ Shut = gate_is ∙ ap (gate_at OfGroup) same in here Shut shut (only-breaks (shut ∙ left-behind (Writing d rest) same))
+      by-stage Syncing same = let shut : m.gate ≡ Shut = gate_is ∙ ap (gate_at OfGroup) same in here Shut shut (only-breaks (shut ∙ left-behind Syncing same))
       by-stage Opening same =
-          let due : m.gate ≡ Due OfGroup = gate_is ∙ ap gate_at same in
+          let due : m.gate ≡ Due OfGroup = gate_is ∙ ap (gate_at OfGroup) same in
           here (Due OfGroup) due (record {
             group = m.group;
             gate = MayBeOpen OfGroup;
@@ -253,10 +284,10 @@ module _ (tells : Bool) (w : WriterState) (old new : LogStoreValue) (m : Machine
             gate_is = left-behind Opening same;
           })
       by-stage Settling same =
-          let may : m.gate ≡ MayBeOpen OfGroup = gate_is ∙ ap gate_at same in
+          let may : m.gate ≡ MayBeOpen OfGroup = gate_is ∙ ap (gate_at OfGroup) same in
           here (MayBeOpen OfGroup) may (only-breaks (may ∙ left-behind Settling same))
       by-stage Done same =
-          let may : m.gate ≡ MayBeOpen OfGroup = gate_is ∙ ap gate_at same in
+          let may : m.gate ≡ MayBeOpen OfGroup = gate_is ∙ ap (gate_at OfGroup) same in
           here (MayBeOpen OfGroup) may (only-breaks (may ∙ left-behind Done same))
 
   call-runs : (answer : Result Did PumpFault) → old.turn ≡ Some w → Advances tells w old answer new → GoesBy answer m new
@@ -268,7 +299,7 @@ module _ (tells : Bool) (w : WriterState) (old new : LogStoreValue) (m : Machine
 -- what memory has after a step, and how the machine went, by the answer
 abbrev StepBy : Result Did PumpFault → LogStoreValue → LogStoreValue → Machine Value → Type 0
 StepBy (Ok what) old new m = IsMemoryOf new.commits (with_published (count_in what) m) × Gone m (begins_in m ++ ends_in m.gate (Ok what)) (count_in what) new
-StepBy (Err pump.Busy) old new m = ⊥
+StepBy (Err pump.Busy) old new m = new ≡ old
 StepBy (Err pump.NoMemory) old new m = new ≡ old
 StepBy (Err pump.Failed) old new m = IsMemoryOf new.commits (steps.broken m) × Failing m (begins_in m ++ breaks_in m.gate) new
 
@@ -313,6 +344,7 @@ record HasWriter (old begun : LogStoreValue) : Type 0 where
   writer : WriterState
   turn : begun.turn ≡ Some writer
   on : IsOnItsWay writer.stage
+  fresh : gate_at OfGroup writer.stage ≡ Shut
   commits : begun.commits ≡ record old.commits { group = group_size old }
 
 has-writer : (old begun : LogStoreValue) → old.commits.group ≡ 0 → 0 < length old.commits.queue → Begins old begun → HasWriter old begun
@@ -325,8 +357,71 @@ has-writer old begun none some b = record {
   };
   turn = ap (λ (v : LogStoreValue). v.turn) b.new_is;
   on = tt;
+  fresh = refl;
   commits = ap (λ (v : LogStoreValue). v.commits) b.new_is ∙ grouped-is old.commits none some;
 }
+
+-- ---- what a step of a group leaves of a job
+
+-- neither the job that runs nor the floors
+pub record LeavesJob (old new : LogStoreValue) : Type 0 where
+  pub job : new.job ≡ old.job
+  pub floors : new.commits.floors ≡ old.commits.floors
+
+advance-leaves : (tells : Bool) (w : WriterState) (old new : LogStoreValue) (answer : Result Did PumpFault) → Advances tells w old answer new
+    → LeavesJob old new
+advance-leaves tells w old new answer advances = by-answer answer advances.answer
+  where
+    by-stage : (k : Stage) → new ≡ record (after_call old w k) { disk = new.disk } → LeavesJob old new
+    by-stage (Writing done rest) is = record { job = ap (λ (v : LogStoreValue). v.job) is; floors = ap (λ (v : LogStoreValue). v.commits.floors) is }
+    by-stage Syncing is = record { job = ap (λ (v : LogStoreValue). v.job) is; floors = ap (λ (v : LogStoreValue). v.commits.floors) is }
+    by-stage Opening is = record { job = ap (λ (v : LogStoreValue). v.job) is; floors = ap (λ (v : LogStoreValue). v.commits.floors) is }
+    by-stage Settling is = record { job = ap (λ (v : LogStoreValue). v.job) is; floors = ap (λ (v : LogStoreValue). v.commits.floors) is }
+    by-stage Done is = record { job = ap (λ (v : LogStoreValue). v.job) is; floors = ap (λ (v : LogStoreValue). v.commits.floors) is }
+
+    by-answer : (a : Result Did PumpFault)
+        → MatchResult a (λ what. (what ≡ did_of (writers.did w.stage) old.commits.group) × (new ≡ record (after_call old w w.stage) { disk = new.disk }))
+        (λ why. (why ≡ pump.Failed) × (new ≡ record (with_failure old) { disk = new.disk })) → LeavesJob old new
+    by-answer (Ok what) is = by-stage w.stage is.1
+    by-answer (Err why) is = record { job = ap (λ (v : LogStoreValue). v.job) is.1; floors = ap (λ (v : LogStoreValue). v.commits.floors) is.1 }
+
+pub step-leaves : (tells : Bool) (old new : LogStoreValue) (answer : Result Did PumpFault) → TakesStep tells old old.turn answer new → LeavesJob old new
+step-leaves tells old new answer takes = by-turn old.turn takes
+  where
+    same : new ≡ old → LeavesJob old new
+    same is = record { job = ap (λ (v : LogStoreValue). v.job) is; floors = ap (λ (v : LogStoreValue). v.commits.floors) is }
+
+    grouped-floors : (v : CommitsValue) → (commit_steps.grouped 1024 v).floors ≡ v.floors
+    grouped-floors v = by-test ((v.group == 0) && nat_lt 0 (length v.queue))
+      where
+        by-test : (b : Bool) → (cond b (record v { group = min 1024 (length v.queue) }) v).floors ≡ v.floors
+        by-test true = refl
+        by-test false = refl
+
+    by-group : (begun : LogStoreValue) (t : Option WriterState) → Begins old begun → AdvancesGroup tells begun t answer new → LeavesJob old new
+    by-group begun None b advances = absurd advances
+    by-group begun (Some w) b advances =
+        let on = advance-leaves tells w begun new answer advances in
+        record {
+          job = on.job ∙ ap (λ (v : LogStoreValue). v.job) b.new_is;
+          floors = on.floors ∙ ap (λ (v : LogStoreValue). v.commits.floors) b.new_is ∙ grouped-floors old.commits;
+        }
+
+    begins : BeginsGroup tells old answer new → LeavesJob old new
+    begins (inl none) = same none.1
+    begins (inr begun) = by-group begun.0 (begun.0).turn begun.1 begun.2
+
+    by-job : (b : Bool) → MatchBool b ((answer ≡ Err pump.Busy) × (new ≡ old)) (BeginsGroup tells old answer new) → LeavesJob old new
+    by-job true busy = same busy.1
+    by-job false so = begins so
+
+    by-queue : (b : Bool) → MatchBool b ((answer ≡ Ok did.Idle) × (new ≡ old)) (BeginsOrWaits tells old answer new) → LeavesJob old new
+    by-queue true idle = same idle.1
+    by-queue false so = by-job (bars_groups old.job) so
+
+    by-turn : (t : Option WriterState) → TakesStep tells old t answer new → LeavesJob old new
+    by-turn None so = by-queue (length old.commits.queue == 0) so
+    by-turn (Some w) so = advance-leaves tells w old new answer so
 
 module _ (tells : Bool) (old new : LogStoreValue) (answer : Result Did PumpFault) (m : Machine Value) (step : IsInStep old)
     (sound : IsTrue tells → AreSound new.disk.areas) (is : IsStoreOf tells old m) where
@@ -345,9 +440,9 @@ module _ (tells : Bool) (old new : LogStoreValue) (answer : Result Did PumpFault
     none-at-rest : old.turn ≡ None → m.group ≡ 0
     none-at-rest at_rest = is.writing.group ∙ subst (stores.HasTurn old.commits.group) at_rest step.turn
 
-    begins-so : old.turn ≡ None → 0 < length old.commits.queue → BeginsGroup tells old answer new → StepBy answer old new m
-    begins-so at_rest some (inl none) = subst (λ (a : Result Did PumpFault). StepBy a old new m) (sym none.0) none.1
-    begins-so at_rest some (inr begun) =
+    begins-so : old.turn ≡ None → bars_groups old.job ≡ false → 0 < length old.commits.queue → BeginsGroup tells old answer new → StepBy answer old new m
+    begins-so at_rest unbarred some (inl none) = subst (λ (a : Result Did PumpFault). StepBy a old new m) (sym none.0) none.1
+    begins-so at_rest unbarred some (inr begun) =
         let has = has-writer old begun.0 (subst (stores.HasTurn old.commits.group) at_rest step.turn) some begun.1 in
         let advances : Advances tells has.writer begun.0 answer new =
         subst (λ (t : Option WriterState). AdvancesGroup tells begun.0 t answer new) has.turn begun.2 in
@@ -363,15 +458,22 @@ module _ (tells : Bool) (old new : LogStoreValue) (answer : Result Did PumpFault
         let group : (grouped m).group ≡ begun.0.commits.group =
         (λ i. min (is.writing.most i) (sym many i)) ∙ ap (λ (v : CommitsValue). v.group) (sym has.commits) in
         let more : 0 < begun.0.commits.group = subst (λ (v : CommitsValue). 0 < v.group) (sym has.commits) (omega (arith, some)) in
-        let gate : (grouped m).gate ≡ gate_at has.writer.stage =
-        is.writing.gate works-here ∙ ap gate_of at_rest ∙ ap (λ (v : LogStoreValue). gate_of v.turn) (sym (begun.1).new_is) ∙ ap gate_of has.turn in
+        let gate : (grouped m).gate ≡ gate_at OfGroup has.writer.stage =
+        is.writing.gate works-here ∙ ap (λ (t : Option WriterState). gate_of t old.job) at_rest ∙ shut-unbarred old.job unbarred ∙ sym has.fresh in
         as-begun answer old new m (begins-some m none waiting)
         (works-here, none, (λ empty. let zero-long = ap (λ (h : History Value). length h) empty in absurd (omega (arith, waiting, zero-long))), refl)
         (call-memory tells has.writer begun.0 new answer m has.on memory is.machine within advances)
-        (call-runs tells has.writer begun.0 new (grouped m) has.on works-here group more gate answer has.turn advances)
+        (call-runs tells has.writer begun.0 new (grouped m) has.on works-here group more gate
+        (subst (λ (v : LogStoreValue). IsBeside (Some has.writer) v.job) (sym (begun.1).new_is) (beside_group has.writer old.job unbarred)) answer has.turn
+        advances)
+
+    by-job : (b : Bool) → bars_groups old.job ≡ b → old.turn ≡ None → 0 < length old.commits.queue
+        → MatchBool b ((answer ≡ Err pump.Busy) × (new ≡ old)) (BeginsGroup tells old answer new) → StepBy answer old new m
+    by-job true barred at_rest some busy = subst (λ (a : Result Did PumpFault). StepBy a old new m) (sym busy.0) busy.1
+    by-job false unbarred at_rest some begun = begins-so at_rest unbarred some begun
 
     by-queue : (b : Bool) → (length old.commits.queue == 0) ≡ b → old.turn ≡ None
-        → MatchBool b ((answer ≡ Ok did.Idle) × (new ≡ old)) (BeginsGroup tells old answer new) → StepBy answer old new m
+        → MatchBool b ((answer ≡ Ok did.Idle) × (new ≡ old)) (BeginsOrWaits tells old answer new) → StepBy answer old new m
     by-queue true none at_rest idle =
         let empty : length m.queue ≡ 0 = sym many ∙ grind (arith, nat_tests) in
         subst (λ (a : Result Did PumpFault). StepBy a old new m) (sym idle.0) (
@@ -382,10 +484,10 @@ module _ (tells : Bool) (old new : LogStoreValue) (answer : Result Did PumpFault
             gate = m.gate;
             run = sym (none-published m);
             group_is = is.writing.group ∙ ap (λ (v : LogStoreValue). v.commits.group) (sym idle.1);
-            gate_is = is.writing.gate works-here ∙ ap (λ (v : LogStoreValue). gate_of v.turn) (sym idle.1);
+            gate_is = is.writing.gate works-here ∙ ap (λ (v : LogStoreValue). gate_of v.turn v.job) (sym idle.1);
           }),
         )
-    by-queue false some at_rest begun = begins-so at_rest (grind (arith, nat_tests)) begun
+    by-queue false some at_rest so = by-job (bars_groups old.job) refl at_rest (grind (arith, nat_tests)) so
 
     by-turn : (t : Option WriterState) → old.turn ≡ t → TakesStep tells old t answer new → StepBy answer old new m
     by-turn None at_rest next = by-queue (length old.commits.queue == 0) refl at_rest next
@@ -393,8 +495,18 @@ module _ (tells : Bool) (old new : LogStoreValue) (answer : Result Did PumpFault
         let has : stores.HasTurn old.commits.group (Some w) = subst (stores.HasTurn old.commits.group) standing step.turn in
         as-standing answer old new m (begins-none m (omega (arith, has.0, is.writing.group)))
         (call-memory tells w old new answer m has.1 (record { stands = is.memory; fresh = is.fresh }) is.machine (group-within old step) next)
-        (call-runs tells w old new m has.1 works-here is.writing.group has.0 (is.writing.gate works-here ∙ ap gate_of standing) answer
-        standing next)
+        (call-runs tells w old new m has.1 works-here is.writing.group has.0
+        (is.writing.gate works-here ∙ ap (λ (t : Option WriterState). gate_of t old.job) standing)
+        (subst (λ (t : Option WriterState). IsBeside t old.job) standing step.beside) answer standing next)
+
+    -- no job begins or ends
+    same-job : new.job ≡ old.job
+    same-job = (step-leaves tells old new answer takes).job
+
+    made-on : HasAllMade new.commits.floors new.job
+    made-on =
+        subst (λ (f : FloorsValue). HasAllMade f new.job) (sym (step-leaves tells old new answer takes).floors)
+        (subst (λ (j : Option Job). HasAllMade old.commits.floors j) (sym same-job) is.writing.made)
 
     by-answer : (a : Result Did PumpFault) → StepBy a old new m → (IsTrue tells → StepsTo a old new m.published m.queue m.floors)
         → Runs tells m (events_in m a) new
@@ -412,7 +524,8 @@ module _ (tells : Bool) (old new : LogStoreValue) (answer : Result Did PumpFault
             writing = record {
               most = is.writing.most;
               group = gone.group_is;
-              raising = is.writing.raising;
+              raising = is.writing.raising ∙ ap raising_of (sym same-job);
+              made = made-on;
               gate = λ on. gone.gate_is;
               left = λ fails. absurd (let no : false ≡ true = sym works-here ∙ fails in cc);
             };
@@ -422,7 +535,8 @@ module _ (tells : Bool) (old new : LogStoreValue) (answer : Result Did PumpFault
                 (StandsOnHeap new (m.published ++ take (count_in what) m.queue) (drop (count_in what) m.queue) m.floors)) (sym works-on) (steps-to told);
           };
         }
-    by-answer (Err pump.Busy) by steps-to = absurd by
+    by-answer (Err pump.Busy) by steps-to =
+        record { after = m; run = refl; stands = subst (λ (v : LogStoreValue). IsStoreOf tells v m) (sym by) is }
     by-answer (Err pump.NoMemory) by steps-to =
         record { after = m; run = refl; stands = subst (λ (v : LogStoreValue). IsStoreOf tells v m) (sym by) is }
     by-answer (Err pump.Failed) by steps-to =
@@ -439,7 +553,8 @@ module _ (tells : Bool) (old new : LogStoreValue) (answer : Result Did PumpFault
             writing = record {
               most = is.writing.most;
               group = fails.group_is;
-              raising = is.writing.raising;
+              raising = is.writing.raising ∙ ap raising_of (sym same-job);
+              made = made-on;
               gate = λ on. absurd (let no : true ≡ false = on in cc);
               left = λ on. fails.gate_is;
             };

@@ -35,7 +35,7 @@ use Rattle.law_log_store.specs.Standing.{StandsOnHeap, StopsOnHeap}
 use Rattle.law_log_store.specs.Calls.{queued_by}
 use Rattle.law_log_store.proofs.Calls.{submit-steps, failed-queues-none}
 use Rattle.law_log_steps.specs.Store.{OnDisk, AreFresh, IsStoreOf}
-use Rattle.law_log_steps.proofs.Keeping.{HasSameGroup, writes-on}
+use Rattle.law_log_steps.proofs.Keeping.{HasSameGroup, WritesSame, writes-all-same, writes-on}
 use Rattle.law_log_steps.specs.Laws.{Goes}
 use Rattle.law_log_steps.proofs.Pumping.{marks-after}
 
@@ -202,11 +202,16 @@ same-made v m number txn label now new (Err why) stands machine is = refl
 
 -- ---- the store after it
 
-same-turn : (v new : LogStoreValue) (txn : TxnValue) (label now : ℕ) (answer : Result Submitted SubmitFault) → AnswersSubmit v txn label now answer new
-    → new.turn ≡ v.turn
-same-turn v new txn label now (Ok (submitted.ReadOnly snapshot)) is = ap (λ (x : LogStoreValue). x.turn) is.2
-same-turn v new txn label now (Ok (submitted.Queued ticket)) is = ap (λ (x : LogStoreValue). x.turn) is.2
-same-turn v new txn label now (Err why) is = ap (λ (x : LogStoreValue). x.turn) is.1
+same-writes : (v new : LogStoreValue) (txn : TxnValue) (label now : ℕ) (answer : Result Submitted SubmitFault) → AnswersSubmit v txn label now answer new
+    → WritesSame v new
+same-writes v new txn label now (Ok (submitted.ReadOnly snapshot)) is = writes-all-same v new is.2
+same-writes v new txn label now (Ok (submitted.Queued ticket)) is = record {
+  group = ap (λ (x : LogStoreValue). x.commits.group) is.2;
+  floors = ap (λ (x : LogStoreValue). x.commits.floors) is.2;
+  turn = ap (λ (x : LogStoreValue). x.turn) is.2;
+  job = ap (λ (x : LogStoreValue). x.job) is.2;
+}
+same-writes v new txn label now (Err why) is = writes-all-same v new is.1
 
 module _ (tells : Bool) (old new : LogStoreValue) (txn : TxnValue) (label now : ℕ) (answer : Result Submitted SubmitFault) (m : Machine Value)
     (step : IsInStep old) (is : IsStoreOf tells old m) (submits : Submits old txn label now answer new) where
@@ -230,10 +235,10 @@ module _ (tells : Bool) (old new : LogStoreValue) (txn : TxnValue) (label now : 
       by-failed false works stands = submit-steps old new txn label now answer m.published m.queue m.floors step stands may submits
 
   -- an own transaction
-  own-stands : AreTxnWrites txn.state txn.snapshot txn.writes → label < 2 ^ 64 → is_own old.commits txn ≡ true → new.turn ≡ old.turn
+  own-stands : AreTxnWrites txn.state txn.snapshot txn.writes → label < 2 ^ 64 → is_own old.commits txn ≡ true → WritesSame old new
       → memory.AnswersSubmit (over old.commits txn.number) txn label now answer new.commits
       → Goes tells new m (event_of m (submission_of txn label now) answer)
-  own-stands are range own turn answers =
+  own-stands are range own writes answers =
       let to = submit-step old.commits new.commits txn label now answer m is.memory is.machine are range own answers in
       let n : Machine Value = to.0 in
       let left = is-left m n (submission_of txn label now) answer to.1 in
@@ -251,7 +256,7 @@ module _ (tells : Bool) (old new : LogStoreValue) (txn : TxnValue) (label now : 
         record {
           memory = to.2;
           machine = machine;
-          writing = writes-on old new m n is.writing works.group turn left.group;
+          writing = writes-on old new m n is.writing writes left.group;
           fresh = works.fresh is.fresh;
           disk = λ told. subst (λ (h : History Value). OnDisk new h n.queue n.floors) (sym left.published)
               (subst (λ (q : History Value). OnDisk new m.published q n.floors) (sym queue)
@@ -263,16 +268,19 @@ module _ (tells : Bool) (old new : LogStoreValue) (txn : TxnValue) (label now : 
       → MatchBool (is_own old.commits txn) (Goes tells new m (event_of m (submission_of txn label now) answer)) (IsStoreOf tells new m)
   submit-stands are range = by-own (is_own old.commits txn) refl submits
     where
+      writes-spent : WritesSame (spent old txn.number) new → WritesSame old new
+      writes-spent same = record { group = same.group; floors = same.floors; turn = same.turn; job = same.job }
+
       by-failed : is_own old.commits txn ≡ true → (b : Bool) → old.commits.failed ≡ b
           → MatchBool b ((answer ≡ Err refused.Failed) × (new ≡ spent old txn.number)) (AnswersSubmit (spent old txn.number) txn label now answer new)
           → Goes tells new m (event_of m (submission_of txn label now) answer)
       by-failed own true failed so =
-          own-stands are range own (ap (λ (x : LogStoreValue). x.turn) so.1)
+          own-stands are range own (writes-spent (writes-all-same (spent old txn.number) new so.1))
           (subst (λ (a : Result Submitted SubmitFault). memory.AnswersSubmit (over old.commits txn.number) txn label now a new.commits) (sym so.0)
           (failed, ap (λ (x : LogStoreValue). x.commits) so.1))
       by-failed own false works so =
-          own-stands are range own (same-turn (spent old txn.number) new txn label now answer so) (answers-so
-          (spent old txn.number) new txn label now answer works so)
+          own-stands are range own (writes-spent (same-writes (spent old txn.number) new txn label now answer so))
+          (answers-so (spent old txn.number) new txn label now answer works so)
 
       by-own : (b : Bool) → is_own old.commits txn ≡ b
           → MatchBool b (SubmitsOwn (spent old txn.number) txn label now answer new) ((answer ≡ Err refused.Stranger) × (new ≡ old))

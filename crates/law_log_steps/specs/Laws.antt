@@ -1,11 +1,14 @@
 -- The calls of a store whose log lies in the heap are steps of the machine.
-use Rattle.std.specs.Prelude.{ℕ, ◌≡◌, ◌<◌, ◌^◌, ◌==◌, ◌&&◌, nat_lt, Bool, false, IsTrue, List, [], ◌∷◌, ◌++◌, length, Result, Ok, Err, MatchBool}
+use Rattle.std.specs.Prelude.{ℕ, ◌≡◌, ◌<◌, ◌^◌, Bool, true, false, IsTrue, IsSome, Option, None, Some, List, [], ◌∷◌, ◌++◌, Result, Ok, Err, MatchBool}
 use Rattle.std.specs.Prelude.{if◌then◌else◌}
 use Rattle.history.specs.Fronts.{OnFront}
 use Rattle.history.specs.Histories.{History}
 use Rattle.history.specs.Machine.{Machine, Gate, Shut, Due, MayBeOpen, OfGroup, OfFloor, opened_by}
 use Rattle.history.specs.Answers as answers
-use Rattle.history.specs.Steps.{Event, Step, Run, Began, BeginRefused, Aborted, GroupBegan, Published, GateDue, GateWritten, Broke, begun}
+use Rattle.history.specs.Floors.{Raising}
+use Rattle.history.specs.FloorStarts as floors
+use Rattle.history.specs.Steps.{Event, Step, Run, Began, BeginRefused, Aborted, FloorStarted, FloorRefused, FloorPublished, GateDue, GateWritten, begun}
+use Rattle.history.specs.Steps.{floor_started}
 use Rattle.history.specs.Steps as steps
 use Rattle.disk.specs.Areas.{Image, AreSound, LeavesImage, image_of, settled_on}
 use Rattle.disk.specs.Calls.{DiskState}
@@ -26,6 +29,11 @@ use Rattle.log_store.specs.Values.{LogStoreValue, IsInStep}
 use Rattle.log_store.specs.Calls as calls
 use Rattle.log_store.specs.Submits.{Submits}
 use Rattle.log_store.specs.Pumps.{Pumps}
+use Rattle.log_store.specs.Jobs.{StartsFloor, PumpsJob}
+use Rattle.log_store.specs.declared.job.JobDid.{JobDid}
+use Rattle.log_store.specs.declared.job.JobDid.TheVariants as job_did
+use Rattle.log_store.specs.declared.job.StartFault.{StartFault}
+use Rattle.log_store.specs.declared.job.StartFault.TheVariants as start
 use Rattle.log_store.specs.Opens.{Opens, OpenRefuses}
 use Rattle.recovery.specs.declared.fault.OpenFault.{OpenFault}
 use Rattle.law_log_opening.specs.Laws.{SaysNothing}
@@ -34,7 +42,8 @@ use Rattle.log_recovery.specs.Opening.{ReadsRoots}
 use Rattle.log_roots.specs.declared.roots.Roots.{Roots}
 use Rattle.log_roots.specs.Roots.{root_of}
 use Rattle.law_log_layout.specs.HeapLog.{HeapLog, IsLogOf, HoldsLog}
-use Rattle.law_refinement.specs.Laws.{submission_of, event_of, RedeemsAs, begins_in, ends_in, breaks_in}
+use Rattle.law_refinement.specs.Calls.{raising_to}
+use Rattle.law_refinement.specs.Laws.{submission_of, event_of, RedeemsAs, begins_in, ends_in, breaks_in, job_breaks_in}
 use Rattle.law_commits.specs.Standing.{StandsInMemory}
 use Rattle.law_log_store.specs.Calls.{IsFront}
 use Rattle.law_log_store.specs.Opened.{IsOpenedOn}
@@ -133,6 +142,55 @@ pub record Runs (tells : Bool) (m : Machine Value) (events : List (Event Value))
   pub after : Machine Value
   pub run : Run IsValue m events after
   pub stands : IsStoreOf tells new after
+
+-- ---- jobs
+
+-- the machine's events in a step of a job that raises this floor
+abbrev pub floor_events : JobDid → Raising → List (Event Value)
+floor_events job_did.Idle r = []
+floor_events job_did.WroteEntry r = []
+floor_events job_did.GateClosed r = []
+floor_events job_did.HeapSynced r = GateDue OfFloor ∷ []
+floor_events job_did.GateWritten r = GateWritten OfFloor ∷ []
+floor_events job_did.JobDone r = FloorPublished r ∷ []
+
+abbrev pub floor_ends : JobDid → Option Raising → List (Event Value)
+floor_ends what None = []
+floor_ends what (Some r) = floor_events what r
+
+-- The machine's events in a step of a job, by its answer. Where it waits or there is no memory, and of a machine that has failed, there are none.
+abbrev pub job_events_in : Machine Value → Result JobDid PumpFault → List (Event Value)
+job_events_in m (Ok what) = floor_ends what m.raising
+job_events_in m (Err pump.Busy) = []
+job_events_in m (Err pump.NoMemory) = []
+job_events_in m (Err pump.Failed) = if m.failed then [] else job_breaks_in m.gate
+
+-- so it is of every step of a job
+abbrev pub JobPumpStands : Type 0
+JobPumpStands =
+    (tells : Bool) (old new : LogStoreValue) (answer : Result JobDid PumpFault) (m : Machine Value) → IsInStep old
+    → (IsTrue tells → AreSound new.disk.areas) → IsStoreOf tells old m → PumpsJob tells old answer new → Runs tells m (job_events_in m answer) new
+
+-- What the start of a floor leads to, by its answer: the machine may raise it, or refuses it; or the store has failed, floors are not of this kind, a job runs,
+-- the heap has no room for its entry, or there is no memory.
+abbrev pub StartsOn : Bool → Machine Value → Raising → Result (Unit {0}) StartFault → LogStoreValue → Type 0
+StartsOn tells m r (Ok done) new = Step IsValue m (FloorStarted r) (floor_started m r) × IsStoreOf tells new (floor_started m r)
+StartsOn tells m r (Err start.NothingToDo) new = Step IsValue m (FloorRefused r floors.NothingToDo) m × IsStoreOf tells new m
+StartsOn tells m r (Err (start.NotYet time)) new = Step IsValue m (FloorRefused r (floors.NotYet time)) m × IsStoreOf tells new m
+StartsOn tells m r (Err (start.InUse snapshot)) new = Step IsValue m (FloorRefused r (floors.InUse snapshot)) m × IsStoreOf tells new m
+StartsOn tells m r (Err start.Failed) new = (m.failed ≡ true) × IsStoreOf tells new m
+StartsOn tells m r (Err start.WrongProfile) new = (r.scope ≡ None) × IsStoreOf tells new m
+StartsOn tells m r (Err start.JobBusy) new = IsStoreOf tells new m
+StartsOn tells m r (Err start.HeapFull) new = IsStoreOf tells new m
+StartsOn tells m r (Err start.NoMemory) new = IsSome r.scope × IsStoreOf tells new m
+
+-- so it is of every start
+abbrev pub FloorStartStands : Type 0
+FloorStartStands =
+    (tells : Bool) (old new : LogStoreValue) (scope : Option ℕ) (floor : ℕ) (answer : Result (Unit {0}) StartFault) (m : Machine Value) → IsInStep old
+    → IsStoreOf tells old m → StartsFloor old scope floor answer new → StartsOn tells m (raising_to scope floor) answer new
+
+-- ---- steps of a group, as runs
 
 -- so it is of every step
 abbrev pub PumpStands : Type 0

@@ -2,12 +2,19 @@
 use Rattle.std.specs.Prelude.{ℕ, ◌≡◌, Bool, true, false, IsTrue, MatchBool, List, Option, None, Some}
 use Rattle.std.specs.List.{AllByRecursion}
 use Rattle.history.specs.Histories.{History}
-use Rattle.history.specs.Machine.{Machine, Gate, Shut, Due, MayBeOpen, OfGroup, IsMachine}
+use Rattle.history.specs.Floors.{Raising}
+use Rattle.history.specs.Machine.{Machine, Change, Gate, Shut, Due, MayBeOpen, OfGroup, OfFloor, IsMachine}
+use Rattle.floors.specs.Floors.{FloorsValue, raised_in}
 use Rattle.law_image.specs.Values.{Value, IsValue}
 use Rattle.log_writer.specs.Turns.{Stage, Writing, Syncing, Opening, Settling, Done}
 use Rattle.log_writer.specs.Writer.{WriterState}
 use Rattle.commits.specs.Values.{CommitsValue, WaitingValue}
 use Rattle.log_store.specs.Values.{LogStoreValue}
+use Rattle.log_store.specs.declared.job.Job.{Job}
+use Rattle.log_store.specs.declared.job.JobStage.{JobStage}
+use Rattle.log_store.specs.declared.job.JobStage.TheVariants.{Ready, Entering}
+use Rattle.log_store.specs.declared.job.JobWork.{JobWork}
+use Rattle.log_store.specs.declared.job.JobWork.TheVariants.{Floor}
 use Rattle.law_commits.specs.Standing.{StandsInMemory}
 use Rattle.law_log_store.specs.Standing.{StandsOnHeap, StopsOnHeap}
 
@@ -24,38 +31,75 @@ HaveMark mark ws = AllByRecursion (λ (w : WaitingValue). w.reclaimed ≡ mark) 
 abbrev pub AreFresh : CommitsValue → Type 0
 AreFresh v = HaveMark v.reclaimed v.queue
 
--- the machine's gate, by how far the group's chain is
-abbrev pub gate_at : Stage → Gate
-gate_at (Writing done rest) = Shut
-gate_at Syncing = Shut
-gate_at Opening = Due OfGroup
-gate_at Settling = MayBeOpen OfGroup
-gate_at Done = MayBeOpen OfGroup
+-- the machine's gate, by how far the chain is that is to change this
+abbrev pub gate_at : Change → Stage → Gate
+gate_at change (Writing done rest) = Shut
+gate_at change Syncing = Shut
+gate_at change Opening = Due change
+gate_at change Settling = MayBeOpen change
+gate_at change Done = MayBeOpen change
 
--- where no chain is in the writing it is shut
-abbrev pub gate_of : Option WriterState → Gate
-gate_of None = Shut
-gate_of (Some w) = gate_at w.stage
+-- by how far a job is: where its entry is not in the writing it is shut
+abbrev pub gate_on : JobStage → Gate
+gate_on (Ready waited) = Shut
+gate_on (Entering w) = gate_at OfFloor w.stage
+
+abbrev pub gate_by : Option Job → Gate
+gate_by None = Shut
+gate_by (Some job) = gate_on job.stage
+
+-- by the group's chain, and where none is in the writing by the job's entry
+abbrev pub gate_of : Option WriterState → Option Job → Gate
+gate_of None job = gate_by job
+gate_of (Some w) job = gate_at OfGroup w.stage
 
 -- and of a store that has failed: a refused write of the gate may have opened it
-abbrev pub gate_behind : Stage → Gate
-gate_behind (Writing done rest) = Shut
-gate_behind Syncing = Shut
-gate_behind Opening = MayBeOpen OfGroup
-gate_behind Settling = MayBeOpen OfGroup
-gate_behind Done = MayBeOpen OfGroup
+abbrev pub gate_behind : Change → Stage → Gate
+gate_behind change (Writing done rest) = Shut
+gate_behind change Syncing = Shut
+gate_behind change Opening = MayBeOpen change
+gate_behind change Settling = MayBeOpen change
+gate_behind change Done = MayBeOpen change
 
-abbrev pub gate_left : Option WriterState → Gate
-gate_left None = Shut
-gate_left (Some w) = gate_behind w.stage
+abbrev pub gate_left_on : JobStage → Gate
+gate_left_on (Ready waited) = Shut
+gate_left_on (Entering w) = gate_behind OfFloor w.stage
 
--- The machine's group is the store's, of at most 1,024 commits, and its gate is where the group's chain is. No floor is in the making.
+abbrev pub gate_left_by : Option Job → Gate
+gate_left_by None = Shut
+gate_left_by (Some job) = gate_left_on job.stage
+
+abbrev pub gate_left : Option WriterState → Option Job → Gate
+gate_left None job = gate_left_by job
+gate_left (Some w) job = gate_behind OfGroup w.stage
+
+-- ---- jobs
+
+-- the floor that a job is to raise
+abbrev pub raising_with : JobWork → Raising
+raising_with (Floor floor kept) = record { scope = Some floor.relation; floor = floor.floor }
+
+abbrev pub raising_of : Option Job → Option Raising
+raising_of None = None
+raising_of (Some job) = Some (raising_with job.work)
+
+-- what a job has made for memory is what stands there once its entry is the log's
+abbrev pub HasMade : FloorsValue → JobWork → Type 0
+HasMade floors (Floor floor kept) = kept ≡ raised_in (Some floor.relation) floor.floor floors
+
+abbrev pub HasAllMade : FloorsValue → Option Job → Type 0
+HasAllMade floors None = Unit {0}
+HasAllMade floors (Some job) = HasMade floors job.work
+
+-- The machine's group is the store's, of at most 1,024 commits, and its floor in the making that of the job that runs. Its gate is where the chain is that is
+-- in the writing.
 pub record IsWriting (v : LogStoreValue) (m : Machine Value) : Type 0 where
   pub most : m.most ≡ 1024
   pub group : m.group ≡ v.commits.group
-  pub raising : m.raising ≡ None
-  pub gate : m.failed ≡ false → m.gate ≡ gate_of v.turn
-  pub left : m.failed ≡ true → m.gate ≡ gate_left v.turn
+  pub raising : m.raising ≡ raising_of v.job
+  pub made : HasAllMade v.commits.floors v.job
+  pub gate : m.failed ≡ false → m.gate ≡ gate_of v.turn v.job
+  pub left : m.failed ≡ true → m.gate ≡ gate_left v.turn v.job
 
 -- Memory and disk stand for one state of the machine. What is said of the disk is said where it tells its bytes.
 pub record IsStoreOf (tells : Bool) (v : LogStoreValue) (m : Machine Value) : Type 0 where

@@ -1,5 +1,5 @@
 //! Laws of the calls of a store whose log lies in the heap.
-ghost use Rattle.law_log_steps.specs.Laws.{AbortStands, BeginStands, OpenedStands, OpenStands, PumpStands, RedeemStands};
+ghost use Rattle.law_log_steps.specs.Laws.{AbortStands, BeginStands, FloorStartStands, JobPumpStands, OpenedStands, OpenStands, PumpStands, RedeemStands};
 ghost use Rattle.law_log_steps.specs.Laws.{LeavesFronts, RestsOnFront, StopOpens, StopReopens, SubmitStands};
 
 /// A store that is opened on an image that stands for a history stands for a machine that is opened on it.
@@ -52,4 +52,16 @@ pub fn submit_stands()
 /// the machine's; or the machine fails.
 pub fn pump_stands()
     ensures { PumpStands }
+{}
+
+/// A step of a job goes on with the raising of its floor: the floor stands once its last call is made, and nothing else of the
+/// machine's changes; or the job waits for a group, or the machine fails.
+pub fn job_stands()
+    ensures { JobPumpStands }
+{}
+
+/// A floor begins that the machine may raise, or it is refused as the machine says; or the store has failed, floors are not of this
+/// kind, a job runs, the heap has no room for its entry, or there is no memory.
+pub fn floor_starts()
+    ensures { FloorStartStands }
 {}

@@ -41,9 +41,13 @@ use Rattle.commits.specs.Values.{CommitsValue, WaitingValue, versions_after}
 use Rattle.commits.specs.Steps.{grouped}
 use Rattle.log_store.specs.Values.{LogStoreValue, IsInStep}
 use Rattle.log_store.specs.Values as stores
-use Rattle.log_store.specs.Pumps.{Begins, group_size, group_content}
+use Rattle.log_store.specs.Pumps.{Begins, bars_at, bars_groups, group_size, group_content}
+use Rattle.log_store.specs.declared.job.Job.{Job}
+use Rattle.log_store.specs.declared.job.JobStage.{JobStage}
+use Rattle.log_store.specs.declared.job.JobStage.TheVariants.{Ready, Entering}
+use Rattle.log_store.proofs.InStep.{beside_group}
 use Rattle.law_log_store.specs.Members.{AreTold, AreContents, members_over}
-use Rattle.law_log_store.specs.Standing.{StandsOnHeap, HasTurn, IsAtRest, IsOnWay, IsRoomOf, HasAnchors, counted}
+use Rattle.law_log_store.specs.Standing.{StandsOnHeap, HasTurn, HasJob, HasStage, IsAtRest, IsOnWay, IsRoomOf, HasAnchors, counted}
 use Rattle.law_log_store.specs.Laws.{AreNext}
 use Rattle.law_log_store.proofs.Members.{members-told}
 use Rattle.law_log_store.proofs.Joining.{in-heap, group-joins}
@@ -79,7 +83,7 @@ counted-more l c is =
     ∙ length-append (flat_map f l.chains) c.numbers in
     omega (arith, long)
 
-one-or-none : (b : Bool) → cond b 1 0 ≤ 1
+pub one-or-none : (b : Bool) → cond b 1 0 ≤ 1
 one-or-none true = omega arith
 one-or-none false = omega arith
 
@@ -132,7 +136,7 @@ module _ (most : ℕ) (l : HeapLog) (old room-then : RoomValue) (count promised 
     }
 
 module _ (old : LogStoreValue) (h queue : History Value) (floors : ℕ → ℕ) (s : StandsOnHeap old h queue floors) (rest : IsAtRest old s.l)
-    (none : old.commits.group ≡ 0) (step : IsInStep old) (some : 0 < length old.commits.queue) where
+    (none : old.commits.group ≡ 0) (step : IsInStep old) (some : 0 < length old.commits.queue) (unbarred : bars_groups old.job ≡ false) where
   abbrev size : ℕ
   size = group_size old
 
@@ -291,6 +295,7 @@ module _ (old : LogStoreValue) (h queue : History Value) (floors : ℕ → ℕ) 
         written = tt;
       };
       room = is-room;
+      alone = beside_group writer old.job unbarred;
     }
 
     -- its chain is in the writing, and the store works as before
@@ -321,6 +326,7 @@ module _ (old : LogStoreValue) (h queue : History Value) (floors : ℕ → ℕ) 
       };
       anchors = subst (HasAnchors old.roots.extents s.reading queue) (ap (λ (r : RoomValue). r.anchors) (sym (let t = b.takes in t.new_is))) s.anchors;
       turn = on-way;
+      job = s.job;
     })
 
 -- A group that has begun.
@@ -331,19 +337,28 @@ pub record HasBegun (old begun : LogStoreValue) (h queue : History Value) (floor
   pub works : begun.commits.failed ≡ old.commits.failed
   pub commits : begun.commits ≡ record old.commits { group = group_size old }
 
-pub has-begun : (old begun : LogStoreValue) (h queue : History Value) (floors : ℕ → ℕ) → IsInStep old → old.turn ≡ None → 0 < length old.commits.queue
-    → StandsOnHeap old h queue floors → Begins old begun → HasBegun old begun h queue floors
-has-begun old begun h queue floors step at_rest some s b =
-    let rest = subst (λ (t : Option WriterState). HasTurn old queue s.l s.reading h t) at_rest s.turn in
+-- where no job bars groups its entry is not in the writing
+unbarred-rest : (v : LogStoreValue) (l : HeapLog) (reading : Reading) (j : Option Job) → bars_groups j ≡ false → HasJob v l reading j → IsAtRest v l
+unbarred-rest v l reading None unbarred rest = rest
+unbarred-rest v l reading (Some job) unbarred has = by-stage job.stage unbarred has
+  where
+    by-stage : (k : JobStage) → bars_at k ≡ false → HasStage v l reading job.work k → IsAtRest v l
+    by-stage (Ready waited) unbarred rest = rest
+    by-stage (Entering w) barred has = absurd (let no : true ≡ false = barred in cc)
+
+pub has-begun : (old begun : LogStoreValue) (h queue : History Value) (floors : ℕ → ℕ) → IsInStep old → old.turn ≡ None → bars_groups old.job ≡ false
+    → 0 < length old.commits.queue → StandsOnHeap old h queue floors → Begins old begun → HasBegun old begun h queue floors
+has-begun old begun h queue floors step at_rest unbarred some s b =
+    let rest = unbarred-rest old s.l s.reading old.job unbarred (subst (λ (t : Option WriterState). HasTurn old queue s.l s.reading h t) at_rest s.turn) in
     let none = subst (λ (t : Option WriterState). stores.HasTurn old.commits.group t) at_rest step.turn in
     record {
-      stands = begun-stands old h queue floors s rest none step some begun b;
-      writer = writer old h queue floors s rest none step some begun b;
-      turn = begun-turn old h queue floors s rest none step some begun b;
-      works = begun-works old h queue floors s rest none step some begun b;
-      commits = begun-commits old h queue floors s rest none step some begun b;
+      stands = begun-stands old h queue floors s rest none step some unbarred begun b;
+      writer = writer old h queue floors s rest none step some unbarred begun b;
+      turn = begun-turn old h queue floors s rest none step some unbarred begun b;
+      works = begun-works old h queue floors s rest none step some unbarred begun b;
+      commits = begun-commits old h queue floors s rest none step some unbarred begun b;
     }
 
-pub group-begins : (old begun : LogStoreValue) (h queue : History Value) (floors : ℕ → ℕ) → IsInStep old → old.turn ≡ None → 0 < length old.commits.queue
-    → StandsOnHeap old h queue floors → Begins old begun → StandsOnHeap begun h queue floors
-group-begins old begun h queue floors step at_rest some s b = (has-begun old begun h queue floors step at_rest some s b).stands
+pub group-begins : (old begun : LogStoreValue) (h queue : History Value) (floors : ℕ → ℕ) → IsInStep old → old.turn ≡ None → bars_groups old.job ≡ false
+    → 0 < length old.commits.queue → StandsOnHeap old h queue floors → Begins old begun → StandsOnHeap begun h queue floors
+group-begins old begun h queue floors step at_rest unbarred some s b = (has-begun old begun h queue floors step at_rest unbarred some s b).stands

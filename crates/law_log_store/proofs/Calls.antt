@@ -27,10 +27,14 @@ use Rattle.commits.specs.Values.{CommitsValue, is_own, over, order_of, ordered}
 use Rattle.commits.specs.Steps.{time_now}
 use Rattle.commits.specs.Calls as commits
 use Rattle.log_store.specs.Values.{LogStoreValue, IsInStep}
+use Rattle.log_store.specs.declared.job.JobWork.{JobWork}
+use Rattle.log_store.specs.declared.job.Job.{Job}
+use Rattle.log_store.specs.declared.job.JobStage.{JobStage}
+use Rattle.log_store.specs.declared.job.JobStage.TheVariants.{Ready, Entering}
 use Rattle.log_store.specs.Calls as calls
 use Rattle.log_store.specs.Calls.{InMemory, with_commits}
 use Rattle.log_store.specs.Submits.{Submits, SubmitsOwn, AnswersSubmit, verdict, verdict_on_conflict, has_room, spent}
-use Rattle.law_log_store.specs.Standing.{StandsOnHeap, HasTurn}
+use Rattle.law_log_store.specs.Standing.{StandsOnHeap, HasTurn, HasJob, HasStage}
 use Rattle.law_log_store.specs.Calls.{KeepsDisk, queued_by}
 use Rattle.law_log_store.proofs.Submitting.{group-within, queued-stands}
 
@@ -64,10 +68,19 @@ module _ (v : LogStoreValue) (opened : List (Option ℕ)) (heads : List CommitHe
     };
     anchors = s.anchors;
     turn = by-turn v.turn s.turn;
+    job = s.job;
   }
     where
+      by-stage : (work : JobWork) (k : JobStage) → HasStage v s.l s.reading work k → HasStage named s.l s.reading work k
+      by-stage work (Ready waited) is = record { log = is.log; room = is.room }
+      by-stage work (Entering w) is = record { content = is.content; joins = is.joins; shares = is.shares; at = is.at; room = is.room }
+
+      by-job : (j : Option Job) → HasJob v s.l s.reading j → HasJob named s.l s.reading j
+      by-job None is = record { log = is.log; room = is.room }
+      by-job (Some job) is = by-stage job.work job.stage is
+
       by-turn : (t : Option WriterState) → HasTurn v queue s.l s.reading h t → HasTurn named queue s.l s.reading h t
-      by-turn None is = record { log = is.log; room = is.room }
+      by-turn None is = by-job v.job is
       by-turn (Some w) is = record {
         group = is.group;
         told = is.told;
@@ -77,6 +90,7 @@ module _ (v : LogStoreValue) (opened : List (Option ℕ)) (heads : List CommitHe
         shares = is.shares;
         at = is.at;
         room = is.room;
+        alone = is.alone;
       }
 
   names-keep : KeepsDisk v named

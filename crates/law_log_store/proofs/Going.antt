@@ -1,9 +1,10 @@
 -- The way of a store's group to the disk, call by call.
-use Rattle.std.proofs.Common.{◌≡◌, ℕ, Bool, true, false, List, [], ◌∷◌, ◌++◌, map, take, drop, Option, None, Some, Result, Ok, Err, refl, ap, sym, subst}
+use Rattle.std.proofs.Common.{◌≡◌, ◌≤◌, ℕ, arith, Bool, true, false, List, [], ◌∷◌, ◌++◌, map, take, drop, Option, None, Some, Result, Ok, Err, refl, ap, sym}
+use Rattle.std.proofs.Common.{subst}
 use Rattle.std.proofs.Common.{⊎_elim, inl, inr}
 use Rattle.std.specs.Prelude.{IsTrue, MatchBool, MatchResult}
-use Rattle.history.specs.Histories.{History, MayAllFollow}
-use Rattle.history.proofs.Histories.{may_follow-behind, may_follow-front}
+use Rattle.history.specs.Histories.{History, MayAllFollow, HasRisingTimes, last, last_after}
+use Rattle.history.proofs.Histories.{may_follow-behind, may_follow-front, last_after-append, rising-from_following}
 use Rattle.disk.specs.Areas.{Areas, Image, AreSound, LeavesImage, MayLeave}
 use Rattle.disk.specs.declared.area.Area.TheVariants.{Heap}
 use Rattle.disk.specs.declared.area.DeviceFault.{DeviceFault}
@@ -16,41 +17,52 @@ use Rattle.law_image.proofs.GroupStep.{group-stands_for}
 use Rattle.deltas.specs.Extents.{extent_start}
 use Rattle.log_extents.specs.Chains.{first_or, chain_of}
 use Rattle.log_entries.specs.declared.entry.Member.{Member}
+use Rattle.log_entries.specs.declared.entry.Entry.{Entry}
 use Rattle.log_entries.specs.declared.entry.Entry.TheVariants.{Group}
 use Rattle.log_entries.specs.Spelling.{entry_bytes}
 use Rattle.log_writer.specs.Turns.{open_gate, written_parts, Turn, Stage, Writing, Syncing, Opening, Settling, Done, IsCallOf, stage_after}
-use Rattle.log_writer.specs.Writer.{WriterState, turn}
+use Rattle.log_writer.specs.Writer.{WriterState, turn, with_stage}
 use Rattle.log_writer.specs.Writer as writers
-use Rattle.law_log_layout.specs.HeapLog.{HeapLog, PlacedChain, heap_parts, member_told, IsLogOf, with_chain, placed_group, turn_of, HeapStandsFor}
+use Rattle.law_log_layout.specs.HeapLog.{HeapLog, PlacedChain, heap_parts, member_told, IsLogOf, KeepsShares, MayJoin, with_chain, placed_group, turn_of}
+use Rattle.law_log_layout.specs.HeapLog.{HeapStandsFor}
 use Rattle.law_log_layout.specs.Laws.{KeepsArchive, IsEntryWay}
 use Rattle.law_log_layout.specs.Turns.{IsAt, MayBe, MayBecome}
 use Rattle.law_log_layout.proofs.Parts.{all-left, closed-left}
 use Rattle.law_log_layout.proofs.GroupJoins.{room, group-is_log}
-use Rattle.law_log_layout.proofs.GroupGoes.{group-goes, rolls-left, runs-left}
+use Rattle.law_log_layout.proofs.EntryJoins.{floor-is_log}
+use Rattle.law_log_layout.proofs.GroupGoes.{group-goes, entry-goes, rolls-left, runs-left}
 use Rattle.group.specs.declared.answers.PumpFault.{PumpFault}
 use Rattle.group.specs.declared.answers.PumpFault.TheVariants as faults
 use Rattle.log_roots.specs.Roots.{root_of}
 use Rattle.commits.specs.Steps.{members}
-use Rattle.log_store.specs.Values.{LogStoreValue}
+use Rattle.log_store.specs.Values.{LogStoreValue, IsStageBeside, IsBeside}
+use Rattle.log_store.specs.Jobs.{entry_of}
+use Rattle.log_store.specs.declared.job.Job.{Job}
+use Rattle.log_store.specs.declared.job.JobStage.{JobStage}
+use Rattle.log_store.specs.declared.job.JobStage.TheVariants.{Ready, Entering}
+use Rattle.log_store.specs.declared.job.JobWork.{JobWork}
+use Rattle.log_store.specs.declared.job.JobWork.TheVariants.{Floor}
 use Rattle.log_store.specs.Pumps.{Advances, at_next, after_call, with_published, with_failure, did_of, disk_answer}
 use Rattle.group.specs.declared.answers.Did.{Did}
-use Rattle.law_log_store.specs.Standing.{StandsOnHeap, HasTurn, IsOnWay, HasAnchors, MayStand, KeepsRoots, IsImageOf, StopsOnHeap}
+use Rattle.law_log_store.specs.Standing.{StandsOnHeap, HasTurn, HasJob, HasStage, IsAtRest, IsEntering, IsOnWay, HasAnchors, KeepsRoots, IsImageOf}
+use Rattle.law_log_store.specs.Standing.{MayStand, MayStandAt, MayStandOn, MayStandBy, StopsOnHeap, MayEnter, MayAllEnter, placed_entry, floors_with}
+use Rattle.law_log_store.specs.Standing.{reading_with}
 use Rattle.law_log_store.specs.Laws.{LeadsTo, GoesOn}
 use Rattle.law_log_store.proofs.Joining.{in-heap}
 use Rattle.law_log_store.proofs.Queues.{taken-and-rest, told-front, told-ordered, told-rest, values-told}
 use Rattle.law_log_store.proofs.Anchors.{anchors-rest}
 
--- the calls of the group's chain are those of a chain behind the log
-turn-is : (l : HeapLog) (w : WriterState) (group : List Member) → w.content ≡ entry_bytes (Group group) → first_or 0 w.numbers ≡ l.next
-    → turn w ≡ turn_of l.next (placed_group w.numbers w.link group)
-turn-is l w group content head = λ i. record {
+-- the calls of a chain in the writing are those of a chain behind the log
+turn-is : (l : HeapLog) (w : WriterState) (e : Entry) → w.content ≡ entry_bytes e → first_or 0 w.numbers ≡ l.next
+    → turn w ≡ turn_of l.next (record { numbers = w.numbers; link = w.link; entry = e })
+turn-is l w e content head = λ i. record {
   gate = extent_start (head i);
   parts = written_parts (chain_of open_gate w.link w.numbers (content i));
   closes = extent_start w.link;
 }
 
 -- they are calls of the heap
-same-archive : (t : Turn) (stage : Stage) (old new : Areas) → IsCallOf t stage (Ok tt) old new → new.archive ≡ old.archive
+pub same-archive : (t : Turn) (stage : Stage) (old new : Areas) → IsCallOf t stage (Ok tt) old new → new.archive ≡ old.archive
 same-archive t (Writing done (p ∷ rest)) old new call = ap (λ (a : Areas). a.archive) call.written
 same-archive t (Writing done []) old new call = ap (λ (a : Areas). a.archive) call.written
 same-archive t Syncing old new call = ap (λ (a : Areas). a.archive) call.synced
@@ -58,7 +70,7 @@ same-archive t Opening old new call = ap (λ (a : Areas). a.archive) call.writte
 same-archive t Settling old new call = ap (λ (a : Areas). a.archive) call.synced
 same-archive t Done old new call = absurd call
 
-same-status : (t : Turn) (stage : Stage) (old new : Areas) → IsCallOf t stage (Ok tt) old new → new.status ≡ old.status
+pub same-status : (t : Turn) (stage : Stage) (old new : Areas) → IsCallOf t stage (Ok tt) old new → new.status ≡ old.status
 same-status t (Writing done (p ∷ rest)) old new call = ap (λ (a : Areas). a.status) call.written
 same-status t (Writing done []) old new call = ap (λ (a : Areas). a.status) call.written
 same-status t Syncing old new call = ap (λ (a : Areas). a.status) call.synced
@@ -67,7 +79,7 @@ same-status t Settling old new call = ap (λ (a : Areas). a.status) call.synced
 same-status t Done old new call = absurd call
 
 -- also where they are refused
-status-left : (t : Turn) (stage : Stage) (result : Result (Unit {0}) DeviceFault) (old new : Areas) (image : Image) → AreSound old
+pub status-left : (t : Turn) (stage : Stage) (result : Result (Unit {0}) DeviceFault) (old new : Areas) (image : Image) → AreSound old
     → IsCallOf t stage result old new → LeavesImage new image → MayLeave old.status image.status
 status-left t (Writing done (p ∷ rest)) result old new image sound call left = let l =
     (left_by_write Heap p.place p.bytes result old new call sound).each image left in l.status
@@ -87,12 +99,43 @@ map-before Opening A B C D f g is = f is
 map-before Settling A B C D f g is = ⊎_elim (λ a. inl (f a)) (λ b. inr (g b)) is
 map-before Done A B C D f g is = g is
 
-map-within : (stage : Stage) (A B C D : Type 0) → (A → C) → (B → D) → MayBecome stage A B → MayBecome stage C D
+pub map-within : (stage : Stage) (A B C D : Type 0) → (A → C) → (B → D) → MayBecome stage A B → MayBecome stage C D
 map-within (Writing done rest) A B C D f g is = f is
 map-within Syncing A B C D f g is = f is
 map-within Opening A B C D f g is = ⊎_elim (λ a. inl (f a)) (λ b. inr (g b)) is
 map-within Settling A B C D f g is = ⊎_elim (λ a. inl (f a)) (λ b. inr (g b)) is
 map-within Done A B C D f g is = g is
+
+-- ---- jobs
+
+-- a floor that may be raised may be so later
+pub enters-later : (h next : History Value) (floors : ℕ → ℕ) (j : Option Job) → last h ≤ last (h ++ next) → MayAllEnter h floors j
+    → MayAllEnter (h ++ next) floors j
+enters-later h next floors None later may = tt
+enters-later h next floors (Some job) later may = by-work job.work may
+  where
+    by-work : (work : JobWork) → MayEnter h floors work → MayEnter (h ++ next) floors work
+    by-work (Floor floor kept) may = (may.0, omega (arith, later, may.1), may.2)
+
+-- where a group's chain is in the writing, and comes to its end, the log is at rest then
+pub at-rest : (v : LogStoreValue) (l : HeapLog) (reading : Reading) (w : WriterState) (j : Option Job) → IsBeside (Some w) j → IsAtRest v l
+    → HasJob v l reading j
+at-rest v l reading w None alone rest = rest
+at-rest v l reading w (Some job) alone rest = by-stage job.stage alone
+  where
+    by-stage : (k : JobStage) → IsStageBeside (Some w) k → HasStage v l reading job.work k
+    by-stage (Ready waited) alone = rest
+    by-stage (Entering e) alone = absurd (let no = alone.0 in cc)
+
+rises-on : (t : ℕ) (h : History Value) → HasRisingTimes t h → t ≤ last_after t h
+rises-on t [] up = omega arith
+rises-on t (c ∷ cs) up = let rest = rises-on c.time cs up.2 in omega (arith, up.0, rest)
+
+-- the last commit of a history that goes on is no earlier
+pub later : (h next : History Value) → MayAllFollow IsValue h next → last h ≤ last (h ++ next)
+later h next may =
+    let rising = rising-from_following IsValue h next may in
+    omega (arith, last_after-append 0 h next, rises-on (last h) next rising)
 
 -- ---- a group on its way
 
@@ -118,7 +161,7 @@ module _ (v : LogStoreValue) (h queue : History Value) (floors : ℕ → ℕ) (s
   way = way-at w.stage v.disk.areas s.sound s.archive o.at
 
   pub same-turn : turn w ≡ turn_of s.l.next chain
-  same-turn = turn-is s.l w o.group o.content (let j = o.joins in j.head)
+  same-turn = turn-is s.l w (Group o.group) o.content (let j = o.joins in j.head)
 
   pub log-then : IsLogOf v.roots.extents (root_of v.roots) (with_chain s.l chain) then
   log-then =
@@ -128,6 +171,15 @@ module _ (v : LogStoreValue) (h queue : History Value) (floors : ℕ → ℕ) (s
   stands-then =
       group-stands_for s.reading h floors s.stands (map member_told o.group) next o.is_group
       (room s.reading (in-heap v.roots.extents (root_of v.roots) s.l s.reading s.is_log))
+
+  -- no entry is in the writing
+  alone-at : (stage : Stage) (j : Option Job) → IsBeside (Some w) j → IsBeside (Some (with_stage w stage)) j
+  alone-at stage None alone = tt
+  alone-at stage (Some job) alone = by-stage job.stage alone
+    where
+      by-stage : (k : JobStage) → IsStageBeside (Some w) k → IsStageBeside (Some (with_stage w stage)) k
+      by-stage (Ready waited) alone = tt
+      by-stage (Entering e) alone = absurd (let no = alone.0 in cc)
 
   -- one call further
   pub next-stands : (u : LogStoreValue) → u ≡ record (at_next v w) { disk = u.disk } → AreSound u.disk.areas → KeepsArchive s.l u.disk.areas.archive
@@ -158,7 +210,9 @@ module _ (v : LogStoreValue) (h queue : History Value) (floors : ℕ → ℕ) (s
       shares = o.shares;
       at = at;
       room = o.room;
+      alone = alone-at (stage_after w.stage) v.job o.alone;
     };
+    job = s.job;
   })
 
   -- the group is published
@@ -191,8 +245,45 @@ module _ (v : LogStoreValue) (h queue : History Value) (floors : ℕ → ℕ) (s
         anchors = anchors-rest s.reading h next floors (map member_told o.group) s.stands stands-then front o.told v.roots.extents v.room.anchors
             (drop v.commits.group queue)
             (subst (λ (l : History Value). HasAnchors v.roots.extents s.reading l v.room.anchors) (sym (taken-and-rest v.commits.group queue)) s.anchors);
-        turn = record { log = done.rests refl; room = o.room };
+        turn =
+            at-rest (record (with_published v) { disk = u.disk }) (with_chain s.l chain) then w v.job o.alone
+            (record { log = done.rests refl; room = o.room });
+        job = enters-later h next floors v.job (later h next front) s.job;
       })
+
+-- ---- an entry on its way
+
+module _ (v : LogStoreValue) (h queue : History Value) (floors : ℕ → ℕ) (s : StandsOnHeap v h queue floors) (work : JobWork) (w : WriterState)
+    (may : MayEnter h floors work) (o : IsEntering v s.l s.reading work w) where
+  abbrev entry-chain : PlacedChain
+  entry-chain = placed_entry w work
+
+  -- what stands with it
+  pub entered : IsLogOf v.roots.extents (root_of v.roots) (with_chain s.l entry-chain) (reading_with work s.reading)
+      × StandsFor (reading_with work s.reading) h (floors_with work floors)
+  entered = by-work work may o.joins o.shares
+    where
+      by-work : (k : JobWork) → MayEnter h floors k → MayJoin v.roots.extents s.l (placed_entry w k)
+          → KeepsShares v.roots.extents (with_chain s.l (placed_entry w k)) (reading_with k s.reading)
+          → IsLogOf v.roots.extents (root_of v.roots) (with_chain s.l (placed_entry w k)) (reading_with k s.reading)
+          × StandsFor (reading_with k s.reading) h (floors_with k floors)
+      by-work (Floor floor kept) may joins shares =
+          floor-is_log v.roots.extents (root_of v.roots) s.l s.reading h floors s.is_log s.stands w.numbers w.link floor joins
+          (omega (arith, may.0, s.stands.opens.floors_given floor.relation)) may.1 shares
+
+  pub entry-way-at : (stage : Stage) (areas : Areas) → AreSound areas → KeepsArchive s.l areas.archive
+      → IsAt (heap_parts s.l) (turn_of s.l.next entry-chain) stage areas.heap
+      → IsEntryWay v.roots.extents (root_of v.roots) s.l (with_chain s.l entry-chain) entry-chain h h floors (floors_with work floors) stage areas
+  entry-way-at stage areas sound archive at =
+      entry-goes v.roots.extents (root_of v.roots) s.l entry-chain s.l.runs s.reading (reading_with work s.reading) h h floors (floors_with work floors) stage
+      areas s.is_log s.stands o.joins entered.0 entered.1 sound archive (record { rolls = archive.rolls; runs = archive.runs }) at
+
+  pub entry-way : IsEntryWay v.roots.extents (root_of v.roots) s.l (with_chain s.l entry-chain) entry-chain h h floors (floors_with work floors) w.stage
+      v.disk.areas
+  entry-way = entry-way-at w.stage v.disk.areas s.sound s.archive o.at
+
+  pub entry-turn : turn w ≡ turn_of s.l.next entry-chain
+  entry-turn = turn-is s.l w (entry_of work) o.content (let j = o.joins in j.head)
 
 -- ---- stops
 
@@ -200,9 +291,11 @@ pub standing-stops : (v : LogStoreValue) (h queue : History Value) (floors : ℕ
     → StopsOnHeap v h queue floors
 standing-stops v h queue floors works s image left = by-turn v.turn s.turn
   where
-    by-turn : (t : Option WriterState) → HasTurn v queue s.l s.reading h t
-        → MayStand v.commits.failed t (IsImageOf v.roots image h floors) (IsImageOf v.roots image (h ++ take v.commits.group queue) floors)
-    by-turn None rest = record {
+    at-work : (stage : Stage) (Old New : Type 0) → MayBe stage Old New → MayStandAt v.commits.failed stage Old New
+    at-work stage Old New may = subst (λ (b : Bool). MatchBool b (MayBecome stage Old New) (MayBe stage Old New)) (sym works) may
+
+    resting : IsAtRest v s.l → IsImageOf v.roots image h floors
+    resting rest = record {
       status = s.status image.status left.status;
       heap = record {
         log = s.l;
@@ -217,12 +310,34 @@ standing-stops v h queue floors works s image left = by-turn v.turn s.turn
         };
       };
     }
+
+    by-stage : (work : JobWork) (k : JobStage) → MayEnter h floors work → HasStage v s.l s.reading work k
+        → MayStandOn v.commits.failed k (IsImageOf v.roots image h floors) (IsImageOf v.roots image h (floors_with work floors))
+    by-stage work (Ready waited) may rest = resting rest
+    by-stage work (Entering w) may o =
+        let on = entry-way v h queue floors s work w may o in
+        let root = root_of v.roots in
+        let then = floors_with work floors in
+        at-work w.stage (IsImageOf v.roots image h floors) (IsImageOf v.roots image h then)
+        (map-before w.stage (HeapStandsFor v.roots.extents root image.heap image.archive h floors)
+        (HeapStandsFor v.roots.extents root image.heap image.archive h then) (IsImageOf v.roots image h floors) (IsImageOf v.roots image h then)
+        (λ heap. record { status = s.status image.status left.status; heap = heap })
+        (λ heap. record { status = s.status image.status left.status; heap = heap }) (on.before image left))
+
+    by-job : (j : Option Job) → MayAllEnter h floors j → HasJob v s.l s.reading j
+        → MayStandBy v.commits.failed j (IsImageOf v.roots image h floors) (λ work. IsImageOf v.roots image h (floors_with work floors))
+    by-job None may rest = resting rest
+    by-job (Some job) may has = by-stage job.work job.stage may has
+
+    by-turn : (t : Option WriterState) → HasTurn v queue s.l s.reading h t
+        → MayStand v.commits.failed t v.job (IsImageOf v.roots image h floors) (IsImageOf v.roots image (h ++ take v.commits.group queue) floors)
+        (λ work. IsImageOf v.roots image h (floors_with work floors))
+    by-turn None has = by-job v.job s.job has
     by-turn (Some w) o =
         let on = way v h queue floors s w o in
         let root = root_of v.roots in
         let next = h ++ take v.commits.group queue in
-        subst (λ (b : Bool). MatchBool b (MayBecome w.stage (IsImageOf v.roots image h floors) (IsImageOf v.roots image next floors))
-        (MayBe w.stage (IsImageOf v.roots image h floors) (IsImageOf v.roots image next floors))) (sym works)
+        at-work w.stage (IsImageOf v.roots image h floors) (IsImageOf v.roots image next floors)
         (map-before w.stage (HeapStandsFor v.roots.extents root image.heap image.archive h floors)
         (HeapStandsFor v.roots.extents root image.heap image.archive next floors) (IsImageOf v.roots image h floors) (IsImageOf v.roots image next floors)
         (λ heap. record { status = s.status image.status left.status; heap = heap })
@@ -294,9 +409,9 @@ call-goes tells w old new answer h queue floors tell works standing s advances s
         → MatchResult a (λ what. LeadsTo w.stage old.commits.group new h queue floors) (λ why. StopsOnHeap new h queue floors)
     by-answer (Ok what) call is = by-stage w.stage refl is.1 call
     by-answer (Err why) call is = λ image left.
-        subst (λ (x : LogStoreValue). MayStand x.commits.failed x.turn (IsImageOf x.roots image h floors)
-        (IsImageOf x.roots image (h ++ take x.commits.group queue) floors))
+        subst (λ (x : LogStoreValue). MayStand x.commits.failed x.turn x.job (IsImageOf x.roots image h floors)
+        (IsImageOf x.roots image (h ++ take x.commits.group queue) floors) (λ work. IsImageOf x.roots image h (floors_with work floors)))
         (sym is.1)
-        (subst (λ (t : Option WriterState). MayStand true t (IsImageOf old.roots image h floors)
-        (IsImageOf old.roots image (h ++ take old.commits.group queue) floors))
+        (subst (λ (t : Option WriterState). MayStand true t old.job (IsImageOf old.roots image h floors)
+        (IsImageOf old.roots image (h ++ take old.commits.group queue) floors) (λ work. IsImageOf old.roots image h (floors_with work floors)))
         (sym standing) (call-within w old h queue floors standing s (disk_answer (Err why)) new.disk.areas image call left))

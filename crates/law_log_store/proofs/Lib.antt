@@ -8,5 +8,7 @@ pub mod Beginning
 pub mod Submitting
 pub mod Calls
 pub mod Pumping
+pub mod Entering
+pub mod Jobs
 pub mod Opened
 pub mod Opening

@@ -49,7 +49,8 @@ use Rattle.commits.specs.Values.{WaitingValue, versions_after}
 use Rattle.log_store.specs.Values.{LogStoreValue}
 use Rattle.log_store.proofs.Rooms.{numbers, numbers-count, numbers-in_range, last-keeps}
 use Rattle.law_log_store.specs.Members.{AreTold, AreContents}
-use Rattle.law_log_store.specs.Standing.{StandsOnHeap, HasTurn, IsRoomOf, KeepsRoots}
+use Rattle.law_log_store.specs.Standing.{StandsOnHeap, HasTurn, HasJob, MayAllEnter, IsRoomOf, KeepsRoots}
+use Rattle.log_store.specs.declared.job.Job.{Job}
 use Rattle.law_log_store.specs.Opened.{live_uses, LeavesRoom, IsOpenedOn}
 use Rattle.law_log_store.proofs.Flags.{all-used-length, distinct-join}
 
@@ -217,12 +218,14 @@ opened-stands v image l reading h floors same sound reads is held stands opened 
     may = tt;
   };
   anchors = record { len = ap (λ (r : RoomValue). r.anchors) opened.room; fit = tt };
-  turn = subst (λ (t : Option WriterState). HasTurn v [] l reading h t) (sym opened.turn) (record {
-    log = subst (λ (areas : Areas). KeepsLog l areas.heap) (sym same) (record {
-      parts = all-synced (heap_parts l) (settled_area image.heap) held.parts;
-      ends = settled-closed (extent_start l.next) image.heap held.ends;
-    });
-    room = subst (IsRoomOf v.roots.extents l) (sym opened.room)
-        ((leaves-room v.roots.extents (root_of v.roots) l reading h floors is stands).room);
-  });
+  turn = subst (λ (t : Option WriterState). HasTurn v [] l reading h t) (sym opened.turn)
+      (subst (λ (j : Option Job). HasJob v l reading j) (sym opened.job) (record {
+        log = subst (λ (areas : Areas). KeepsLog l areas.heap) (sym same) (record {
+          parts = all-synced (heap_parts l) (settled_area image.heap) held.parts;
+          ends = settled-closed (extent_start l.next) image.heap held.ends;
+        });
+        room = subst (IsRoomOf v.roots.extents l) (sym opened.room)
+            ((leaves-room v.roots.extents (root_of v.roots) l reading h floors is stands).room);
+      }));
+  job = subst (λ (j : Option Job). MayAllEnter h floors j) (sym opened.job) tt;
 }

@@ -134,6 +134,7 @@ module _ (tells : Bool) (old : DiskState) (mark : ℕ) (v : LogStoreValue) (root
     contents = ap (λ (x : LogStoreValue). x.contents) opens.new_is;
     room = room-is;
     turn = ap (λ (x : LogStoreValue). x.turn) opens.new_is;
+    job = ap (λ (x : LogStoreValue). x.job) opens.new_is;
   }
 
   pub open-stands : (v.roots ≡ roots) × StandsOnHeap v h [] floors

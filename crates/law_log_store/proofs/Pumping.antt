@@ -16,12 +16,17 @@ use Rattle.commits.specs.Values.{CommitsValue}
 use Rattle.commits.specs.Steps.{grouped}
 use Rattle.log_store.specs.Values.{LogStoreValue, IsInStep}
 use Rattle.log_store.specs.Values as stores
-use Rattle.log_store.specs.Pumps.{Pumps, TakesStep, BeginsGroup, AdvancesGroup, Advances, after_call, with_failure, did_of, disk_answer}
+use Rattle.log_store.specs.declared.job.JobWork.{JobWork}
+use Rattle.log_store.specs.declared.job.Job.{Job}
+use Rattle.log_store.specs.declared.job.JobStage.{JobStage}
+use Rattle.log_store.specs.declared.job.JobStage.TheVariants.{Ready, Entering}
+use Rattle.log_store.specs.Pumps.{Pumps, TakesStep, bars_groups, BeginsOrWaits, BeginsGroup, AdvancesGroup, Advances, after_call, with_failure, did_of}
+use Rattle.log_store.specs.Pumps.{disk_answer}
 use Rattle.group.specs.declared.answers.Did.{Did}
 use Rattle.group.specs.declared.answers.Did.TheVariants as did
-use Rattle.law_log_store.specs.Standing.{StandsOnHeap, IsImageOf, MayStand, StopsOnHeap}
+use Rattle.law_log_store.specs.Standing.{StandsOnHeap, IsImageOf, MayStand, MayStandAt, MayStandOn, MayStandBy, StopsOnHeap, floors_with}
 use Rattle.law_log_store.specs.Laws.{LeadsTo, GoesOn}
-use Rattle.law_log_store.specs.Calls.{count_in, StepsTo, IsFront}
+use Rattle.law_log_store.specs.Calls.{count_in, StepsTo, HasEntered, IsFront}
 use Rattle.law_log_store.proofs.Beginning.{has-begun}
 use Rattle.law_log_store.proofs.Going.{standing-stops, call-within, call-goes}
 
@@ -72,20 +77,26 @@ pump-steps tells old new answer h queue floors tell works step sound s pumps =
     by-turn old.turn refl
     (subst (λ (b : Bool). MatchBool b ((answer ≡ Err fault.Failed) × (new ≡ old)) (TakesStep tells old old.turn answer new)) works pumps)
   where
-    begins : old.turn ≡ None → 0 < length old.commits.queue → BeginsGroup tells old answer new → StepsTo answer old new h queue floors
-    begins at_rest some (inl none) = subst (λ (a : Result Did PumpFault). StepsTo a old new h queue floors) (sym none.0) none.1
-    begins at_rest some (inr begun) =
-        let has = has-begun old begun.0 h queue floors step at_rest some s begun.1 in
+    begins : old.turn ≡ None → bars_groups old.job ≡ false → 0 < length old.commits.queue → BeginsGroup tells old answer new
+        → StepsTo answer old new h queue floors
+    begins at_rest unbarred some (inl none) = subst (λ (a : Result Did PumpFault). StepsTo a old new h queue floors) (sym none.0) none.1
+    begins at_rest unbarred some (inr begun) =
+        let has = has-begun old begun.0 h queue floors step at_rest unbarred some s begun.1 in
         let advances : Advances tells has.writer begun.0 answer new =
         subst (λ (t : Option WriterState). AdvancesGroup tells begun.0 t answer new) has.turn begun.2 in
         call-steps tells has.writer begun.0 new old answer h queue floors tell (has.works ∙ works) has.turn has.stands advances sound
 
+    by-job : (b : Bool) → bars_groups old.job ≡ b → old.turn ≡ None → 0 < length old.commits.queue
+        → MatchBool b ((answer ≡ Err fault.Busy) × (new ≡ old)) (BeginsGroup tells old answer new) → StepsTo answer old new h queue floors
+    by-job true barred at_rest some is = subst (λ (a : Result Did PumpFault). StepsTo a old new h queue floors) (sym is.0) is.1
+    by-job false unbarred at_rest some is = begins at_rest unbarred some is
+
     by-queue : (b : Bool) → (length old.commits.queue == 0) ≡ b → old.turn ≡ None
-        → MatchBool b ((answer ≡ Ok did.Idle) × (new ≡ old)) (BeginsGroup tells old answer new) → StepsTo answer old new h queue floors
+        → MatchBool b ((answer ≡ Ok did.Idle) × (new ≡ old)) (BeginsOrWaits tells old answer new) → StepsTo answer old new h queue floors
     by-queue true none at_rest is =
         subst (λ (a : Result Did PumpFault). StepsTo a old new h queue floors) (sym is.0)
         (subst (λ (x : LogStoreValue). StandsOnHeap x (h ++ take 0 queue) (drop 0 queue) floors) (sym is.1) (unpublished old h queue floors s))
-    by-queue false some at_rest is = begins at_rest (grind (arith, nat_tests)) is
+    by-queue false some at_rest is = by-job (bars_groups old.job) refl at_rest (grind (arith, nat_tests)) is
 
     by-turn : (t : Option WriterState) → old.turn ≡ t → TakesStep tells old t answer new → StepsTo answer old new h queue floors
     by-turn None at_rest is = by-queue (length old.commits.queue == 0) refl at_rest is
@@ -117,26 +128,52 @@ either-new Done A B is = inr is
 module _ (v : LogStoreValue) (h queue : History Value) (floors : ℕ → ℕ) (works : v.commits.failed ≡ false) (s : StandsOnHeap v h queue floors)
     (image : Image) where
   abbrev Fronts : ℕ → Type 0
-  Fronts n = IsImageOf v.roots image h floors ⊎ IsImageOf v.roots image (h ++ take n queue) floors
+  Fronts n = IsImageOf v.roots image h floors ⊎ IsImageOf v.roots image (h ++ take n queue) floors ⊎ HasEntered v image h floors v.job
 
-  front-before : LeavesImage v.disk.areas image → Fronts v.commits.group
+  at-work : (stage : Stage) (Old New : Type 0) → MayStandAt v.commits.failed stage Old New → Old ⊎ New
+  at-work stage Old New is =
+      either-old stage Old New (subst (λ (b : Bool). MatchBool b (MayBecome stage Old New) (MayBe stage Old New)) works is)
+
+  one-of-two : (n : ℕ) → IsImageOf v.roots image h floors ⊎ IsImageOf v.roots image (h ++ take n queue) floors → Fronts n
+  one-of-two n (inl is) = inl is
+  one-of-two n (inr is) = inr (inl is)
+
+  pub front-before : LeavesImage v.disk.areas image → Fronts v.commits.group
   front-before left = by-turn v.turn (standing-stops v h queue floors works s image left)
     where
+      or-entered : (Old New : Type 0) → Old ⊎ New → Old ⊎ IsImageOf v.roots image (h ++ take v.commits.group queue) floors ⊎ New
+      or-entered Old New (inl is) = inl is
+      or-entered Old New (inr is) = inr (inr is)
+
+      by-stage : (work : JobWork) (k : JobStage)
+          → MayStandOn v.commits.failed k (IsImageOf v.roots image h floors) (IsImageOf v.roots image h (floors_with work floors))
+          → IsImageOf v.roots image h floors ⊎ IsImageOf v.roots image (h ++ take v.commits.group queue) floors
+          ⊎ IsImageOf v.roots image h (floors_with work floors)
+      by-stage work (Ready waited) is = inl is
+      by-stage work (Entering w) is =
+          or-entered (IsImageOf v.roots image h floors) (IsImageOf v.roots image h (floors_with work floors))
+          (at-work w.stage (IsImageOf v.roots image h floors) (IsImageOf v.roots image h (floors_with work floors)) is)
+
+      by-job : (j : Option Job) → MayStandBy v.commits.failed j (IsImageOf v.roots image h floors) (λ work. IsImageOf v.roots image h (floors_with work floors))
+          → IsImageOf v.roots image h floors ⊎ IsImageOf v.roots image (h ++ take v.commits.group queue) floors ⊎ HasEntered v image h floors j
+      by-job None is = inl is
+      by-job (Some job) is = by-stage job.work job.stage is
+
       by-turn : (t : Option WriterState)
-          → MayStand v.commits.failed t (IsImageOf v.roots image h floors) (IsImageOf v.roots image (h ++ take v.commits.group queue) floors)
+          → MayStand v.commits.failed t v.job (IsImageOf v.roots image h floors) (IsImageOf v.roots image (h ++ take v.commits.group queue) floors)
+          (λ work. IsImageOf v.roots image h (floors_with work floors))
           → Fronts v.commits.group
-      by-turn None is = inl is
+      by-turn None is = by-job v.job is
       by-turn (Some w) is =
-          either-old w.stage (IsImageOf v.roots image h floors) (IsImageOf v.roots image (h ++ take v.commits.group queue) floors)
-          (subst (λ (b : Bool). MatchBool b (MayBecome w.stage (IsImageOf v.roots image h floors)
-          (IsImageOf v.roots image (h ++ take v.commits.group queue) floors))
-          (MayBe w.stage (IsImageOf v.roots image h floors) (IsImageOf v.roots image (h ++ take v.commits.group queue) floors))) works is)
+          one-of-two v.commits.group
+          (at-work w.stage (IsImageOf v.roots image h floors) (IsImageOf v.roots image (h ++ take v.commits.group queue) floors) is)
 
   front-after : (tells : Bool) (w : WriterState) (new : LogStoreValue) (answer : Result Did PumpFault) → IsTrue tells → v.turn ≡ Some w
       → Advances tells w v answer new → LeavesImage new.disk.areas image → Fronts v.commits.group
   front-after tells w new answer tell standing advances left =
-      either-new w.stage (IsImageOf v.roots image h floors) (IsImageOf v.roots image (h ++ take v.commits.group queue) floors)
-      (call-within w v h queue floors standing s (disk_answer answer) new.disk.areas image (advances.call tell) left)
+      one-of-two v.commits.group
+      (either-new w.stage (IsImageOf v.roots image h floors) (IsImageOf v.roots image (h ++ take v.commits.group queue) floors)
+      (call-within w v h queue floors standing s (disk_answer answer) new.disk.areas image (advances.call tell) left))
 
 -- where a group stands none begins
 pub grouped-stays : (v : CommitsValue) → 0 < v.group → grouped 1024 v ≡ v
@@ -144,6 +181,33 @@ grouped-stays v some =
     let it : CommitsValue = record v { group = min 1024 (length v.queue) } in
     let no : (v.group == 0) ≡ false = grind (arith, nat_tests) in
     ap (λ (b : Bool). cond (b && nat_lt 0 (length v.queue)) it v) no
+
+-- where no group's chain is in the writing
+pub resting-front : (v : LogStoreValue) (h queue : History Value) (floors : ℕ → ℕ) → v.commits.failed ≡ false → StandsOnHeap v h queue floors
+    → (image : Image) → IsInStep v → v.turn ≡ None → LeavesImage v.disk.areas image → IsFront v image h queue floors
+resting-front v h queue floors works s image step at_rest left = by-front (front-before v h queue floors works s image left)
+  where
+    no-group : v.commits.group ≡ 0
+    no-group = subst (λ (t : Option WriterState). stores.HasTurn v.commits.group t) at_rest step.turn
+
+    by-front : Fronts v h queue floors works s image v.commits.group → IsFront v image h queue floors
+    by-front (inl is) = inl is
+    by-front (inr (inl is)) =
+        inl (subst (λ (l : History Value). IsImageOf v.roots image l floors) (append-nil h)
+        (subst (λ (n : ℕ). IsImageOf v.roots image (h ++ take n queue) floors) no-group is))
+    by-front (inr (inr is)) = inr (inr is)
+
+-- whatever a stop may leave of a store that works is a front
+pub standing-is-front : (v : LogStoreValue) (h queue : History Value) (floors : ℕ → ℕ) → v.commits.failed ≡ false → StandsOnHeap v h queue floors
+    → (image : Image) → IsInStep v → LeavesImage v.disk.areas image → IsFront v image h queue floors
+standing-is-front v h queue floors works s image step left = by-turn v.turn refl
+  where
+    by-turn : (t : Option WriterState) → v.turn ≡ t → IsFront v image h queue floors
+    by-turn None at_rest = resting-front v h queue floors works s image step at_rest left
+    by-turn (Some w) standing =
+        let some = (subst (λ (t : Option WriterState). stores.HasTurn v.commits.group t) standing step.turn).0 in
+        subst (λ (n : ℕ). Fronts v h queue floors works s image n) (ap (λ (c : CommitsValue). c.group) (sym (grouped-stays v.commits some)))
+        (front-before v h queue floors works s image left)
 
 pub pump-leaves : (tells : Bool) (old new : LogStoreValue) (answer : Result Did PumpFault) (h queue : History Value) (floors : ℕ → ℕ) (image : Image)
     → IsTrue tells → old.commits.failed ≡ false → IsInStep old → StandsOnHeap old h queue floors → Pumps tells old answer new
@@ -153,32 +217,35 @@ pump-leaves tells old new answer h queue floors image tell works step s pumps le
     (subst (λ (b : Bool). MatchBool b ((answer ≡ Err fault.Failed) × (new ≡ old)) (TakesStep tells old old.turn answer new)) works pumps) left
   where
     old-front : old.turn ≡ None → LeavesImage old.disk.areas image → IsFront old image h queue floors
-    old-front at_rest l =
-        inl (subst (λ (t : Option WriterState). MayStand old.commits.failed t (IsImageOf old.roots image h floors)
-        (IsImageOf old.roots image (h ++ take old.commits.group queue) floors)) at_rest (standing-stops old h queue floors works s image l))
+    old-front at_rest l = resting-front old h queue floors works s image step at_rest l
 
     standing-front : (w : WriterState) → old.turn ≡ Some w → Fronts old h queue floors works s image old.commits.group → IsFront old image h queue floors
     standing-front w standing front =
         let some = (subst (λ (t : Option WriterState). stores.HasTurn old.commits.group t) standing step.turn).0 in
-        subst (λ (n : ℕ). IsImageOf old.roots image h floors ⊎ IsImageOf old.roots image (h ++ take n queue) floors)
-        (ap (λ (v : CommitsValue). v.group) (sym (grouped-stays old.commits some))) front
+        subst (λ (n : ℕ). Fronts old h queue floors works s image n) (ap (λ (v : CommitsValue). v.group) (sym (grouped-stays old.commits some))) front
 
-    begins : old.turn ≡ None → 0 < length old.commits.queue → BeginsGroup tells old answer new → LeavesImage new.disk.areas image
-        → IsFront old image h queue floors
-    begins at_rest some (inl none) l = old-front at_rest (subst (λ (x : LogStoreValue). LeavesImage x.disk.areas image) none.1 l)
-    begins at_rest some (inr begun) l =
-        let has = has-begun old begun.0 h queue floors step at_rest some s begun.1 in
+    begins : old.turn ≡ None → bars_groups old.job ≡ false → 0 < length old.commits.queue → BeginsGroup tells old answer new
+        → LeavesImage new.disk.areas image → IsFront old image h queue floors
+    begins at_rest unbarred some (inl none) l = old-front at_rest (subst (λ (x : LogStoreValue). LeavesImage x.disk.areas image) none.1 l)
+    begins at_rest unbarred some (inr begun) l =
+        let has = has-begun old begun.0 h queue floors step at_rest unbarred some s begun.1 in
         let advances : Advances tells has.writer begun.0 answer new =
         subst (λ (t : Option WriterState). AdvancesGroup tells begun.0 t answer new) has.turn begun.2 in
         let front = front-after begun.0 h queue floors (has.works ∙ works) has.stands image tells has.writer new answer tell has.turn advances l in
-        subst (λ (v : LogStoreValue). IsImageOf v.roots image h floors ⊎ IsImageOf v.roots image (h ++ take v.commits.group queue) floors)
-        (begun.1).new_is front
+        subst (λ (v : LogStoreValue). IsImageOf v.roots image h floors ⊎ IsImageOf v.roots image (h ++ take v.commits.group queue) floors
+        ⊎ HasEntered v image h floors v.job) (begun.1).new_is front
+
+    by-job : (b : Bool) → bars_groups old.job ≡ b → old.turn ≡ None → 0 < length old.commits.queue
+        → MatchBool b ((answer ≡ Err fault.Busy) × (new ≡ old)) (BeginsGroup tells old answer new) → LeavesImage new.disk.areas image
+        → IsFront old image h queue floors
+    by-job true barred at_rest some is l = old-front at_rest (subst (λ (x : LogStoreValue). LeavesImage x.disk.areas image) is.1 l)
+    by-job false unbarred at_rest some is l = begins at_rest unbarred some is l
 
     by-queue : (b : Bool) → (length old.commits.queue == 0) ≡ b → old.turn ≡ None
-        → MatchBool b ((answer ≡ Ok did.Idle) × (new ≡ old)) (BeginsGroup tells old answer new) → LeavesImage new.disk.areas image
+        → MatchBool b ((answer ≡ Ok did.Idle) × (new ≡ old)) (BeginsOrWaits tells old answer new) → LeavesImage new.disk.areas image
         → IsFront old image h queue floors
     by-queue true none at_rest is l = old-front at_rest (subst (λ (x : LogStoreValue). LeavesImage x.disk.areas image) is.1 l)
-    by-queue false some at_rest is l = begins at_rest (grind (arith, nat_tests)) is l
+    by-queue false some at_rest is l = by-job (bars_groups old.job) refl at_rest (grind (arith, nat_tests)) is l
 
     by-turn : (t : Option WriterState) → old.turn ≡ t → TakesStep tells old t answer new
         → LeavesImage old.disk.areas image ⊎ LeavesImage new.disk.areas image → IsFront old image h queue floors

@@ -29,9 +29,13 @@ use Rattle.commits.specs.Steps.{members, waiting_as}
 use Rattle.law_image.specs.Plans.{IsGroupOf, stored_members}
 use Rattle.law_log_layout.specs.HeapLog.{HeapLog, member_told, with_chain, placed_group}
 use Rattle.log_store.specs.Values.{LogStoreValue, IsInStep}
+use Rattle.log_store.specs.declared.job.JobWork.{JobWork}
+use Rattle.log_store.specs.declared.job.Job.{Job}
+use Rattle.log_store.specs.declared.job.JobStage.{JobStage}
+use Rattle.log_store.specs.declared.job.JobStage.TheVariants.{Ready, Entering}
 use Rattle.log_store.specs.Submits.{anchors_behind, has_room, with_queued}
 use Rattle.law_log_store.specs.Members.{IsTold, AreContents}
-use Rattle.law_log_store.specs.Standing.{StandsOnHeap, HasTurn, IsRoomOf}
+use Rattle.law_log_store.specs.Standing.{StandsOnHeap, HasTurn, HasJob, HasStage, IsRoomOf, placed_entry}
 use Rattle.law_log_store.proofs.Queues.{taken-and-rest, told-many, told-more, contents-more, may-more, told-ordered, take-more, drop-more, versions-split}
 use Rattle.law_log_store.proofs.Queues.{values-told}
 use Rattle.law_log_store.proofs.Queues.{applied-told}
@@ -141,12 +145,34 @@ module _ (v : LogStoreValue) (label time : ℕ) (writes : List (KeyWrite Value))
         omega (arith, room-fits, heap, log);
   }
 
+  used-at : (work : JobWork) (k : JobStage) → HasStage v s.l s.reading work k → length v.room.used ≡ v.roots.extents
+  used-at work (Ready waited) is = (is.room).many
+  used-at work (Entering w) is = (is.room).many
+
+  used-by : (j : Option Job) → HasJob v s.l s.reading j → length v.room.used ≡ v.roots.extents
+  used-by None is = (is.room).many
+  used-by (Some job) is = used-at job.work job.stage is
+
   used-are : (t : Option WriterState) → HasTurn v queue s.l s.reading h t → length v.room.used ≡ v.roots.extents
-  used-are None is = (is.room).many
+  used-are None is = used-by v.job is
   used-are (Some w) is = (is.room).many
 
+  stage-more : (work : JobWork) (k : JobStage) → HasStage v s.l s.reading work k → HasStage more s.l s.reading work k
+  stage-more work (Ready waited) is = record { log = is.log; room = room-more s.l is.room }
+  stage-more work (Entering w) is = record {
+    content = is.content;
+    joins = is.joins;
+    shares = is.shares;
+    at = is.at;
+    room = room-more (with_chain s.l (placed_entry w work)) is.room;
+  }
+
+  job-more : (j : Option Job) → HasJob v s.l s.reading j → HasJob more s.l s.reading j
+  job-more None is = record { log = is.log; room = room-more s.l is.room }
+  job-more (Some job) is = stage-more job.work job.stage is
+
   turn-more : (t : Option WriterState) → HasTurn v queue s.l s.reading h t → HasTurn more (queue ++ commit ∷ []) s.l s.reading h t
-  turn-more None is = record { log = is.log; room = room-more s.l is.room }
+  turn-more None is = job-more v.job is
   turn-more (Some w) is =
       let same : take v.commits.group queue ≡ take v.commits.group (queue ++ commit ∷ []) =
       sym (take-more v.commits.group queue (commit ∷ []) within-queue) in
@@ -159,6 +185,7 @@ module _ (v : LogStoreValue) (label time : ℕ) (writes : List (KeyWrite Value))
         shares = is.shares;
         at = is.at;
         room = room-more (with_chain s.l (placed_group w.numbers w.link is.group)) is.room;
+        alone = is.alone;
       }
 
   contents-are : AreContents (versions_after v.commits.versions (members more.commits)) more.contents (drop v.commits.group more.commits.queue)
@@ -200,4 +227,5 @@ module _ (v : LogStoreValue) (label time : ℕ) (writes : List (KeyWrite Value))
           (subst (λ (n : ℕ). count_of (anchors_behind v writes) ≤ (3 * n) / 16) (used-are v.turn s.turn) anchors-fit));
     };
     turn = turn-more v.turn s.turn;
+    job = s.job;
   }

@@ -1,6 +1,6 @@
 -- The calls of a store whose log lies in the heap, as its disk has them.
-use Rattle.std.specs.Prelude.{ℕ, ◌≡◌, ◌⊎◌, Bool, true, false, IsTrue, [], ◌∷◌, ◌++◌, take, drop, Result, Ok, Err}
-use Rattle.history.specs.Histories.{History, MayAllFollow}
+use Rattle.std.specs.Prelude.{ℕ, ◌≡◌, ◌⊎◌, ◌<◌, ◌≤◌, ◌^◌, Option, None, Some, Bool, true, false, IsTrue, [], ◌∷◌, ◌++◌, take, drop, Result, Ok, Err}
+use Rattle.history.specs.Histories.{History, MayAllFollow, last}
 use Rattle.disk.specs.Areas.{Image, AreSound, LeavesImage}
 use Rattle.commits.specs.Steps.{grouped}
 use Rattle.law_image.specs.Values.{Value, IsValue}
@@ -17,9 +17,15 @@ use Rattle.log_store.specs.Values.{LogStoreValue, IsInStep}
 use Rattle.log_store.specs.Calls as calls
 use Rattle.log_store.specs.Submits.{Submits}
 use Rattle.log_store.specs.Pumps.{Pumps}
+use Rattle.log_store.specs.Jobs.{PumpsJob, with_floor}
+use Rattle.log_store.specs.declared.job.Job.{Job}
+use Rattle.log_store.specs.declared.job.JobDid.{JobDid}
+use Rattle.log_store.specs.declared.job.JobWork.{JobWork}
+use Rattle.log_store.specs.declared.job.JobDid.TheVariants as job_did
+use Rattle.log_room.specs.Rooms.{has_entry_room}
 use Rattle.group.specs.declared.answers.Did.{Did}
 use Rattle.law_refinement.specs.Leaving as leaving
-use Rattle.law_log_store.specs.Standing.{StandsOnHeap, IsImageOf, StopsOnHeap}
+use Rattle.law_log_store.specs.Standing.{StandsOnHeap, IsImageOf, StopsOnHeap, floors_with}
 
 -- ---- steps of a group
 
@@ -35,7 +41,7 @@ pub record HasFailed (v : LogStoreValue) (h queue : History Value) (floors : ℕ
 -- what stands after a step, by its answer
 abbrev pub StepsTo : Result Did PumpFault → LogStoreValue → LogStoreValue → History Value → History Value → (ℕ → ℕ) → Type 0
 StepsTo (Ok what) old new h queue floors = StandsOnHeap new (h ++ take (count_in what) queue) (drop (count_in what) queue) floors
-StepsTo (Err fault.Busy) old new h queue floors = ⊥
+StepsTo (Err fault.Busy) old new h queue floors = new ≡ old
 StepsTo (Err fault.NoMemory) old new h queue floors = new ≡ old
 StepsTo (Err fault.Failed) old new h queue floors = HasFailed new h queue floors
 
@@ -46,10 +52,16 @@ PumpSteps =
     → IsTrue tells → old.commits.failed ≡ false → IsInStep old → AreSound new.disk.areas → StandsOnHeap old h queue floors
     → Pumps tells old answer new → StepsTo answer old new h queue floors
 
--- The image stands for what is published, or for that with the whole group: the one that stands, or the next one where none does. Part of a group is no front,
--- nor is a commit that no group has.
+-- the image stands for what is published with the work of the job that runs
+abbrev pub HasEntered : LogStoreValue → Image → History Value → (ℕ → ℕ) → Option Job → Type 0
+HasEntered v image h floors None = ⊥
+HasEntered v image h floors (Some job) = IsImageOf v.roots image h (floors_with job.work floors)
+
+-- The image stands for what is published, or for that with the whole group: the one that stands, or the next one where none does; or for that with the work of
+-- the job that runs. Part of a group is no front, nor is a commit that no group has.
 abbrev pub IsFront : LogStoreValue → Image → History Value → History Value → (ℕ → ℕ) → Type 0
-IsFront v image h queue floors = IsImageOf v.roots image h floors ⊎ IsImageOf v.roots image (h ++ take (grouped 1024 v.commits).group queue) floors
+IsFront v image h queue floors =
+    IsImageOf v.roots image h floors ⊎ IsImageOf v.roots image (h ++ take (grouped 1024 v.commits).group queue) floors ⊎ HasEntered v image h floors v.job
 
 -- whatever a stop may leave before a step is a front, and after it whatever its answer
 abbrev pub PumpLeaves : Type 0
@@ -63,6 +75,48 @@ abbrev pub FailedRests : Type 0
 FailedRests =
     (tells : Bool) (old new : LogStoreValue) (answer : Result Did PumpFault) → old.commits.failed ≡ true → Pumps tells old answer new
     → (answer ≡ Err fault.Failed) × (new ≡ old)
+
+-- ---- jobs
+
+-- the floors behind a step of a job with this work: its last one puts the work into the log
+abbrev pub floors_by : JobWork → JobDid → (ℕ → ℕ) → ℕ → ℕ
+floors_by work job_did.Idle floors = floors
+floors_by work job_did.WroteEntry floors = floors
+floors_by work job_did.GateClosed floors = floors
+floors_by work job_did.HeapSynced floors = floors
+floors_by work job_did.GateWritten floors = floors
+floors_by work job_did.JobDone floors = floors_with work floors
+
+abbrev pub floors_after : Option Job → JobDid → (ℕ → ℕ) → ℕ → ℕ
+floors_after None what floors = floors
+floors_after (Some job) what floors = floors_by job.work what floors
+
+-- what stands after a step of a job, by its answer
+abbrev pub JobStepsTo : Result JobDid PumpFault → LogStoreValue → LogStoreValue → History Value → History Value → (ℕ → ℕ) → Type 0
+JobStepsTo (Ok what) old new h queue floors = StandsOnHeap new h queue (floors_after old.job what floors)
+JobStepsTo (Err fault.Busy) old new h queue floors = StandsOnHeap new h queue floors
+JobStepsTo (Err fault.NoMemory) old new h queue floors = new ≡ old
+JobStepsTo (Err fault.Failed) old new h queue floors = HasFailed new h queue floors
+
+-- a step of a job of a store that works, on a device that tells of its calls
+abbrev pub JobSteps : Type 0
+JobSteps =
+    (tells : Bool) (old new : LogStoreValue) (answer : Result JobDid PumpFault) (h queue : History Value) (floors : ℕ → ℕ)
+    → IsTrue tells → old.commits.failed ≡ false → IsInStep old → AreSound new.disk.areas → StandsOnHeap old h queue floors
+    → PumpsJob tells old answer new → JobStepsTo answer old new h queue floors
+
+-- whatever a stop may leave before a step of a job is a front, and after it whatever its answer
+abbrev pub JobLeaves : Type 0
+JobLeaves =
+    (tells : Bool) (old new : LogStoreValue) (answer : Result JobDid PumpFault) (h queue : History Value) (floors : ℕ → ℕ) (image : Image)
+    → IsTrue tells → old.commits.failed ≡ false → IsInStep old → StandsOnHeap old h queue floors → PumpsJob tells old answer new
+    → LeavesImage old.disk.areas image ⊎ LeavesImage new.disk.areas image → IsFront old image h queue floors
+
+-- a floor that begins where it may, and there is room, keeps what the disk stands for
+abbrev pub FloorBegins : Type 0
+FloorBegins =
+    (v : LogStoreValue) (relation time : ℕ) (h queue : History Value) (floors : ℕ → ℕ) → v.job ≡ None → IsTrue (has_entry_room v.room)
+    → floors relation < time → time ≤ last h → relation < 2 ^ 16 → StandsOnHeap v h queue floors → StandsOnHeap (with_floor v relation time) h queue floors
 
 -- ---- calls in memory
 

@@ -6,7 +6,7 @@ use Rattle.group.specs.declared.answers.PumpFault.{PumpFault}
 use Rattle.log_writer.specs.Turns.{Stage, Writing, Syncing, Opening, Settling, Done, IsCallOf}
 use Rattle.log_writer.specs.Writer.{WriterState, turn}
 use Rattle.log_store.specs.Values.{LogStoreValue, IsInStep}
-use Rattle.log_store.specs.Pumps.{Advances, Begins}
+use Rattle.log_store.specs.Pumps.{Advances, Begins, bars_groups}
 use Rattle.log_store.specs.Submits.{has_room, with_queued}
 use Rattle.group.specs.declared.answers.Did.{Did}
 use Rattle.history.specs.declared.key.Key.{Key}
@@ -82,8 +82,8 @@ GroupGoesOn =
 -- a group begins behind the log, which stands for what it did
 abbrev pub GroupBegins : Type 0
 GroupBegins =
-    (old begun : LogStoreValue) (h queue : History Value) (floors : ℕ → ℕ) → IsInStep old → old.turn ≡ None → 0 < length old.commits.queue
-    → StandsOnHeap old h queue floors → Begins old begun → StandsOnHeap begun h queue floors
+    (old begun : LogStoreValue) (h queue : History Value) (floors : ℕ → ℕ) → IsInStep old → old.turn ≡ None → bars_groups old.job ≡ false
+    → 0 < length old.commits.queue → StandsOnHeap old h queue floors → Begins old begun → StandsOnHeap begun h queue floors
 
 -- ---- submits
 

@@ -51,6 +51,7 @@ pub record IsOpenedOn (v : LogStoreValue) (l : HeapLog) (reading : Reading) : Ty
   pub contents : v.contents ≡ []
   pub room : v.room ≡ opened_room v.roots.extents l reading
   pub turn : v.turn ≡ None
+  pub job : v.job ≡ None
 
 -- a store that is opened on an image all of which is synced stands for what the image does
 abbrev pub OpenedStands : Type 0

@@ -1,5 +1,6 @@
 //! Laws of the disk of a store whose log lies in the heap.
-ghost use Rattle.law_log_store.specs.Calls.{AbortKeeps, BeginKeeps, FailedQueuesNone, FailedRests, PumpLeaves, PumpSteps, RedeemKeeps, SubmitSteps};
+ghost use Rattle.law_log_store.specs.Calls.{AbortKeeps, BeginKeeps, FailedQueuesNone, FailedRests, FloorBegins, JobLeaves, JobSteps, PumpLeaves};
+ghost use Rattle.law_log_store.specs.Calls.{PumpSteps, RedeemKeeps, SubmitSteps};
 ghost use Rattle.law_log_store.specs.Opened.{OpenedStands, OpensAny, OpenStands, RoomOpens};
 ghost use Rattle.law_log_store.specs.Laws.{GroupBegins, GroupGoesOn, GroupJoins, StandingStops, SubmitKeeps};
 
@@ -51,6 +52,19 @@ pub fn pump_steps()
     ensures steps { PumpSteps }
     ensures leaves { PumpLeaves }
     ensures failed { FailedRests }
+{}
+
+/// A step of a job of a store that works: its entry goes its way to the disk as a group does, and behind its last call the disk
+/// stands for what it says; or the job waits for a group, or nothing has changed for want of memory, or the store has failed.
+/// What a crash leaves before the step and after it stands for what is published, with what the entry says or without.
+pub fn job_steps()
+    ensures steps { JobSteps }
+    ensures leaves { JobLeaves }
+{}
+
+/// A floor that begins changes nothing of what the disk stands for.
+pub fn floor_begins()
+    ensures { FloorBegins }
 {}
 
 /// Transactions that begin or are given up, and tickets that are shown, change nothing of that.

@@ -37,6 +37,14 @@ fits v count anchors = nat_le (v.log + v.promised + count) (length v.used / 2 - 
 abbrev pub promised_to : RoomValue → ℕ → ℕ → RoomValue
 promised_to v count anchors = record v { promised = v.promised + count; anchors = anchors }
 
+-- the entry of a floor, or of an archive up to an earlier time than the last, has its room: two extents of the log's half are left for others
+abbrev pub has_entry_room : RoomValue → Bool
+has_entry_room v = nat_le (v.log + v.promised + 1) (length v.used / 2 - 2)
+
+-- an entry is promised its extent
+abbrev pub promised_entry : RoomValue → RoomValue
+promised_entry v = record v { promised = v.promised + 1 }
+
 -- each is the least free one once those before it are in use
 abbrev pub AreLeastFree : List Bool → List ℕ → Type 0
 AreLeastFree used [] = Unit {0}

@@ -5,7 +5,7 @@ ghost use Rattle.log_extents.specs.Chains.{count_of, IsNumberOf};
 ghost use Rattle.log_space.specs.Uses.{with_use};
 ghost use Rattle.law_log_sizes.specs.Sizes.{len_behind};
 ghost use Rattle.log_sizes.specs.Counted.{values_in};
-ghost use Rattle.log_room.specs.Rooms.{fits, promised_to, TakesChain, MayOpen};
+ghost use Rattle.log_room.specs.Rooms.{fits, promised_to, has_entry_room, promised_entry, TakesChain, MayOpen};
 
 use crate::taking::take_least;
 use chains::{Frozen, SharedValue};
@@ -17,6 +17,9 @@ use std::marker::Model;
 
 /// So many extents of the log's half are left by commits, for the entries of jobs.
 const LEFT_BY_COMMITS: u32 = 4;
+
+/// And so many by the entry of a floor, and by that of an archive which leaves something to be archived.
+const LEFT_BY_ENTRIES: u32 = 2;
 
 /// The extents of a heap: which are in use, where the log ends, how many it has, and how many it will take for the commits that wait.
 #[derive(Drop)]
@@ -138,6 +141,22 @@ impl HeapRoom {
         let promised = self.promised;
         self.promised = promised + count as u32;
         self.anchors = anchors;
+    }
+
+    /// Whether the entry of a floor has room, or of an archive that leaves something to be archived.
+    pub fn has_entry_room(&self) -> bool
+        ensures { result ≡ has_entry_room self.now }
+    {
+        self.log + self.promised + 1 <= self.space.len() / 2 - LEFT_BY_ENTRIES
+    }
+
+    /// An entry is promised its extent.
+    pub fn promise_entry(&mut self)
+        requires { self.old.log + self.old.promised + 1 ≤ length self.old.used / 2 }
+        ensures is { self.new ≡ promised_entry self.old }
+        ensures few { self.new.promised ≤ 2 ^ 20 }
+    {
+        self.promised += 1;
     }
 
     /// Takes the extents of a chain of so many, which begins where the log ends, and the one where the log goes on behind it. So many

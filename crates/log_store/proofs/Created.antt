@@ -37,7 +37,8 @@ pub created_is : (mark extents : ℕ) (roots : Roots) (heads : List CommitHead) 
     → roots ≡ new_roots extents → heads ≡ [] → versions ≡ []
     → floors ≡ no_floors → contents ≡ [] → used ≡ replicate extents false → commits ≡ commits_of mark heads versions floors → room ≡ room_of used
     → runs ≡ [] → IsUnread runs archive
-    → record { roots = roots; commits = commits; contents = contents; room = room; turn = None; archive = archive; disk = disk } ≡ created_on mark extents disk
+    → record { roots = roots; commits = commits; contents = contents; room = room; turn = None; job = None; archive = archive; disk = disk }
+    ≡ created_on mark extents disk
 created_is mark extents roots heads versions floors contents used commits room runs archive disk roots_are none unwritten unfloored empty free commits_are
     room_is no_runs unread =
     ap (λ (r : Roots). with_parts r commits contents room archive) roots_are
@@ -52,4 +53,4 @@ created_is mark extents roots heads versions floors contents used commits room r
     (record { runs = (unread.runs_are ∙ no_runs) i; next = unread.next i; kept = unread.kept i }))
   where
     with_parts : Roots → CommitsValue → List (List ℕ) → RoomValue → ArchiveValue → LogStoreValue
-    with_parts r c cs m a = record { roots = r; commits = c; contents = cs; room = m; turn = None; archive = a; disk = disk }
+    with_parts r c cs m a = record { roots = r; commits = c; contents = cs; room = m; turn = None; job = None; archive = a; disk = disk }

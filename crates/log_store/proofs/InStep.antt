@@ -1,5 +1,6 @@
 -- A store stays in step.
-use Rattle.std.proofs.Common.{◌≡◌, ℕ, zero, suc, ◌==◌, ◌&&◌, ◌^◌, ◌<◌, ◌≤◌, nat_lt, min, Bool, true, cond, List, [], ◌∷◌, ◌++◌, length, map, take, drop, Option}
+use Rattle.std.proofs.Common.{◌≡◌, ℕ, zero, suc, ◌==◌, ◌&&◌, ◌^◌, ◌<◌, ◌≤◌, nat_lt, min, Bool, true, false, cond, List, [], ◌∷◌, ◌++◌, length, map, take}
+use Rattle.std.proofs.Common.{drop, Option}
 use Rattle.std.proofs.Common.{sym, ap, subst, ◌∙◌, arith, Some, None}
 use Rattle.std.specs.List.{AllByRecursion}
 use Rattle.std.proofs.lemmas.Bool.Decides.{nat_tests}
@@ -19,8 +20,11 @@ use Rattle.log_room.proofs.Joins.{extents_push, extents_split}
 use Rattle.log_room.proofs.Taken.{used_len}
 use Rattle.commits.specs.Values.{CommitsValue, ordered}
 use Rattle.commits.specs.Steps.{grouped, with_waiting, waiting_as}
-use Rattle.log_store.specs.Values.{LogStoreValue, HasBytes, HasTurn, IsInStep}
-use Rattle.log_store.specs.Pumps.{group_size, group_content, Begins}
+use Rattle.log_store.specs.Values.{LogStoreValue, HasBytes, HasTurn, IsStageBeside, IsBeside, IsInStep}
+use Rattle.log_store.specs.Pumps.{group_size, group_content, bars_at, bars_groups, Begins}
+use Rattle.log_store.specs.declared.job.Job.{Job}
+use Rattle.log_store.specs.declared.job.JobStage.{JobStage}
+use Rattle.log_store.specs.declared.job.JobStage.TheVariants.{Ready, Entering}
 
 -- ---- bytes
 
@@ -78,6 +82,7 @@ queued_in_step old label time count anchors writes content commits contents room
   few = few;
   many = subst (λ (r : RoomValue). length r.used ≤ 2 ^ 20) (sym room_is) is.many;
   turn = subst (λ (n : ℕ). HasTurn n old.turn) (sym (ap (λ (c : CommitsValue). c.group) commits_are)) is.turn;
+  beside = is.beside;
 }
   where
     len : length content ≡ commit_len (map (λ (r : Record). length (spelling r)) (records_over (ordered old.commits) writes))
@@ -109,8 +114,18 @@ size_some n some = grind (arith, nat_tests)
 size_within : (n : ℕ) → min 1024 n ≤ n
 size_within n = grind (arith, nat_tests)
 
-pub begun_in_step : (old new : LogStoreValue) → IsInStep old → old.turn ≡ None → 0 < length old.commits.queue → Begins old new → IsInStep new
-begun_in_step old new is none some begins =
+-- a job that does not bar groups is not in the writing
+unbarred_beside : (w : WriterState) (stage : JobStage) → bars_at stage ≡ false → IsStageBeside (Some w) stage
+unbarred_beside w (Ready waited) unbarred = tt
+unbarred_beside w (Entering e) barred = absurd (let no : true ≡ false = barred in cc)
+
+pub beside_group : (w : WriterState) (job : Option Job) → bars_groups job ≡ false → IsBeside (Some w) job
+beside_group w None unbarred = tt
+beside_group w (Some job) unbarred = unbarred_beside w job.stage unbarred
+
+pub begun_in_step : (old new : LogStoreValue) → IsInStep old → old.turn ≡ None → bars_groups old.job ≡ false → 0 < length old.commits.queue → Begins old new
+    → IsInStep new
+begun_in_step old new is none unbarred some begins =
     subst IsInStep (sym begins.new_is) (record {
       contents = omega (arith, group, waits.1, size_within (length old.commits.queue), length-drop (group_size old) old.contents, queue);
       bytes = all-drop old.contents (group_size old) is.bytes;
@@ -120,6 +135,7 @@ begun_in_step old new is none some begins =
       many = subst (λ (n : ℕ). n ≤ 2 ^ 20)
           (sym (ap (λ (r : RoomValue). length r.used) begins.takes.new_is ∙ used_len old.room.used (begins.takes.others ++ begins.link ∷ []))) is.many;
       turn = (subst (λ (n : ℕ). 0 < n) (sym group) (size_some (length old.commits.queue) some), tt);
+      beside = beside_group _ old.job unbarred;
     })
   where
     waits : (old.commits.group ≡ 0) × (length old.contents ≡ length old.commits.queue)

@@ -5,3 +5,4 @@ pub mod Rooms
 pub mod Places
 pub mod Heads
 pub mod Entries
+mod Entering

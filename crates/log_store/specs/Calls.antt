@@ -1,8 +1,6 @@
 -- The calls of transactions, tickets and views.
-use Rattle.std.specs.Prelude.{◌≡◌, Result, Ok, Err, MatchBool}
+use Rattle.std.specs.Prelude.{◌≡◌, Result}
 use Rattle.group.specs.declared.answers.BeginFault.{BeginFault}
-use Rattle.group.specs.declared.answers.PumpFault.{PumpFault}
-use Rattle.group.specs.declared.answers.PumpFault.TheVariants as fault
 use Rattle.group.specs.declared.answers.Redeemed.{Redeemed}
 use Rattle.group.specs.Tickets.{TicketValue}
 use Rattle.snapshot.specs.Txn.{TxnValue}
@@ -30,7 +28,3 @@ Aborts old txn new = InMemory (λ before after. commits.Aborts before txn after)
 -- what redeeming a ticket answers
 abbrev pub Redeems : LogStoreValue → TicketValue → Redeemed → LogStoreValue → Type 0
 Redeems old ticket result new = InMemory (λ before after. commits.Redeems before ticket result after) old new
-
--- no job runs, and nothing has changed
-abbrev pub RestsJobs : LogStoreValue → Result (Unit {0}) PumpFault → LogStoreValue → Type 0
-RestsJobs old result new = MatchBool old.commits.failed (result ≡ Err fault.Failed) (result ≡ Ok tt) × (new ≡ old)

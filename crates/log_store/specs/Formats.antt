@@ -86,6 +86,7 @@ created_on mark extents disk = record {
   contents = [];
   room = record { used = with_use (replicate extents false) 1 true; next = 1; log = 1; promised = 0; anchors = 0 };
   turn = None;
+  job = None;
   archive = record { runs = []; next = []; kept = [] };
   disk = disk;
 }

@@ -96,6 +96,7 @@ opened_on mark read archive disk = record {
   contents = [];
   room = room_on read.heap;
   turn = None;
+  job = None;
   archive = archive;
   disk = disk;
 }

@@ -1,5 +1,6 @@
 -- The steps of a group to the disk.
-use Rattle.std.specs.Prelude.{ℕ, ◌≡◌, ◌⊎◌, ◌==◌, min, Bool, IsTrue, List, [], length, take, drop, Option, Some, None, Result, Ok, Err, MatchBool, MatchResult}
+use Rattle.std.specs.Prelude.{ℕ, ◌≡◌, ◌⊎◌, ◌==◌, min, Bool, false, IsTrue, List, [], length, take, drop, Option, Some, None, Result, Ok, Err, MatchBool}
+use Rattle.std.specs.Prelude.{MatchResult, true}
 use Rattle.disk.specs.Calls.{Counts, refused_answer}
 use Rattle.disk.specs.declared.area.DeviceFault.{DeviceFault}
 use Rattle.group.specs.declared.answers.PumpFault.{PumpFault}
@@ -13,6 +14,9 @@ use Rattle.log_extents.specs.Chains.{count_of}
 use Rattle.log_room.specs.Rooms.{RoomValue, TakesChain}
 use Rattle.log_room.specs.Contents.{joined, extents_of}
 use Rattle.commits.specs.Steps.{grouped, published, broken}
+use Rattle.log_store.specs.declared.job.Job.{Job}
+use Rattle.log_store.specs.declared.job.JobStage.{JobStage}
+use Rattle.log_store.specs.declared.job.JobStage.TheVariants.{Ready, Entering}
 use Rattle.log_store.specs.Values.{LogStoreValue}
 use Rattle.group.specs.declared.answers.Did.{Did}
 use Rattle.group.specs.declared.answers.Did.TheVariants as did
@@ -94,9 +98,22 @@ abbrev pub BeginsGroup : Bool → LogStoreValue → Result Did PumpFault → Log
 BeginsGroup tells old result new =
     ((result ≡ Err fault.NoMemory) × (new ≡ old)) ⊎ ((begun : LogStoreValue) × Begins old begun × AdvancesGroup tells begun begun.turn result new)
 
--- a step: where no group stands, one begins if commits wait
+-- a job bars groups: it has waited for one, or its entry is in the writing
+abbrev pub bars_at : JobStage → Bool
+bars_at (Ready waited) = waited
+bars_at (Entering w) = true
+
+abbrev pub bars_groups : Option Job → Bool
+bars_groups None = false
+bars_groups (Some job) = bars_at job.stage
+
+-- where commits wait a group begins, unless a job bars it
+abbrev pub BeginsOrWaits : Bool → LogStoreValue → Result Did PumpFault → LogStoreValue → Type 0
+BeginsOrWaits tells old result new = MatchBool (bars_groups old.job) ((result ≡ Err fault.Busy) × (new ≡ old)) (BeginsGroup tells old result new)
+
+-- a step: where no group stands, one begins if commits wait and no job bars it
 abbrev pub TakesStep : Bool → LogStoreValue → Option WriterState → Result Did PumpFault → LogStoreValue → Type 0
-TakesStep tells old None result new = MatchBool (length old.commits.queue == 0) ((result ≡ Ok did.Idle) × (new ≡ old)) (BeginsGroup tells old result new)
+TakesStep tells old None result new = MatchBool (length old.commits.queue == 0) ((result ≡ Ok did.Idle) × (new ≡ old)) (BeginsOrWaits tells old result new)
 TakesStep tells old (Some w) result new = Advances tells w old result new
 
 -- a failed store writes nothing; any other takes the next step

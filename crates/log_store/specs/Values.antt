@@ -8,6 +8,9 @@ use Rattle.log_writer.specs.Writer.{WriterState, IsOnItsWay}
 use Rattle.log_room.specs.Rooms.{RoomValue}
 use Rattle.log_room.specs.Contents.{extents_of}
 use Rattle.commits.specs.Values.{CommitsValue}
+use Rattle.log_store.specs.declared.job.Job.{Job}
+use Rattle.log_store.specs.declared.job.JobStage.{JobStage}
+use Rattle.log_store.specs.declared.job.JobStage.TheVariants.{Ready, Entering}
 
 -- a store: its commits and transactions, the room in the heap, the chain in the writing, its archive, and its disk
 pub record LogStoreValue : Type 0 where
@@ -18,6 +21,8 @@ pub record LogStoreValue : Type 0 where
   pub room : RoomValue
   -- the group's chain while it is in the writing
   pub turn : Option WriterState
+  -- the job that runs
+  pub job : Option Job
   pub archive : ArchiveValue
   pub disk : DiskState
 
@@ -30,13 +35,34 @@ abbrev pub HasTurn : ℕ → Option WriterState → Type 0
 HasTurn group None = group ≡ 0
 HasTurn group (Some w) = (0 < group) × IsOnItsWay w.stage
 
+-- ---- jobs
+
+-- how many extents a job is promised: one for its entry, until that is begun
+abbrev pub promised_at : JobStage → ℕ
+promised_at (Ready waited) = 1
+promised_at (Entering w) = 0
+
+abbrev pub promised_to : Option Job → ℕ
+promised_to None = 0
+promised_to (Some job) = promised_at job.stage
+
+-- a job's entry is in the writing only while no group is, and then it is on its way
+abbrev pub IsStageBeside : Option WriterState → JobStage → Type 0
+IsStageBeside turn (Ready waited) = Unit {0}
+IsStageBeside turn (Entering w) = (turn ≡ None) × IsOnItsWay w.stage
+
+abbrev pub IsBeside : Option WriterState → Option Job → Type 0
+IsBeside turn None = Unit {0}
+IsBeside turn (Some job) = IsStageBeside turn job.stage
+
 -- What holds of a store by itself.
 pub record IsInStep (v : LogStoreValue) : Type 0 where
   -- the contents are those of the commits that wait behind the group
   pub contents : v.commits.group + length v.contents ≡ length v.commits.queue
   pub bytes : AllByRecursion HasBytes v.contents
-  -- they are promised just the extents that each takes alone
-  pub promised : v.room.promised ≡ extents_of v.contents
+  -- they are promised just the extents that each takes alone, and a job the one of its entry
+  pub promised : v.room.promised ≡ extents_of v.contents + promised_to v.job
   pub few : v.room.promised ≤ 2 ^ 20
   pub many : length v.room.used ≤ 2 ^ 20
   pub turn : HasTurn v.commits.group v.turn
+  pub beside : IsBeside v.turn v.job

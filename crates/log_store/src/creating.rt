@@ -58,6 +58,7 @@ impl<D: Disk> LogStore<D> {
                 contents: VecDeque::new(alloc),
                 room: HeapRoom::of_opened(space, 1, 1, 0),
                 turn: None,
+                job: None,
                 archive,
                 disk,
             }),

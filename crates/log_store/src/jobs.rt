@@ -1,25 +1,184 @@
-//! Jobs, of which there is none yet.
-ghost use Rattle.std.specs.Prelude.{IsTrue};
+//! The steps of a job to the disk.
+ghost use Rattle.std.specs.Prelude.{◌≡◌, length, false, true, IsTrue, IfErr, IfOk, OnOk, OnErr, MatchOption, None};
 ghost use Rattle.disk.specs.Areas.{AreSound};
-ghost use Rattle.log_store.specs.Calls.{RestsJobs};
+ghost use Rattle.disk.specs.Calls.{Counts};
+ghost use Rattle.status.specs.SlotCalls.{answer_of};
+ghost use Rattle.log_entries.specs.Spelling.{entry_bytes};
+ghost use Rattle.log_extents.specs.Chains.{count_of};
+ghost use Rattle.log_store.specs.declared.job.JobStage.TheVariants.{Ready};
+ghost use Rattle.log_store.specs.Jobs.{PumpsJob, BeginsEntry, AdvancesEntry, IsReady, IsEntering, is_entering, at_stage, entry_of, with_work, with_job, did_of};
+ghost use Rattle.log_store.specs.Jobs.{IsStageOnItsWay, IsEntryCallOf, IsNextOf, entering};
 
+use crate::job::{Job, JobDid, JobStage, JobWork};
 use crate::store::LogStore;
-use disk::Disk;
+use commits::Commits;
+use disk::{DeviceFault, Disk};
 use group::PumpFault;
+use log_entries::push_floor;
+use log_writer::{ChainWriter, Wrote};
+use std::alloc::{AllocError, Global};
+
+/// An entry takes one extent.
+const ENTRY_EXTENTS: usize = 1;
+
+// What a call of an entry's chain did.
+fn did_of(what: Wrote) -> JobDid
+    ensures { result ≡ did_of what }
+{
+    match what {
+        Wrote::Extent => JobDid::WroteEntry,
+        Wrote::ClosedGate => JobDid::GateClosed,
+        Wrote::Synced => JobDid::HeapSynced,
+        Wrote::Gate => JobDid::GateWritten,
+        Wrote::Settled => JobDid::JobDone,
+    }
+}
+
+impl JobWork {
+    // The bytes of its entry, which have room in one extent.
+    fn entry(&self, alloc: Global) -> Result<Vec<u8>, AllocError>
+        ensures is { IfOk result (λ bytes. bytes.items ≡ entry_bytes (entry_of self.now)) }
+        ensures one { IfOk result (λ bytes. count_of (length bytes.items) ≡ 1) }
+    {
+        let mut bytes = Vec::new(alloc);
+        match self {
+            JobWork::Floor { floor, .. } => push_floor(&mut bytes, floor)?,
+        }
+        Ok(bytes)
+    }
+
+    // Its entry is the log's.
+    fn ends(self, commits: &mut Commits)
+        ensures { commits.new ≡ with_work self commits.old }
+    {
+        match self {
+            JobWork::Floor { floors, .. } => commits.put_floors(floors),
+        }
+    }
+}
+
+// Whether its entry is in the writing.
+fn is_entering(job: &Job) -> bool
+    ensures { result ≡ is_entering job.now.stage }
+{
+    match &job.stage {
+        JobStage::Ready { .. } => false,
+        JobStage::Entering(_) => true,
+    }
+}
+
+impl Job {
+    // The next device call of its entry. A refused one changes nothing here.
+    fn advance<D: Disk>(&mut self, disk: &mut D) -> Result<Wrote, DeviceFault>
+        requires { IsStageOnItsWay self.old.stage }
+        ensures call { IsTrue D.tells → IsEntryCallOf self.old.stage (answer_of result) (D.state disk.old).areas (D.state disk.new).areas }
+        ensures counts { Counts result (D.state disk.old) (D.state disk.new) }
+        ensures ok { IfOk result (λ what. IsNextOf self.old what self.new) }
+        ensures err { IfErr result (λ why. self.new ≡ self.old) }
+    {
+        match &mut self.stage {
+            JobStage::Ready { .. } => unreachable!(),
+            JobStage::Entering(entry) => entry.advance(disk),
+        }
+    }
+}
+
+// The entry of a job that is ready is in the writing.
+fn enter(job: &mut Option<Job>, entry: ChainWriter)
+    ensures { job.new ≡ entering job.old entry }
+{
+    if let Some(job) = job {
+        job.stage = JobStage::Entering(entry);
+    }
+}
+
+// The entry of the job is the log's, and no job runs.
+fn end_job(job: &mut Option<Job>, commits: &mut Commits)
+    ensures none { job.new ≡ None }
+    ensures work { commits.new ≡ with_job job.old commits.old }
+{
+    if let Some(job) = job.take() {
+        let Job { work, stage: _ } = job;
+        work.ends(commits);
+    }
+}
 
 impl<D: Disk> LogStore<D> {
-    /// The next step of the job that runs. None runs, so that nothing is done.
+    /// The next step of the job that runs, which makes at most one write or sync of the disk. `Idle` is answered where none runs.
     ///
     /// # Errors
     ///
-    /// `Failed` once a write or sync of the device was refused.
-    pub fn job_pump(&mut self) -> Result<(), PumpFault>
-        ensures is { RestsJobs self.old result self.new }
+    /// `Failed` once a write or sync of the device was refused. Where its entry would begin: `Busy` while a group is in the writing, and
+    /// from then on no other group begins before that entry; `NoMemory`, with nothing done.
+    pub fn job_pump(&mut self) -> Result<JobDid, PumpFault>
+        ensures is { PumpsJob D.tells self.old result self.new }
         ensures sound { IsTrue D.tells → AreSound self.new.disk.areas }
     {
         if self.commits.has_failed() {
             return Err(PumpFault::Failed);
         }
+        let Some(job) = &self.job else {
+            return Ok(JobDid::Idle);
+        };
+        if !is_entering(job) {
+            if self.turn.is_some() {
+                self.wait_for_group();
+                return Err(PumpFault::Busy);
+            }
+            if self.begin_entry().is_err() {
+                return Err(PumpFault::NoMemory);
+            }
+        }
+        self.advance_entry()
+    }
+
+    // No other group begins before the entry of the job, which is not begun.
+    fn wait_for_group(&mut self)
+        requires { IsReady self.old.job }
+        ensures { MatchOption self.old.job ⊥ (λ job. self.new ≡ at_stage self.old job (Ready true)) }
+    {
+        if let Some(job) = &mut self.job {
+            job.stage = JobStage::Ready { waited: true };
+        }
+    }
+
+    // The entry begins, of which nothing is written yet.
+    fn begin_entry(&mut self) -> Result<(), AllocError>
+        requires none { self.old.turn ≡ None }
+        requires ready { IsReady self.old.job }
+        ensures ok { OnOk result (MatchOption self.old.job ⊥ (λ job. BeginsEntry self.old job self.new)) }
+        ensures err { OnErr result (self.new ≡ self.old) }
+    {
+        let Some(job) = &self.job else { unreachable!() };
+        let bytes = job.work.entry(self.alloc)?;
+        let chain = self
+            .room
+            .take_chain(self.alloc, ENTRY_EXTENTS, ENTRY_EXTENTS)?;
+        let entry = ChainWriter::new(chain.numbers, chain.link, bytes);
+        enter(&mut self.job, entry);
         Ok(())
+    }
+
+    // The next device call of the entry's chain.
+    fn advance_entry(&mut self) -> Result<JobDid, PumpFault>
+        requires works { self.old.commits.failed ≡ false }
+        requires entering { IsEntering self.old.job }
+        ensures is { AdvancesEntry D.tells self.old.job self.old result self.new }
+        ensures sound { IsTrue D.tells → AreSound self.new.disk.areas }
+    {
+        let Some(job) = &mut self.job else {
+            unreachable!()
+        };
+        match job.advance(&mut self.disk) {
+            Err(DeviceFault) => {
+                self.commits.fail();
+                Err(PumpFault::Failed)
+            }
+            Ok(Wrote::Settled) => {
+                end_job(&mut self.job, &mut self.commits);
+                Ok(JobDid::JobDone)
+            }
+            Ok(what) => Ok(did_of(what)),
+        }
     }
 }

@@ -3,15 +3,18 @@
 
 mod creating;
 mod formatting;
+mod job;
 mod jobs;
 mod opening;
 mod over;
 mod pump;
 mod queries;
+mod starting;
 mod store;
 mod submit;
 
 pub use formatting::{format, has_log_header};
 pub use group::Did;
+pub use job::{Job, JobDid, JobStage, JobWork, StartFault};
 pub use log_roots::PROFILE;
 pub use store::LogStore;

@@ -171,6 +171,7 @@ impl<D: Disk> LogStore<D> {
                 contents: VecDeque::new(alloc),
                 room: parts.room,
                 turn: None,
+                job: None,
                 archive: parts.archive,
                 disk,
             }),

@@ -24,6 +24,7 @@ impl<D: Disk> LogStore<D> {
             contents,
             room,
             turn,
+            job,
             archive,
             disk: before,
         } = self;
@@ -34,6 +35,7 @@ impl<D: Disk> LogStore<D> {
             contents,
             room,
             turn,
+            job,
             archive,
             disk,
         };

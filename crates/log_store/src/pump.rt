@@ -1,8 +1,9 @@
 //! The steps of a group to the disk.
 ghost use Rattle.std.specs.Prelude.{◌≡◌, ◌<◌, false, IsTrue, IsSome, OnErr, OnOk, length, None};
 ghost use Rattle.disk.specs.Areas.{AreSound};
-ghost use Rattle.log_store.specs.Pumps.{Pumps, Begins, AdvancesGroup, did_of};
+ghost use Rattle.log_store.specs.Pumps.{Pumps, bars_groups, Begins, AdvancesGroup, did_of};
 
+use crate::job::JobStage;
 use crate::store::LogStore;
 use commits::MOST_IN_GROUP;
 use disk::{DeviceFault, Disk};
@@ -29,7 +30,10 @@ impl<D: Disk> LogStore<D> {
     /// One step of the group of commits that is being written; where none stands, one begins of the first 1,024 that wait. Each step makes
     /// one write or sync of the disk. `Idle` is answered where no group stands and no commit waits.
     ///
-    /// Answers `Failed` once a write or sync of the device was refused, and `NoMemory`, with nothing done, where a group would begin.
+    /// # Errors
+    ///
+    /// `Failed` once a write or sync of the device was refused. With nothing done, where a group would begin: `Busy` while a job's entry is in
+    /// the writing, or waits to be; `NoMemory`.
     pub fn pump(&mut self) -> Result<Did, PumpFault>
         ensures is { Pumps D.tells self.old result self.new }
         ensures sound { IsTrue D.tells → AreSound self.new.disk.areas }
@@ -41,6 +45,9 @@ impl<D: Disk> LogStore<D> {
             if self.commits.waiting() == 0 {
                 return Ok(Did::Idle);
             }
+            if self.is_barred() {
+                return Err(PumpFault::Busy);
+            }
             if self.begin_group().is_err() {
                 return Err(PumpFault::NoMemory);
             }
@@ -48,9 +55,23 @@ impl<D: Disk> LogStore<D> {
         self.advance()
     }
 
+    // Whether a job bars groups.
+    fn is_barred(&self) -> bool
+        ensures { result ≡ bars_groups self.now.job }
+    {
+        match &self.job {
+            None => false,
+            Some(job) => match &job.stage {
+                JobStage::Ready { waited } => *waited,
+                JobStage::Entering(_) => true,
+            },
+        }
+    }
+
     // A group begins, of which nothing is written yet.
     fn begin_group(&mut self) -> Result<(), AllocError>
         requires none { self.old.turn ≡ None }
+        requires unbarred { bars_groups self.old.job ≡ false }
         requires some { 0 < length self.old.commits.queue }
         ensures ok { OnOk result (Begins self.old self.new) }
         ensures err { OnErr result (self.new ≡ self.old) }

@@ -4,6 +4,7 @@ ghost use Rattle.group.specs.CommitOrder.{times_of};
 ghost use Rattle.commits.specs.Values.{last, order_of};
 ghost use Rattle.log_store.specs.Calls.{Begins, Aborts, Redeems};
 
+use crate::job::Job;
 use commits::Commits;
 use disk::Disk;
 use floors::Floors;
@@ -28,6 +29,7 @@ pub struct LogStore<D: Disk> {
     pub(crate) room: HeapRoom,
     // The group's chain while it is in the writing.
     pub(crate) turn: Option<ChainWriter>,
+    pub(crate) job: Option<Job>,
     pub(crate) archive: StoreArchive,
     pub(crate) disk: D,
 }
@@ -43,6 +45,7 @@ impl<D: Disk> Model for LogStore<D> {
       contents = s.contents.items;
       room = s.room;
       turn = s.turn;
+      job = s.job;
       archive = s.archive;
       disk = D.state s.disk;
     } };
@@ -53,6 +56,7 @@ impl<D: Disk> Model for LogStore<D> {
       contents = s.contents.items;
       room = s.room;
       turn = s.turn;
+      job = s.job;
       archive = s.archive;
       disk = D.state s.disk;
     }) };
@@ -70,6 +74,7 @@ impl<D: Disk> LogStore<D> {
             contents: _,
             room: _,
             turn: _,
+            job: _,
             archive: _,
             disk,
         } = self;

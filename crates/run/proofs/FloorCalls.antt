@@ -35,7 +35,7 @@ record StartsTo (tells : Bool) (v' : StoreValue) (w : World) (scope : Option ℕ
   stands : Stands tells v' after
 
 starts-to : (tells : Bool) (v' : StoreValue) (w : World) (scope : Option ℕ) (floor : ℕ) (r : Result (Unit {0}) StartFault)
-    → StartsOn tells w.machine (raising_to scope floor) r v' → StartsTo tells v' w scope floor r
+    → StartsOn tells w.in_heap w.machine (raising_to scope floor) r v' → StartsTo tells v' w scope floor r
 starts-to tells v' w scope floor (Ok done) is = record {
   after = steps.floor_started w.machine (raising_to scope floor);
   published = refl;
@@ -57,7 +57,8 @@ starts-to tells v' w scope floor (Err start.JobBusy) is = record { after = w.mac
 starts-to tells v' w scope floor (Err start.StatusFull) is =
     record { after = w.machine; published = refl; says = refl; follows = no-step w.machine; stands = is }
 starts-to tells v' w scope floor (Err start.ArchiveFull) is = absurd is
-starts-to tells v' w scope floor (Err start.HeapFull) is = absurd is
+starts-to tells v' w scope floor (Err start.HeapFull) is =
+    record { after = w.machine; published = refl; says = (is.0, refl); follows = no-step w.machine; stands = is.1 }
 starts-to tells v' w scope floor (Err start.NoMemory) is =
     record { after = w.machine; published = refl; says = (is.0, refl); follows = no-step w.machine; stands = is.1 }
 starts-to tells v' w scope floor (Err start.NotGrowable) is = absurd is
@@ -65,7 +66,9 @@ starts-to tells v' w scope floor (Err start.NotGrowable) is = absurd is
 floor-leads : (tells : Bool) (v v' : StoreValue) (xs : List Held) (scope : Option ℕ) (floor : ℕ) (r : Result (Unit {0}) StartFault)
     → StartsFloor v scope floor r v' → Leads tells v xs (call.Floor scope floor) (answer.Floor r) v' (xs ++ held.Nothing ∷ [])
 floor-leads tells v v' xs scope floor r starts w is =
-    let leads = starts-to tells v' w scope floor r (floor-start-stands tells v v' scope floor r w.machine is.stands starts) in (
+    let on = subst (λ (b : Bool). StartsOn tells b w.machine (raising_to scope floor) r v') (sym is.layout)
+    (floor-start-stands tells v v' scope floor r w.machine is.stands starts) in
+    let leads = starts-to tells v' w scope floor r on in (
       same (moved w leads.after),
       leads.says,
       leads.follows,

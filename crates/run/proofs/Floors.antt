@@ -307,7 +307,7 @@ floor-times w scope floor (Err start.WrongProfile) next does = unraised w _ _ ne
 floor-times w scope floor (Err start.JobBusy) next does = unraised w _ _ next (same-floors w next does)
 floor-times w scope floor (Err start.StatusFull) next does = unraised w _ _ next (same-floors w next does)
 floor-times w scope floor (Err start.ArchiveFull) next does = absurd does
-floor-times w scope floor (Err start.HeapFull) next does = absurd does
+floor-times w scope floor (Err start.HeapFull) next does = unraised w _ _ next (same-floors w next does.1)
 floor-times w scope floor (Err start.NoMemory) next does = unraised w _ _ next (same-floors w next does.1)
 floor-times w scope floor (Err start.NotGrowable) next does = absurd does
 

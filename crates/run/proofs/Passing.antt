@@ -442,7 +442,7 @@ floor-passes w scope floor (Err start.WrongProfile) next does = same-passes w (c
 floor-passes w scope floor (Err start.JobBusy) next does = same-passes w (call.Floor scope floor) (answer.Floor (Err start.JobBusy)) next does
 floor-passes w scope floor (Err start.StatusFull) next does = same-passes w (call.Floor scope floor) (answer.Floor (Err start.StatusFull)) next does
 floor-passes w scope floor (Err start.ArchiveFull) next does = absurd does
-floor-passes w scope floor (Err start.HeapFull) next does = absurd does
+floor-passes w scope floor (Err start.HeapFull) next does = same-passes w (call.Floor scope floor) (answer.Floor (Err start.HeapFull)) next does.1
 floor-passes w scope floor (Err start.NoMemory) next does = same-passes w (call.Floor scope floor) (answer.Floor (Err start.NoMemory)) next does.1
 floor-passes w scope floor (Err start.NotGrowable) next does = absurd does
 

@@ -252,7 +252,7 @@ Reclaims w (Err start.ArchiveFull) next = ⊥
 Reclaims w (Err start.NotGrowable) next = ⊥
 
 -- A floor begins where the machine may raise it, or is refused as the machine says; which slots there are, what job runs and the store's profile the machine
--- does not know. One of one relation may want for memory.
+-- does not know, nor what room the heap has where the log lies in it. One of one relation may want for memory.
 abbrev pub Raises : World → Option ℕ → ℕ → Result (Unit {0}) StartFault → World → Type 0
 Raises w scope floor (Ok u) next =
     steps.Step IsValue w.machine (steps.FloorStarted (raising_to scope floor)) (steps.floor_started w.machine (raising_to scope floor))
@@ -268,7 +268,7 @@ Raises w scope floor (Err start.WrongProfile) next = next ≡ same w
 Raises w scope floor (Err start.JobBusy) next = next ≡ same w
 Raises w scope floor (Err start.StatusFull) next = next ≡ same w
 Raises w scope floor (Err start.ArchiveFull) next = ⊥
-Raises w scope floor (Err start.HeapFull) next = ⊥
+Raises w scope floor (Err start.HeapFull) next = IsTrue w.in_heap × (next ≡ same w)
 Raises w scope floor (Err start.NoMemory) next = IsSome scope × (next ≡ same w)
 Raises w scope floor (Err start.NotGrowable) next = ⊥
 

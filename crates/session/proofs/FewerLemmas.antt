@@ -1,5 +1,5 @@
 -- Each step of a group or a job makes one device call, whatever the layout, and the calls that are left grow fewer.
-use Rattle.std.proofs.Common.{◌≡◌, ◌≢◌, Bool, true, false, ℕ, length, Option, Some, None, Result, Ok, Err, MatchBool, ap, subst, inl, inr}
+use Rattle.std.proofs.Common.{◌≡◌, ◌≢◌, ◌∙◌, Bool, true, false, ℕ, length, Option, Some, None, Result, Ok, Err, MatchBool, ap, subst, inl, inr}
 use Rattle.std.specs.Prelude.{◌==◌}
 use Rattle.disk.specs.Calls.{DiskState}
 use Rattle.group.specs.declared.answers.Did.{Did}
@@ -7,13 +7,19 @@ use Rattle.group.specs.declared.answers.Did.TheVariants as group
 use Rattle.group.specs.declared.answers.PumpFault.{PumpFault}
 use Rattle.group.specs.declared.answers.PumpFault.TheVariants as fault
 use Rattle.log_writer.specs.Writer.{WriterState}
+use Rattle.log_store.specs.Jobs as log_jobs
 use Rattle.log_store.specs.Values.{LogStoreValue}
+use Rattle.log_store.specs.declared.job.Job as log_job
+use Rattle.log_store.specs.declared.job.JobDid as log_steps
+use Rattle.log_store.specs.declared.job.JobDid.TheVariants as log_did
+use Rattle.log_store.specs.declared.job.JobStage as log_stages
+use Rattle.log_store.specs.declared.job.JobStage.TheVariants as log_stage
 use Rattle.log_store.specs.Pumps as log
 use Rattle.store.specs.declared.job.JobDid.{JobDid}
 use Rattle.store.specs.declared.job.JobDid.TheVariants as did
 use Rattle.any_store.specs.Values.{StoreValue, disk_of}
 use Rattle.any_store.specs.Calls.{Pumps}
-use Rattle.any_store.specs.Jobs.{PumpsJob, PumpsNone}
+use Rattle.any_store.specs.Jobs.{PumpsJob, told_did, told_step}
 use Rattle.any_store.specs.declared.engine.Engine.TheVariants.{Slots, Log}
 use Rattle.session.proofs.JobLemmas.{IsFewer, counted-fewer, slots-fewer, group-slots-fewer}
 
@@ -23,16 +29,22 @@ chain-fewer tells None old new what takes = absurd takes
 chain-fewer tells (Some w) old new what takes = counted-fewer old.disk new.disk takes.counts
 
 begun-fewer : (tells b : Bool) (old new : LogStoreValue) (what : Did)
-    → MatchBool b (Path (Result Did PumpFault) (Ok what) (Ok group.Idle) × (new ≡ old)) (log.BeginsGroup tells old (Ok what) new)
+    → MatchBool b (Path (Result Did PumpFault) (Ok what) (Err fault.Busy) × (new ≡ old)) (log.BeginsGroup tells old (Ok what) new)
     → what ≢ group.Idle → IsFewer old.disk new.disk
-begun-fewer tells true old new what takes some = absurd (some (let is = takes.0 in cc))
+begun-fewer tells true old new what takes some = absurd (let is = takes.0 in cc)
 begun-fewer tells false old new what (inl short) some = absurd (let is = short.0 in cc)
 begun-fewer tells false old new what (inr (begun, begins, takes)) some =
     subst (λ (d : DiskState). IsFewer d new.disk) (ap (λ (v : LogStoreValue). v.disk) begins.new_is) (chain-fewer tells begun.turn begun new what takes)
 
+waits-fewer : (tells b : Bool) (old new : LogStoreValue) (what : Did)
+    → MatchBool b (Path (Result Did PumpFault) (Ok what) (Ok group.Idle) × (new ≡ old)) (log.BeginsOrWaits tells old (Ok what) new)
+    → what ≢ group.Idle → IsFewer old.disk new.disk
+waits-fewer tells true old new what takes some = absurd (some (let is = takes.0 in cc))
+waits-fewer tells false old new what takes some = begun-fewer tells (log.bars_groups old.job) old new what takes some
+
 step-fewer : (tells : Bool) (o : Option WriterState) (old new : LogStoreValue) (what : Did) → log.TakesStep tells old o (Ok what) new → what ≢ group.Idle
     → IsFewer old.disk new.disk
-step-fewer tells None old new what takes some = begun-fewer tells (length old.commits.queue == 0) old new what takes some
+step-fewer tells None old new what takes some = waits-fewer tells (length old.commits.queue == 0) old new what takes some
 step-fewer tells (Some w) old new what takes some = counted-fewer old.disk new.disk takes.counts
 
 log-fewer : (tells b : Bool) (old new : LogStoreValue) (what : Did)
@@ -41,17 +53,52 @@ log-fewer : (tells b : Bool) (old new : LogStoreValue) (what : Did)
 log-fewer tells true old new what pumps some = absurd (let is = pumps.0 in cc)
 log-fewer tells false old new what pumps some = step-fewer tells old.turn old new what pumps some
 
-none-fewer : (b : Bool) (what : JobDid) → MatchBool b (Path (Result JobDid PumpFault) (Ok what) (Err fault.Failed)) (Path (Result JobDid PumpFault)
-    (Ok what) (Ok did.Idle)) → what ≢ did.Idle → ⊥
-none-fewer true what is some = cc
-none-fewer false what is some = some cc
+entry-fewer : (tells : Bool) (k : log_stages.JobStage) (job : log_job.Job) (old new : LogStoreValue) (done : log_steps.JobDid)
+    → log_jobs.AdvancesAt tells job k old (Ok done) new → IsFewer old.disk new.disk
+entry-fewer tells (log_stage.Ready waited) job old new done takes = absurd takes
+entry-fewer tells (log_stage.Entering w) job old new done takes = counted-fewer old.disk new.disk takes.counts
+
+entered-fewer : (tells : Bool) (o : Option log_job.Job) (old new : LogStoreValue) (done : log_steps.JobDid)
+    → log_jobs.AdvancesEntry tells o old (Ok done) new → IsFewer old.disk new.disk
+entered-fewer tells None old new done takes = absurd takes
+entered-fewer tells (Some job) old new done takes = entry-fewer tells job.stage job old new done takes
+
+ready-fewer : (tells : Bool) (t : Option WriterState) (job : log_job.Job) (old new : LogStoreValue) (done : log_steps.JobDid)
+    → log_jobs.StepsReady tells job t old (Ok done) new → IsFewer old.disk new.disk
+ready-fewer tells None job old new done (inl short) = absurd (let is = short.0 in cc)
+ready-fewer tells None job old new done (inr (begun, begins, takes)) =
+    subst (λ (d : DiskState). IsFewer d new.disk) (ap (λ (v : LogStoreValue). v.disk) begins.new_is) (entered-fewer tells begun.job begun new done takes)
+ready-fewer tells (Some w) job old new done busy = absurd (let is = busy.0 in cc)
+
+job-step-fewer : (tells : Bool) (k : log_stages.JobStage) (job : log_job.Job) (old new : LogStoreValue) (done : log_steps.JobDid)
+    → log_jobs.StepsAt tells job k old (Ok done) new → IsFewer old.disk new.disk
+job-step-fewer tells (log_stage.Ready waited) job old new done takes = ready-fewer tells old.turn job old new done takes
+job-step-fewer tells (log_stage.Entering w) job old new done takes = counted-fewer old.disk new.disk takes.counts
+
+job-fewer : (tells : Bool) (o : Option log_job.Job) (old new : LogStoreValue) (done : log_steps.JobDid) → log_jobs.StepsJob tells o old (Ok done) new
+    → done ≢ log_did.Idle → IsFewer old.disk new.disk
+job-fewer tells None old new done takes some = absurd (some (let is = takes.0 in cc))
+job-fewer tells (Some job) old new done takes some = job-step-fewer tells job.stage job old new done takes
+
+works-fewer : (tells b : Bool) (old new : LogStoreValue) (done : log_steps.JobDid)
+    → MatchBool b (Path (Result log_steps.JobDid PumpFault) (Ok done) (Err fault.Failed) × (new ≡ old)) (log_jobs.StepsJob tells old.job old (Ok done) new)
+    → done ≢ log_did.Idle → IsFewer old.disk new.disk
+works-fewer tells true old new done pumps some = absurd (let is = pumps.0 in cc)
+works-fewer tells false old new done pumps some = job-fewer tells old.job old new done pumps some
+
+log-job-fewer : (tells : Bool) (old new : LogStoreValue) (said : Result log_steps.JobDid PumpFault) (what : JobDid) → log_jobs.PumpsJob tells old said new
+    → Path (Result JobDid PumpFault) (Ok what) (told_step said) → what ≢ did.Idle → IsFewer old.disk new.disk
+log-job-fewer tells old new (Ok done) what pumps is some =
+    let same : what ≡ told_did done = (let e = is in cc) in
+    works-fewer tells old.commits.failed old new done pumps (λ idle. some (same ∙ ap told_did idle))
+log-job-fewer tells old new (Err why) what pumps is some = absurd (let e = is in cc)
 
 pub pump-fewer : (tells : Bool) (old new : StoreValue) (what : JobDid) → PumpsJob tells old (Ok what) new → what ≢ did.Idle
     → IsFewer (disk_of old) (disk_of new)
 pump-fewer tells (Slots s) (Slots t) what pumps some = slots-fewer tells s t what pumps some
 pump-fewer tells (Slots s) (Log m) what pumps some = absurd pumps
 pump-fewer tells (Log l) (Slots t) what pumps some = absurd pumps
-pump-fewer tells (Log l) (Log m) what pumps some = absurd (none-fewer l.commits.failed what pumps.0 some)
+pump-fewer tells (Log l) (Log m) what pumps some = log-job-fewer tells l m pumps.0 what pumps.1 pumps.2 some
 
 -- so it is of the steps of a group
 pub group-fewer : (tells : Bool) (old new : StoreValue) (what : Did) → Pumps tells old (Ok what) new → what ≢ group.Idle

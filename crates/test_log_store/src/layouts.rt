@@ -114,8 +114,17 @@ fn a_store_with_its_log_in_the_heap_keeps_it(rt: HostRuntime) -> Result<(), Fail
     Ok(())
 }
 
+/// The steps of a floor, told as those of a group are.
+const ONE_FLOOR: &[JobDid] = &[
+    JobDid::WroteExtent,
+    JobDid::BodyWritten,
+    JobDid::BodySynced,
+    JobDid::GateWritten,
+    JobDid::JobDone,
+];
+
 #[test]
-fn no_job_begins_where_the_log_lies_in_the_heap(rt: HostRuntime) -> Result<(), Fail> {
+fn floors_alone_begin_where_the_log_lies_in_the_heap(rt: HostRuntime) -> Result<(), Fail> {
     let mut disk = MemDisk::new(rt.alloc());
     log_store::format(&mut disk, 64)?;
     let mut store = opened(&rt, rt.alloc(), disk);
@@ -123,9 +132,18 @@ fn no_job_begins_where_the_log_lies_in_the_heap(rt: HostRuntime) -> Result<(), F
     assert!(rt; store.archive_start(100) == Err(StartFault::WrongProfile));
     assert!(rt; store.reclaim_start() == Err(StartFault::WrongProfile));
     assert!(rt; store.floor_start(100) == Err(StartFault::WrongProfile));
-    assert!(rt; store.floor_of_start(1, 100) == Err(StartFault::WrongProfile));
     assert!(rt; store.grow_start() == Err(StartFault::NotGrowable));
     assert!(rt; store.job_pump() == Ok(JobDid::Idle));
+    assert!(rt; store.floor_of_start(1, 101) == Err(StartFault::NotYet(100)));
+    assert!(rt; store.floor_of_start(1, 100) == Ok(()));
+    assert!(rt; store.floor_of_start(2, 100) == Err(StartFault::JobBusy));
+    for did in ONE_FLOOR {
+        assert!(rt; store.job_pump() == Ok(*did));
+    }
+    assert!(rt; store.job_pump() == Ok(JobDid::Idle));
+    assert!(rt; store.floor_of_start(1, 100) == Err(StartFault::NothingToDo));
+    let store = opened(&rt, rt.alloc(), store.close());
+    assert!(rt; store.floors().at(1) == 100 && store.floors().at(2) == 0);
     let _disk = store.close();
     Ok(())
 }

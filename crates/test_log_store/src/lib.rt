@@ -4,6 +4,8 @@
 #[cfg(test)]
 mod dumped;
 #[cfg(test)]
+mod floors;
+#[cfg(test)]
 mod groups;
 #[cfg(test)]
 mod images;

@@ -1,5 +1,5 @@
-//! Stores whose log lies in the heap: their steps, the jobs that they refuse, stops at each call, and what is
-//! shown of them.
+//! Stores whose log lies in the heap: their steps, their floors, the jobs that they refuse, stops at each call,
+//! and what is shown of them.
 use crate::examples::{Example, each_goes};
 use crate::fronts::FRONTS;
 use crate::machine::Profiles::Endless;
@@ -55,8 +55,7 @@ pump | published 1
 redeem c | done 110
 ";
 
-/// What is opened has the groups that were published, or one more whose gate is open. A group makes five
-/// calls.
+/// What is opened has the groups and floors whose gate stands open. Each makes five calls.
 const SWEEPS: &[Sweep] = &[
     Sweep {
         name: "a_stop_keeps_all_of_a_commit_or_nothing",
@@ -68,6 +67,17 @@ const SWEEPS: &[Sweep] = &[
         failed: "",
         gate: Some("pump | gate written"),
         fronts: &[NOT_KEPT, KEPT],
+    },
+    Sweep {
+        name: "a_stop_keeps_a_floor_or_nothing_of_it",
+        profiles: Endless,
+        before: &[New(0), Says(ONE_COMMIT)],
+        parts: &[(ONE_FLOOR, 1)],
+        calls: 5,
+        stops: true,
+        failed: "",
+        gate: Some("job | gate written"),
+        fronts: &[NOT_RAISED, RAISED],
     },
     Sweep {
         name: "a_stop_leaves_what_is_done_or_one_more_group",
@@ -82,7 +92,7 @@ const SWEEPS: &[Sweep] = &[
     },
 ];
 
-/// No job begins, and what was committed stays.
+/// No archive, reclaim or growth begins, and what was committed stays.
 const NO_JOBS: &[Step] = &[
     New(0),
     Says(ONE_COMMIT),
@@ -90,7 +100,6 @@ const NO_JOBS: &[Step] = &[
         "archive 100 | refused: wrong profile
 reclaim | refused: wrong profile
 floor 100 | refused: wrong profile
-floorof 1 100 | refused: wrong profile
 grow | refused: not growable
 job | idle
 finish | idle
@@ -101,16 +110,52 @@ times 9 | times 100
     ),
     Step::Vacuums("100", "refused: wrong profile\n", 1),
     Does(Action::Grow { dir: "" }, "", "refused: not growable\n", 1),
+    At("100", "value 61"),
+];
+
+/// The floor of the commit's relation, step by step.
+const ONE_FLOOR: &str = "floorof 1 100 | started
+job | wrote extent
+job | body written
+job | body synced
+job | gate written
+job | job done
+";
+
+const RAISED: &[Step] = &[At("99", "refused: before kept 100"), At("100", "value 61")];
+
+const NOT_RAISED: &[Step] = &[At("99", "none"), At("100", "value 61")];
+
+/// A floor bars its relation, and stays; one is raised by a command too.
+const FLOORS: &[Step] = &[
+    New(0),
+    Says(ONE_COMMIT),
+    Parts(&[
+        ("floorof 1 0 | refused: nothing to do\n", 1),
+        ("floorof 1 101 | refused: not yet 100\n", 1),
+        (ONE_FLOOR, 1),
+        (
+            "job | idle
+floorof 1 100 | refused: nothing to do
+reopen | last 100 floors 1
+at 1 7 99 | refused: before kept 100
+at 1 7 100 | value 61
+times 9 | times 100
+",
+            1,
+        ),
+    ]),
     Does(
         Action::Floor {
             dir: "",
-            relation: 1,
+            relation: 2,
             time: Some(100),
         },
         "",
-        "refused: wrong profile\n",
-        1,
+        "floor 100\n",
+        0,
     ),
+    Says("at 2 7 99 | refused: before kept 100\nat 2 7 100 | none\n"),
     At("100", "value 61"),
 ];
 
@@ -238,7 +283,7 @@ used 1 of 64
 
 const EXAMPLES: &[Example] = &[
     Example {
-        name: "no_job_begins",
+        name: "no_other_job_begins",
         profiles: Endless,
         steps: NO_JOBS,
     },
@@ -246,6 +291,11 @@ const EXAMPLES: &[Example] = &[
         name: "a_log_is_shown_up_to_a_check",
         profiles: Endless,
         steps: SHOWN,
+    },
+    Example {
+        name: "a_floor_bars_its_relation",
+        profiles: Endless,
+        steps: FLOORS,
     },
     Example {
         name: "a_store_is_made_once",

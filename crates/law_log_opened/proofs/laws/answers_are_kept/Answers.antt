@@ -8,8 +8,8 @@ pub returns-clause-kept : goal.returns-clause-kept
 returns-clause-kept c = λ tells v m disk mark again step stands told opens. kept-answers tells v m disk mark again step stands told opens
 
 pub returns-clause-stay : goal.returns-clause-stay
-returns-clause-stay c = λ tells v m disk mark again asked new later view key time answer step stands told opens is now goes answers early.
-    answers-stay tells v m disk mark again asked new later view key time answer step stands told opens is now goes answers early
+returns-clause-stay c = λ tells v m disk mark again asked new later view key time answer step stands told opens is now goes answers early kept.
+    answers-stay tells v m disk mark again asked new later view key time answer step stands told opens is now goes answers early kept
 
 pub returns-clause-labels : goal.returns-clause-labels
 returns-clause-labels c = λ tells v m disk mark again label since step stands told opens from to.

@@ -3,7 +3,7 @@ use Rattle.log_extents.specs.Chains.{count_of}
 use Rattle.log_room.specs.Contents.{joined}
 use Rattle.log_room.proofs.Joins.{extents_within, count_within, some_count}
 use Rattle.log_store.specs.Values.{LogStoreValue}
-use Rattle.log_store.specs.Pumps.{group_size, Begins}
+use Rattle.log_store.specs.Pumps.{group_size, bars_groups, Begins}
 use Rattle.log_store.proofs.InStep.{some_joined, size_some, all_wait, begun_in_step, begins_with}
 use Rattle.log_store.proofs.store.LogStore.begin_group.Goals as goal
 
@@ -18,6 +18,7 @@ take_chain-requires-clause-some g c =
       contents = c.self.inside.contents.items;
       room = c.self.inside.room;
       turn = c.self.inside.turn;
+      job = c.self.inside.job;
       archive = c.self.inside.archive;
       disk = g.D.Disk.state c.self.inside.disk;
     } in
@@ -54,6 +55,7 @@ invariant_of-self-2 g c =
       contents = c.self.inside.contents.items;
       room = c.self.inside.room;
       turn = c.self.inside.turn;
+      job = c.self.inside.job;
       archive = c.self.inside.archive;
       disk = g.D.Disk.state c.self.inside.disk;
     } in
@@ -62,7 +64,7 @@ invariant_of-self-2 g c =
     let size : c.min-size.result ≡ group_size old = c.min-size.ensures ∙ ap (λ (n : ℕ). min 1024 n) c.waiting.ensures in
     let count : c.count_extents-count.result ≡ count_of (length c.in_ok-group.group.bytes.items) =
     c.count_extents-count.ensures ∙ ap count_of (c.len.ensures ∙ (let same = c.in_ok-group.group.bytes.ok.0 in omega (arith, same))) in
-    begun_in_step old _ c.self.invariant none some
+    begun_in_step old _ c.self.invariant none (ap (λ (v : LogStoreValue). bars_groups v.job) c.self.view_is ∙ c.requires.unbarred) some
     (begins_with old c.min-size.result c.count_extents-count.result c.in_ok-group.group.count c.in_ok-group.group.bytes.items
     c.in_ok-chain.chain.numbers.items c.in_ok-chain.chain.link c.take_chain.new.self c.begin_group.new.self c.drop_first.new.contents.items c.new.result
     size c.in_ok-group.ensures.bytes count c.in_ok-group.ensures.count c.in_ok-chain.ensures.ok c.begin_group.ensures c.drop_first.ensures c.new.ensures)
@@ -75,6 +77,7 @@ returns-clause-ok g c =
       contents = c.self.inside.contents.items;
       room = c.self.inside.room;
       turn = c.self.inside.turn;
+      job = c.self.inside.job;
       archive = c.self.inside.archive;
       disk = g.D.Disk.state c.self.inside.disk;
     } in

@@ -14,6 +14,7 @@ invariant_of-self-2 g c =
       contents = c.self.inside.contents.items;
       room = c.self.inside.room;
       turn = c.self.inside.turn;
+      job = c.self.inside.job;
       archive = c.self.inside.archive;
       disk = g.D.Disk.state c.self.inside.disk;
     } in

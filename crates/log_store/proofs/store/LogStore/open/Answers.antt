@@ -31,6 +31,7 @@ returns-in-Ok-parts_of-clause-ok g c =
         contents = c.new.ensures.items i;
         room = parts.room i;
         turn = None;
+        job = None;
         archive = c.in-Ok-parts_of.parts.archive;
         disk = disk;
       };

@@ -20,6 +20,7 @@ returns g c =
       contents = s.contents.items;
       room = s.room;
       turn = s.turn;
+      job = s.job;
       archive = s.archive;
       disk = before;
     } in

@@ -1,0 +1,441 @@
+-- The steps of a job, and the beginning of a floor, are the machine's.
+use Rattle.std.proofs.Common.{◌≡◌, ℕ, ◌<◌, ◌≤◌, ◌^◌, nat_le, nat_lt, Bool, true, false, cond, List, [], ◌∷◌, ◌++◌, length, Option, None, Some, is_some, Result}
+use Rattle.std.proofs.Common.{Ok, Err, refl, arith, ap, sym, subst, ◌∙◌, inl, inr}
+use Rattle.std.specs.Prelude.{IsTrue, IsSome, MatchBool, MatchOption, MatchResult, Contains}
+use Rattle.std.specs.List.{AllByRecursion}
+use Rattle.std.proofs.lemmas.Bool.Decides.{nat_tests}
+use Rattle.std.proofs.lemmas.List.Sorted.{Contains-permutation}
+use Rattle.history.specs.Floors.{Raising, covers, covered, raised}
+use Rattle.history.specs.FloorStarts as floors
+use Rattle.history.specs.FloorStarts.{in_use_below, in_use_refusal}
+use Rattle.history.specs.Histories as histories
+use Rattle.history.specs.Histories.{History}
+use Rattle.history.specs.Machine.{Machine, Gate, Shut, Due, MayBeOpen, OfGroup, OfFloor, IsMachine, MayRaise}
+use Rattle.history.specs.Steps.{Event, Step, Run, FloorStarted, FloorRefused, FloorPublished, GateDue, GateWritten, Broke, gated, floor_started}
+use Rattle.history.specs.Steps.{floor_published}
+use Rattle.history.specs.Steps as steps
+use Rattle.history.proofs.Machines.{run-machine, step-machine}
+use Rattle.history.proofs.Members.{Contains-head, Contains-tail}
+use Rattle.disk.specs.Areas.{AreSound}
+use Rattle.floors.specs.Floors.{FloorsValue, floor_at, raised_in}
+use Rattle.floors.proofs.Owns.{raised-is}
+use mathlib.Core.Path.{fun_ext}
+use Rattle.law_image.specs.Values.{Value, IsValue}
+use Rattle.snapshot.specs.OpenTable.{least_open}
+use Rattle.group.specs.declared.answers.PumpFault.{PumpFault}
+use Rattle.group.specs.declared.answers.PumpFault.TheVariants as pump
+use Rattle.log_entries.specs.Spelling.{entry_bytes}
+use Rattle.log_writer.specs.Turns.{Stage, Writing, Syncing, Opening, Settling, Done, stage_after, chain_turn}
+use Rattle.log_writer.specs.Writer.{WriterState, IsOnItsWay, with_stage}
+use Rattle.log_writer.specs.Writer as writers
+use Rattle.log_room.specs.Rooms.{has_entry_room}
+use Rattle.commits.specs.Values.{CommitsValue, last}
+use Rattle.commits.specs.Calls.{oldest}
+use Rattle.log_store.specs.Values.{LogStoreValue, IsInStep, IsBeside, IsStageBeside}
+use Rattle.log_store.specs.Pumps.{with_failure}
+use Rattle.log_store.specs.Jobs.{PumpsJob, StepsJob, StepsAt, StepsReady, Enters, AdvancesEntry, AdvancesAt, Advances, BeginsEntry, at_stage, with_entry}
+use Rattle.log_store.specs.Jobs.{after_call}
+use Rattle.log_store.specs.Jobs.{did_of, entry_of, with_work, with_floor, StartsFloor, BeginsFloor, floor_refusal, floor_refusal_of, refusal_for_use}
+use Rattle.log_store.specs.declared.job.Job.{Job}
+use Rattle.log_store.specs.declared.job.JobDid.{JobDid}
+use Rattle.log_store.specs.declared.job.JobDid.TheVariants as did
+use Rattle.log_store.specs.declared.job.JobStage.{JobStage}
+use Rattle.log_store.specs.declared.job.JobStage.TheVariants.{Ready, Entering}
+use Rattle.log_store.specs.declared.job.JobWork.{JobWork}
+use Rattle.log_store.specs.declared.job.JobWork.TheVariants.{Floor}
+use Rattle.log_store.specs.declared.job.StartFault.{StartFault}
+use Rattle.log_store.specs.declared.job.StartFault.TheVariants as start
+use Rattle.law_refinement.specs.Calls.{raising_to}
+use Rattle.law_refinement.specs.Laws.{job_breaks_in}
+use Rattle.law_commits.specs.Standing.{StandsInMemory}
+use Rattle.law_commits.proofs.Beside.{raises}
+use Rattle.law_log_store.specs.Standing.{StandsOnHeap, StopsOnHeap, floors_with}
+use Rattle.law_log_store.specs.Calls.{JobStepsTo, floors_by, floors_after}
+use Rattle.law_log_store.proofs.Jobs.{job-steps, floor-begins}
+use Rattle.law_log_steps.specs.Store.{AreFresh, gate_at, gate_on, gate_by, gate_of, gate_behind, gate_left_on, gate_left, raising_with, raising_of, HasMade}
+use Rattle.law_log_steps.specs.Store.{HasAllMade, IsWriting, IsStoreOf}
+use Rattle.law_log_steps.specs.Laws.{floor_events, floor_ends, job_events_in, Runs, StartsOn}
+
+-- what memory says of a machine it says of it with another floor in the making and another gate
+pub making-memory : (v : CommitsValue) (m : Machine Value) (raising : Option Raising) (gate : Gate) → StandsInMemory v m
+    → StandsInMemory v (record m { raising = raising; gate = gate })
+making-memory v m raising gate stands = record {
+  names = stands.names;
+  rising = stands.rising;
+  versions = stands.versions;
+  forgot = stands.forgot;
+  recent = stands.recent;
+  queue = stands.queue;
+  snapshots = stands.snapshots;
+  floors = stands.floors;
+  failed = stands.failed;
+}
+
+-- ---- a call of the entry's chain
+
+-- the floors once the work is in the log are those that memory has then
+made-floors : (v : CommitsValue) (m : Machine Value) (work : JobWork) → StandsInMemory v m → MayRaise m (raising_with work) → HasMade v.floors work
+    → StandsInMemory (with_work work v) (floor_published m (raising_with work))
+made-floors v m (Floor floor kept) stands may made =
+    raises v m (raising_with (Floor floor kept)) kept stands may
+    (λ relation. ap (λ (f : FloorsValue). floor_at f relation) made
+    ∙ raised-is v.floors (Some floor.relation) floor.floor relation
+    ∙ ap (λ (f : ℕ → ℕ). raised (Some floor.relation) floor.floor f relation) (fun_ext stands.floors))
+
+-- the machine that has gone on, or has failed, with its gate
+record Gone (m : Machine Value) (events : List (Event Value)) (after : Machine Value) (new : LogStoreValue) : Type 0 where
+  run : Run IsValue m events after
+  memory : StandsInMemory new.commits after
+  group : after.group ≡ new.commits.group
+  most : after.most ≡ m.most
+  raising : after.raising ≡ raising_of new.job
+  made : HasAllMade new.commits.floors new.job
+  gate : after.failed ≡ false → after.gate ≡ gate_of new.turn new.job
+  left : after.failed ≡ true → after.gate ≡ gate_left new.turn new.job
+  fresh : AreFresh new.commits
+
+-- where it went: to a machine with the same history and these floors
+record Went (m : Machine Value) (events : List (Event Value)) (floors : ℕ → ℕ) (fails : Bool) (new : LogStoreValue) : Type 0 where
+  after : Machine Value
+  gone : Gone m events after new
+  published : after.published ≡ m.published
+  queue : after.queue ≡ m.queue
+  floors-are : after.floors ≡ floors
+  failed : after.failed ≡ fails
+
+-- by the answer of a call of the entry of this work
+abbrev Calls : Machine Value → LogStoreValue → JobWork → Result JobDid PumpFault → Type 0
+Calls m new work (Ok what) = Went m (floor_events what (raising_with work)) (floors_by work what m.floors) false new
+Calls m new work (Err why) = (why ≡ pump.Failed) × Went m (job_breaks_in m.gate) m.floors true new
+
+-- a call of the entry's chain of a store that works
+module _ (tells : Bool) (job : Job) (w : WriterState) (old new : LogStoreValue) (m : Machine Value) (on : IsOnItsWay w.stage) (works : m.failed ≡ false)
+    (at_rest : old.turn ≡ None) (memory : StandsInMemory old.commits m) (fresh : AreFresh old.commits) (machine : IsMachine IsValue m)
+    (group : m.group ≡ old.commits.group) (raising : m.raising ≡ Some (raising_with job.work)) (made : HasMade old.commits.floors job.work)
+    (gate : m.gate ≡ gate_at OfFloor w.stage) (is-job : old.job ≡ Some (record job { stage = Entering w })) where
+  abbrev r : Raising
+  r = raising_with job.work
+
+  may : MayRaise m r
+  may = subst (λ (o : Option Raising). MatchOption o (Unit {0}) (MayRaise m)) raising machine.raising
+
+  -- the entry is one call further
+  further : (next : Gate) (events : List (Event Value)) → Run IsValue m events (record m { gate = next }) → new
+      ≡ record (at_stage old job (Entering (with_stage w (stage_after w.stage)))) { disk = new.disk }
+      → next ≡ gate_at OfFloor (stage_after w.stage) → Gone m events (record m { gate = next }) new
+  further next events run is next-is = record {
+    run = run;
+    memory = subst (λ (v : CommitsValue). StandsInMemory v (record m { gate = next })) (sym (ap (λ (v : LogStoreValue). v.commits) is))
+        (making-memory old.commits m m.raising next memory);
+    group = group ∙ ap (λ (v : LogStoreValue). v.commits.group) (sym is);
+    most = refl;
+    raising = raising ∙ ap (λ (v : LogStoreValue). raising_of v.job) (sym is);
+    made = subst (λ (v : LogStoreValue). HasAllMade v.commits.floors v.job) (sym is) made;
+    gate = λ still. next-is
+        ∙ sym (ap (λ (t : Option WriterState). gate_of t (Some (record job { stage = Entering (with_stage w (stage_after w.stage)) }))) at_rest)
+        ∙ ap (λ (v : LogStoreValue). gate_of v.turn v.job) (sym is);
+    left = λ fails. absurd (let no : false ≡ true = sym works ∙ fails in cc);
+    fresh = subst AreFresh (sym (ap (λ (v : LogStoreValue). v.commits) is)) fresh;
+  }
+
+  -- the entry is the log's
+  ended : m.gate ≡ MayBeOpen OfFloor → new ≡ record (with_entry old job) { disk = new.disk }
+      → Gone m (FloorPublished r ∷ []) (floor_published m r) new
+  ended may-be-open is = record {
+    run = (floor_published m r, (works, raising, may-be-open, refl), refl);
+    memory = subst (λ (v : CommitsValue). StandsInMemory v (floor_published m r)) (sym (ap (λ (v : LogStoreValue). v.commits) is))
+        (made-floors old.commits m job.work memory may made);
+    group = group ∙ same-group job.work ∙ ap (λ (v : LogStoreValue). v.commits.group) (sym is);
+    most = refl;
+    raising = ap (λ (v : LogStoreValue). raising_of v.job) (sym is);
+    made = subst (λ (v : LogStoreValue). HasAllMade v.commits.floors v.job) (sym is) tt;
+    gate = λ still. sym (ap (λ (t : Option WriterState). gate_of t None) at_rest) ∙ ap (λ (v : LogStoreValue). gate_of v.turn v.job) (sym is);
+    left = λ fails. absurd (let no : false ≡ true = sym works ∙ fails in cc);
+    fresh = subst AreFresh (sym (ap (λ (v : LogStoreValue). v.commits) is)) (still-fresh job.work);
+  }
+    where
+      same-group : (work : JobWork) → old.commits.group ≡ (with_work work old.commits).group
+      same-group (Floor floor kept) = refl
+
+      still-fresh : (work : JobWork) → AreFresh (with_work work old.commits)
+      still-fresh (Floor floor kept) = fresh
+
+  -- the machine after a call
+  abbrev after : JobDid → Machine Value
+  after did.Idle = m
+  after did.WroteEntry = m
+  after did.GateClosed = m
+  after did.HeapSynced = gated m (Due OfFloor)
+  after did.GateWritten = gated m (MayBeOpen OfFloor)
+  after did.JobDone = floor_published m r
+
+  goes : (what : JobDid) → Advances tells job w old (Ok what) new → Gone m (floor_events what r) (after what) new
+  goes what advances = subst (λ (d : JobDid). Gone m (floor_events d r) (after d) new) (sym advances.answer.0) (by-stage w.stage refl on advances.answer.1)
+    where
+      same-gate : record m { gate = m.gate } ≡ m
+      same-gate = refl
+
+      by-stage : (k : Stage) → w.stage ≡ k → IsOnItsWay k → new ≡ record (after_call old job w k) { disk = new.disk }
+          → Gone m (floor_events (did_of (writers.did k)) r) (after (did_of (writers.did k))) new
+      by-stage (Writing d []) e call is =
+          further m.gate [] refl is (gate ∙ ap (gate_at OfFloor) e ∙ ap (λ (k : Stage). gate_at OfFloor (stage_after k)) (sym e))
+      by-stage (Writing d (p ∷ rest)) e call is =
+          further m.gate [] refl is (gate ∙ ap (gate_at OfFloor) e ∙ ap (λ (k : Stage). gate_at OfFloor (stage_after k)) (sym e))
+      by-stage Syncing e call is =
+          further (Due OfFloor) (GateDue OfFloor ∷ [])
+          (gated m (Due OfFloor), (works, subst IsSome (sym raising) refl, gate ∙ ap (gate_at OfFloor) e, refl), refl) is
+          (ap (λ (k : Stage). gate_at OfFloor (stage_after k)) (sym e))
+      by-stage Opening e call is =
+          further (MayBeOpen OfFloor) (GateWritten OfFloor ∷ [])
+          (gated m (MayBeOpen OfFloor), (works, gate ∙ ap (gate_at OfFloor) e, refl), refl) is
+          (ap (λ (k : Stage). gate_at OfFloor (stage_after k)) (sym e))
+      by-stage Settling e call is = ended (gate ∙ ap (gate_at OfFloor) e) is
+      by-stage Done e call is = absurd call
+
+  -- where the device refuses the call the machine has failed
+  fails-with : (next : Gate) (events : List (Event Value)) → Run IsValue m events (record (steps.broken m) { gate = next })
+      → new ≡ record (with_failure old) { disk = new.disk }
+      → next ≡ gate_behind OfFloor w.stage → Gone m events (record (steps.broken m) { gate = next }) new
+  fails-with next events run is next-is = record {
+    run = run;
+    memory = subst (λ (v : CommitsValue). StandsInMemory v (record (steps.broken m) { gate = next })) (sym (ap (λ (v : LogStoreValue). v.commits) is)) (record {
+      names = memory.names;
+      rising = memory.rising;
+      versions = memory.versions;
+      forgot = memory.forgot;
+      recent = memory.recent;
+      queue = memory.queue;
+      snapshots = memory.snapshots;
+      floors = memory.floors;
+      failed = refl;
+    });
+    group = group ∙ ap (λ (v : LogStoreValue). v.commits.group) (sym is);
+    most = refl;
+    raising = raising ∙ ap raising_of (sym is-job) ∙ ap (λ (v : LogStoreValue). raising_of v.job) (sym is);
+    made = subst (λ (v : LogStoreValue). HasAllMade v.commits.floors v.job) (sym is)
+        (subst (λ (j : Option Job). HasAllMade old.commits.floors j) (sym is-job) made);
+    gate = λ still. absurd (let no : true ≡ false = still in cc);
+    left = λ fails. next-is ∙ sym (λ i. gate_left (at_rest i) (is-job i)) ∙ ap (λ (v : LogStoreValue). gate_left v.turn v.job) (sym is);
+    fresh = subst AreFresh (sym (ap (λ (v : LogStoreValue). v.commits) is)) fresh;
+  }
+
+  abbrev Breaks : Gate → Type 0
+  Breaks g = (after : Machine Value) × (after.failed ≡ true) × (after.published ≡ m.published) × (after.queue ≡ m.queue) × (after.floors ≡ m.floors)
+      × Gone m (job_breaks_in g) after new
+
+  breaks : (why : PumpFault) → Advances tells job w old (Err why) new → Breaks m.gate
+  breaks why advances = by-stage w.stage refl
+    where
+      here : (g : Gate) → m.gate ≡ g → Breaks g → Breaks m.gate
+      here g same goes = subst Breaks (sym same) goes
+
+      only : (g : Gate) → job_breaks_in g ≡ Broke ∷ [] → m.gate ≡ g → m.gate ≡ gate_behind OfFloor w.stage → Breaks m.gate
+      only g is same left =
+          here g same (
+            record (steps.broken m) { gate = m.gate },
+            refl,
+            refl,
+            refl,
+            refl,
+            subst (λ (es : List (Event Value)). Gone m es (record (steps.broken m) { gate = m.gate }) new) (sym is)
+                (fails-with m.gate (Broke ∷ []) (steps.broken m, (works, refl), refl) advances.answer.1 left),
+          )
+
+      by-stage : (k : Stage) → w.stage ≡ k → Breaks m.gate
+      by-stage (Writing d rest) e =
+          let shut : m.gate ≡ Shut = gate ∙ ap (gate_at OfFloor) e in only Shut refl shut (shut ∙ ap (gate_behind OfFloor) (sym e))
+      by-stage Syncing e = let shut : m.gate ≡ Shut = gate ∙ ap (gate_at OfFloor) e in only Shut refl shut (shut ∙ ap (gate_behind OfFloor) (sym e))
+      by-stage Opening e =
+          let due : m.gate ≡ Due OfFloor = gate ∙ ap (gate_at OfFloor) e in
+          here (Due OfFloor) due (
+            record (steps.broken m) { gate = MayBeOpen OfFloor },
+            refl,
+            refl,
+            refl,
+            refl,
+            fails-with (MayBeOpen OfFloor) (GateWritten OfFloor ∷ Broke ∷ [])
+                (gated m (MayBeOpen OfFloor), (works, due, refl), (steps.broken (gated m (MayBeOpen OfFloor)), (works, refl), refl)) advances.answer.1
+                (ap (gate_behind OfFloor) (sym e)),
+          )
+      by-stage Settling e =
+          let may-be-open : m.gate ≡ MayBeOpen OfFloor = gate ∙ ap (gate_at OfFloor) e in
+          only (MayBeOpen OfFloor) refl may-be-open (may-be-open ∙ ap (gate_behind OfFloor) (sym e))
+      by-stage Done e =
+          let may-be-open : m.gate ≡ MayBeOpen OfFloor = gate ∙ ap (gate_at OfFloor) e in
+          only (MayBeOpen OfFloor) refl may-be-open (may-be-open ∙ ap (gate_behind OfFloor) (sym e))
+
+  -- ---- how the machine went
+
+  went : (what : JobDid) → Gone m (floor_events what r) (after what) new → Went m (floor_events what r) (floors_by job.work what m.floors) false new
+  went did.Idle gone = record { after = after did.Idle; gone = gone; published = refl; queue = refl; floors-are = refl; failed = works }
+  went did.WroteEntry gone = record { after = after did.WroteEntry; gone = gone; published = refl; queue = refl; floors-are = refl; failed = works }
+  went did.GateClosed gone = record { after = after did.GateClosed; gone = gone; published = refl; queue = refl; floors-are = refl; failed = works }
+  went did.HeapSynced gone = record { after = after did.HeapSynced; gone = gone; published = refl; queue = refl; floors-are = refl; failed = works }
+  went did.GateWritten gone = record { after = after did.GateWritten; gone = gone; published = refl; queue = refl; floors-are = refl; failed = works }
+  went did.JobDone gone =
+      record { after = after did.JobDone; gone = gone; published = refl; queue = refl; floors-are = raised-with job.work; failed = works }
+    where
+      raised-with : (work : JobWork) → raised (raising_with work).scope (raising_with work).floor m.floors ≡ floors_with work m.floors
+      raised-with (Floor floor kept) = refl
+
+  goes-by : (answer : Result JobDid PumpFault) → Advances tells job w old answer new → Calls m new job.work answer
+  goes-by (Ok what) advances = went what (goes what advances)
+  goes-by (Err why) advances =
+      let broken = breaks why advances in (
+        advances.answer.0,
+        record {
+          after = broken.0;
+          gone = broken.5;
+          published = broken.2;
+          queue = broken.3;
+          floors-are = broken.4;
+          failed = broken.1;
+        },
+      )
+
+-- ---- a step of a job
+
+-- the store stands for where the machine went
+runs-so : (tells : Bool) (old new : LogStoreValue) (m : Machine Value) (events : List (Event Value)) (floors : ℕ → ℕ) (failed : Bool)
+    → IsStoreOf tells old m → Went m events floors failed new
+    → (IsTrue tells → MatchBool failed (StopsOnHeap new m.published m.queue floors) (StandsOnHeap new m.published m.queue floors)) → Runs tells m events new
+runs-so tells old new m events floors failed is went disk = record {
+  after = went.after;
+  run = went.gone.run;
+  stands = record {
+    memory = went.gone.memory;
+    machine = run-machine IsValue m went.after events is.machine went.gone.run;
+    writing = record {
+      most = went.gone.most ∙ is.writing.most;
+      group = went.gone.group;
+      raising = went.gone.raising;
+      made = went.gone.made;
+      gate = went.gone.gate;
+      left = went.gone.left;
+    };
+    fresh = went.gone.fresh;
+    disk = λ told. subst (λ (b : Bool). OnDiskAs b went.after.published went.after.queue went.after.floors)
+        (sym (went.gone.memory.failed ∙ went.failed))
+        (subst (λ (h : History Value). OnDiskAs failed h went.after.queue went.after.floors) (sym went.published)
+        (subst (λ (q : History Value). OnDiskAs failed m.published q went.after.floors) (sym went.queue)
+        (subst (λ (f : ℕ → ℕ). OnDiskAs failed m.published m.queue f) (sym went.floors-are) (disk told))));
+  };
+}
+  where
+    OnDiskAs : Bool → History Value → History Value → (ℕ → ℕ) → Type 0
+    OnDiskAs b h queue f = MatchBool b (StopsOnHeap new h queue f) (StandsOnHeap new h queue f)
+
+no-idle : (o : Option Raising) → [] ≡ floor_ends did.Idle o
+no-idle None = refl
+no-idle (Some r) = refl
+
+module _ (tells : Bool) (old new : LogStoreValue) (answer : Result JobDid PumpFault) (m : Machine Value) (step : IsInStep old)
+    (sound : IsTrue tells → AreSound new.disk.areas) (is : IsStoreOf tells old m) where
+  -- a store that works
+  module _ (works : old.commits.failed ≡ false) (pumps : PumpsJob tells old answer new) where
+    works-here : m.failed ≡ false
+    works-here = sym is.memory.failed ∙ works
+
+    steps-to : IsTrue tells → JobStepsTo answer old new m.published m.queue m.floors
+    steps-to told =
+        job-steps tells old new answer m.published m.queue m.floors told works step
+        (subst (λ (b : Bool). MatchBool b (StopsOnHeap old m.published m.queue m.floors) (StandsOnHeap old m.published m.queue m.floors)) works
+        (is.disk told)) pumps (sound told)
+
+    same : new ≡ old → Runs tells m [] new
+    same new-is = record { after = m; run = refl; stands = subst (λ (v : LogStoreValue). IsStoreOf tells v m) (sym new-is) is }
+
+    called : (job : Job) → old.job ≡ Some job → (a : Result JobDid PumpFault) → Calls m new job.work a
+        → (IsTrue tells → JobStepsTo a old new m.published m.queue m.floors) → Runs tells m (job_events_in m a) new
+    called job is-job (Ok what) calls steps-to =
+        subst (λ (o : Option Raising). Runs tells m (floor_ends what o) new) (sym (is.writing.raising ∙ ap raising_of is-job))
+        (runs-so tells old new m (floor_events what (raising_with job.work)) (floors_by job.work what m.floors) false is calls
+        (λ told. subst (λ (j : Option Job). StandsOnHeap new m.published m.queue (floors_after j what m.floors)) is-job (steps-to told)))
+    called job is-job (Err why) calls steps-to =
+        subst (λ (f : PumpFault). Runs tells m (job_events_in m (Err f)) new) (sym calls.0)
+        (subst (λ (es : List (Event Value)). Runs tells m es new) (ap (λ (b : Bool). cond b [] (job_breaks_in m.gate)) (sym works-here))
+        (runs-so tells old new m (job_breaks_in m.gate) m.floors true is calls.1
+        (λ told. (subst (λ (f : PumpFault). JobStepsTo (Err f) old new m.published m.queue m.floors) calls.0 (steps-to told)).stops)))
+
+    raising-is : (job : Job) → old.job ≡ Some job → m.raising ≡ Some (raising_with job.work)
+    raising-is job is-job = is.writing.raising ∙ ap raising_of is-job
+
+    made-is : (job : Job) → old.job ≡ Some job → HasMade old.commits.floors job.work
+    made-is job is-job = subst (λ (j : Option Job). HasAllMade old.commits.floors j) is-job is.writing.made
+
+    gate-is : (job : Job) → old.job ≡ Some job → old.turn ≡ None → m.gate ≡ gate_on job.stage
+    gate-is job is-job at_rest = is.writing.gate works-here ∙ (λ i. gate_of (at_rest i) (is-job i))
+
+    -- an entry begins, and its first call is made
+    begun : (job : Job) (waited : Bool) → old.job ≡ Some job → job.stage ≡ Ready waited → old.turn ≡ None → (there : LogStoreValue)
+        → (b : BeginsEntry old job there) → AdvancesEntry tells there.job there answer new → Calls m new job.work answer
+    begun job waited is-job e at_rest there b advances =
+        let writer : WriterState = record {
+          numbers = b.numbers;
+          link = b.link;
+          content = entry_bytes (entry_of job.work);
+          stage = Writing [] (chain_turn b.numbers b.link (entry_bytes (entry_of job.work))).parts;
+        } in
+        let target : LogStoreValue = record (at_stage old job (Entering writer)) { room = b.room } in
+        (goes-by tells (record job { stage = Entering writer }) writer target new m tt works-here at_rest is.memory is.fresh is.machine is.writing.group
+        (raising-is job is-job) (made-is job is-job) (gate-is job is-job at_rest ∙ ap gate_on e) refl answer
+        (subst (λ (x : LogStoreValue). AdvancesEntry tells x.job x answer new) b.new_is advances))
+
+    by-turn : (job : Job) (waited : Bool) → old.job ≡ Some job → job.stage ≡ Ready waited → (t : Option WriterState) → old.turn ≡ t
+        → StepsReady tells job t old answer new → Runs tells m (job_events_in m answer) new
+    by-turn job waited is-job e None at_rest (inl none) = subst (λ (a : Result JobDid PumpFault). Runs tells m (job_events_in m a) new) (sym none.0)
+        (same none.1)
+    by-turn job waited is-job e None at_rest (inr enters) =
+        called job is-job answer (begun job waited is-job e at_rest enters.0 enters.1 enters.2) steps-to
+    by-turn job waited is-job e (Some w) standing busy =
+        subst (λ (a : Result JobDid PumpFault). Runs tells m (job_events_in m a) new) (sym busy.0)
+        (runs-so tells old new m [] m.floors false is (record {
+          after = m;
+          gone = record {
+            run = refl;
+            memory = subst (λ (v : LogStoreValue). StandsInMemory v.commits m) (sym busy.1) is.memory;
+            group = is.writing.group ∙ ap (λ (v : LogStoreValue). v.commits.group) (sym busy.1);
+            most = refl;
+            raising = raising-is job is-job ∙ ap (λ (v : LogStoreValue). raising_of v.job) (sym busy.1);
+            made = subst (λ (v : LogStoreValue). HasAllMade v.commits.floors v.job) (sym busy.1) (made-is job is-job);
+            gate = λ on. is.writing.gate on ∙ ap (λ (t : Option WriterState). gate_of t old.job) standing
+                ∙ ap (λ (t : Option WriterState). gate_of t (Some (record job { stage = Ready true }))) (sym standing)
+                ∙ ap (λ (v : LogStoreValue). gate_of v.turn v.job) (sym busy.1);
+            left = λ fails. absurd (let no : false ≡ true = sym works-here ∙ fails in cc);
+            fresh = subst (λ (v : LogStoreValue). AreFresh v.commits) (sym busy.1) is.fresh;
+          };
+          published = refl;
+          queue = refl;
+          floors-are = refl;
+          failed = works-here;
+        }) (λ told. subst (λ (a : Result JobDid PumpFault). JobStepsTo a old new m.published m.queue m.floors) busy.0 (steps-to told)))
+
+    by-stage : (job : Job) → old.job ≡ Some job → (k : JobStage) → job.stage ≡ k → StepsAt tells job k old answer new
+        → Runs tells m (job_events_in m answer) new
+    by-stage job is-job (Ready waited) e so = by-turn job waited is-job e old.turn refl so
+    by-stage job is-job (Entering w) e so =
+        let beside = subst (λ (k : JobStage). IsStageBeside old.turn k) e (subst (λ (j : Option Job). IsBeside old.turn j) is-job step.beside) in
+        called job is-job answer
+        (goes-by tells job w old new m beside.1 works-here beside.0 is.memory is.fresh is.machine is.writing.group (raising-is job is-job)
+        (made-is job is-job) (gate-is job is-job beside.0 ∙ ap gate_on e) (is-job ∙ ap (λ (k : JobStage). Some (record job { stage = k })) e) answer so)
+        steps-to
+
+    by-job : (j : Option Job) → old.job ≡ j → StepsJob tells j old answer new → Runs tells m (job_events_in m answer) new
+    by-job None none so =
+        subst (λ (a : Result JobDid PumpFault). Runs tells m (job_events_in m a) new) (sym so.0)
+        (subst (λ (es : List (Event Value)). Runs tells m es new) (no-idle m.raising) (same so.1))
+    by-job (Some job) is-job so = by-stage job is-job job.stage refl so
+
+  pub job-stands : PumpsJob tells old answer new → Runs tells m (job_events_in m answer) new
+  job-stands pumps = by-failed old.commits.failed refl pumps
+    where
+      by-failed : (b : Bool) → old.commits.failed ≡ b → PumpsJob tells old answer new → Runs tells m (job_events_in m answer) new
+      by-failed true failed is-so =
+          let rests = subst (λ (b : Bool). MatchBool b ((answer ≡ Err pump.Failed) × (new ≡ old)) (StepsJob tells old.job old answer new)) failed is-so in
+          let fails : m.failed ≡ true = sym is.memory.failed ∙ failed in
+          subst (λ (a : Result JobDid PumpFault). Runs tells m (job_events_in m a) new) (sym rests.0)
+          (subst (λ (es : List (Event Value)). Runs tells m es new) (ap (λ (b : Bool). cond b [] (job_breaks_in m.gate)) (sym fails))
+          (record { after = m; run = refl; stands = subst (λ (v : LogStoreValue). IsStoreOf tells v m) (sym rests.1) is }))
+      by-failed false works is-so =
+          by-job works is-so old.job refl
+          (subst (λ (b : Bool). MatchBool b ((answer ≡ Err pump.Failed) × (new ≡ old)) (StepsJob tells old.job old answer new)) works is-so)

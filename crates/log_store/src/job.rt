@@ -1,0 +1,68 @@
+//! What a job is.
+ghost use Rattle.std.specs.Prelude.{◌≡◌};
+
+use floors::Floors;
+use log_entries::RelationFloor;
+use log_writer::ChainWriter;
+
+/// What a job puts into the log by its entry.
+#[derive(Drop)]
+pub enum JobWork {
+    /// A floor of one relation, and the floors that stand once its entry is the log's.
+    Floor {
+        floor: RelationFloor,
+        floors: Floors,
+    },
+}
+
+/// How far a job is.
+#[derive(Drop)]
+pub enum JobStage {
+    /// Its entry is not begun. Where the job has waited for a group, no other group begins before its entry.
+    Ready { waited: bool },
+    /// Its entry is in the writing.
+    Entering(ChainWriter),
+}
+
+/// A job that runs.
+#[derive(Drop)]
+pub struct Job {
+    pub(crate) work: JobWork,
+    pub(crate) stage: JobStage,
+}
+
+/// What a step of a job did.
+#[derive(Clone, Copy, Debug, PartialEq, Eq)]
+pub enum JobDid {
+    /// No job runs.
+    Idle,
+    /// Its entry is written, but for its gate.
+    WroteEntry,
+    /// The gate where the log will end is closed.
+    GateClosed,
+    HeapSynced,
+    /// The gate of its entry is open.
+    GateWritten,
+    /// Its entry is the log's, and no job runs.
+    JobDone,
+}
+
+/// Why no job begins. Of several reasons the first is told; want of memory comes where it is met.
+#[derive(Clone, Copy, Debug, PartialEq, Eq)]
+pub enum StartFault {
+    /// A write or sync of the device was refused before.
+    Failed,
+    /// Floors are those of one relation each.
+    WrongProfile,
+    /// A job runs.
+    JobBusy,
+    /// The floor of the relation is as late.
+    NothingToDo,
+    /// The last commit that is published has this earlier time, in microseconds since 1970.
+    NotYet(u64),
+    /// An open transaction reads at this earlier time, in microseconds since 1970.
+    InUse(u64),
+    /// The log's half of the heap has no extent for its entry, or a base none for the floor.
+    HeapFull,
+    NoMemory,
+}
