@@ -1,5 +1,9 @@
 -- What opening has read of the heap, step by step.
-use Rattle.std.specs.Prelude.{ℕ, ◌≡◌, ◌+◌, List, length, map}
+use Rattle.std.specs.Prelude.{ℕ, ◌≡◌, ◌+◌, List, [], ◌∷◌, length, map, flat_map}
+use Rattle.log_entries.specs.declared.entry.Archive.{Archive}
+use Rattle.log_entries.specs.declared.entry.Entry.{Entry}
+use Rattle.log_entries.specs.declared.entry.Entry.TheVariants.{Group, Archived, Floor}
+use Rattle.log_entries.specs.declared.entry.Entry.TheVariants as entries
 use Rattle.law_log_layout.specs.HeapLog.{PlacedChain, PlacedAnchors}
 use Rattle.log_space.specs.Uses.{all_used}
 use Rattle.log_sizes.specs.Counted.{AreSizesBehind}
@@ -26,6 +30,17 @@ pub record IsAnchoredLog (most root : ℕ) (heap : List ℕ) (read : AnchoredLog
   pub takes : TakesAnchors most (mark_of read.log.chains.items) heap (uses_of most read.log.chains.items) read.log.space
       (first_names read.log.chains.items) read.anchors
 
+-- the archives that a chain names
+abbrev pub archives_named : Entry → List Archive
+archives_named (Group members) = []
+archives_named (Archived archive) = archive ∷ []
+archives_named (Floor floor) = []
+archives_named (entries.Base base) = base.archives
+
+-- and those that all of these do, in their order
+abbrev pub all_archives : List PlacedChain → List Archive
+all_archives chains = flat_map (λ (c : PlacedChain). archives_named c.entry) chains
+
 -- The heap is read, and this is what it says.
 pub record IsHeapRead (most root : ℕ) (heap : List ℕ) (read : LogHeap) : Type 0 where
   pub chains : List PlacedChain
@@ -37,5 +52,6 @@ pub record IsHeapRead (most root : ℕ) (heap : List ℕ) (read : LogHeap) : Typ
   -- the extents that count as the log's, with the one where it ends
   pub log_is : read.log ≡ length (counted_in chains) + 1
   pub live_are : map live_told read.live.items ≡ lives_of chains
+  pub archives_are : read.archives.items ≡ all_archives chains
   pub facts : HasFacts (mark_of chains) anchors.records (members_of_all (mark_of chains) chains) read.members
   pub sizes : AreSizesBehind anchors.records (members_of_all (mark_of chains) chains) read.members.sizes

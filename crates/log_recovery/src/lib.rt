@@ -1,6 +1,7 @@
 //! Reading the image of a store whose log lies in the heap.
 #![tactic(auto)]
 
+mod all_archives;
 mod anchors;
 mod apart;
 mod archive_parts;

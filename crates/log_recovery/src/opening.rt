@@ -16,6 +16,7 @@ ghost use Rattle.log_recovery.specs.Opening.{IsHeapFault};
 ghost use Rattle.log_recovery.specs.Read.{IsLogRead, IsAnchoredLog, IsHeapRead};
 ghost use Rattle.log_recovery.specs.Members.{IsInMemoryFault};
 
+use crate::all_archives::archives_of;
 use crate::anchors::{AnchorsRead, no_anchors, read_anchors};
 use crate::chain::LogChain;
 use crate::ending::{is_end_right, kept_log};
@@ -26,7 +27,7 @@ use crate::shares::are_anchors_small;
 use crate::taking::HeapSize;
 use crate::walk::read_chains;
 use disk::{Area, Disk};
-use log_entries::{AnchorName, Entry};
+use log_entries::{AnchorName, Archive, Entry};
 use log_space::Space;
 use recovery::{LiveChain, OpenFault};
 use std::alloc::Global;
@@ -174,6 +175,8 @@ pub struct LogHeap {
     pub end: LogEnd,
     /// The chains of the log in their order, each with the time of its last commit; 0 where it has none.
     pub live: Vec<LiveChain>,
+    /// The archives that the log names, those of its base first, also where another took the place of their run.
+    pub archives: Vec<Archive>,
     pub members: MembersRead,
 }
 
@@ -212,6 +215,7 @@ fn finish_heap(
     let kept = kept_log(heap.most, &log.chains, &log.end);
     let ends_right = is_end_right(heap.len, log.next, &log.space, &log.end);
     let len = anchors.len as u64;
+    let archives = archives_of(alloc, &log.chains)?;
     let members = match read_members(alloc, log.end.mark, anchors.versions, len, log.chains) {
         Ok(members) => members,
         Err(fault) => return Err(fault),
@@ -227,6 +231,7 @@ fn finish_heap(
         anchors: anchors.numbers,
         end: log.end,
         live: members.live,
+        archives,
         members: members.read,
     })
 }

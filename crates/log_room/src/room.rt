@@ -5,8 +5,10 @@ ghost use Rattle.log_extents.specs.Chains.{count_of, IsNumberOf};
 ghost use Rattle.log_space.specs.Uses.{with_use};
 ghost use Rattle.law_log_sizes.specs.Sizes.{len_behind};
 ghost use Rattle.log_sizes.specs.Counted.{values_in};
+ghost use Rattle.log_room.specs.Bases.{has_base_room, has_floor_room};
 ghost use Rattle.log_room.specs.Rooms.{fits, promised_to, has_entry_room, promised_entry, TakesChain, MayOpen};
 
+use crate::base_share::BaseParts;
 use crate::taking::take_least;
 use chains::{Frozen, SharedValue};
 use history::KeyWrite;
@@ -20,6 +22,9 @@ const LEFT_BY_COMMITS: u32 = 4;
 
 /// And so many by the entry of a floor, and by that of an archive which leaves something to be archived.
 const LEFT_BY_ENTRIES: u32 = 2;
+
+/// One extent in so many is the base's.
+const BASE_SHARE: u32 = 16;
 
 /// The extents of a heap: which are in use, where the log ends, how many it has, and how many it will take for the commits that wait.
 #[derive(Drop)]
@@ -148,6 +153,20 @@ impl HeapRoom {
         ensures { result ≡ has_entry_room self.now }
     {
         self.log + self.promised + 1 <= self.space.len() / 2 - LEFT_BY_ENTRIES
+    }
+
+    /// Whether a base that names these parts, and two rolls and two archives more, keeps its share of the heap.
+    pub fn has_base_room(&self, parts: BaseParts) -> bool
+        ensures { result ≡ has_base_room self.now parts }
+    {
+        parts.extents() <= u128::from(self.space.len() / BASE_SHARE)
+    }
+
+    /// Whether such a base keeps half of its share where it names one floor more.
+    pub fn has_floor_room(&self, parts: BaseParts) -> bool
+        ensures { result ≡ has_floor_room self.now parts }
+    {
+        2 * parts.floored_extents() <= u128::from(self.space.len() / BASE_SHARE)
     }
 
     /// An entry is promised its extent.

@@ -11,6 +11,7 @@ use Rattle.recovery.specs.declared.fault.FormatFault.{FormatFault}
 use Rattle.recovery.specs.declared.fault.FormatFault.TheVariants as faults
 use Rattle.recovery.specs.Format.{CountsFirst, refusals_after}
 use Rattle.log_space.specs.Uses.{with_use}
+use Rattle.log_store.specs.Named.{none_named}
 use Rattle.log_store.specs.Values.{LogStoreValue}
 
 -- the header of a new store: its log begins in the first extent
@@ -87,6 +88,7 @@ created_on mark extents disk = record {
   room = record { used = with_use (replicate extents false) 1 true; next = 1; log = 1; promised = 0; anchors = 0 };
   turn = None;
   job = None;
+  named = none_named;
   archive = record { runs = []; next = []; kept = [] };
   disk = disk;
 }

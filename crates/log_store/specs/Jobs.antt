@@ -1,5 +1,5 @@
 -- The beginning of a job, and its steps to the disk.
-use Rattle.std.specs.Prelude.{ℕ, ◌≡◌, ◌⊎◌, ◌+◌, ◌-◌, ◌/◌, ◌<◌, ◌^◌, nat_le, nat_lt, Bool, true, false, IsTrue, [], is_some, Option, Some, None}
+use Rattle.std.specs.Prelude.{ℕ, ◌≡◌, ◌⊎◌, ◌+◌, ◌-◌, ◌/◌, ◌<◌, ◌^◌, nat_le, nat_lt, ◌&&◌, ◌||◌, Bool, true, false, IsTrue, [], is_some, Option, Some, None}
 use Rattle.std.specs.Prelude.{Result, Ok, Err, MatchBool, MatchOption, MatchResult, List, length, if◌then◌else◌}
 use Rattle.disk.specs.Areas.{Areas}
 use Rattle.disk.specs.Calls.{Counts, refused_answer}
@@ -16,6 +16,8 @@ use Rattle.log_writer.specs.Writer as writers
 use Rattle.log_writer.specs.declared.writer.Wrote.{Wrote}
 use Rattle.log_writer.specs.declared.writer.Wrote.TheVariants as wrote
 use Rattle.log_room.specs.Rooms.{RoomValue, TakesChain, promised_entry, has_entry_room}
+use Rattle.log_room.specs.Bases as bases
+use Rattle.log_room.specs.declared.base_share.BaseParts.{BaseParts}
 use Rattle.commits.specs.Values.{CommitsValue, last, with_floors}
 use Rattle.commits.specs.Calls.{oldest}
 use Rattle.log_store.specs.Values.{LogStoreValue}
@@ -32,6 +34,14 @@ use Rattle.log_store.specs.declared.job.StartFault.TheVariants as fault
 
 -- ---- the beginning of a floor
 
+-- what a base would name now
+abbrev pub base_parts : LogStoreValue → BaseParts
+base_parts v = record { rolls = length v.named.rolls; archives = length v.named.archives; floors = length v.commits.floors.own }
+
+-- the entry of the relation's floor has an extent, and a base with that floor keeps the share that floors may have, if it is the relation's first
+abbrev pub has_floor_room : LogStoreValue → ℕ → Bool
+has_floor_room v relation = has_entry_room v.room && (nat_lt 0 (floor_at v.commits.floors relation) || bases.has_floor_room v.room (base_parts v))
+
 -- the least snapshot of the open transactions is below the time
 abbrev pub refusal_for_use : Option ℕ → ℕ → Bool → Option StartFault
 refusal_for_use None time room = if room then None else Some fault.HeapFull
@@ -44,7 +54,7 @@ floor_refusal_of v relation time =
     if is_some v.job then Some fault.JobBusy
     else (if nat_le time (floor_at v.commits.floors relation) then Some fault.NothingToDo
     else (if nat_lt (last v.commits) time then Some (fault.NotYet (last v.commits))
-    else refusal_for_use (oldest v.commits) time (has_entry_room v.room)))
+    else refusal_for_use (oldest v.commits) time (has_floor_room v relation)))
 
 -- floors are those of one relation each
 abbrev pub floor_refusal : LogStoreValue → Option ℕ → ℕ → Option StartFault

@@ -1,3 +1,4 @@
+pub mod Named
 pub mod Values
 pub mod Submits
 pub mod Pumps

@@ -24,6 +24,7 @@ use Rattle.log_recovery.specs.declared.opening.LogHeap.{LogHeap}
 use Rattle.log_recovery.specs.declared.image.LogRecovered.{LogRecovered}
 use Rattle.log_recovery.specs.Image.{IsReadFrom}
 use Rattle.log_recovery.specs.Opening.{IsImageFault}
+use Rattle.log_store.specs.Named.{NamedValue}
 use Rattle.log_store.specs.Values.{LogStoreValue}
 use Rattle.log_store.specs.declared.opening.MemoryParts.{MemoryParts}
 
@@ -73,11 +74,16 @@ commits_on mark members floors reclaimed = record {
 abbrev pub room_on : LogHeap → RoomValue
 room_on heap = record { used = with_use heap.space heap.next true; next = heap.next; log = heap.log; promised = 0; anchors = heap.members.sizes.len }
 
+-- the archives and rolls that the log names
+abbrev pub named_on : LogHeap → NamedValue
+named_on heap = record { archives = heap.archives.items; rolls = heap.end.rolls.items }
+
 -- what the store has in memory
 pub record ArePartsOf (mark : ℕ) (read : LogRecovered) (parts : MemoryParts) : Type 0 where
   pub roots : parts.roots ≡ read.roots
   pub commits : parts.commits ≡ commits_on mark read.heap.members read.heap.end.floors read.heap.end.mark
   pub room : parts.room ≡ room_on read.heap
+  pub named : parts.named ≡ named_on read.heap
   pub archive : HasRuns read.heap.end.runs.items parts.archive
   pub ordered : IsOrdered read.heap.members.versions
 
@@ -97,6 +103,7 @@ opened_on mark read archive disk = record {
   room = room_on read.heap;
   turn = None;
   job = None;
+  named = named_on read.heap;
   archive = archive;
   disk = disk;
 }

@@ -8,6 +8,7 @@ use Rattle.log_writer.specs.Writer.{WriterState, IsOnItsWay}
 use Rattle.log_room.specs.Rooms.{RoomValue}
 use Rattle.log_room.specs.Contents.{extents_of}
 use Rattle.commits.specs.Values.{CommitsValue}
+use Rattle.log_store.specs.Named.{NamedValue}
 use Rattle.log_store.specs.declared.job.Job.{Job}
 use Rattle.log_store.specs.declared.job.JobStage.{JobStage}
 use Rattle.log_store.specs.declared.job.JobStage.TheVariants.{Ready, Entering}
@@ -23,6 +24,8 @@ pub record LogStoreValue : Type 0 where
   pub turn : Option WriterState
   -- the job that runs
   pub job : Option Job
+  -- what a base would name
+  pub named : NamedValue
   pub archive : ArchiveValue
   pub disk : DiskState
 

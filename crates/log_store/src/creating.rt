@@ -3,6 +3,7 @@ ghost use Rattle.std.specs.Prelude.{IfOk, IfErr};
 ghost use Rattle.log_store.specs.Formats.{Creates, CreateRefuses};
 
 use crate::formatting::{format, new_roots};
+use crate::named::Named;
 use crate::store::LogStore;
 use chains::Frozen;
 use commits::Commits;
@@ -59,6 +60,7 @@ impl<D: Disk> LogStore<D> {
                 room: HeapRoom::of_opened(space, 1, 1, 0),
                 turn: None,
                 job: None,
+                named: Named::none(alloc),
                 archive,
                 disk,
             }),

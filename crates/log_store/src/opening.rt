@@ -5,6 +5,7 @@ ghost use Rattle.wire.specs.Spelling.{IsRun};
 ghost use Rattle.group.specs.CommitOrder.{IsRisingAfter, last_time};
 ghost use Rattle.log_store.specs.Opens.{head_as, AreEntriesFrom, AreInOrder, commits_on, IsPartsFault, ArePartsOf, Opens, OpenRefuses};
 
+use crate::named::Named;
 use crate::store::LogStore;
 use archive::RunEntry;
 use commits::Commits;
@@ -103,6 +104,7 @@ struct MemoryParts {
     roots: Roots,
     commits: Commits,
     room: HeapRoom,
+    named: Named,
     archive: StoreArchive,
 }
 
@@ -119,6 +121,7 @@ fn parts_of(alloc: Global, mark: u64, read: LogRecovered) -> Result<MemoryParts,
         space,
         log,
         end,
+        archives,
         members,
         ..
     } = heap;
@@ -126,6 +129,7 @@ fn parts_of(alloc: Global, mark: u64, read: LogRecovered) -> Result<MemoryParts,
         mark: reclaimed,
         floors,
         runs,
+        rolls,
         ..
     } = end;
     // The versions are in the order of their keys.
@@ -140,6 +144,7 @@ fn parts_of(alloc: Global, mark: u64, read: LogRecovered) -> Result<MemoryParts,
             roots,
             commits,
             room,
+            named: Named::new(archives, rolls),
             archive,
         }),
         None => Err(damaged),
@@ -172,6 +177,7 @@ impl<D: Disk> LogStore<D> {
                 room: parts.room,
                 turn: None,
                 job: None,
+                named: parts.named,
                 archive: parts.archive,
                 disk,
             }),

@@ -25,6 +25,7 @@ impl<D: Disk> LogStore<D> {
             room,
             turn,
             job,
+            named,
             archive,
             disk: before,
         } = self;
@@ -36,6 +37,7 @@ impl<D: Disk> LogStore<D> {
             room,
             turn,
             job,
+            named,
             archive,
             disk,
         };

@@ -1,6 +1,6 @@
 //! The beginning of a job.
 ghost use Rattle.std.specs.Prelude.{◌≡◌, ◌+◌, ◌≤◌, ◌/◌, IfNone, None, length};
-ghost use Rattle.log_store.specs.Jobs.{StartsFloor, floor_refusal_of};
+ghost use Rattle.log_store.specs.Jobs.{StartsFloor, floor_refusal_of, has_floor_room};
 
 use crate::job::{Job, JobStage, JobWork, StartFault};
 use crate::store::LogStore;
@@ -61,12 +61,20 @@ impl<D: Disk> LogStore<D> {
         match self.commits.oldest() {
             Some(snapshot) if snapshot < floor => Some(StartFault::InUse(snapshot)),
             _ => {
-                if self.room.has_entry_room() {
+                if self.has_floor_room(relation) {
                     None
                 } else {
                     Some(StartFault::HeapFull)
                 }
             }
         }
+    }
+    // Whether the entry of a floor of this relation has room, and a base with that floor keeps the share that floors may have.
+    fn has_floor_room(&self, relation: u16) -> bool
+        ensures { result ≡ has_floor_room self.now relation }
+    {
+        let floors = self.commits.floors();
+        let parts = self.named.parts(floors.relations());
+        self.room.has_entry_room() && (0 < floors.at(relation) || self.room.has_floor_room(parts))
     }
 }

@@ -5,6 +5,7 @@ ghost use Rattle.commits.specs.Values.{last, order_of};
 ghost use Rattle.log_store.specs.Calls.{Begins, Aborts, Redeems};
 
 use crate::job::Job;
+use crate::named::Named;
 use commits::Commits;
 use disk::Disk;
 use floors::Floors;
@@ -30,6 +31,8 @@ pub struct LogStore<D: Disk> {
     // The group's chain while it is in the writing.
     pub(crate) turn: Option<ChainWriter>,
     pub(crate) job: Option<Job>,
+    // What a base would name.
+    pub(crate) named: Named,
     pub(crate) archive: StoreArchive,
     pub(crate) disk: D,
 }
@@ -46,6 +49,7 @@ impl<D: Disk> Model for LogStore<D> {
       room = s.room;
       turn = s.turn;
       job = s.job;
+      named = s.named;
       archive = s.archive;
       disk = D.state s.disk;
     } };
@@ -57,6 +61,7 @@ impl<D: Disk> Model for LogStore<D> {
       room = s.room;
       turn = s.turn;
       job = s.job;
+      named = s.named;
       archive = s.archive;
       disk = D.state s.disk;
     }) };
@@ -75,6 +80,7 @@ impl<D: Disk> LogStore<D> {
             room: _,
             turn: _,
             job: _,
+            named: _,
             archive: _,
             disk,
         } = self;

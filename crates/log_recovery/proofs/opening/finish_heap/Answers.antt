@@ -1,4 +1,4 @@
-use Rattle.std.proofs.Common.{◌≡◌, ℕ, ◌+◌, ◌^◌, ◌<◌, List, [], map, refl, sym, ap, subst}
+use Rattle.std.proofs.Common.{◌≡◌, ℕ, ◌+◌, ◌^◌, ◌<◌, List, [], map, refl, sym, ap, subst, ◌∙◌}
 use Rattle.std.specs.Prelude.{◌↔◌, IsTrue, is_some}
 use Rattle.std.specs.List.{AllByRecursion}
 use Rattle.wire.specs.declared.slot.Run.{Run}
@@ -10,6 +10,7 @@ use Rattle.log_recovery.specs.Rules.{mark_of, roll_part}
 use Rattle.log_recovery.specs.Members.{values_of, heads_told, members_of_all, AreAllStored, HasFacts, IsMembersFault}
 use Rattle.log_sizes.specs.Counted.{AreSizesBehind}
 use Rattle.log_recovery.specs.Ends.{EndsEarly, IsEndSeen}
+use Rattle.log_recovery.specs.Read.{all_archives}
 use Rattle.log_recovery.specs.Opening.{FailsHeap, AtEnd}
 use Rattle.log_recovery.proofs.HeapRead.{mark_is_time, members_rise_behind, fault_of_members}
 use Rattle.log_recovery.proofs.Rows.{runs_in_row, rolls_in_row, runs_in_range}
@@ -109,6 +110,7 @@ returns-clause-found c = λ bytes len is.
       anchors_are = refl;
       log_is = ap (λ (n : ℕ). n + 1) (kept_count most chains c.args.read.log.end c.kept_log-kept.result c.in-Some.count kept_here seen.0);
       live_are = c.in-Ok.ensures.live;
+      archives_are = c.in_ok-archives.ensures ∙ ap all_archives c.deref-2.ensures.value;
       facts = facts;
       sizes = sizes;
     }

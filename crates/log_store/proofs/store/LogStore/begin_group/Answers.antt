@@ -19,6 +19,7 @@ take_chain-requires-clause-some g c =
       room = c.self.inside.room;
       turn = c.self.inside.turn;
       job = c.self.inside.job;
+      named = c.self.inside.named;
       archive = c.self.inside.archive;
       disk = g.D.Disk.state c.self.inside.disk;
     } in
@@ -56,6 +57,7 @@ invariant_of-self-2 g c =
       room = c.self.inside.room;
       turn = c.self.inside.turn;
       job = c.self.inside.job;
+      named = c.self.inside.named;
       archive = c.self.inside.archive;
       disk = g.D.Disk.state c.self.inside.disk;
     } in
@@ -78,6 +80,7 @@ returns-clause-ok g c =
       room = c.self.inside.room;
       turn = c.self.inside.turn;
       job = c.self.inside.job;
+      named = c.self.inside.named;
       archive = c.self.inside.archive;
       disk = g.D.Disk.state c.self.inside.disk;
     } in

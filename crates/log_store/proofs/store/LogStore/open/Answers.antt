@@ -32,6 +32,7 @@ returns-in-Ok-parts_of-clause-ok g c =
         room = parts.room i;
         turn = None;
         job = None;
+        named = parts.named i;
         archive = c.in-Ok-parts_of.parts.archive;
         disk = disk;
       };

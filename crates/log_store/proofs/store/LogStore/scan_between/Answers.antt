@@ -21,6 +21,7 @@ returns g c =
       room = s.room;
       turn = s.turn;
       job = s.job;
+      named = s.named;
       archive = s.archive;
       disk = before;
     } in
