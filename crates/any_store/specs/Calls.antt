@@ -5,18 +5,17 @@ use Rattle.snapshot.specs.Txn.{TxnValue}
 use Rattle.group.specs.Tickets.{TicketValue}
 use Rattle.group.specs.CommitOrder.{times_of}
 use Rattle.group.specs.declared.answers.BeginFault.{BeginFault}
-use Rattle.group.specs.declared.answers.Did.{Did}
 use Rattle.group.specs.declared.answers.PumpFault.{PumpFault}
 use Rattle.group.specs.declared.answers.Redeemed.{Redeemed}
 use Rattle.group.specs.declared.answers.Submitted.{Submitted}
 use Rattle.group.specs.declared.answers.SubmitFault.{SubmitFault}
 use Rattle.commits.specs.Values as commits
 use Rattle.store.specs.Calls as slots
-use Rattle.store.specs.Pumps as slot_pumps
 use Rattle.log_store.specs.Calls as logs
-use Rattle.log_store.specs.Pumps as log_pumps
 use Rattle.log_store.specs.Submits as log_submits
 use Rattle.any_store.specs.declared.engine.Engine.TheVariants.{Slots, Log}
+use Rattle.any_store.specs.declared.steps.Did.{Did}
+use Rattle.any_store.specs.Steps.{PumpsSlots, PumpsLog}
 use Rattle.any_store.specs.Values.{StoreValue, OfEngine, ByEngine}
 
 -- the time of the last published commit
@@ -53,7 +52,7 @@ Redeems old ticket answer new = ByEngine (λ s s'. slots.Redeems s ticket answer
 
 -- a step of a group
 abbrev pub Pumps : Bool → StoreValue → Result Did PumpFault → StoreValue → Type 0
-Pumps tells old answer new = ByEngine (λ s s'. slot_pumps.Pumps tells s answer s') (λ l l'. log_pumps.Pumps tells l answer l') old new
+Pumps tells old answer new = ByEngine (PumpsSlots tells answer) (PumpsLog tells answer) old new
 
 -- the times of the published commits with a label that are in memory, rising
 abbrev pub IsTimesOf : StoreValue → ℕ → List ℕ → Type 0

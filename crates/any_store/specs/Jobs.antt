@@ -4,18 +4,15 @@ use Rattle.group.specs.declared.answers.PumpFault.{PumpFault}
 use Rattle.store.specs.Archives as archives
 use Rattle.store.specs.Floors as raises
 use Rattle.store.specs.Growths as growths
-use Rattle.store.specs.Jobs as jobs
 use Rattle.store.specs.Reclaims as reclaims
-use Rattle.store.specs.declared.job.JobDid.{JobDid}
-use Rattle.store.specs.declared.job.JobDid.TheVariants as did
 use Rattle.store.specs.declared.job.StartFault.{StartFault}
 use Rattle.store.specs.declared.job.StartFault.TheVariants as fault
 use Rattle.log_store.specs.Jobs as log_jobs
 use Rattle.log_store.specs.Values.{LogStoreValue}
-use Rattle.log_store.specs.declared.job.JobDid as log_steps
-use Rattle.log_store.specs.declared.job.JobDid.TheVariants as log_did
 use Rattle.log_store.specs.declared.job.StartFault as log_starts
 use Rattle.log_store.specs.declared.job.StartFault.TheVariants as log_fault
+use Rattle.any_store.specs.declared.steps.JobDid.{JobDid}
+use Rattle.any_store.specs.Steps.{PumpsSlotsJob, PumpsLogJob}
 use Rattle.any_store.specs.Values.{StoreValue, ByEngine}
 
 -- why no job begins in a store of a profile that has none of its kind
@@ -61,24 +58,6 @@ StartsFloor old scope floor answer new = ByEngine (λ s s'. raises.StartsFloor s
 abbrev pub StartsGrowth : StoreValue → Result (Unit {0}) StartFault → StoreValue → Type 0
 StartsGrowth old answer new = ByEngine (λ s s'. growths.StartsGrowth s answer s') (BeginsNone fault.NotGrowable answer) old new
 
--- what a step of a job did where the log lies in the heap: its entry is a chain of one extent, and is written as a group's chain is
-abbrev pub told_did : log_steps.JobDid → JobDid
-told_did log_did.Idle = did.Idle
-told_did log_did.WroteEntry = did.WroteExtent
-told_did log_did.GateClosed = did.BodyWritten
-told_did log_did.HeapSynced = did.BodySynced
-told_did log_did.GateWritten = did.GateWritten
-told_did log_did.JobDone = did.JobDone
-
-abbrev pub told_step : Result log_steps.JobDid PumpFault → Result JobDid PumpFault
-told_step (Ok what) = Ok (told_did what)
-told_step (Err why) = Err why
-
--- a step of a job there
-abbrev pub PumpsLogJob : Bool → Result JobDid PumpFault → LogStoreValue → LogStoreValue → Type 0
-PumpsLogJob tells answer old new =
-    (said : Result log_steps.JobDid PumpFault) × log_jobs.PumpsJob tells old said new × (answer ≡ told_step said)
-
 -- a step of the job that runs
 abbrev pub PumpsJob : Bool → StoreValue → Result JobDid PumpFault → StoreValue → Type 0
-PumpsJob tells old answer new = ByEngine (λ s s'. jobs.PumpsJob tells s answer s') (PumpsLogJob tells answer) old new
+PumpsJob tells old answer new = ByEngine (PumpsSlotsJob tells answer) (PumpsLogJob tells answer) old new

@@ -1,4 +1,5 @@
 pub mod Values
+pub mod Steps
 pub mod Calls
 pub mod Queries
 pub mod Jobs

@@ -6,9 +6,10 @@ ghost use Rattle.any_store.specs.Places.{log_area};
 ghost use Rattle.any_store.specs.Calls.{last, floors, has_own_floors, Begins, Aborts, Submits, Redeems, Pumps, IsTimesOf};
 
 use crate::engine::Engine;
+use crate::steps::{Did, pump_log, pump_slots};
 use disk::{Area, Disk};
 use floors::Floors;
-use group::{BeginFault, Did, PumpFault, Redeemed, SubmitFault, Submitted, Ticket};
+use group::{BeginFault, PumpFault, Redeemed, SubmitFault, Submitted, Ticket};
 use log_store::LogStore;
 use snapshot::Txn;
 use std::alloc::AllocError;
@@ -130,8 +131,8 @@ impl<D: Disk> Store<D> {
         ensures sound { IsTrue D.tells → AreSound (disk_of self.new).areas }
     {
         match &mut self.engine {
-            Engine::Slots(store) => store.pump(),
-            Engine::Log(store) => store.pump(),
+            Engine::Slots(store) => pump_slots(store),
+            Engine::Log(store) => pump_log(store),
         }
     }
 

@@ -3,14 +3,15 @@ ghost use Rattle.std.specs.Prelude.{◌≡◌, IsTrue, None, Some};
 ghost use Rattle.disk.specs.Areas.{AreSound};
 ghost use Rattle.any_store.specs.Values.{disk_of};
 ghost use Rattle.any_store.specs.Jobs.{none_of, StartsArchive, StartsReclaim, StartsFloor, StartsGrowth, PumpsJob};
-ghost use Rattle.any_store.specs.Jobs.{told_fault, told_start, told_did, told_step, StartsLogFloor, PumpsLogJob};
+ghost use Rattle.any_store.specs.Jobs.{told_fault, told_start, StartsLogFloor};
 
 use crate::any::Store;
 use crate::engine::Engine;
+use crate::steps::{JobDid, pump_log_job, pump_slots_job};
 use disk::Disk;
 use group::PumpFault;
-use log_store::{JobDid as LogJobDid, LogStore, StartFault as LogStartFault};
-use store::{JobDid, StartFault};
+use log_store::{LogStore, StartFault as LogStartFault};
+use store::StartFault;
 
 impl<D: Disk> Store<D> {
     /// Begins an archive of the versions that ended by `upto`, in microseconds since 1970. No device call is made.
@@ -73,7 +74,7 @@ impl<D: Disk> Store<D> {
         ensures sound { IsTrue D.tells → AreSound (disk_of self.new).areas }
     {
         match &mut self.engine {
-            Engine::Slots(store) => store.job_pump(),
+            Engine::Slots(store) => pump_slots_job(store),
             Engine::Log(store) => pump_log_job(store),
         }
     }
@@ -121,34 +122,4 @@ fn start_log_floor<D: Disk>(
     ensures { StartsLogFloor scope floor result store.old store.new }
 {
     told_start(store.start_floor(scope, floor))
-}
-
-// What a step of a job did. Its entry is a chain of one extent, and is written as a group's chain is.
-fn told_did(what: LogJobDid) -> JobDid
-    ensures { result ≡ told_did what }
-{
-    match what {
-        LogJobDid::Idle => JobDid::Idle,
-        LogJobDid::WroteEntry => JobDid::WroteExtent,
-        LogJobDid::GateClosed => JobDid::BodyWritten,
-        LogJobDid::HeapSynced => JobDid::BodySynced,
-        LogJobDid::GateWritten => JobDid::GateWritten,
-        LogJobDid::JobDone => JobDid::JobDone,
-    }
-}
-
-fn told_step(said: Result<LogJobDid, PumpFault>) -> Result<JobDid, PumpFault>
-    ensures { result ≡ told_step said }
-{
-    match said {
-        Ok(what) => Ok(told_did(what)),
-        Err(why) => Err(why),
-    }
-}
-
-fn pump_log_job<D: Disk>(store: &mut LogStore<D>) -> Result<JobDid, PumpFault>
-    ensures is { PumpsLogJob D.tells result store.old store.new }
-    ensures sound { IsTrue D.tells → AreSound store.new.disk.areas }
-{
-    told_step(store.job_pump())
 }

@@ -8,11 +8,13 @@ mod jobs;
 mod opening;
 mod over;
 mod queries;
+mod steps;
 
 pub use any::Store;
 pub use engine::Engine;
 pub use formatting::{Layout, format};
+pub use steps::{Did, JobDid};
 pub use store::{
-    BeginFault, Did, FormatFault, JobDid, OpenFault, Profile, PumpFault, QueryFault, Redeemed,
+    BeginFault, FormatFault, OpenFault, Profile, PumpFault, QueryFault, Redeemed,
     RowWalk, SharedValue, StartFault, SubmitFault, Submitted, Ticket, Txn, TxnFault, View,
 };

@@ -40,8 +40,8 @@ use Rattle.log_store.specs.declared.job.JobStage.TheVariants.{Ready, Entering}
 use Rattle.log_store.specs.declared.job.JobWork.{JobWork}
 use Rattle.log_store.specs.declared.job.JobWork.TheVariants.{Floor}
 use Rattle.log_store.specs.declared.job.StartFault.{StartFault}
-use Rattle.group.specs.declared.answers.Did.{Did}
-use Rattle.group.specs.declared.answers.Did.TheVariants as did
+use Rattle.log_store.specs.declared.pump.Did.{Did}
+use Rattle.log_store.specs.declared.pump.Did.TheVariants as did
 use Rattle.law_refinement.specs.Homes.{AreArchived}
 use Rattle.law_refinement.proofs.RunsKept.{IsLater, archived-later, last-rises, heap-written, heap-synced, up_to-is}
 use Rattle.law_log_store.proofs.Calls.{AreNamesAlone}

@@ -23,7 +23,7 @@ use Rattle.log_store.specs.Jobs.{StartsFloor, PumpsJob}
 use Rattle.log_store.specs.declared.job.JobDid.{JobDid}
 use Rattle.log_store.specs.declared.job.StartFault.{StartFault}
 use Rattle.log_store.specs.Queries.{AnswersAtView, AnswersScanAt, AnswersRows, AnswersScanRows}
-use Rattle.group.specs.declared.answers.Did.{Did}
+use Rattle.log_store.specs.declared.pump.Did.{Did}
 
 -- a call that changes the store, whatever its answer
 pub data IsCall (tells : Bool) (old new : LogStoreValue) : Type 0 where

@@ -30,8 +30,8 @@ use Rattle.log_store.specs.Values as stores
 use Rattle.log_store.specs.Pumps.{Pumps, TakesStep, bars_at, bars_groups, BeginsOrWaits, Begins, BeginsGroup, AdvancesGroup, Advances, after_call, at_next}
 use Rattle.log_store.specs.Pumps.{with_failure, did_of, group_size}
 use Rattle.log_store.specs.Pumps.{group_content}
-use Rattle.group.specs.declared.answers.Did.{Did}
-use Rattle.group.specs.declared.answers.Did.TheVariants as did
+use Rattle.log_store.specs.declared.pump.Did.{Did}
+use Rattle.log_store.specs.declared.pump.Did.TheVariants as did
 use Rattle.law_commits.specs.Standing.{StandsInMemory}
 use Rattle.law_commits.specs.Laws.{with_published}
 use Rattle.law_commits.proofs.Publishing.{publishes, breaks}
@@ -43,8 +43,8 @@ use Rattle.law_log_store.proofs.Beginning.{grouped-is}
 use Rattle.law_log_store.proofs.Pumping.{pump-steps, failed-rests}
 use Rattle.law_log_store.proofs.Submitting.{group-within}
 use Rattle.law_log_steps.specs.Store.{HaveMark, AreFresh, gate_at, gate_on, gate_by, gate_of, gate_behind, gate_left, raising_of, HasAllMade, IsStoreOf}
-use Rattle.law_refinement.specs.Laws.{begins_in, ends_in, breaks_in}
-use Rattle.law_log_steps.specs.Laws.{events_in, Runs}
+use Rattle.law_refinement.specs.Laws.{begins_in, breaks_in}
+use Rattle.law_log_steps.specs.Laws.{group_ends, events_in, Runs}
 
 -- ---- marks
 
@@ -188,7 +188,7 @@ record Failing (m : Machine Value) (events : List (Event Value)) (new : LogStore
   gate_is : gate ≡ gate_left new.turn new.job
 
 abbrev GoesBy : Result Did PumpFault → Machine Value → LogStoreValue → Type 0
-GoesBy (Ok what) m new = Gone m (ends_in m.gate (Ok what)) (count_in what) new
+GoesBy (Ok what) m new = Gone m (group_ends what) (count_in what) new
 GoesBy (Err why) m new = Failing m (breaks_in m.gate) new
 
 -- a call of the group's chain
@@ -201,9 +201,9 @@ module _ (tells : Bool) (w : WriterState) (old new : LogStoreValue) (m : Machine
   stays : (next : Gate) → (mid : Machine Value) → mid ≡ gated m next → record (with_published 0 m) { gate = next } ≡ mid
   stays next mid is = ap (λ (h : History Value). record m { published = h; gate = next }) (append-nil m.published) ∙ sym is
 
-  call-goes : (what : Did) → Advances tells w old (Ok what) new → Gone m (ends_in m.gate (Ok what)) (count_in what) new
+  call-goes : (what : Did) → Advances tells w old (Ok what) new → Gone m (group_ends what) (count_in what) new
   call-goes what advances =
-      subst (λ (d : Did). Gone m (ends_in m.gate (Ok d)) (count_in d) new) (sym advances.answer.0) (by-stage w.stage refl on advances.answer.1)
+      subst (λ (d : Did). Gone m (group_ends d) (count_in d) new) (sym advances.answer.0) (by-stage w.stage refl on advances.answer.1)
     where
       next-turn : (k : Stage) → w.stage ≡ k → new ≡ record (at_next old w) { disk = new.disk } → gate_at OfGroup (stage_after k)
           ≡ gate_of new.turn new.job
@@ -211,7 +211,7 @@ module _ (tells : Bool) (w : WriterState) (old new : LogStoreValue) (m : Machine
           ap (λ (j : Stage). gate_at OfGroup (stage_after j)) (sym same) ∙ ap (λ (v : LogStoreValue). gate_of v.turn v.job) (sym next)
 
       by-stage : (k : Stage) → w.stage ≡ k → IsOnItsWay k → new ≡ record (after_call old w k) { disk = new.disk }
-          → Gone m (ends_in m.gate (Ok (did_of (writers.did k) old.commits.group))) (count_in (did_of (writers.did k) old.commits.group)) new
+          → Gone m (group_ends (did_of (writers.did k) old.commits.group)) (count_in (did_of (writers.did k) old.commits.group)) new
       by-stage (Writing d []) same call next = record {
         group = m.group;
         gate = m.gate;
@@ -298,7 +298,7 @@ module _ (tells : Bool) (w : WriterState) (old new : LogStoreValue) (m : Machine
 
 -- what memory has after a step, and how the machine went, by the answer
 abbrev StepBy : Result Did PumpFault → LogStoreValue → LogStoreValue → Machine Value → Type 0
-StepBy (Ok what) old new m = IsMemoryOf new.commits (with_published (count_in what) m) × Gone m (begins_in m ++ ends_in m.gate (Ok what)) (count_in what) new
+StepBy (Ok what) old new m = IsMemoryOf new.commits (with_published (count_in what) m) × Gone m (begins_in m ++ group_ends what) (count_in what) new
 StepBy (Err pump.Busy) old new m = new ≡ old
 StepBy (Err pump.NoMemory) old new m = new ≡ old
 StepBy (Err pump.Failed) old new m = IsMemoryOf new.commits (steps.broken m) × Failing m (begins_in m ++ breaks_in m.gate) new
@@ -307,7 +307,7 @@ StepBy (Err pump.Failed) old new m = IsMemoryOf new.commits (steps.broken m) × 
 as-standing : (answer : Result Did PumpFault) (old new : LogStoreValue) (m : Machine Value) → begins_in m ≡ [] → MemoryBy answer new.commits m
     → GoesBy answer m new → StepBy answer old new m
 as-standing (Ok what) old new m none memory goes =
-    (memory, subst (λ (es : List (Event Value)). Gone m (es ++ ends_in m.gate (Ok what)) (count_in what) new) (sym none) goes)
+    (memory, subst (λ (es : List (Event Value)). Gone m (es ++ group_ends what) (count_in what) new) (sym none) goes)
 as-standing (Err pump.Busy) old new m none memory goes = absurd (let no : pump.Busy ≡ pump.Failed = memory.0 in cc)
 as-standing (Err pump.NoMemory) old new m none memory goes = absurd (let no : pump.NoMemory ≡ pump.Failed = memory.0 in cc)
 as-standing (Err pump.Failed) old new m none memory goes =
@@ -318,7 +318,7 @@ as-begun : (answer : Result Did PumpFault) (old new : LogStoreValue) (m : Machin
     → MemoryBy answer new.commits m → GoesBy answer (grouped m) new → StepBy answer old new m
 as-begun (Ok what) old new m began step memory goes = (
   memory,
-  subst (λ (es : List (Event Value)). Gone m (es ++ ends_in m.gate (Ok what)) (count_in what) new) (sym began) (record {
+  subst (λ (es : List (Event Value)). Gone m (es ++ group_ends what) (count_in what) new) (sym began) (record {
     group = goes.group;
     gate = goes.gate;
     run = (grouped m, step, goes.run);
@@ -520,7 +520,7 @@ module _ (tells : Bool) (old new : LogStoreValue) (answer : Result Did PumpFault
           run = gone.run;
           stands = record {
             memory = gated-memory new.commits (with_published (count_in what) m) gone.group gone.gate memory.stands;
-            machine = run-machine IsValue m after (begins_in m ++ ends_in m.gate (Ok what)) is.machine gone.run;
+            machine = run-machine IsValue m after (begins_in m ++ group_ends what) is.machine gone.run;
             writing = record {
               most = is.writing.most;
               group = gone.group_is;

@@ -7,7 +7,7 @@ use Rattle.history.specs.Machine.{Machine, Gate, Shut, Due, MayBeOpen, OfGroup, 
 use Rattle.history.specs.Answers as answers
 use Rattle.history.specs.Floors.{Raising}
 use Rattle.history.specs.FloorStarts as floors
-use Rattle.history.specs.Steps.{Event, Step, Run, Began, BeginRefused, Aborted, FloorStarted, FloorRefused, FloorPublished, GateDue, GateWritten, begun}
+use Rattle.history.specs.Steps.{Event, Step, Run, Began, BeginRefused, Aborted, FloorStarted, FloorRefused, FloorPublished, GateDue, GateWritten, Published, begun}
 use Rattle.history.specs.Steps.{floor_started}
 use Rattle.history.specs.Steps as steps
 use Rattle.disk.specs.Areas.{Image, AreSound, LeavesImage, image_of, settled_on}
@@ -37,13 +37,14 @@ use Rattle.log_store.specs.declared.job.StartFault.TheVariants as start
 use Rattle.log_store.specs.Opens.{Opens, OpenRefuses}
 use Rattle.recovery.specs.declared.fault.OpenFault.{OpenFault}
 use Rattle.law_log_opening.specs.Laws.{SaysNothing}
-use Rattle.group.specs.declared.answers.Did.{Did}
+use Rattle.log_store.specs.declared.pump.Did.{Did}
+use Rattle.log_store.specs.declared.pump.Did.TheVariants as did
 use Rattle.log_recovery.specs.Opening.{ReadsRoots}
 use Rattle.log_roots.specs.declared.roots.Roots.{Roots}
 use Rattle.log_roots.specs.Roots.{root_of}
 use Rattle.law_log_layout.specs.HeapLog.{HeapLog, IsLogOf, HoldsLog}
 use Rattle.law_refinement.specs.Calls.{raising_to}
-use Rattle.law_refinement.specs.Laws.{submission_of, event_of, RedeemsAs, begins_in, ends_in, breaks_in, job_breaks_in}
+use Rattle.law_refinement.specs.Laws.{submission_of, event_of, RedeemsAs, begins_in, breaks_in, job_breaks_in}
 use Rattle.law_commits.specs.Standing.{StandsInMemory}
 use Rattle.law_log_store.specs.Calls.{IsFront}
 use Rattle.law_log_store.specs.Opened.{IsOpenedOn}
@@ -130,9 +131,18 @@ SubmitStands =
 
 -- ---- steps of a group
 
--- The machine's events in a step, by its answer: those of the other profiles. Without memory, and of a machine that has failed, there are none.
+-- the machine's events in such a step, but that a group begins
+abbrev pub group_ends : Did → List (Event Value)
+group_ends did.Idle = []
+group_ends did.WroteExtent = []
+group_ends did.GateClosed = []
+group_ends did.HeapSynced = GateDue OfGroup ∷ []
+group_ends did.GateWritten = GateWritten OfGroup ∷ []
+group_ends (did.Published count) = Published count ∷ []
+
+-- The machine's events in a step, by its answer. Where it waits or there is no memory, and of a machine that has failed, there are none.
 abbrev pub events_in : Machine Value → Result Did PumpFault → List (Event Value)
-events_in m (Ok what) = begins_in m ++ ends_in m.gate (Ok what)
+events_in m (Ok what) = begins_in m ++ group_ends what
 events_in m (Err pump.Busy) = []
 events_in m (Err pump.NoMemory) = []
 events_in m (Err pump.Failed) = if m.failed then [] else begins_in m ++ breaks_in m.gate

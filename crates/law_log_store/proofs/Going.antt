@@ -43,7 +43,7 @@ use Rattle.log_store.specs.declared.job.JobStage.TheVariants.{Ready, Entering}
 use Rattle.log_store.specs.declared.job.JobWork.{JobWork}
 use Rattle.log_store.specs.declared.job.JobWork.TheVariants.{Floor}
 use Rattle.log_store.specs.Pumps.{Advances, at_next, after_call, with_published, with_failure, did_of, disk_answer}
-use Rattle.group.specs.declared.answers.Did.{Did}
+use Rattle.log_store.specs.declared.pump.Did.{Did}
 use Rattle.law_log_store.specs.Standing.{StandsOnHeap, HasTurn, HasJob, HasStage, IsAtRest, IsEntering, IsOnWay, HasAnchors, KeepsRoots, IsImageOf}
 use Rattle.law_log_store.specs.Standing.{MayStand, MayStandAt, MayStandOn, MayStandBy, StopsOnHeap, MayEnter, MayAllEnter, placed_entry, floors_with}
 use Rattle.law_log_store.specs.Standing.{reading_with}

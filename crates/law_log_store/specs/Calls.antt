@@ -23,15 +23,20 @@ use Rattle.log_store.specs.declared.job.JobDid.{JobDid}
 use Rattle.log_store.specs.declared.job.JobWork.{JobWork}
 use Rattle.log_store.specs.declared.job.JobDid.TheVariants as job_did
 use Rattle.log_room.specs.Rooms.{has_entry_room}
-use Rattle.group.specs.declared.answers.Did.{Did}
-use Rattle.law_refinement.specs.Leaving as leaving
+use Rattle.log_store.specs.declared.pump.Did.{Did}
+use Rattle.log_store.specs.declared.pump.Did.TheVariants as did
 use Rattle.law_log_store.specs.Standing.{StandsOnHeap, IsImageOf, StopsOnHeap, floors_with}
 
 -- ---- steps of a group
 
 -- how many commits a step published
 abbrev pub count_in : Did → ℕ
-count_in what = leaving.count_in (Ok what)
+count_in did.Idle = 0
+count_in did.WroteExtent = 0
+count_in did.GateClosed = 0
+count_in did.HeapSynced = 0
+count_in did.GateWritten = 0
+count_in (did.Published count) = count
 
 -- A store whose call was refused has failed, and what a stop may leave stands for what is published, or for that with the group.
 pub record HasFailed (v : LogStoreValue) (h queue : History Value) (floors : ℕ → ℕ) : Type 0 where

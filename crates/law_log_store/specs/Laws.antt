@@ -8,7 +8,7 @@ use Rattle.log_writer.specs.Writer.{WriterState, turn}
 use Rattle.log_store.specs.Values.{LogStoreValue, IsInStep}
 use Rattle.log_store.specs.Pumps.{Advances, Begins, bars_groups}
 use Rattle.log_store.specs.Submits.{has_room, with_queued}
-use Rattle.group.specs.declared.answers.Did.{Did}
+use Rattle.log_store.specs.declared.pump.Did.{Did}
 use Rattle.history.specs.declared.key.Key.{Key}
 use Rattle.history.specs.declared.key.KeyWrite.{KeyWrite}
 use Rattle.history.specs.Histories.{History, MayFollow, MayAllFollow}

@@ -18,8 +18,8 @@ use Rattle.log_store.specs.declared.job.Job.{Job}
 use Rattle.log_store.specs.declared.job.JobStage.{JobStage}
 use Rattle.log_store.specs.declared.job.JobStage.TheVariants.{Ready, Entering}
 use Rattle.log_store.specs.Values.{LogStoreValue}
-use Rattle.group.specs.declared.answers.Did.{Did}
-use Rattle.group.specs.declared.answers.Did.TheVariants as did
+use Rattle.log_store.specs.declared.pump.Did.{Did}
+use Rattle.log_store.specs.declared.pump.Did.TheVariants as did
 
 -- how many commits the next group has
 abbrev pub group_size : LogStoreValue → ℕ
@@ -50,8 +50,8 @@ pub record Begins (old new : LogStoreValue) : Type 0 where
 -- what a call of a chain did
 abbrev pub did_of : Wrote → ℕ → Did
 did_of wrote.Extent group = did.WroteExtent
-did_of wrote.ClosedGate group = did.BodyWritten
-did_of wrote.Synced group = did.BodySynced
+did_of wrote.ClosedGate group = did.GateClosed
+did_of wrote.Synced group = did.HeapSynced
 did_of wrote.Gate group = did.GateWritten
 did_of wrote.Settled group = did.Published group
 

@@ -15,7 +15,7 @@ mod store;
 mod submit;
 
 pub use formatting::{format, has_log_header};
-pub use group::Did;
 pub use job::{Job, JobDid, JobStage, JobWork, StartFault};
 pub use log_roots::PROFILE;
+pub use pump::Did;
 pub use store::LogStore;

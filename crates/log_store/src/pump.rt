@@ -7,11 +7,27 @@ use crate::job::JobStage;
 use crate::store::LogStore;
 use commits::MOST_IN_GROUP;
 use disk::{DeviceFault, Disk};
-use group::{Did, PumpFault};
+use group::PumpFault;
 use log_extents::count_extents;
 use log_room::{drop_first, join};
 use log_writer::{ChainWriter, Wrote};
 use std::alloc::AllocError;
+
+/// What a step of a group did.
+#[derive(Clone, Copy, Debug, PartialEq, Eq)]
+pub enum Did {
+    /// No group is in the writing, and no commit waits.
+    Idle,
+    /// The next extent of the group's chain is written, the first one but for its gate.
+    WroteExtent,
+    /// The gate where the log will end is closed.
+    GateClosed,
+    HeapSynced,
+    /// The gate of the chain is open.
+    GateWritten,
+    /// That many commits are published.
+    Published(u32),
+}
 
 // What a call of a group's chain did.
 fn did_of(what: Wrote, group: u32) -> Did
@@ -19,8 +35,8 @@ fn did_of(what: Wrote, group: u32) -> Did
 {
     match what {
         Wrote::Extent => Did::WroteExtent,
-        Wrote::ClosedGate => Did::BodyWritten,
-        Wrote::Synced => Did::BodySynced,
+        Wrote::ClosedGate => Did::GateClosed,
+        Wrote::Synced => Did::HeapSynced,
         Wrote::Gate => Did::GateWritten,
         Wrote::Settled => Did::Published(group),
     }

@@ -184,8 +184,8 @@ fn a_dump_shows_how_long_a_chain_is(rt: HostRuntime) -> Result<(), Fail> {
         &[
             Did::WroteExtent,
             Did::WroteExtent,
-            Did::BodyWritten,
-            Did::BodySynced,
+            Did::GateClosed,
+            Did::HeapSynced,
             Did::GateWritten,
             Did::Published(1),
         ],

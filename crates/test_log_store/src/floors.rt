@@ -145,8 +145,8 @@ fn an_entry_and_a_group_wait_for_each_other(rt: HostRuntime) -> Result<(), Fail>
     assert!(rt; store.start_floor(Some(1), 100) == Ok(()));
     assert!(rt; store.job_pump() == Err(PumpFault::Busy));
     queue(&rt, rt.alloc(), &mut store, &[7], &[b"c"], 3).give_up();
-    assert!(rt; store.pump() == Ok(Did::BodyWritten));
-    assert!(rt; store.pump() == Ok(Did::BodySynced));
+    assert!(rt; store.pump() == Ok(Did::GateClosed));
+    assert!(rt; store.pump() == Ok(Did::HeapSynced));
     assert!(rt; store.pump() == Ok(Did::GateWritten));
     assert!(rt; store.pump() == Ok(Did::Published(1)));
     assert!(rt; store.pump() == Err(PumpFault::Busy));

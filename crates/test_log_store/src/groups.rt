@@ -56,8 +56,8 @@ fn seventeen_commits_share_an_extent(rt: HostRuntime) -> Result<(), Fail> {
         &mut store,
         &[
             Did::WroteExtent,
-            Did::BodyWritten,
-            Did::BodySynced,
+            Did::GateClosed,
+            Did::HeapSynced,
             Did::GateWritten,
             Did::Published(17),
         ],
@@ -132,8 +132,8 @@ fn a_record_runs_on_into_the_next_extent(rt: HostRuntime) -> Result<(), Fail> {
         &[
             Did::WroteExtent,
             Did::WroteExtent,
-            Did::BodyWritten,
-            Did::BodySynced,
+            Did::GateClosed,
+            Did::HeapSynced,
             Did::GateWritten,
             Did::Published(1),
         ],

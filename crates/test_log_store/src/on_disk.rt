@@ -9,8 +9,8 @@ use std::process::Abort;
 /// The steps of a group of one commit in one extent.
 pub const ONE_EXTENT: &[Did] = &[
     Did::WroteExtent,
-    Did::BodyWritten,
-    Did::BodySynced,
+    Did::GateClosed,
+    Did::HeapSynced,
     Did::GateWritten,
     Did::Published(1),
 ];

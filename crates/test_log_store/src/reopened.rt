@@ -155,8 +155,8 @@ fn a_group_closes_the_stale_gate_behind_it(rt: HostRuntime) -> Result<(), Fail> 
     assert!(rt; ticket.time() == 131);
     ticket.give_up();
     assert!(rt; store.pump() == Ok(Did::WroteExtent));
-    assert!(rt; store.pump() == Ok(Did::BodyWritten));
-    assert!(rt; store.pump() == Ok(Did::BodySynced));
+    assert!(rt; store.pump() == Ok(Did::GateClosed));
+    assert!(rt; store.pump() == Ok(Did::HeapSynced));
     let mut disk = store.close();
     assert!(rt; has_bytes(&mut disk, Area::Heap, 0, b"\0"));
     assert!(rt; has_bytes(&mut disk, Area::Heap, 40_960, b"\0\0\0\0\x06"));

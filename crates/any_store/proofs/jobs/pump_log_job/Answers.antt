@@ -1,4 +1,0 @@
-use Rattle.any_store.proofs.jobs.pump_log_job.Goals as goal
-
-pub returns-clause-is : goal.returns-clause-is
-returns-clause-is g c = (c.job_pump.result, c.job_pump.ensures.is, c.told_step.ensures)

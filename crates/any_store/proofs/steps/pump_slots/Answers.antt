@@ -1,0 +1,4 @@
+use Rattle.any_store.proofs.steps.pump_slots.Goals as goal
+
+pub returns-clause-is : goal.returns-clause-is
+returns-clause-is g c = (c.pump.result, c.pump.ensures.is, c.slots_step.ensures)

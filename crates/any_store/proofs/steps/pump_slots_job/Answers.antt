@@ -1,0 +1,4 @@
+use Rattle.any_store.proofs.steps.pump_slots_job.Goals as goal
+
+pub returns-clause-is : goal.returns-clause-is
+returns-clause-is g c = (c.job_pump.result, c.job_pump.ensures.is, c.slots_job_step.ensures)
