@@ -1,32 +1,36 @@
 -- The calls of a store that stands for a state of the machine: each is one of its steps, with its answer, and the store stands for the state after it.
-use Rattle.std.specs.Prelude.{ℕ, ◌≡◌, ◌<◌, ◌^◌, true, false, Bool, IsTrue, List, [], ◌++◌, Option, Result, Ok, Err, IsSome, MatchBool}
+use Rattle.std.specs.Prelude.{ℕ, ◌≡◌, ◌<◌, ◌^◌, true, false, Bool, IsTrue, List, [], ◌∷◌, ◌++◌, Option, None, Some, Result, Ok, Err, IsSome, MatchBool}
+use Rattle.std.specs.Prelude.{if◌then◌else◌}
 use Rattle.disk.specs.Areas.{AreSound}
 use Rattle.history.specs.Answers as answers
 use Rattle.history.specs.Floors.{Raising}
 use Rattle.history.specs.FloorStarts as floors
-use Rattle.history.specs.Machine.{Machine}
-use Rattle.history.specs.Steps.{Event, Step, Run, Began, BeginRefused, Aborted, FloorStarted, FloorRefused, begun, floor_started}
+use Rattle.history.specs.Machine.{Machine, OfGroup, OfFloor}
+use Rattle.history.specs.Steps.{Event, Step, Run, Began, BeginRefused, Aborted, GateDue, GateWritten, Published, begun}
+use Rattle.history.specs.Steps.{FloorStarted, FloorRefused, FloorPublished, floor_started}
 use Rattle.history.specs.Steps as steps
 use Rattle.law_image.specs.Values.{Value, IsValue}
 use Rattle.snapshot.specs.Txn.{TxnValue, AreTxnWrites}
 use Rattle.group.specs.Tickets.{TicketValue}
 use Rattle.group.specs.declared.answers.BeginFault.{BeginFault}
 use Rattle.group.specs.declared.answers.BeginFault.TheVariants as fault
-use Rattle.group.specs.declared.answers.Did.{Did}
 use Rattle.group.specs.declared.answers.PumpFault.{PumpFault}
 use Rattle.group.specs.declared.answers.PumpFault.TheVariants as pump
 use Rattle.group.specs.declared.answers.Redeemed.{Redeemed}
 use Rattle.group.specs.declared.answers.Submitted.{Submitted}
 use Rattle.group.specs.declared.answers.SubmitFault.{SubmitFault}
-use Rattle.store.specs.declared.job.JobDid.{JobDid}
 use Rattle.store.specs.declared.job.StartFault.{StartFault}
 use Rattle.store.specs.declared.job.StartFault.TheVariants as start
 use Rattle.commits.specs.Values.{is_own}
+use Rattle.any_store.specs.declared.steps.Did.{Did}
+use Rattle.any_store.specs.declared.steps.Did.TheVariants as did
+use Rattle.any_store.specs.declared.steps.JobDid.{JobDid}
+use Rattle.any_store.specs.declared.steps.JobDid.TheVariants as job
 use Rattle.any_store.specs.Values.{StoreValue, is_log, commits_of, disk_of}
 use Rattle.any_store.specs.Calls as stores
 use Rattle.any_store.specs.Jobs.{StartsArchive, StartsReclaim, StartsFloor, StartsGrowth, PumpsJob}
 use Rattle.law_refinement.specs.Calls.{raising_to}
-use Rattle.law_refinement.specs.Laws.{submission_of, event_of, RedeemsAs, begins_in, ends_in, job_ends_in}
+use Rattle.law_refinement.specs.Laws.{submission_of, event_of, RedeemsAs, begins_in, breaks_in, job_breaks_in}
 use Rattle.law_any_store.specs.Standing.{Stands}
 
 -- what a begin leads to, by its answer
@@ -57,17 +61,28 @@ SubmitStands =
     → AreTxnWrites txn.state txn.snapshot txn.writes → label < 2 ^ 64 → stores.Submits old txn label now answer new
     → MatchBool (is_own (commits_of old) txn) (Goes tells m (event_of m (submission_of txn label now) answer) new) (Stands tells new m)
 
--- the machine's events in a step of a group, where the log lies in the heap: a step that is put off begins none
-abbrev pub pumped_by_log : Machine Value → Result Did PumpFault → List (Event Value)
-pumped_by_log m (Ok what) = begins_in m ++ ends_in m.gate (Ok what)
-pumped_by_log m (Err pump.Busy) = []
-pumped_by_log m (Err pump.NoMemory) = []
-pumped_by_log m (Err pump.Failed) = begins_in m ++ ends_in m.gate (Err pump.Failed)
+-- The machine's events in a step of a group that did so much, but that one begins. Where the log lies in the heap the gate is due behind the heap's sync, and
+-- where it is slots behind that of the slot.
+abbrev pub group_ends : Bool → Did → List (Event Value)
+group_ends in_heap did.Idle = []
+group_ends in_heap did.WroteExtent = []
+group_ends in_heap did.GateClosed = []
+group_ends in_heap did.HeapSynced = if in_heap then GateDue OfGroup ∷ [] else []
+group_ends in_heap did.BodyWritten = []
+group_ends in_heap did.BodySynced = GateDue OfGroup ∷ []
+group_ends in_heap did.GateWritten = GateWritten OfGroup ∷ []
+group_ends in_heap (did.Published count) = Published count ∷ []
 
--- and in either layout, by whether the log lies in the heap
+-- and in one that is refused: where the log lies in the heap a step that is put off begins no group
+abbrev pub refused_in : Bool → Machine Value → PumpFault → List (Event Value)
+refused_in in_heap m pump.Busy = if in_heap then [] else begins_in m
+refused_in in_heap m pump.NoMemory = if in_heap then [] else begins_in m
+refused_in in_heap m pump.Failed = begins_in m ++ breaks_in m.gate
+
+-- by its answer, and by whether the log lies in the heap
 abbrev pub pumped_in : Bool → Machine Value → Result Did PumpFault → List (Event Value)
-pumped_in false m answer = begins_in m ++ ends_in m.gate answer
-pumped_in true m answer = pumped_by_log m answer
+pumped_in in_heap m (Ok what) = begins_in m ++ group_ends in_heap what
+pumped_in in_heap m (Err why) = refused_in in_heap m why
 
 -- the machine runs by these events to one that the store stands for
 pub record RunsTo (tells : Bool) (m : Machine Value) (events : List (Event Value)) (new : StoreValue) : Type 0 where
@@ -128,10 +143,37 @@ abbrev pub GrowStartStands : Type 0
 GrowStartStands = (tells : Bool) (old new : StoreValue) (answer : Result (Unit {0}) StartFault) (m : Machine Value) → Stands tells old m
     → StartsGrowth old answer new → Stands tells new m
 
--- Of a job's steps a floor's alone are the machine's: its gate is due, is written, and the floor is raised. Where the device refuses one the machine has
--- failed.
+-- the machine's events in a step of a job that raises a floor: its gate is due, is written, and the floor is raised
+abbrev pub floor_ends_in : Bool → JobDid → Raising → List (Event Value)
+floor_ends_in in_heap job.Idle r = []
+floor_ends_in in_heap job.WroteRun r = []
+floor_ends_in in_heap job.RunSynced r = []
+floor_ends_in in_heap job.WroteExtent r = []
+floor_ends_in in_heap job.HeapSynced r = if in_heap then GateDue OfFloor ∷ [] else []
+floor_ends_in in_heap job.WroteZeros r = []
+floor_ends_in in_heap job.ZerosSynced r = []
+floor_ends_in in_heap job.BodyWritten r = []
+floor_ends_in in_heap job.BodySynced r = GateDue OfFloor ∷ []
+floor_ends_in in_heap job.WroteEntry r = []
+floor_ends_in in_heap job.GateClosed r = []
+floor_ends_in in_heap job.GateWritten r = GateWritten OfFloor ∷ []
+floor_ends_in in_heap job.JobDone r = FloorPublished r ∷ []
+
+-- in a step of any job, if it raises one
+abbrev pub floor_ends : Bool → JobDid → Option Raising → List (Event Value)
+floor_ends in_heap what None = []
+floor_ends in_heap what (Some r) = floor_ends_in in_heap what r
+
+-- by its answer
+abbrev pub job_ends_in : Bool → Machine Value → Result JobDid PumpFault → List (Event Value)
+job_ends_in in_heap m (Ok what) = floor_ends in_heap what m.raising
+job_ends_in in_heap m (Err pump.Busy) = []
+job_ends_in in_heap m (Err pump.NoMemory) = []
+job_ends_in in_heap m (Err pump.Failed) = job_breaks_in m.gate
+
+-- Of a job's steps a floor's alone are the machine's. Where the device refuses one the machine has failed.
 abbrev pub JobPumpStands : Type 0
 JobPumpStands =
     (tells : Bool) (old new : StoreValue) (answer : Result JobDid PumpFault) (m : Machine Value) → Stands tells old m
     → (IsTrue tells → AreSound (disk_of new).areas) → PumpsJob tells old answer new
-    → MatchBool m.failed ((answer ≡ Err pump.Failed) × Stands tells new m) (RunsTo tells m (job_ends_in m answer) new)
+    → MatchBool m.failed ((answer ≡ Err pump.Failed) × Stands tells new m) (RunsTo tells m (job_ends_in (is_log old) m answer) new)
