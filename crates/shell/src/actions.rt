@@ -5,8 +5,7 @@ ghost use Rattle.session.specs.Streams.{Says, is_output_refused, text_said};
 ghost use Rattle.session.specs.Texts.{Text, open_line, refusal_line, text_of};
 ghost use Rattle.session.specs.declared.ending.Ending.TheVariants.{Whole};
 ghost use Rattle.shell.specs.Acts.{Acts, Asks, GivesOut, Grows, IsRefused, IsTold, Makes, RefusesTime, RunsNew, RunsScript, SaysArchived};
-ghost use Rattle.shell.specs.Acts.{SaysBoth};
-ghost use Rattle.shell.specs.Acts.{SaysGrown, SaysSlots, SaysVacuum, Vacuums, given, open_fault_of, told};
+ghost use Rattle.shell.specs.Acts.{SaysBoth, SaysGrown, SaysSlots, SaysVacuum, Vacuums, given, open_fault_of, told};
 ghost use Rattle.forms.specs.Styles.{plain};
 ghost use Rattle.shell.specs.Acts.{IsSaid, IsToldAs, IsToldIn, Raises, RefusesProfile, SaysRaised, Writes};
 ghost use Rattle.shell.specs.Asking.{line_asked};
@@ -28,7 +27,7 @@ use session::{
     Answers, Ending, Fault, LineInput, Lines, MARK, Refused, Reply, Session, answer_lines,
     write_numbered, write_reply,
 };
-use status::{Header, LogFault, read_header, read_log};
+use status::{LogFault, read_header};
 use std::alloc::{AllocError, Global};
 use std::io::Write;
 use wire::Slot;
