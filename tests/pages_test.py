@@ -1,6 +1,6 @@
 #!/usr/bin/env python3
 """Checks pages and lines: each example of crates/NAME/CALLING.md is a test of the repository, word for word; the pages
-that everyone reads have no more words than they may; each crate has a page of its own, of few lines; no line of code or
+have no more words than they may; each crate has a page of its own, of few lines; no line of code or
 proof is too long; and the table of wrong bodies has those that there are. Is called at the top of the repository."""
 import glob
 import os
@@ -9,7 +9,19 @@ import sys
 
 TESTS = ["crates/test_calls/src/*.rt", "crates/test_storage/src/*.rt"]
 # The most words of a page, as `wc -w` counts them.
-MOST_WORDS = {"README.md": 700, "docs/USING.md": 3_000}
+MOST_WORDS = {
+    "README.md": 700,
+    "CONTRIBUTING.md": 500,
+    "CHANGELOG.md": 1_000,
+    "bench/RESULTS.md": 1_200,
+    "docs/USING.md": 3_000,
+    "docs/ARCHITECTURE.md": 1_200,
+    "docs/PROVED.md": 600,
+    "docs/GLOSSARY.md": 900,
+    "docs/DECISIONS.md": 2_000,
+    "docs/WRONG_BODIES.md": 800,
+    "docs/TORTURE.md": 800,
+}
 # The most lines of crates/NAME/README.md, and the most characters of a line of code or proof.
 MOST_LINES = 40
 MOST_CHARACTERS = 160

@@ -7,7 +7,8 @@ use Rattle.history.specs.Machine.{Machine, Gate, Shut, Due, MayBeOpen, OfGroup, 
 use Rattle.history.specs.Answers as answers
 use Rattle.history.specs.Floors.{Raising}
 use Rattle.history.specs.FloorStarts as floors
-use Rattle.history.specs.Steps.{Event, Step, Run, Began, BeginRefused, Aborted, FloorStarted, FloorRefused, FloorPublished, GateDue, GateWritten, Published, begun}
+use Rattle.history.specs.Steps.{Event, Step, Run, Began, BeginRefused, Aborted, GateDue, GateWritten, Published, begun}
+use Rattle.history.specs.Steps.{FloorStarted, FloorRefused, FloorPublished}
 use Rattle.history.specs.Steps.{floor_started}
 use Rattle.history.specs.Steps as steps
 use Rattle.disk.specs.Areas.{Image, AreSound, LeavesImage, image_of, settled_on}
