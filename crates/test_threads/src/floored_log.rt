@@ -91,11 +91,7 @@ fn commit_ten<D: Disk, L: Opening, R: Wait + Abort>(
 }
 
 /// A thread raises the floor, while another commits.
-fn raise_beside_commits<
-    D: Disk + Send,
-    L: Opening + Send + Sync,
-    R: Threads + Wait + Abort + Sync,
->(
+fn raise_beside_commits<D: Disk + Send, L: Opening + Send + Sync, R: Threads + Wait + Abort + Sync>(
     rt: &R,
     alloc: Global,
     store: &SharedStore<D, L>,

@@ -61,8 +61,7 @@ impl Watch {
         let spent = &mut self.spent;
         match did {
             Ok(Did::WroteExtent | Did::GateClosed | Did::BodyWritten | Did::GateWritten)
-                if !self.gathers =>
-            {
+                if !self.gathers => {
                 spent.writing = spent.writing.wrapping_add(lap);
             }
             Ok(Did::HeapSynced | Did::BodySynced | Did::Published(_)) => {
