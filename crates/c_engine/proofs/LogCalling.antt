@@ -49,20 +49,23 @@ advances-lead : (w : WriterState) (old new : LogStoreValue) (what : Did) → Adv
     → LeadsBy old.disk.areas (group_call Heap (log_did what)) new.disk.areas
 advances-lead w old new what advances = stage-leads w.stage (turn w) old.commits.group _ _ what (advances.call refl) advances.answer.0
 
-begins-lead : (old new : LogStoreValue) (what : Did) → BeginsGroup true old (Ok what) new → LeadsBy old.disk.areas (group_call Heap (log_did what)) new.disk.areas
+begins-lead : (old new : LogStoreValue) (what : Did) → BeginsGroup true old (Ok what) new
+    → LeadsBy old.disk.areas (group_call Heap (log_did what)) new.disk.areas
 begins-lead old new what (inl none) = absurd (let e = none.0 in cc)
 begins-lead old new what (inr begins) =
     subst (λ (d : DiskState). LeadsBy d.areas (group_call Heap (log_did what)) new.disk.areas) (ap (λ (v : LogStoreValue). v.disk) begins.1.new_is)
     (by-turn begins.0.turn begins.2)
   where
-    by-turn : (o : Option WriterState) → AdvancesGroup true begins.0 o (Ok what) new → LeadsBy begins.0.disk.areas (group_call Heap (log_did what)) new.disk.areas
+    by-turn : (o : Option WriterState) → AdvancesGroup true begins.0 o (Ok what) new
+        → LeadsBy begins.0.disk.areas (group_call Heap (log_did what)) new.disk.areas
     by-turn None never = absurd never
     by-turn (Some w) advances = advances-lead w begins.0 new what advances
 
 abbrev said : Did → Result Did PumpFault
 said what = Ok what
 
-pub log-pump-leads : (old new : LogStoreValue) (what : Did) → Pumps true old (Ok what) new → LeadsBy old.disk.areas (group_call Heap (log_did what)) new.disk.areas
+pub log-pump-leads : (old new : LogStoreValue) (what : Did) → Pumps true old (Ok what) new
+    → LeadsBy old.disk.areas (group_call Heap (log_did what)) new.disk.areas
 log-pump-leads old new what pumps = by-failed old.commits.failed pumps
   where
     by-turn : (o : Option WriterState) → TakesStep true old o (Ok what) new → LeadsBy old.disk.areas (group_call Heap (log_did what)) new.disk.areas

@@ -86,7 +86,8 @@ step-leads step.AdvanceSlot old new what takes = by-turn old.turn takes
     by-turn None never = absurd never
     by-turn (Some turn) turns = turns-lead turn old new what turns
 
-pub slot-pump-leads : (old new : StoreValue) (what : Did) → Pumps true old (Ok what) new → LeadsBy old.disk.areas (group_call Status (slots_did what)) new.disk.areas
+pub slot-pump-leads : (old new : StoreValue) (what : Did) → Pumps true old (Ok what) new
+    → LeadsBy old.disk.areas (group_call Status (slots_did what)) new.disk.areas
 slot-pump-leads old new what pumps = by-failed old.transactions.failed pumps
   where
     by-failed : (b : Bool) → MatchBool b ((Ok what ≡ Err fault.Failed) × (new ≡ old))
@@ -126,11 +127,13 @@ growth-leads growth.GateWritten g old new what call is = of-slots-job-did Status
 run-leads : (left : List ℕ) (run : _) (writer : _) (j : Job) (old new : StoreValue) (what : JobDid) → WritesOrSyncs true left run writer j old (Ok what) new
     → LeadsBy old.disk.areas (job_call Status (slots_job_did what)) new.disk.areas
 run-leads [] run writer j old new what syncs = of-slots-job-did Status _ _ what job.RunSynced syncs.moves.0 (by-sync Archive _ _ (syncs.call.areas refl))
-run-leads (b ∷ bs) run writer j old new what writes = of-slots-job-did Status _ _ what job.WroteRun writes.moves.0 (by-write Archive _ _ _ _ (writes.call.areas refl))
+run-leads (b ∷ bs) run writer j old new what writes =
+    of-slots-job-did Status _ _ what job.WroteRun writes.moves.0 (by-write Archive _ _ _ _ (writes.call.areas refl))
 
 anchors-lead : (next : Option ℕ) (anchors : _) (source : _) (count : ℕ) (j : Job) (old new : StoreValue) (what : JobDid)
     → AnchorsOrSync true next anchors source count j old (Ok what) new → LeadsBy old.disk.areas (job_call Status (slots_job_did what)) new.disk.areas
-anchors-lead None anchors source count j old new what syncs = of-slots-job-did Status _ _ what job.HeapSynced syncs.moves.0 (by-sync Heap _ _ (syncs.call.areas refl))
+anchors-lead None anchors source count j old new what syncs =
+    of-slots-job-did Status _ _ what job.HeapSynced syncs.moves.0 (by-sync Heap _ _ (syncs.call.areas refl))
 anchors-lead (Some number) anchors source count j old new what writes =
     of-slots-job-did Status _ _ what job.WroteExtent writes.moves.0 (by-write Heap _ _ _ _ (writes.call.areas refl))
 
@@ -151,7 +154,8 @@ disk-ready (works.Grow g) v = refl
 slot-begins : (j : Job) (old new : StoreValue) (what : JobDid) → BeginsJobSlot true j old (Ok what) new
     → LeadsBy old.disk.areas (job_call Status (slots_job_did what)) new.disk.areas
 slot-begins j old new what (inl none) = absurd (let e = none.1 in cc)
-slot-begins j old new what (inr turns) = subst (λ (d : DiskState). LeadsBy d.areas (job_call Status (slots_job_did what)) new.disk.areas) (disk-ready j.work old)
+slot-begins j old new what (inr turns) =
+    subst (λ (d : DiskState). LeadsBy d.areas (job_call Status (slots_job_did what)) new.disk.areas) (disk-ready j.work old)
     (job-turns-lead _ _ _ new what turns)
 
 job-stage-leads : (stage : JobStage) (j : Job) (old new : StoreValue) (what : JobDid) → TakesJobStep true stage j old (Ok what) new
@@ -168,7 +172,8 @@ job-stage-leads (stages.Turning turn) j old new what takes = job-turns-lead j tu
 abbrev job_said : JobDid → Result JobDid PumpFault
 job_said what = Ok what
 
-pub slot-job-leads : (old new : StoreValue) (what : JobDid) → PumpsJob true old (Ok what) new → LeadsBy old.disk.areas (job_call Status (slots_job_did what)) new.disk.areas
+pub slot-job-leads : (old new : StoreValue) (what : JobDid) → PumpsJob true old (Ok what) new
+    → LeadsBy old.disk.areas (job_call Status (slots_job_did what)) new.disk.areas
 slot-job-leads old new what pumps = by-failed old.transactions.failed pumps
   where
     by-job : (o : Option Job) → MatchOption o ((job_said what ≡ job_said job.Idle) × (new ≡ old)) (λ j. TakesJobStep true j.stage j old (Ok what) new)
