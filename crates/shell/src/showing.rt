@@ -144,7 +144,11 @@ fn dump_of_heap<D: Disk, W: Write>(alloc: Global, disk: D, output: &mut Answers<
 }
 
 /// Writes the log of a store.
-pub(crate) fn dump_by_layout<D: Disk, W: Write>(alloc: Global, disk: D, output: &mut Answers<W>) -> (u8, D)
+pub(crate) fn dump_by_layout<D: Disk, W: Write>(
+    alloc: Global,
+    disk: D,
+    output: &mut Answers<W>,
+) -> (u8, D)
     ensures { DumpsByLayout D.tells (D.state disk) (told W.contents result.0 output.old output.new) (D.state result.1) }
 {
     let mut disk = disk;
