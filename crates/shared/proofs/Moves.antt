@@ -725,7 +725,8 @@ job-pumped tells start m old new r reached stands sound pumps = by-failure m.fai
 
 -- what a step of a shared store's job leads to
 pub job-run : (tells : Bool) (start : Machine Value) (kind : Kind) (brand : ℕ) (table : TableId) (old new : StoreValue) (shares : ℕ) (at : TableId)
-    (pass : SightValue) (r : Result JobDid PumpFault) (h : IsShared tells start kind brand table old shares at pass) (p : JobPumped tells start h.state old new r)
+    (pass : SightValue) (r : Result JobDid PumpFault) (h : IsShared tells start kind brand table old shares at pass)
+    (p : JobPumped tells start h.state old new r)
     → MatchBool h.state.failed ((r ≡ Err pump.Failed) × (p.after ≡ h.state)) (Run IsValue h.state (job_ends_in kind.in_heap h.state r) p.after)
 job-run tells start kind brand table old new shares at pass r h p =
     subst (λ (b : Bool). MatchBool h.state.failed ((r ≡ Err pump.Failed) × (p.after ≡ h.state)) (Run IsValue h.state (job_ends_in b h.state r) p.after))
