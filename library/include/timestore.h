@@ -136,8 +136,8 @@ enum {
     TS_KEPT_SYNCED = 8, /* of a floor where the log lies in the heap: its entry is synced, but for its gate */
     TS_ZEROS_WRITTEN = 9, /* of a growth: zeros are written behind the slots */
     TS_ZEROS_SYNCED = 10,
-    TS_ENTRY_WRITTEN = 11, /* of a floor where the log lies in the heap: its entry is written, but for its gate */
-    TS_GATE_CLOSED = 12 /* where the log lies in the heap: the gate where the log will end is closed */
+    TS_ENTRY_WRITTEN = 12, /* of a floor where the log lies in the heap: its entry is written, but for its gate */
+    TS_GATE_CLOSED = 13 /* where the log lies in the heap: the gate where the log will end is closed */
 };
 /* What ts_pump and ts_job_pump tell in a, where it is not TS_IDLE: the device call of the step is to be made. */
 enum { TS_CALL_DUE = 11 };

@@ -124,7 +124,7 @@ told_did did.BodyWritten = record { a = 3; b = 0 }
 told_did did.BodySynced = record { a = 4; b = 0 }
 told_did did.GateWritten = record { a = 5; b = 0 }
 told_did (did.Published count) = record { a = 6; b = count }
-told_did did.GateClosed = record { a = 12; b = 0 }
+told_did did.GateClosed = record { a = 13; b = 0 }
 
 -- what a step of a job did
 abbrev pub job_number : JobDid → ℕ
@@ -139,8 +139,8 @@ job_number job.WroteExtent = 7
 job_number job.HeapSynced = 8
 job_number job.WroteZeros = 9
 job_number job.ZerosSynced = 10
-job_number job.WroteEntry = 11
-job_number job.GateClosed = 12
+job_number job.WroteEntry = 12
+job_number job.GateClosed = 13
 
 -- what a call on a handle answers: by the number of a code that the engine says, or that there is none
 abbrev pub AnswersOn : (Engine → Code → Type 0) → Option Engine → ℤ → Type 0

@@ -54,8 +54,8 @@ impl Step {
             8 => Step::KeptSynced,
             9 => Step::ZerosWritten,
             10 => Step::ZerosSynced,
-            11 => Step::EntryWritten,
-            12 => Step::GateClosed,
+            12 => Step::EntryWritten,
+            13 => Step::GateClosed,
             _ => Step::Idle,
         }
     }
