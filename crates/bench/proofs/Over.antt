@@ -78,7 +78,7 @@ over tells v m disk s =
 
 log-step-over : (l : LogStoreValue) (disk : DiskState) → logs.IsInStep l → logs.IsInStep (record l { disk = disk })
 log-step-over l disk s =
-    record { contents = s.contents; bytes = s.bytes; promised = s.promised; few = s.few; many = s.many; turn = s.turn }
+    record { contents = s.contents; bytes = s.bytes; promised = s.promised; few = s.few; many = s.many; turn = s.turn; beside = s.beside }
 
 log-over : (tells : Bool) (l : LogStoreValue) (m : Machine Value) (disk : DiskState) → archives.Stands tells l m
     → archives.Stands false (record l { disk = disk }) m
@@ -88,7 +88,7 @@ log-over tells l m disk s =
       store = record {
         memory = s.store.memory;
         machine = s.store.machine;
-        writing = record { most = w.most; group = w.group; raising = w.raising; gate = w.gate; left = w.left };
+        writing = record { most = w.most; group = w.group; raising = w.raising; made = w.made; gate = w.gate; left = w.left };
         fresh = s.store.fresh;
         disk = λ told. untold told;
       };
