@@ -74,9 +74,14 @@ commits_on mark members floors reclaimed = record {
 abbrev pub room_on : LogHeap → RoomValue
 room_on heap = record { used = with_use heap.space heap.next true; next = heap.next; log = heap.log; promised = 0; anchors = heap.members.sizes.len }
 
--- the archives and rolls that the log names
+-- what the log names in the archive
 abbrev pub named_on : LogHeap → NamedValue
-named_on heap = record { archives = heap.archives.items; rolls = heap.end.rolls.items }
+named_on heap = record {
+  archives = heap.archives.items;
+  rolls = heap.end.rolls.items;
+  upto = heap.end.archived;
+  end = max heap.end.runs_end heap.end.rolls_end;
+}
 
 -- what the store has in memory
 pub record ArePartsOf (mark : ℕ) (read : LogRecovered) (parts : MemoryParts) : Type 0 where

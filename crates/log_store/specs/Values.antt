@@ -11,7 +11,7 @@ use Rattle.commits.specs.Values.{CommitsValue}
 use Rattle.log_store.specs.Named.{NamedValue}
 use Rattle.log_store.specs.declared.job.Job.{Job}
 use Rattle.log_store.specs.declared.job.JobStage.{JobStage}
-use Rattle.log_store.specs.declared.job.JobStage.TheVariants.{Ready, Entering}
+use Rattle.log_store.specs.declared.job.JobStage.TheVariants.{Writing, Ready, Entering}
 
 -- a store: its commits and transactions, the room in the heap, the chain in the writing, its archive, and its disk
 pub record LogStoreValue : Type 0 where
@@ -42,6 +42,7 @@ HasTurn group (Some w) = (0 < group) × IsOnItsWay w.stage
 
 -- how many extents a job is promised: one for its entry, until that is begun
 abbrev pub promised_at : JobStage → ℕ
+promised_at Writing = 1
 promised_at (Ready waited) = 1
 promised_at (Entering w) = 0
 
@@ -51,6 +52,7 @@ promised_to (Some job) = promised_at job.stage
 
 -- a job's entry is in the writing only while no group is, and then it is on its way
 abbrev pub IsStageBeside : Option WriterState → JobStage → Type 0
+IsStageBeside turn Writing = Unit {0}
 IsStageBeside turn (Ready waited) = Unit {0}
 IsStageBeside turn (Entering w) = (turn ≡ None) × IsOnItsWay w.stage
 
