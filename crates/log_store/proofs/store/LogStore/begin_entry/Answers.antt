@@ -13,6 +13,7 @@ returns-clause-ok g c =
       room = c.self.inside.room;
       turn = c.self.inside.turn;
       job = c.self.inside.job;
+      named = c.self.inside.named;
       archive = c.self.inside.archive;
       disk = g.D.Disk.state c.self.inside.disk;
     } in
