@@ -5,6 +5,7 @@ use Rattle.law_image.specs.Reading.{ArchiveRecord}
 use Rattle.wire.specs.Spelling.{IsRun}
 use Rattle.wire.specs.declared.slot.Run.{Run}
 use Rattle.floors.specs.Floors.{no_floors}
+use Rattle.archive.specs.Pieces.{InWriting}
 use Rattle.archive.specs.Runs.{run_bytes}
 use Rattle.archive.specs.declared.run.RunEntry.{RunEntry}
 use Rattle.vacuum.specs.Archives.{records_of, run_of, unwritten}
@@ -45,37 +46,33 @@ since_now v = record { mark = v.named.upto; floors = v.commits.floors }
 abbrev pub records_to : LogStoreValue → ℕ → List ArchiveRecord
 records_to v upto = records_of (since_now v) upto v.commits.versions
 
--- the run as its slot would name it in another profile, and as its entry will
+-- the run of these
 abbrev pub run_to : LogStoreValue → ℕ → Run
 run_to v upto = run_of upto v.named.end (records_to v upto)
-
-abbrev pub archive_to : LogStoreValue → ℕ → Archive
-archive_to v upto = record {
-  upto = upto;
-  start = v.named.end;
-  len = length (run_bytes (records_to v upto));
-  «records» = length (records_to v upto);
-  runs = 0;
-}
 
 -- the run would end past the greatest place
 abbrev pub IsPastEnd : LogStoreValue → ℕ → Type 0
 IsPastEnd v upto = 2 ^ 63 ≤ v.named.end + length (run_bytes (records_to v upto))
 
--- as queries will know the run: by the mark before it
-abbrev pub IsEntryOf : LogStoreValue → ℕ → RunEntry → Type 0
-IsEntryOf v upto entry = (entry.slot ≡ run_to v upto) × (entry.mark ≡ v.named.upto) × (entry.floors ≡ no_floors)
+-- the run as an entry names it that takes the place of no other
+abbrev pub archive_as : Run → Archive
+archive_as run = record { upto = run.upto; start = run.start; len = run.len; «records» = run.records; runs = 0 }
 
 -- the archive has begun: it is promised an extent and has a place among the runs, and nothing of its run is written
-abbrev pub with_archive : LogStoreValue → ℕ → RunEntry → LogStoreValue
-with_archive v upto entry = record v {
+abbrev pub with_archive : LogStoreValue → Run → InWriting → RunEntry → LogStoreValue
+with_archive v run writer entry = record v {
   room = promised_entry v.room;
-  job = Some (record {
-    work = works.Archive (archive_to v upto) (v.named.archives ++ archive_to v upto ∷ []) (unwritten v.named.end (records_to v upto));
-    stage = Writing;
-  });
+  job = Some (record { work = works.Archive (archive_as run) (v.named.archives ++ archive_as run ∷ []); stage = Writing writer });
   archive = record v.archive { next = v.archive.runs ++ entry ∷ [] };
 }
+
+-- so it has, where queries will know the run by the mark before it
+pub record BeginsArchive (v : LogStoreValue) (run : Run) (writer : InWriting) (new : LogStoreValue) : Type 0 where
+  pub entry : RunEntry
+  pub slot : entry.slot ≡ run
+  pub mark : entry.mark ≡ v.named.upto
+  pub floors : entry.floors ≡ no_floors
+  pub new_is : new ≡ with_archive v run writer entry
 
 -- why no archive begins once its run is counted: it would end past the greatest place, or for want of memory
 abbrev pub IsRunRefusal : LogStoreValue → ℕ → StartFault → Type 0
@@ -92,7 +89,7 @@ IsRunRefusal v upto fault.HeapFull = ⊥
 -- an archive begins with a run that ends before the greatest place, or is refused and nothing has changed
 abbrev pub BeginsRun : LogStoreValue → ℕ → Result (Unit {0}) StartFault → LogStoreValue → Type 0
 BeginsRun v upto (Ok done) new = (upto < 2 ^ 63) × (v.named.end + length (run_bytes (records_to v upto)) < 2 ^ 63) × IsRun (run_to v upto)
-    × ((entry : RunEntry) × IsEntryOf v upto entry × (new ≡ with_archive v upto entry))
+    × BeginsArchive v (run_to v upto) (unwritten v.named.end (records_to v upto)) new
 BeginsRun v upto (Err why) new = IsRunRefusal v upto why × (new ≡ v)
 
 -- no device call is made

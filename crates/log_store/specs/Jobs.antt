@@ -30,7 +30,7 @@ use Rattle.log_store.specs.declared.job.JobStage.TheVariants.{Ready, Entering}
 use Rattle.log_store.specs.declared.job.JobStage.TheVariants as stages
 use Rattle.log_store.specs.declared.job.JobWork.{JobWork}
 use Rattle.log_store.specs.declared.job.JobWork.TheVariants.{Floor, Archive}
-use Rattle.log_store.specs.Runs.{disk_answer, WritesOrSyncs}
+use Rattle.log_store.specs.Runs.{disk_answer, WritesRun}
 use Rattle.log_store.specs.Named.{with_archives}
 use Rattle.timequery.specs.Archives.{with_next_run}
 use Rattle.log_store.specs.declared.job.StartFault.{StartFault}
@@ -89,16 +89,25 @@ StartsFloor v scope time result new = MatchOption (floor_refusal v scope time) (
 
 -- its entry is in the writing
 abbrev pub is_entering : JobStage → Bool
-is_entering stages.Writing = false
+is_entering (stages.Writing writer) = false
 is_entering (Ready waited) = false
 is_entering (Entering w) = true
 
--- a job runs whose entry is in the writing, or is not begun
+-- a job runs whose run is in the writing, and so much is left of it
+abbrev pub is_writing : JobStage → Bool
+is_writing (stages.Writing writer) = true
+is_writing (Ready waited) = false
+is_writing (Entering w) = false
+
+abbrev pub IsWriting : Option Job → Type 0
+IsWriting job = MatchOption job ⊥ (λ j. is_writing j.stage ≡ true)
+
+-- or whose entry is in the writing, or is to begin
 abbrev pub IsEntering : Option Job → Type 0
 IsEntering job = MatchOption job ⊥ (λ j. is_entering j.stage ≡ true)
 
 abbrev pub is_ready : JobStage → Bool
-is_ready stages.Writing = false
+is_ready (stages.Writing writer) = false
 is_ready (Ready waited) = true
 is_ready (Entering w) = false
 
@@ -108,7 +117,7 @@ IsReady job = MatchOption job ⊥ (λ j. is_ready j.stage ≡ true)
 -- what its entry says
 abbrev pub entry_of : JobWork → Entry
 entry_of (Floor floor floors) = entries.Floor floor
-entry_of (Archive archive archives writer) = entries.Archived archive
+entry_of (Archive archive archives) = entries.Archived archive
 
 -- the store with another stage of its job
 abbrev pub at_stage : LogStoreValue → Job → JobStage → LogStoreValue
@@ -116,19 +125,19 @@ at_stage v job stage = record v { job = Some (record job { stage = stage }) }
 
 -- an entry that is in the writing has a call still to be made
 abbrev pub IsStageOnItsWay : JobStage → Type 0
-IsStageOnItsWay stages.Writing = ⊥
+IsStageOnItsWay (stages.Writing writer) = ⊥
 IsStageOnItsWay (Ready waited) = ⊥
 IsStageOnItsWay (Entering w) = writers.IsOnItsWay w.stage
 
 -- the device call of an entry, with its answer
 abbrev pub IsEntryCallOf : JobStage → Result (Unit {0}) DeviceFault → Areas → Areas → Type 0
-IsEntryCallOf stages.Writing result old new = ⊥
+IsEntryCallOf (stages.Writing writer) result old new = ⊥
 IsEntryCallOf (Ready waited) result old new = ⊥
 IsEntryCallOf (Entering w) result old new = IsCallOf (turn w) w.stage result old new
 
 -- the entry is one call further, which did so much
 abbrev pub IsNextAt : Job → JobStage → Wrote → Job → Type 0
-IsNextAt old stages.Writing what new = ⊥
+IsNextAt old (stages.Writing writer) what new = ⊥
 IsNextAt old (Ready waited) what new = ⊥
 IsNextAt old (Entering w) what new = (what ≡ writers.did w.stage) × (new ≡ record old { stage = Entering (with_stage w (stage_after w.stage)) })
 
@@ -164,7 +173,7 @@ did_of wrote.Settled = did.JobDone
 -- what stands in memory once the entry is the log's
 abbrev pub with_work : JobWork → LogStoreValue → LogStoreValue
 with_work (Floor floor floors) v = record v { commits = with_floors v.commits floors }
-with_work (Archive archive archives writer) v = record v { named = with_archives archives archive v.named; archive = with_next_run v.archive }
+with_work (Archive archive archives) v = record v { named = with_archives archives archive v.named; archive = with_next_run v.archive }
 
 -- the entry is the log's, and no job runs
 abbrev pub with_entry : LogStoreValue → Job → LogStoreValue
@@ -191,7 +200,7 @@ pub record Advances (tells : Bool) (job : Job) (w : WriterState) (old : LogStore
 
 -- of a job whose entry is in the writing
 abbrev pub AdvancesAt : Bool → Job → JobStage → LogStoreValue → Result JobDid PumpFault → LogStoreValue → Type 0
-AdvancesAt tells job stages.Writing old result new = ⊥
+AdvancesAt tells job (stages.Writing writer) old result new = ⊥
 AdvancesAt tells job (Ready waited) old result new = ⊥
 AdvancesAt tells job (Entering w) old result new = Advances tells job w old result new
 
@@ -210,14 +219,9 @@ abbrev pub StepsReady : Bool → Job → Option WriterState → LogStoreValue �
 StepsReady tells job None old result new = Enters tells job old result new
 StepsReady tells job (Some w) old result new = (result ≡ Err pump.Busy) × (new ≡ at_stage old job (Ready true))
 
--- the next call before its entry; a floor has none
-abbrev pub Stores : Bool → JobWork → Job → LogStoreValue → Result JobDid PumpFault → LogStoreValue → Type 0
-Stores tells (Floor floor floors) job old result new = ⊥
-Stores tells (Archive archive archives writer) job old result new = WritesOrSyncs tells writer.left archive archives writer job old result new
-
 -- a step of the job that runs
 abbrev pub StepsAt : Bool → Job → JobStage → LogStoreValue → Result JobDid PumpFault → LogStoreValue → Type 0
-StepsAt tells job stages.Writing old result new = Stores tells job.work job old result new
+StepsAt tells job (stages.Writing writer) old result new = WritesRun tells job old result new
 StepsAt tells job (Ready waited) old result new = StepsReady tells job old.turn old result new
 StepsAt tells job (Entering w) old result new = Advances tells job w old result new
 

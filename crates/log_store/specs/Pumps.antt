@@ -101,7 +101,7 @@ BeginsGroup tells old result new =
 
 -- a job bars groups: it has waited for one, or its entry is in the writing
 abbrev pub bars_at : JobStage → Bool
-bars_at stages.Writing = false
+bars_at (stages.Writing writer) = false
 bars_at (Ready waited) = waited
 bars_at (Entering w) = true
 

@@ -42,7 +42,7 @@ HasTurn group (Some w) = (0 < group) × IsOnItsWay w.stage
 
 -- how many extents a job is promised: one for its entry, until that is begun
 abbrev pub promised_at : JobStage → ℕ
-promised_at Writing = 1
+promised_at (Writing writer) = 1
 promised_at (Ready waited) = 1
 promised_at (Entering w) = 0
 
@@ -52,7 +52,7 @@ promised_to (Some job) = promised_at job.stage
 
 -- a job's entry is in the writing only while no group is, and then it is on its way
 abbrev pub IsStageBeside : Option WriterState → JobStage → Type 0
-IsStageBeside turn Writing = Unit {0}
+IsStageBeside turn (Writing writer) = Unit {0}
 IsStageBeside turn (Ready waited) = Unit {0}
 IsStageBeside turn (Entering w) = (turn ≡ None) × IsOnItsWay w.stage
 

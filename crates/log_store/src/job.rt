@@ -15,19 +15,18 @@ pub enum JobWork {
         floor: RelationFloor,
         floors: Floors,
     },
-    /// A run of the archive as its entry will name it, all archives that the log names with it, and what is left of the run to be written.
+    /// A run of the archive, and all archives that the log names once its entry is the log's.
     Archive {
         archive: Archive,
         archives: Vec<Archive>,
-        writer: RunWriter<ArchiveWalk>,
     },
 }
 
 /// How far a job is.
 #[derive(Drop)]
 pub enum JobStage {
-    /// What its entry will name is being written.
-    Writing,
+    /// The run that its entry will name is in the writing.
+    Writing(RunWriter<ArchiveWalk>),
     /// Its entry is not begun. Where the job has waited for a group, no other group begins before its entry.
     Ready { waited: bool },
     /// Its entry is in the writing.

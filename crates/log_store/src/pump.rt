@@ -78,7 +78,7 @@ impl<D: Disk> LogStore<D> {
         match &self.job {
             None => false,
             Some(job) => match &job.stage {
-                JobStage::Writing => false,
+                JobStage::Writing(_) => false,
                 JobStage::Ready { waited } => *waited,
                 JobStage::Entering(_) => true,
             },
