@@ -6,3 +6,5 @@ pub mod Places
 pub mod Heads
 pub mod Entries
 mod Entering
+mod Written
+mod Archives

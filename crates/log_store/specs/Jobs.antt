@@ -31,8 +31,8 @@ use Rattle.log_store.specs.declared.job.JobStage.TheVariants as stages
 use Rattle.log_store.specs.declared.job.JobWork.{JobWork}
 use Rattle.log_store.specs.declared.job.JobWork.TheVariants.{Floor, Archive}
 use Rattle.log_store.specs.Runs.{disk_answer, WritesRun}
-use Rattle.log_store.specs.Named.{with_archives}
-use Rattle.timequery.specs.Archives.{with_next_run}
+use Rattle.log_store.specs.Named.{NamedValue, with_archives}
+use Rattle.timequery.specs.Archives.{ArchiveValue, with_next_run}
 use Rattle.log_store.specs.declared.job.StartFault.{StartFault}
 use Rattle.log_store.specs.declared.job.StartFault.TheVariants as fault
 
@@ -87,32 +87,33 @@ StartsFloor v scope time result new = MatchOption (floor_refusal v scope time) (
 
 -- ---- the steps of a job
 
+-- its run is in the writing
+abbrev pub is_writing : JobStage → Bool
+is_writing (stages.Writing writer) = true
+is_writing (Ready waited) = false
+is_writing (Entering w) = false
+
+-- its entry is to begin
+abbrev pub is_ready : JobStage → Bool
+is_ready (stages.Writing writer) = false
+is_ready (Ready waited) = true
+is_ready (Entering w) = false
+
 -- its entry is in the writing
 abbrev pub is_entering : JobStage → Bool
 is_entering (stages.Writing writer) = false
 is_entering (Ready waited) = false
 is_entering (Entering w) = true
 
--- a job runs whose run is in the writing, and so much is left of it
-abbrev pub is_writing : JobStage → Bool
-is_writing (stages.Writing writer) = true
-is_writing (Ready waited) = false
-is_writing (Entering w) = false
-
+-- a job runs, and is so far
 abbrev pub IsWriting : Option Job → Type 0
 IsWriting job = MatchOption job ⊥ (λ j. is_writing j.stage ≡ true)
 
--- or whose entry is in the writing, or is to begin
-abbrev pub IsEntering : Option Job → Type 0
-IsEntering job = MatchOption job ⊥ (λ j. is_entering j.stage ≡ true)
-
-abbrev pub is_ready : JobStage → Bool
-is_ready (stages.Writing writer) = false
-is_ready (Ready waited) = true
-is_ready (Entering w) = false
-
 abbrev pub IsReady : Option Job → Type 0
 IsReady job = MatchOption job ⊥ (λ j. is_ready j.stage ≡ true)
+
+abbrev pub IsEntering : Option Job → Type 0
+IsEntering job = MatchOption job ⊥ (λ j. is_entering j.stage ≡ true)
 
 -- what its entry says
 abbrev pub entry_of : JobWork → Entry
@@ -170,18 +171,38 @@ did_of wrote.Synced = did.HeapSynced
 did_of wrote.Gate = did.GateWritten
 did_of wrote.Settled = did.JobDone
 
--- what stands in memory once the entry is the log's
+-- what stands in memory once the entry is the log's: the floors with it, or what the log names, and the run among the others
+abbrev pub commits_with : JobWork → CommitsValue → CommitsValue
+commits_with (Floor floor floors) v = with_floors v floors
+commits_with (Archive archive archives) v = v
+
+abbrev pub named_with : JobWork → NamedValue → NamedValue
+named_with (Floor floor floors) named = named
+named_with (Archive archive archives) named = with_archives archives archive named
+
+abbrev pub archive_with : JobWork → ArchiveValue → ArchiveValue
+archive_with (Floor floor floors) archive = archive
+archive_with (Archive made archives) archive = with_next_run archive
+
+-- so of the job that runs, if one does
+abbrev pub commits_by : Option Job → CommitsValue → CommitsValue
+commits_by None v = v
+commits_by (Some job) v = commits_with job.work v
+
+abbrev pub named_by : Option Job → NamedValue → NamedValue
+named_by None named = named
+named_by (Some job) named = named_with job.work named
+
+abbrev pub archive_by : Option Job → ArchiveValue → ArchiveValue
+archive_by None archive = archive
+archive_by (Some job) archive = archive_with job.work archive
+
 abbrev pub with_work : JobWork → LogStoreValue → LogStoreValue
-with_work (Floor floor floors) v = record v { commits = with_floors v.commits floors }
-with_work (Archive archive archives) v = record v { named = with_archives archives archive v.named; archive = with_next_run v.archive }
+with_work work v = record v { commits = commits_with work v.commits; named = named_with work v.named; archive = archive_with work v.archive }
 
 -- the entry is the log's, and no job runs
 abbrev pub with_entry : LogStoreValue → Job → LogStoreValue
 with_entry v job = record (with_work job.work v) { job = None }
-
-abbrev pub with_job : Option Job → LogStoreValue → LogStoreValue
-with_job None v = v
-with_job (Some job) v = with_entry v job
 
 -- the store behind the entry's call: the last one ends the job
 abbrev pub after_call : LogStoreValue → Job → WriterState → Stage → LogStoreValue

@@ -12,6 +12,8 @@ use Rattle.log_store.specs.Named.{NamedValue}
 use Rattle.log_store.specs.declared.job.Job.{Job}
 use Rattle.log_store.specs.declared.job.JobStage.{JobStage}
 use Rattle.log_store.specs.declared.job.JobStage.TheVariants.{Writing, Ready, Entering}
+use Rattle.log_store.specs.declared.job.JobWork.{JobWork}
+use Rattle.log_store.specs.declared.job.JobWork.TheVariants.{Floor, Archive}
 
 -- a store: its commits and transactions, the room in the heap, the chain in the writing, its archive, and its disk
 pub record LogStoreValue : Type 0 where
@@ -60,6 +62,15 @@ abbrev pub IsBeside : Option WriterState → Option Job → Type 0
 IsBeside turn None = Unit {0}
 IsBeside turn (Some job) = IsStageBeside turn job.stage
 
+-- the run of an archive ends at a place that a disk has
+abbrev pub IsInPlace : JobWork → Type 0
+IsInPlace (Floor floor floors) = Unit {0}
+IsInPlace (Archive archive archives) = archive.start + archive.len < 2 ^ 63
+
+abbrev pub IsJobInPlace : Option Job → Type 0
+IsJobInPlace None = Unit {0}
+IsJobInPlace (Some job) = IsInPlace job.work
+
 -- What holds of a store by itself.
 pub record IsInStep (v : LogStoreValue) : Type 0 where
   -- the contents are those of the commits that wait behind the group
@@ -71,3 +82,4 @@ pub record IsInStep (v : LogStoreValue) : Type 0 where
   pub many : length v.room.used ≤ 2 ^ 20
   pub turn : HasTurn v.commits.group v.turn
   pub beside : IsBeside v.turn v.job
+  pub place : IsJobInPlace v.job

@@ -3,7 +3,7 @@ ghost use Rattle.std.specs.Prelude.{◌≡◌};
 
 use archive::RunWriter;
 use floors::Floors;
-use log_entries::{Archive, RelationFloor};
+use log_entries::{Archive, Listed, RelationFloor};
 use log_writer::ChainWriter;
 use vacuum::ArchiveWalk;
 
@@ -18,7 +18,7 @@ pub enum JobWork {
     /// A run of the archive, and all archives that the log names once its entry is the log's.
     Archive {
         archive: Archive,
-        archives: Vec<Archive>,
+        archives: Listed<Archive>,
     },
 }
 

@@ -7,9 +7,10 @@ ghost use Rattle.log_entries.specs.Spelling.{entry_bytes};
 ghost use Rattle.log_extents.specs.Chains.{count_of};
 ghost use Rattle.log_store.specs.declared.job.JobStage.TheVariants.{Ready};
 ghost use Rattle.log_store.specs.Jobs.{PumpsJob, BeginsEntry, AdvancesEntry, IsWriting, IsReady, IsEntering, is_writing, is_ready, at_stage};
-ghost use Rattle.log_store.specs.Jobs.{entry_of, with_work, with_job, did_of, IsStageOnItsWay, IsEntryCallOf, IsNextOf, entering};
+ghost use Rattle.log_store.specs.Jobs.{entry_of, commits_with, named_with, archive_with, commits_by, named_by, archive_by, did_of};
+ghost use Rattle.log_store.specs.Jobs.{IsStageOnItsWay, IsEntryCallOf, IsNextOf, entering};
 ghost use Rattle.log_store.specs.Runs.{CallsAt, WritesRun, did_at, behind};
-ghost use Rattle.log_store.specs.Values.{LogStoreValue};
+ghost use Rattle.log_store.specs.Values.{IsInPlace, IsJobInPlace};
 
 use crate::job::{Job, JobDid, JobStage, JobWork};
 use crate::named::Named;
@@ -54,8 +55,10 @@ impl JobWork {
 
     // Its entry is the log's.
     fn ends(self, commits: &mut Commits, named: &mut Named, archived: &mut StoreArchive)
-        ensures { (v : LogStoreValue) → record v { commits = commits.new; named = named.new; archive = archived.new }
-            ≡ with_work self (record v { commits = commits.old; named = named.old; archive = archived.old }) }
+        requires { IsInPlace self }
+        ensures commits { commits.new ≡ commits_with self commits.old }
+        ensures named { named.new ≡ named_with self named.old }
+        ensures archived { archived.new ≡ archive_with self archived.old }
     {
         match self {
             JobWork::Floor { floors, .. } => commits.put_floors(floors),
@@ -124,6 +127,25 @@ fn enter(job: &mut Option<Job>, entry: ChainWriter)
 {
     if let Some(job) = job {
         job.stage = JobStage::Entering(entry);
+    }
+}
+
+// The entry of the job is the log's, and no job runs.
+fn end_job(
+    job: &mut Option<Job>,
+    commits: &mut Commits,
+    named: &mut Named,
+    archived: &mut StoreArchive,
+)
+    requires { IsJobInPlace job.old }
+    ensures none { job.new ≡ None }
+    ensures commits { commits.new ≡ commits_by job.old commits.old }
+    ensures named { named.new ≡ named_by job.old named.old }
+    ensures archived { archived.new ≡ archive_by job.old archived.old }
+{
+    if let Some(job) = job.take() {
+        let Job { work, stage: _ } = job;
+        work.ends(commits, named, archived);
     }
 }
 
@@ -221,20 +243,15 @@ impl<D: Disk> LogStore<D> {
                 Err(PumpFault::Failed)
             }
             Ok(Wrote::Settled) => {
-                self.end_job();
+                end_job(
+                    &mut self.job,
+                    &mut self.commits,
+                    &mut self.named,
+                    &mut self.archive,
+                );
                 Ok(JobDid::JobDone)
             }
             Ok(what) => Ok(did_of(what)),
-        }
-    }
-
-    // The entry of the job is the log's, and no job runs.
-    fn end_job(&mut self)
-        ensures { self.new ≡ with_job self.old.job self.old }
-    {
-        if let Some(job) = self.job.take() {
-            let Job { work, stage: _ } = job;
-            work.ends(&mut self.commits, &mut self.named, &mut self.archive);
         }
     }
 }

@@ -1,8 +1,8 @@
 //! What the log names in the archive.
-ghost use Rattle.std.specs.Prelude.{◌≡◌, ◌++◌, ◌∷◌, [], IfOk, length};
+ghost use Rattle.std.specs.Prelude.{◌≡◌, ◌+◌, ◌<◌, ◌^◌, ◌++◌, ◌∷◌, [], IfOk, length};
 ghost use Rattle.log_store.specs.Named.{none_named, with_archives};
 
-use log_entries::{Archive, Roll};
+use log_entries::{Archive, Listed, Roll};
 use log_room::BaseParts;
 use std::alloc::{AllocError, Global};
 use std::marker::Model;
@@ -73,20 +73,21 @@ impl Named {
     }
 
     /// The archives with one more behind them.
-    pub fn archives_with(&self, alloc: Global, archive: Archive) -> Result<Vec<Archive>, AllocError>
-        ensures { IfOk result (λ archives. archives.items ≡ self.now.archives ++ archive ∷ []) }
+    pub fn archives_with(&self, alloc: Global, archive: Archive) -> Result<Listed<Archive>, AllocError>
+        ensures { IfOk result (λ archives. archives ≡ self.now.archives ++ archive ∷ []) }
     {
         let mut archives = Vec::new(alloc);
         archives.extend_from_slice(self.archives.as_slice())?;
         archives.push(archive)?;
-        Ok(archives)
+        Ok(Listed::of(archives))
     }
 
     /// The log has these archives, of which the last is new.
-    pub fn put_archives(&mut self, archives: Vec<Archive>, archive: Archive)
-        ensures { self.new ≡ with_archives archives.items archive self.old }
+    pub fn put_archives(&mut self, archives: Listed<Archive>, archive: Archive)
+        requires { archive.start + archive.len < 2 ^ 63 }
+        ensures { self.new ≡ with_archives archives archive self.old }
     {
-        self.archives = archives;
+        self.archives = archives.into_vec();
         self.upto = archive.upto;
         self.end = archive.start + archive.len;
     }

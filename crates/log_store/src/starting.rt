@@ -50,6 +50,7 @@ impl<D: Disk> LogStore<D> {
 
     // The archive that makes this run begins.
     fn begin_archive(&mut self, run: Run, writer: RunWriter<ArchiveWalk>) -> Result<(), AllocError>
+        requires none { self.old.job ≡ None }
         requires run { IsRun run }
         requires room { self.old.room.log + self.old.room.promised + 1 ≤ length self.old.room.used / 2 }
         ensures ok { OnOk result (BeginsArchive self.old run writer self.new) }
@@ -80,6 +81,7 @@ impl<D: Disk> LogStore<D> {
     // Why no archive up to a time begins, by what is known before its run is counted.
     fn archive_refusal(&self, upto: u64) -> Option<StartFault>
         ensures is { result ≡ archive_refusal self.now upto }
+        ensures none { IfNone result (self.now.job ≡ None) }
         ensures in_range { IfNone result ((0 < upto) × (upto < 2 ^ 63)) }
         ensures room { IfNone result (self.now.room.log + self.now.room.promised + 1 ≤ length self.now.room.used / 2) }
     {
