@@ -18,4 +18,5 @@ pub mod Archiving
 pub mod Jobs
 pub mod ArchiveBegins
 pub mod Opened
+pub mod Reaching
 pub mod Opening

@@ -1,6 +1,6 @@
 -- A store that is opened stands for what it is opened on.
 use Rattle.std.proofs.Common.{◌≡◌, ℕ, ◌+◌, ◌*◌, ◌/◌, ◌<◌, ◌≤◌, ◌-◌, Bool, true, false, List, [], ◌∷◌, ◌++◌, length, map, take, drop, replicate, ◌≢◌}
-use Rattle.std.proofs.Common.{Option, refl, arith, ap, sym, subst, ◌∙◌, length-append}
+use Rattle.std.proofs.Common.{Option, inl, refl, arith, ap, sym, subst, ◌∙◌, length-append}
 use Rattle.std.specs.Prelude.{flat_map}
 use Rattle.std.specs.List.{AllByRecursion}
 use Rattle.std.proofs.lemmas.List.{length-replicate}
@@ -49,7 +49,7 @@ use Rattle.commits.specs.Values.{WaitingValue, versions_after}
 use Rattle.log_store.specs.Values.{LogStoreValue}
 use Rattle.log_store.proofs.Rooms.{numbers, numbers-count, numbers-in_range, last-keeps}
 use Rattle.law_log_store.specs.Members.{AreTold, AreContents}
-use Rattle.law_log_store.specs.Standing.{StandsOnHeap, HasTurn, HasJob, MayAllEnter, IsRoomOf, KeepsRoots}
+use Rattle.law_log_store.specs.Standing.{StandsOnHeap, HasTurn, HasJob, MayAllEnter, HasAllWritten, IsRoomOf, KeepsRoots}
 use Rattle.log_store.specs.declared.job.Job.{Job}
 use Rattle.law_log_store.specs.Opened.{live_uses, LeavesRoom, IsOpenedOn}
 use Rattle.law_log_store.proofs.Flags.{all-used-length, distinct-join}
@@ -169,7 +169,6 @@ module _ (most root : ℕ) (l : HeapLog) (reading : Reading) (h : History Value)
                 )),
           );
       log = refl;
-      spare = λ some. absurd (omega (arith, some));
     };
   }
 
@@ -197,6 +196,7 @@ pub opened-stands : (v : LogStoreValue) (image : Image) (l : HeapLog) (reading :
 opened-stands v image l reading h floors same sound reads is held stands opened = record {
   l = l;
   reading = reading;
+  made = [];
   is_log = is;
   stands = stands;
   archive = subst (λ (areas : Areas). KeepsArchive l areas.archive) (sym same) (record {
@@ -218,8 +218,8 @@ opened-stands v image l reading h floors same sound reads is held stands opened 
     may = tt;
   };
   anchors = record { len = ap (λ (r : RoomValue). r.anchors) opened.room; fit = tt };
-  turn = subst (λ (t : Option WriterState). HasTurn v [] l reading h t) (sym opened.turn)
-      (subst (λ (j : Option Job). HasJob v l reading j) (sym opened.job) (record {
+  turn = subst (λ (t : Option WriterState). HasTurn v [] l reading [] h t) (sym opened.turn)
+      (subst (λ (j : Option Job). HasJob v l reading [] j) (sym opened.job) (record {
         log = subst (λ (areas : Areas). KeepsLog l areas.heap) (sym same) (record {
           parts = all-synced (heap_parts l) (settled_area image.heap) held.parts;
           ends = settled-closed (extent_start l.next) image.heap held.ends;
@@ -227,5 +227,9 @@ opened-stands v image l reading h floors same sound reads is held stands opened 
         room = subst (IsRoomOf v.roots.extents l) (sym opened.room)
             ((leaves-room v.roots.extents (root_of v.roots) l reading h floors is stands).room);
       }));
-  job = subst (λ (j : Option Job). MayAllEnter h floors j) (sym opened.job) tt;
+  job = subst (λ (j : Option Job). MayAllEnter l reading h floors [] j) (sym opened.job) tt;
+  written = subst (λ (j : Option Job). HasAllWritten [] j v.disk.areas.archive) (sym opened.job) tt;
+  named = opened.named;
+  reach = opened.reach;
+  spare = inl (λ some. let none : v.room.promised ≡ 0 = ap (λ (r : RoomValue). r.promised) opened.room in absurd (omega (arith, some, none)));
 }

@@ -24,10 +24,6 @@ pub archive-entry : (made : Archive) (archives : List Archive) → archive_bytes
 unfolding entry_bytes
 archive-entry made archives = refl
 
--- which has room in one extent
-pub one-extent : (len : ℕ) → 0 < len → len ≤ 35 → count_of len ≡ 1
-one-extent len some few = omega (arith, some, few)
-
 -- what an entry begins with
 pub begins-entry : (old : LogStoreValue) (job : Job) (bytes numbers : List ℕ) (link : ℕ) (room : RoomValue) (w : WriterState) (after : Option Job)
     → old.job ≡ Some job → bytes ≡ entry_bytes (entry_of job.work) → TakesChain old.room 1 1 numbers link room → w ≡ begun_writer numbers link bytes

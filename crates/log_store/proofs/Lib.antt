@@ -6,5 +6,4 @@ pub mod Places
 pub mod Heads
 pub mod Entries
 mod Entering
-mod Written
 mod Archives

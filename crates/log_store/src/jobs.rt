@@ -47,10 +47,15 @@ impl JobWork {
     {
         let mut bytes = Vec::new(alloc);
         match self {
-            JobWork::Floor { floor, .. } => push_floor(&mut bytes, floor)?,
-            JobWork::Archive { archive, .. } => push_archive(&mut bytes, archive)?,
+            JobWork::Floor { floor, .. } => {
+                push_floor(&mut bytes, floor)?;
+                Ok(bytes)
+            }
+            JobWork::Archive { archive, .. } => {
+                push_archive(&mut bytes, archive)?;
+                Ok(bytes)
+            }
         }
-        Ok(bytes)
     }
 
     // Its entry is the log's.
