@@ -15,6 +15,6 @@ pub use engine::Engine;
 pub use formatting::{Layout, format};
 pub use steps::{Did, JobDid};
 pub use store::{
-    BeginFault, FormatFault, OpenFault, Profile, PumpFault, QueryFault, Redeemed,
-    RowWalk, SharedValue, StartFault, SubmitFault, Submitted, Ticket, Txn, TxnFault, View,
+    BeginFault, FormatFault, OpenFault, Profile, PumpFault, QueryFault, Redeemed, RowWalk,
+    SharedValue, StartFault, SubmitFault, Submitted, Ticket, Txn, TxnFault, View,
 };

@@ -3,17 +3,24 @@ use Rattle.std.specs.Prelude.{◌≡◌, Bool, true, false, Option, None, Some, 
 use Rattle.std.proofs.Common.{◌∙◌, sym, ap, subst, refl, inl, inr, ◌⊎◌}
 use Rattle.std.proofs.lemmas.Bool.{false≢true}
 use Rattle.disk.specs.Areas.{Areas, AreSound}
-use Rattle.disk.specs.declared.area.Area.TheVariants.{Heap}
-use Rattle.group.specs.declared.answers.Did.{Did}
+use Rattle.disk.specs.declared.area.Area.TheVariants.{Status, Heap}
+use Rattle.group.specs.declared.answers.Did.{Did as SlotsDid}
 use Rattle.group.specs.declared.answers.PumpFault.{PumpFault}
-use Rattle.store.specs.declared.job.JobDid.{JobDid}
+use Rattle.store.specs.declared.job.JobDid.{JobDid as SlotsJobDid}
+use Rattle.store.specs.Jobs as slot_jobs
+use Rattle.store.specs.Pumps as slot_pumps
 use Rattle.log_store.specs.Jobs as log_jobs
-use Rattle.log_store.specs.declared.job.JobDid as log_steps
+use Rattle.log_store.specs.Pumps as log_pumps
+use Rattle.log_store.specs.declared.job.JobDid.{JobDid as LogJobDid}
+use Rattle.log_store.specs.declared.pump.Did.{Did as LogDid}
 use Rattle.any_store.specs.Calls.{Pumps}
-use Rattle.any_store.specs.Jobs.{PumpsJob, told_did, told_step}
+use Rattle.any_store.specs.Jobs.{PumpsJob}
 use Rattle.any_store.specs.Places.{log_area}
 use Rattle.any_store.specs.Values.{StoreValue, disk_of}
+use Rattle.any_store.specs.Steps.{slots_did, log_did, slots_job_did, log_job_did, slots_step, log_step, slots_job_step, log_job_step}
 use Rattle.any_store.specs.declared.engine.Engine.TheVariants.{Slots, Log}
+use Rattle.any_store.specs.declared.steps.Did.{Did}
+use Rattle.any_store.specs.declared.steps.JobDid.{JobDid}
 use Rattle.c_engine.specs.Engines.{asks, due_in, due_call, stopped_by, AfterStep, KeepsState, KeepsPublished}
 use Rattle.c_engine.specs.Laws.{LeadsByItsCall, GroupCallIsTheSteps, JobCallIsTheSteps}
 use Rattle.c_engine.specs.Steps.{group_call, job_call, call_of, of_group, of_job}
@@ -26,33 +33,54 @@ use Rattle.c_engine.specs.declared.engine.EngineState.{EngineState}
 use Rattle.c_engine.specs.declared.engine.EngineState.TheVariants.{Settled, Asks, Failed}
 use Rattle.c_engine.specs.declared.step.Step.{Step}
 use Rattle.c_engine.specs.declared.step.Step.TheVariants.{Group, Job}
-use Rattle.c_engine.proofs.Leading.{LeadsBy, of-job-did}
+use Rattle.c_engine.proofs.Leading.{LeadsBy, of-did, of-job-did}
 use Rattle.c_engine.proofs.SlotCalling.{slot-pump-leads, slot-job-leads}
 use Rattle.c_engine.proofs.LogCalling.{log-pump-leads, log-job-leads}
 
 -- ---- a step, in either layout
 
+abbrev group_said : Did → Result Did PumpFault
+group_said what = Ok what
+
 pub pump-leads : (old new : StoreValue) (what : Did) → Pumps true old (Ok what) new
     → LeadsBy (disk_of old).areas (group_call (log_area old) what) (disk_of new).areas
-pump-leads (Slots s) (Slots s') what pumps = slot-pump-leads s s' what pumps
+pump-leads (Slots s) (Slots s') what pumps = by-answer pumps.0 pumps.1 pumps.2
+  where
+    by-answer : (said : Result SlotsDid PumpFault) → slot_pumps.Pumps true s said s' → group_said what ≡ slots_step said
+        → LeadsBy s.disk.areas (group_call Status what) s'.disk.areas
+    by-answer (Ok done) takes is =
+        let same : what ≡ slots_did done = (let e = is in cc) in of-did Status _ _ what (slots_did done) same (slot-pump-leads s s' done takes)
+    by-answer (Err why) takes is = absurd (let e = is in cc)
 pump-leads (Slots s) (Log l') what pumps = absurd pumps
 pump-leads (Log l) (Slots s') what pumps = absurd pumps
-pump-leads (Log l) (Log l') what pumps = log-pump-leads l l' what pumps
+pump-leads (Log l) (Log l') what pumps = by-answer pumps.0 pumps.1 pumps.2
+  where
+    by-answer : (said : Result LogDid PumpFault) → log_pumps.Pumps true l said l' → group_said what ≡ log_step said
+        → LeadsBy l.disk.areas (group_call Heap what) l'.disk.areas
+    by-answer (Ok done) takes is =
+        let same : what ≡ log_did done = (let e = is in cc) in of-did Heap _ _ what (log_did done) same (log-pump-leads l l' done takes)
+    by-answer (Err why) takes is = absurd (let e = is in cc)
 
 abbrev job_said : JobDid → Result JobDid PumpFault
 job_said what = Ok what
 
 pub job-leads : (old new : StoreValue) (what : JobDid) → PumpsJob true old (Ok what) new
     → LeadsBy (disk_of old).areas (job_call (log_area old) what) (disk_of new).areas
-job-leads (Slots s) (Slots s') what pumps = slot-job-leads s s' what pumps
+job-leads (Slots s) (Slots s') what pumps = by-answer pumps.0 pumps.1 pumps.2
+  where
+    by-answer : (said : Result SlotsJobDid PumpFault) → slot_jobs.PumpsJob true s said s' → job_said what ≡ slots_job_step said
+        → LeadsBy s.disk.areas (job_call Status what) s'.disk.areas
+    by-answer (Ok done) takes is =
+        let same : what ≡ slots_job_did done = (let e = is in cc) in of-job-did Status _ _ what (slots_job_did done) same (slot-job-leads s s' done takes)
+    by-answer (Err why) takes is = absurd (let e = is in cc)
 job-leads (Slots s) (Log l') what pumps = absurd pumps
 job-leads (Log l) (Slots s') what pumps = absurd pumps
 job-leads (Log l) (Log l') what pumps = by-answer pumps.0 pumps.1 pumps.2
   where
-    by-answer : (said : Result log_steps.JobDid PumpFault) → log_jobs.PumpsJob true l said l' → job_said what ≡ told_step said
+    by-answer : (said : Result LogJobDid PumpFault) → log_jobs.PumpsJob true l said l' → job_said what ≡ log_job_step said
         → LeadsBy l.disk.areas (job_call Heap what) l'.disk.areas
     by-answer (Ok done) takes is =
-        let same : what ≡ told_did done = (let e = is in cc) in of-job-did Heap _ _ what (told_did done) same (log-job-leads l l' done takes)
+        let same : what ≡ log_job_did done = (let e = is in cc) in of-job-did Heap _ _ what (log_job_did done) same (log-job-leads l l' done takes)
     by-answer (Err why) takes is = absurd (let e = is in cc)
 
 -- ---- what stands out

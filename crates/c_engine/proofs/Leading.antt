@@ -6,8 +6,8 @@ use Rattle.disk.specs.Calls.{Writes, Syncs}
 use Rattle.disk.specs.declared.area.Area.{Area}
 use Rattle.disk.specs.declared.area.Area.TheVariants.{Status, Heap, Archive}
 use Rattle.disk.proofs.Stops.{slice_range-overlaid_same}
-use Rattle.group.specs.declared.answers.Did.{Did}
-use Rattle.store.specs.declared.job.JobDid.{JobDid}
+use Rattle.any_store.specs.declared.steps.Did.{Did}
+use Rattle.any_store.specs.declared.steps.JobDid.{JobDid}
 use Rattle.c_engine.specs.HostCalls.{HostCall, made, call_in}
 use Rattle.c_engine.specs.HostCalls as host
 use Rattle.c_engine.specs.LastWrites.{last_write}

@@ -3,9 +3,8 @@ use Rattle.std.specs.Prelude.{ℕ, ◌≡◌, ◌==◌, Bool, true, false, List,
 use Rattle.std.proofs.Common.{ap, sym, subst, refl, inl, inr}
 use Rattle.disk.specs.Areas.{Areas}
 use Rattle.disk.specs.Calls.{DiskState}
+use Rattle.disk.specs.declared.area.Area.{Area}
 use Rattle.disk.specs.declared.area.Area.TheVariants.{Heap}
-use Rattle.group.specs.declared.answers.Did.{Did}
-use Rattle.group.specs.declared.answers.Did.TheVariants as did
 use Rattle.group.specs.declared.answers.PumpFault.{PumpFault}
 use Rattle.group.specs.declared.answers.PumpFault.TheVariants as fault
 use Rattle.log_writer.specs.Turns.{Turn, Stage, Writing, Syncing, Opening, Settling, Done, IsCallOf}
@@ -16,117 +15,131 @@ use Rattle.log_store.specs.Jobs as log_jobs
 use Rattle.log_store.specs.Values.{LogStoreValue}
 use Rattle.log_store.specs.declared.job.Job.{Job}
 use Rattle.log_store.specs.declared.job.JobDid.{JobDid}
-use Rattle.log_store.specs.declared.job.JobDid.TheVariants as log_did
+use Rattle.log_store.specs.declared.job.JobDid.TheVariants as job_did
 use Rattle.log_store.specs.declared.job.JobStage.{JobStage}
 use Rattle.log_store.specs.declared.job.JobStage.TheVariants.{Ready, Entering}
-use Rattle.store.specs.declared.job.JobDid.TheVariants as job_did
-use Rattle.any_store.specs.Jobs.{told_did}
+use Rattle.log_store.specs.declared.pump.Did.{Did}
+use Rattle.log_store.specs.declared.pump.Did.TheVariants as did
+use Rattle.any_store.specs.Steps.{log_did, log_job_did}
 use Rattle.c_engine.specs.Steps.{group_call, job_call}
 use Rattle.c_engine.proofs.Leading.{LeadsBy, by-write, by-sync, of-did, of-job-did}
 
+-- what a step did, by either name
+of-log-did : (log : Area) (before after : Areas) (what other : Did) → what ≡ other → LeadsBy before (group_call log (log_did other)) after
+    → LeadsBy before (group_call log (log_did what)) after
+of-log-did log before after what other same leads = of-did log before after (log_did what) (log_did other) (ap log_did same) leads
+
+of-log-job-did : (log : Area) (before after : Areas) (what other : JobDid) → what ≡ other → LeadsBy before (job_call log (log_job_did other)) after
+    → LeadsBy before (job_call log (log_job_did what)) after
+of-log-job-did log before after what other same leads =
+    of-job-did log before after (log_job_did what) (log_job_did other) (ap log_job_did same) leads
+
+-- ---- groups
+
 stage-leads : (stage : Stage) (t : Turn) (group : ℕ) (before after : Areas) (what : Did) → IsCallOf t stage (Ok tt) before after
-    → what ≡ did_of (writers.did stage) group → LeadsBy before (group_call Heap what) after
-stage-leads (Writing done (p ∷ rest)) t group before after what call is = of-did Heap _ _ what did.WroteExtent is (by-write Heap _ _ _ _ call)
-stage-leads (Writing done []) t group before after what call is = of-did Heap _ _ what did.BodyWritten is (by-write Heap _ _ _ _ call)
-stage-leads Syncing t group before after what call is = of-did Heap _ _ what did.BodySynced is (by-sync Heap _ _ call)
-stage-leads Opening t group before after what call is = of-did Heap _ _ what did.GateWritten is (by-write Heap _ _ _ _ call)
-stage-leads Settling t group before after what call is = of-did Heap _ _ what (did.Published group) is (by-sync Heap _ _ call)
+    → what ≡ did_of (writers.did stage) group → LeadsBy before (group_call Heap (log_did what)) after
+stage-leads (Writing done (p ∷ rest)) t group before after what call is = of-log-did Heap _ _ what did.WroteExtent is (by-write Heap _ _ _ _ call)
+stage-leads (Writing done []) t group before after what call is = of-log-did Heap _ _ what did.GateClosed is (by-write Heap _ _ _ _ call)
+stage-leads Syncing t group before after what call is = of-log-did Heap _ _ what did.HeapSynced is (by-sync Heap _ _ call)
+stage-leads Opening t group before after what call is = of-log-did Heap _ _ what did.GateWritten is (by-write Heap _ _ _ _ call)
+stage-leads Settling t group before after what call is = of-log-did Heap _ _ what (did.Published group) is (by-sync Heap _ _ call)
 stage-leads Done t group before after what call is = absurd call
 
 advances-lead : (w : WriterState) (old new : LogStoreValue) (what : Did) → Advances true w old (Ok what) new
-    → LeadsBy old.disk.areas (group_call Heap what) new.disk.areas
+    → LeadsBy old.disk.areas (group_call Heap (log_did what)) new.disk.areas
 advances-lead w old new what advances = stage-leads w.stage (turn w) old.commits.group _ _ what (advances.call refl) advances.answer.0
 
-begins-lead : (old new : LogStoreValue) (what : Did) → BeginsGroup true old (Ok what) new → LeadsBy old.disk.areas (group_call Heap what) new.disk.areas
+begins-lead : (old new : LogStoreValue) (what : Did) → BeginsGroup true old (Ok what) new
+    → LeadsBy old.disk.areas (group_call Heap (log_did what)) new.disk.areas
 begins-lead old new what (inl none) = absurd (let e = none.0 in cc)
 begins-lead old new what (inr begins) =
-    subst (λ (d : DiskState). LeadsBy d.areas (group_call Heap what) new.disk.areas) (ap (λ (v : LogStoreValue). v.disk) begins.1.new_is)
+    subst (λ (d : DiskState). LeadsBy d.areas (group_call Heap (log_did what)) new.disk.areas) (ap (λ (v : LogStoreValue). v.disk) begins.1.new_is)
     (by-turn begins.0.turn begins.2)
   where
-    by-turn : (o : Option WriterState) → AdvancesGroup true begins.0 o (Ok what) new → LeadsBy begins.0.disk.areas (group_call Heap what) new.disk.areas
+    by-turn : (o : Option WriterState) → AdvancesGroup true begins.0 o (Ok what) new
+        → LeadsBy begins.0.disk.areas (group_call Heap (log_did what)) new.disk.areas
     by-turn None never = absurd never
     by-turn (Some w) advances = advances-lead w begins.0 new what advances
 
 abbrev said : Did → Result Did PumpFault
 said what = Ok what
 
-pub log-pump-leads : (old new : LogStoreValue) (what : Did) → Pumps true old (Ok what) new → LeadsBy old.disk.areas (group_call Heap what) new.disk.areas
+pub log-pump-leads : (old new : LogStoreValue) (what : Did) → Pumps true old (Ok what) new
+    → LeadsBy old.disk.areas (group_call Heap (log_did what)) new.disk.areas
 log-pump-leads old new what pumps = by-failed old.commits.failed pumps
   where
-    by-turn : (o : Option WriterState) → TakesStep true old o (Ok what) new → LeadsBy old.disk.areas (group_call Heap what) new.disk.areas
+    by-turn : (o : Option WriterState) → TakesStep true old o (Ok what) new → LeadsBy old.disk.areas (group_call Heap (log_did what)) new.disk.areas
     by-turn None takes = by-idle (length old.commits.queue == 0) takes
       where
         by-job : (b : Bool) → MatchBool b ((said what ≡ Err fault.Busy) × (new ≡ old)) (BeginsGroup true old (Ok what) new)
-            → LeadsBy old.disk.areas (group_call Heap what) new.disk.areas
+            → LeadsBy old.disk.areas (group_call Heap (log_did what)) new.disk.areas
         by-job true busy = absurd (let e = busy.0 in cc)
         by-job false begins = begins-lead old new what begins
 
         by-idle : (b : Bool) → MatchBool b ((said what ≡ said did.Idle) × (new ≡ old)) (BeginsOrWaits true old (Ok what) new)
-            → LeadsBy old.disk.areas (group_call Heap what) new.disk.areas
+            → LeadsBy old.disk.areas (group_call Heap (log_did what)) new.disk.areas
         by-idle true idle = let same : what ≡ did.Idle =
-            (let e = idle.0 in cc) in of-did Heap _ _ what did.Idle same (ap (λ (v : LogStoreValue). v.disk.areas) idle.1)
+            (let e = idle.0 in cc) in of-log-did Heap _ _ what did.Idle same (ap (λ (v : LogStoreValue). v.disk.areas) idle.1)
         by-idle false begins = by-job (bars_groups old.job) begins
     by-turn (Some w) advances = advances-lead w old new what advances
 
     by-failed : (b : Bool) → MatchBool b ((Ok what ≡ Err fault.Failed) × (new ≡ old)) (TakesStep true old old.turn (Ok what) new)
-        → LeadsBy old.disk.areas (group_call Heap what) new.disk.areas
+        → LeadsBy old.disk.areas (group_call Heap (log_did what)) new.disk.areas
     by-failed true fails = absurd (let e = fails.0 in cc)
     by-failed false takes = by-turn old.turn takes
 
 -- ---- jobs
 
 entry-stage-leads : (stage : Stage) (t : Turn) (before after : Areas) (what : JobDid) → IsCallOf t stage (Ok tt) before after
-    → what ≡ log_jobs.did_of (writers.did stage) → LeadsBy before (job_call Heap (told_did what)) after
-entry-stage-leads (Writing done (p ∷ rest)) t before after what call is =
-    of-job-did Heap _ _ (told_did what) job_did.WroteExtent (ap told_did is) (by-write Heap _ _ _ _ call)
-entry-stage-leads (Writing done []) t before after what call is =
-    of-job-did Heap _ _ (told_did what) job_did.BodyWritten (ap told_did is) (by-write Heap _ _ _ _ call)
-entry-stage-leads Syncing t before after what call is = of-job-did Heap _ _ (told_did what) job_did.BodySynced (ap told_did is) (by-sync Heap _ _ call)
-entry-stage-leads Opening t before after what call is = of-job-did Heap _ _ (told_did what) job_did.GateWritten (ap told_did is) (by-write Heap _ _ _ _ call)
-entry-stage-leads Settling t before after what call is = of-job-did Heap _ _ (told_did what) job_did.JobDone (ap told_did is) (by-sync Heap _ _ call)
+    → what ≡ log_jobs.did_of (writers.did stage) → LeadsBy before (job_call Heap (log_job_did what)) after
+entry-stage-leads (Writing done (p ∷ rest)) t before after what call is = of-log-job-did Heap _ _ what job_did.WroteEntry is (by-write Heap _ _ _ _ call)
+entry-stage-leads (Writing done []) t before after what call is = of-log-job-did Heap _ _ what job_did.GateClosed is (by-write Heap _ _ _ _ call)
+entry-stage-leads Syncing t before after what call is = of-log-job-did Heap _ _ what job_did.HeapSynced is (by-sync Heap _ _ call)
+entry-stage-leads Opening t before after what call is = of-log-job-did Heap _ _ what job_did.GateWritten is (by-write Heap _ _ _ _ call)
+entry-stage-leads Settling t before after what call is = of-log-job-did Heap _ _ what job_did.JobDone is (by-sync Heap _ _ call)
 entry-stage-leads Done t before after what call is = absurd call
 
 entry-leads : (job : Job) (w : WriterState) (old new : LogStoreValue) (what : JobDid) → log_jobs.Advances true job w old (Ok what) new
-    → LeadsBy old.disk.areas (job_call Heap (told_did what)) new.disk.areas
+    → LeadsBy old.disk.areas (job_call Heap (log_job_did what)) new.disk.areas
 entry-leads job w old new what advances = entry-stage-leads w.stage (turn w) _ _ what (advances.call refl) advances.answer.0
 
 abbrev job_said : JobDid → Result JobDid PumpFault
 job_said what = Ok what
 
 pub log-job-leads : (old new : LogStoreValue) (what : JobDid) → log_jobs.PumpsJob true old (Ok what) new
-    → LeadsBy old.disk.areas (job_call Heap (told_did what)) new.disk.areas
+    → LeadsBy old.disk.areas (job_call Heap (log_job_did what)) new.disk.areas
 log-job-leads old new what pumps = by-failed old.commits.failed pumps
   where
     by-at : (x : LogStoreValue) (job : Job) (k : JobStage) → log_jobs.AdvancesAt true job k x (Ok what) new
-        → LeadsBy x.disk.areas (job_call Heap (told_did what)) new.disk.areas
+        → LeadsBy x.disk.areas (job_call Heap (log_job_did what)) new.disk.areas
     by-at x job (Ready waited) never = absurd never
     by-at x job (Entering w) advances = entry-leads job w x new what advances
 
     by-begun : (x : LogStoreValue) (j : Option Job) → log_jobs.AdvancesEntry true j x (Ok what) new
-        → LeadsBy x.disk.areas (job_call Heap (told_did what)) new.disk.areas
+        → LeadsBy x.disk.areas (job_call Heap (log_job_did what)) new.disk.areas
     by-begun x None never = absurd never
     by-begun x (Some job) advances = by-at x job job.stage advances
 
     by-turn : (job : Job) (t : Option WriterState) → log_jobs.StepsReady true job t old (Ok what) new
-        → LeadsBy old.disk.areas (job_call Heap (told_did what)) new.disk.areas
+        → LeadsBy old.disk.areas (job_call Heap (log_job_did what)) new.disk.areas
     by-turn job None (inl none) = absurd (let e = none.0 in cc)
     by-turn job None (inr begins) =
-        subst (λ (d : DiskState). LeadsBy d.areas (job_call Heap (told_did what)) new.disk.areas) (ap (λ (v : LogStoreValue). v.disk) begins.1.new_is)
+        subst (λ (d : DiskState). LeadsBy d.areas (job_call Heap (log_job_did what)) new.disk.areas) (ap (λ (v : LogStoreValue). v.disk) begins.1.new_is)
         (by-begun begins.0 begins.0.job begins.2)
     by-turn job (Some w) busy = absurd (let e = busy.0 in cc)
 
     by-stage : (job : Job) (k : JobStage) → log_jobs.StepsAt true job k old (Ok what) new
-        → LeadsBy old.disk.areas (job_call Heap (told_did what)) new.disk.areas
+        → LeadsBy old.disk.areas (job_call Heap (log_job_did what)) new.disk.areas
     by-stage job (Ready waited) takes = by-turn job old.turn takes
     by-stage job (Entering w) advances = entry-leads job w old new what advances
 
-    by-job : (j : Option Job) → log_jobs.StepsJob true j old (Ok what) new → LeadsBy old.disk.areas (job_call Heap (told_did what)) new.disk.areas
+    by-job : (j : Option Job) → log_jobs.StepsJob true j old (Ok what) new → LeadsBy old.disk.areas (job_call Heap (log_job_did what)) new.disk.areas
     by-job None idle =
-        let same : what ≡ log_did.Idle = (let e = idle.0 in cc) in
-        of-job-did Heap _ _ (told_did what) job_did.Idle (ap told_did same) (ap (λ (v : LogStoreValue). v.disk.areas) idle.1)
+        let same : what ≡ job_did.Idle = (let e = idle.0 in cc) in
+        of-log-job-did Heap _ _ what job_did.Idle same (ap (λ (v : LogStoreValue). v.disk.areas) idle.1)
     by-job (Some job) takes = by-stage job job.stage takes
 
     by-failed : (b : Bool) → MatchBool b ((job_said what ≡ Err fault.Failed) × (new ≡ old)) (log_jobs.StepsJob true old.job old (Ok what) new)
-        → LeadsBy old.disk.areas (job_call Heap (told_did what)) new.disk.areas
+        → LeadsBy old.disk.areas (job_call Heap (log_job_did what)) new.disk.areas
     by-failed true fails = absurd (let e = fails.0 in cc)
     by-failed false takes = by-job old.job takes

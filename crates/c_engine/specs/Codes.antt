@@ -3,8 +3,6 @@ use Rattle.std.specs.Prelude.{◌≡◌, ℕ, ℤ, pos, negsuc, Option, None, So
 use Rattle.disk.specs.declared.area.Area.{Area}
 use Rattle.group.specs.declared.answers.BeginFault.{BeginFault}
 use Rattle.group.specs.declared.answers.BeginFault.TheVariants as begin
-use Rattle.group.specs.declared.answers.Did.{Did}
-use Rattle.group.specs.declared.answers.Did.TheVariants as did
 use Rattle.group.specs.declared.answers.PumpFault.{PumpFault}
 use Rattle.group.specs.declared.answers.PumpFault.TheVariants as pump
 use Rattle.group.specs.declared.answers.SubmitFault.{SubmitFault}
@@ -13,10 +11,12 @@ use Rattle.recovery.specs.declared.fault.OpenFault.{OpenFault}
 use Rattle.recovery.specs.declared.fault.OpenFault.TheVariants as fault
 use Rattle.snapshot.specs.declared.txn.TxnFault.{TxnFault}
 use Rattle.snapshot.specs.declared.txn.TxnFault.TheVariants as txn
-use Rattle.store.specs.declared.job.JobDid.{JobDid}
-use Rattle.store.specs.declared.job.JobDid.TheVariants as job
 use Rattle.store.specs.declared.job.StartFault.{StartFault}
 use Rattle.store.specs.declared.job.StartFault.TheVariants as start
+use Rattle.any_store.specs.declared.steps.Did.{Did}
+use Rattle.any_store.specs.declared.steps.Did.TheVariants as did
+use Rattle.any_store.specs.declared.steps.JobDid.{JobDid}
+use Rattle.any_store.specs.declared.steps.JobDid.TheVariants as job
 use Rattle.c_engine.specs.Areas.{area_number}
 use Rattle.c_engine.specs.declared.code.Code.{Code}
 use Rattle.c_engine.specs.declared.code.Code.TheVariants as code
@@ -124,6 +124,7 @@ told_did did.BodyWritten = record { a = 3; b = 0 }
 told_did did.BodySynced = record { a = 4; b = 0 }
 told_did did.GateWritten = record { a = 5; b = 0 }
 told_did (did.Published count) = record { a = 6; b = count }
+told_did did.GateClosed = record { a = 13; b = 0 }
 
 -- what a step of a job did
 abbrev pub job_number : JobDid → ℕ
@@ -138,6 +139,8 @@ job_number job.WroteExtent = 7
 job_number job.HeapSynced = 8
 job_number job.WroteZeros = 9
 job_number job.ZerosSynced = 10
+job_number job.WroteEntry = 12
+job_number job.GateClosed = 13
 
 -- what a call on a handle answers: by the number of a code that the engine says, or that there is none
 abbrev pub AnswersOn : (Engine → Code → Type 0) → Option Engine → ℤ → Type 0

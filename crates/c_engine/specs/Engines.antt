@@ -5,7 +5,6 @@ use Rattle.disk.specs.Areas.{Areas, AreSound, Image}
 use Rattle.disk.specs.Calls.{fresh_on}
 use Rattle.group.specs.Tickets.{TicketValue}
 use Rattle.group.specs.declared.answers.BeginFault.{BeginFault}
-use Rattle.group.specs.declared.answers.Did.{Did}
 use Rattle.group.specs.declared.answers.PumpFault.{PumpFault}
 use Rattle.group.specs.declared.answers.Redeemed.{Redeemed}
 use Rattle.group.specs.declared.answers.Redeemed.TheVariants as redeemed
@@ -25,7 +24,8 @@ use Rattle.any_store.specs.Opens.{Opens}
 use Rattle.any_store.specs.Places.{log_area}
 use Rattle.any_store.specs.Queries.{IsViewOf}
 use Rattle.any_store.specs.Values.{StoreValue, disk_of, with_disk}
-use Rattle.store.specs.declared.job.JobDid.{JobDid}
+use Rattle.any_store.specs.declared.steps.Did.{Did}
+use Rattle.any_store.specs.declared.steps.JobDid.{JobDid}
 use Rattle.store.specs.declared.job.StartFault.{StartFault}
 use Rattle.timequery.specs.View.{ViewValue}
 use Rattle.c_engine.specs.Codes.{IsOpenCode, begin_code, txn_code, IsSubmitCode, pump_code, IsStartCode, code_number}

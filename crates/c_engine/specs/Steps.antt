@@ -2,11 +2,11 @@
 use Rattle.std.specs.Prelude.{Option, None, Some, Result, Ok, Err}
 use Rattle.disk.specs.declared.area.Area.{Area}
 use Rattle.disk.specs.declared.area.Area.TheVariants.{Status, Heap, Archive}
-use Rattle.group.specs.declared.answers.Did.{Did}
-use Rattle.group.specs.declared.answers.Did.TheVariants as did
 use Rattle.group.specs.declared.answers.PumpFault.{PumpFault}
-use Rattle.store.specs.declared.job.JobDid.{JobDid}
-use Rattle.store.specs.declared.job.JobDid.TheVariants as job
+use Rattle.any_store.specs.declared.steps.Did.{Did}
+use Rattle.any_store.specs.declared.steps.Did.TheVariants as did
+use Rattle.any_store.specs.declared.steps.JobDid.{JobDid}
+use Rattle.any_store.specs.declared.steps.JobDid.TheVariants as job
 use Rattle.c_engine.specs.Codes.{told_did, job_number}
 use Rattle.c_engine.specs.declared.code.Info.{Info}
 use Rattle.c_engine.specs.declared.device_call.DeviceCall.{DeviceCall}
@@ -18,6 +18,7 @@ use Rattle.c_engine.specs.declared.step.Step.TheVariants.{Group, Job}
 abbrev pub group_call : Area → Did → Option DeviceCall
 group_call log did.Idle = None
 group_call log did.WroteExtent = Some (Write Heap)
+group_call log did.GateClosed = Some (Write Heap)
 group_call log did.HeapSynced = Some (Sync Heap)
 group_call log did.BodyWritten = Some (Write log)
 group_call log did.BodySynced = Some (Sync log)
@@ -37,6 +38,8 @@ job_call log job.WroteExtent = Some (Write Heap)
 job_call log job.HeapSynced = Some (Sync Heap)
 job_call log job.WroteZeros = Some (Write Status)
 job_call log job.ZerosSynced = Some (Sync Status)
+job_call log job.WroteEntry = Some (Write Heap)
+job_call log job.GateClosed = Some (Write Heap)
 
 -- the device call of a step; none where there was nothing to do
 abbrev pub call_of : Step → Option DeviceCall

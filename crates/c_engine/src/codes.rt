@@ -153,6 +153,7 @@ pub(crate) fn did_number(did: Did, info: &mut Info)
             info.b = count as u64;
             6
         }
+        Did::GateClosed => 13,
     };
 }
 
@@ -172,5 +173,7 @@ pub(crate) fn job_number(did: JobDid) -> u64
         JobDid::HeapSynced => 8,
         JobDid::WroteZeros => 9,
         JobDid::ZerosSynced => 10,
+        JobDid::WroteEntry => 12,
+        JobDid::GateClosed => 13,
     }
 }

@@ -20,7 +20,7 @@ fn group_call(log: Area, did: Did) -> Option<DeviceCall>
 {
     match did {
         Did::Idle => None,
-        Did::WroteExtent => Some(DeviceCall::Write(Area::Heap)),
+        Did::WroteExtent | Did::GateClosed => Some(DeviceCall::Write(Area::Heap)),
         Did::HeapSynced => Some(DeviceCall::Sync(Area::Heap)),
         Did::BodyWritten | Did::GateWritten => Some(DeviceCall::Write(log)),
         Did::BodySynced | Did::Published(_) => Some(DeviceCall::Sync(log)),
@@ -34,7 +34,9 @@ fn job_call(log: Area, did: JobDid) -> Option<DeviceCall>
         JobDid::Idle => None,
         JobDid::WroteRun => Some(DeviceCall::Write(Area::Archive)),
         JobDid::RunSynced => Some(DeviceCall::Sync(Area::Archive)),
-        JobDid::WroteExtent => Some(DeviceCall::Write(Area::Heap)),
+        JobDid::WroteExtent | JobDid::WroteEntry | JobDid::GateClosed => {
+            Some(DeviceCall::Write(Area::Heap))
+        }
         JobDid::HeapSynced => Some(DeviceCall::Sync(Area::Heap)),
         JobDid::WroteZeros => Some(DeviceCall::Write(Area::Status)),
         JobDid::ZerosSynced => Some(DeviceCall::Sync(Area::Status)),

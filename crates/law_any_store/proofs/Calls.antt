@@ -1,5 +1,5 @@
 -- The calls of transactions, tickets and groups are steps of the machine, in either layout.
-use Rattle.std.proofs.Common.{◌≡◌, ℕ, ◌<◌, ◌^◌, Bool, true, false, cond, List, [], ◌∷◌, ◌++◌, Result, Ok, Err, refl, ap, sym, subst, ◌∙◌}
+use Rattle.std.proofs.Common.{◌≡◌, ℕ, ◌<◌, ◌^◌, Bool, true, false, List, [], ◌∷◌, ◌++◌, Result, Ok, Err, refl, ap, sym, subst, ◌∙◌}
 use Rattle.std.specs.Prelude.{IsTrue, MatchBool}
 use Rattle.disk.specs.Areas.{AreSound}
 use Rattle.history.specs.Answers as answers
@@ -11,19 +11,25 @@ use Rattle.snapshot.specs.Txn.{TxnValue, AreTxnWrites}
 use Rattle.group.specs.Tickets.{TicketValue}
 use Rattle.group.specs.declared.answers.BeginFault.{BeginFault}
 use Rattle.group.specs.declared.answers.BeginFault.TheVariants as fault
-use Rattle.group.specs.declared.answers.Did.{Did}
+use Rattle.group.specs.declared.answers.Did as slot_steps
 use Rattle.group.specs.declared.answers.PumpFault.{PumpFault}
 use Rattle.group.specs.declared.answers.PumpFault.TheVariants as pump
 use Rattle.group.specs.declared.answers.Redeemed.{Redeemed}
 use Rattle.group.specs.declared.answers.Submitted.{Submitted}
 use Rattle.group.specs.declared.answers.SubmitFault.{SubmitFault}
 use Rattle.commits.specs.Values.{is_own}
+use Rattle.store.specs.Pumps as slot_store_pumps
+use Rattle.store.specs.Values as slot_store
+use Rattle.log_store.specs.Pumps as log_store
 use Rattle.log_store.specs.Values.{LogStoreValue}
+use Rattle.log_store.specs.declared.pump.Did as log_steps
 use Rattle.any_store.specs.declared.engine.Engine.TheVariants.{Slots, Log}
+use Rattle.any_store.specs.declared.steps.Did.{Did}
 use Rattle.any_store.specs.Values.{StoreValue, is_log, commits_of, disk_of}
 use Rattle.any_store.specs.Calls as stores
+use Rattle.any_store.specs.Steps.{slots_step, log_step}
 use Rattle.law_refinement.specs.Calls as slot_calls
-use Rattle.law_refinement.specs.Laws.{submission_of, event_of, RedeemsAs, begins_in, ends_in, breaks_in}
+use Rattle.law_refinement.specs.Laws.{submission_of, event_of, RedeemsAs, begins_in, ends_in}
 use Rattle.law_refinement.specs.Stands as slots
 use Rattle.law_refinement.proofs.GrowingCalls as slot_laws
 use Rattle.law_refinement.proofs.GrowingPumps as slot_pumps
@@ -37,7 +43,8 @@ use Rattle.law_log_steps.proofs.InStep.{begin-in-step, abort-in-step, redeem-in-
 use Rattle.law_log_queries.specs.Calls.{OfBegin, OfAbort, OfRedeem, OfSubmit, OfPump}
 use Rattle.law_log_queries.proofs.Calls.{call-keeps}
 use Rattle.law_any_store.specs.Standing.{Stands}
-use Rattle.law_any_store.specs.Calls.{BeginsOn, Goes, pumped_by_log, pumped_in, RunsTo}
+use Rattle.law_any_store.specs.Calls.{BeginsOn, Goes, pumped_in, RunsTo}
+use Rattle.law_any_store.proofs.Told.{slots-told, log-told}
 
 -- a single event is a run
 one-step : (m after : Machine Value) (event : Event Value) → Step IsValue m event after → Run IsValue m (event ∷ []) after
@@ -123,42 +130,57 @@ redeem-stands tells (Log l) (Log l') ticket answer m is redeems =
 
 -- ---- groups
 
--- the events of a store that works, whose log lies in the heap
-log-pumped : (m : Machine Value) (answer : Result Did PumpFault) → m.failed ≡ false → log_calls.events_in m answer ≡ pumped_by_log m answer
-log-pumped m (Ok what) works = refl
-log-pumped m (Err pump.Busy) works = refl
-log-pumped m (Err pump.NoMemory) works = refl
-log-pumped m (Err pump.Failed) works = ap (λ (b : Bool). cond b [] (begins_in m ++ breaks_in m.gate)) works
-
-pub pump-stands : (tells : Bool) (old new : StoreValue) (answer : Result Did PumpFault) (m : Machine Value) → Stands tells old m
-    → (IsTrue tells → AreSound (disk_of new).areas) → stores.Pumps tells old answer new
-    → MatchBool m.failed ((answer ≡ Err pump.Failed) × Stands tells new m) (RunsTo tells m (pumped_in (is_log old) m answer) new)
-pump-stands tells (Slots s) (Slots s') answer m is sound pumps = so m.failed (slot_pumps.pump-stands tells s s' answer m is sound pumps)
+-- a step of a group of one whose log is slots
+slots-pump-stands : (tells : Bool) (s s' : slot_store.StoreValue) (said : Result slot_steps.Did PumpFault) (m : Machine Value) → Stands tells (Slots s) m
+    → (IsTrue tells → AreSound s'.disk.areas) → slot_store_pumps.Pumps tells s said s'
+    → MatchBool m.failed ((slots_step said ≡ Err pump.Failed) × Stands tells (Slots s') m) (RunsTo tells m (pumped_in false m (slots_step said)) (Slots s'))
+slots-pump-stands tells s s' said m is sound pumps = so m.failed (slot_pumps.pump-stands tells s s' said m is sound pumps)
   where
     so : (b : Bool)
-        → MatchBool b ((answer ≡ Err pump.Failed) × slots.Stands tells s' m) ((after : Machine Value)
-        × Run IsValue m (begins_in m ++ ends_in m.gate answer) after × slots.Stands tells s' after)
-        → MatchBool b ((answer ≡ Err pump.Failed) × Stands tells (Slots s') m) (RunsTo tells m (begins_in m ++ ends_in m.gate answer) (Slots s'))
-    so true to = to
-    so false to = record { after = to.0; run = to.1; stands = to.2 }
-pump-stands tells (Slots s) (Log l') answer m is sound pumps = absurd pumps
-pump-stands tells (Log l) (Slots s') answer m is sound pumps = absurd pumps
-pump-stands tells (Log l) (Log l') answer m is sound pumps = so m.failed refl
+        → MatchBool b ((said ≡ Err pump.Failed) × slots.Stands tells s' m) ((after : Machine Value)
+        × Run IsValue m (begins_in m ++ ends_in m.gate said) after × slots.Stands tells s' after)
+        → MatchBool b ((slots_step said ≡ Err pump.Failed) × Stands tells (Slots s') m) (RunsTo tells m (pumped_in false m (slots_step said)) (Slots s'))
+    so true to = (ap slots_step to.0, to.1)
+    so false to = record {
+      after = to.0;
+      run = subst (λ (events : List (Event Value)). Run IsValue m events to.0) (slots-told m said) to.1;
+      stands = to.2;
+    }
+
+-- and of one whose log lies in the heap
+log-pump-stands : (tells : Bool) (l l' : LogStoreValue) (said : Result log_steps.Did PumpFault) (m : Machine Value) → Stands tells (Log l) m
+    → (IsTrue tells → AreSound l'.disk.areas) → log_store.Pumps tells l said l'
+    → MatchBool m.failed ((log_step said ≡ Err pump.Failed) × Stands tells (Log l') m) (RunsTo tells m (pumped_in true m (log_step said)) (Log l'))
+log-pump-stands tells l l' said m is sound pumps = so m.failed refl
   where
     stands_then : IsStoreOf tells l m
     stands_then = (is.1).store
 
     so : (b : Bool) → m.failed ≡ b
-        → MatchBool b ((answer ≡ Err pump.Failed) × Stands tells (Log l') m) (RunsTo tells m (pumped_by_log m answer) (Log l'))
+        → MatchBool b ((log_step said ≡ Err pump.Failed) × Stands tells (Log l') m) (RunsTo tells m (pumped_in true m (log_step said)) (Log l'))
     so true fails =
-        let rests = failed-rests tells l l' answer (stands_then.memory.failed ∙ fails) pumps in
-        (rests.0, subst (λ (x : LogStoreValue). Stands tells (Log x) m) (sym rests.1) is)
+        let rests = failed-rests tells l l' said (stands_then.memory.failed ∙ fails) pumps in
+        (ap log_step rests.0, subst (λ (x : LogStoreValue). Stands tells (Log x) m) (sym rests.1) is)
     so false works =
-        let runs = log_pumps.pump-stands tells l l' answer m is.0 sound stands_then pumps in record {
+        let runs = log_pumps.pump-stands tells l l' said m is.0 sound stands_then pumps in record {
           after = runs.after;
-          run = subst (λ (events : List (Event Value)). Run IsValue m events runs.after) (log-pumped m answer works) runs.run;
+          run = subst (λ (events : List (Event Value)). Run IsValue m events runs.after) (log-told m said works) runs.run;
           stands = (
-            pump-in-step tells l l' answer is.0 pumps,
-            (call-keeps tells l l' m runs.after (log_calls.events_in m answer) is.1 (OfPump answer sound pumps) runs.run runs.stands).0,
+            pump-in-step tells l l' said is.0 pumps,
+            (call-keeps tells l l' m runs.after (log_calls.events_in m said) is.1 (OfPump said sound pumps) runs.run runs.stands).0,
           );
         }
+
+pub pump-stands : (tells : Bool) (old new : StoreValue) (answer : Result Did PumpFault) (m : Machine Value) → Stands tells old m
+    → (IsTrue tells → AreSound (disk_of new).areas) → stores.Pumps tells old answer new
+    → MatchBool m.failed ((answer ≡ Err pump.Failed) × Stands tells new m) (RunsTo tells m (pumped_in (is_log old) m answer) new)
+pump-stands tells (Slots s) (Slots s') answer m is sound pumps =
+    subst (λ (a : Result Did PumpFault). MatchBool m.failed ((a ≡ Err pump.Failed) × Stands tells (Slots s') m)
+    (RunsTo tells m (pumped_in false m a) (Slots s')))
+    (sym pumps.2) (slots-pump-stands tells s s' pumps.0 m is sound pumps.1)
+pump-stands tells (Slots s) (Log l') answer m is sound pumps = absurd pumps
+pump-stands tells (Log l) (Slots s') answer m is sound pumps = absurd pumps
+pump-stands tells (Log l) (Log l') answer m is sound pumps =
+    subst (λ (a : Result Did PumpFault). MatchBool m.failed ((a ≡ Err pump.Failed) × Stands tells (Log l') m)
+    (RunsTo tells m (pumped_in true m a) (Log l')))
+    (sym pumps.2) (log-pump-stands tells l l' pumps.0 m is sound pumps.1)

@@ -22,7 +22,6 @@ use Rattle.group.specs.Steps as groups
 use Rattle.group.specs.Tickets.{TicketValue}
 use Rattle.group.specs.declared.answers.BeginFault.{BeginFault}
 use Rattle.group.specs.declared.answers.Did.{Did}
-use Rattle.group.specs.declared.answers.Did.TheVariants as group_did
 use Rattle.group.specs.declared.answers.PumpFault.{PumpFault}
 use Rattle.group.specs.declared.answers.PumpFault.TheVariants as pump
 use Rattle.group.specs.declared.answers.Redeemed.{Redeemed}
@@ -68,7 +67,11 @@ use Rattle.log_store.specs.declared.job.JobDid as log_did
 use Rattle.log_store.specs.declared.job.JobStage as log_stages
 use Rattle.log_store.specs.declared.job.JobStage.TheVariants as log_stage
 use Rattle.log_store.specs.declared.job.StartFault as log_starts
+use Rattle.log_store.specs.declared.pump.Did as log_group
+use Rattle.log_store.specs.declared.pump.Did.TheVariants as log_group_did
 use Rattle.any_store.specs.declared.engine.Engine.TheVariants.{Slots, Log}
+use Rattle.any_store.specs.declared.steps.Did as told
+use Rattle.any_store.specs.declared.steps.JobDid as told_jobs
 use Rattle.any_store.specs.Values.{StoreValue}
 use Rattle.any_store.specs.Calls as stores
 use Rattle.any_store.specs.Queries as queries
@@ -231,12 +234,12 @@ log-same l l' same = let made = ap (λ (d : DiskState). d.made) same in omega (a
 log-rests : (l l' : LogStoreValue) → l' ≡ l → MakesFew (Log l) (Log l')
 log-rests l l' same = log-same l l' (ap (λ (x : LogStoreValue). x.disk) same)
 
-advance-log : (tells : Bool) (w : WriterState) (l x l' : LogStoreValue) (answer : Result Did PumpFault) → x.disk ≡ l.disk
+advance-log : (tells : Bool) (w : WriterState) (l x l' : LogStoreValue) (answer : Result log_group.Did PumpFault) → x.disk ≡ l.disk
     → log_pumps.Advances tells w x answer l' → MakesFew (Log l) (Log l')
 advance-log tells w l x l' answer same advances =
     let before = ap (λ (d : DiskState). d.made) same in omega (arith, before, advances.counts.made, counted-few x.disk.made)
 
-log-pump : (tells : Bool) (l l' : LogStoreValue) (answer : Result Did PumpFault) → log_pumps.Pumps tells l answer l' → MakesFew (Log l) (Log l')
+log-pump : (tells : Bool) (l l' : LogStoreValue) (answer : Result log_group.Did PumpFault) → log_pumps.Pumps tells l answer l' → MakesFew (Log l) (Log l')
 log-pump tells l l' answer pumps = by-failed l.commits.failed pumps
   where
     by-standing : (x : LogStoreValue) (t : Option WriterState) → x.disk ≡ l.disk → log_pumps.AdvancesGroup tells x t answer l' → MakesFew (Log l) (Log l')
@@ -251,7 +254,7 @@ log-pump tells l l' answer pumps = by-failed l.commits.failed pumps
     by-job true busy = log-rests l l' busy.1
     by-job false begun = begins begun
 
-    by-queue : (b : Bool) → MatchBool b ((answer ≡ Ok group_did.Idle) × (l' ≡ l)) (log_pumps.BeginsOrWaits tells l answer l') → MakesFew (Log l) (Log l')
+    by-queue : (b : Bool) → MatchBool b ((answer ≡ Ok log_group_did.Idle) × (l' ≡ l)) (log_pumps.BeginsOrWaits tells l answer l') → MakesFew (Log l) (Log l')
     by-queue true idle = log-rests l l' idle.1
     by-queue false begun = by-job (log_pumps.bars_groups l.job) begun
 
@@ -397,11 +400,11 @@ redeem-few (Slots s) (Log l') ticket answer redeems = absurd redeems
 redeem-few (Log l) (Slots s') ticket answer redeems = absurd redeems
 redeem-few (Log l) (Log l') ticket answer redeems = log-in-memory l l' l'.commits redeems.new_is
 
-pub pump-few : (tells : Bool) (old new : StoreValue) (answer : Result Did PumpFault) → stores.Pumps tells old answer new → MakesFew old new
-pump-few tells (Slots s) (Slots s') answer pumps = slots-pump tells s s' answer pumps
+pub pump-few : (tells : Bool) (old new : StoreValue) (answer : Result told.Did PumpFault) → stores.Pumps tells old answer new → MakesFew old new
+pump-few tells (Slots s) (Slots s') answer pumps = slots-pump tells s s' pumps.0 pumps.1
 pump-few tells (Slots s) (Log l') answer pumps = absurd pumps
 pump-few tells (Log l) (Slots s') answer pumps = absurd pumps
-pump-few tells (Log l) (Log l') answer pumps = log-pump tells l l' answer pumps
+pump-few tells (Log l) (Log l') answer pumps = log-pump tells l l' pumps.0 pumps.1
 
 pub start-few : (old new : StoreValue) (upto : ℕ) (answer : Result (Unit {0}) StartFault) → StartsArchive old upto answer new → MakesFew old new
 start-few (Slots s) (Slots s') upto answer starts = slots-start s s' upto answer starts
@@ -428,8 +431,8 @@ grow-few (Slots s) (Log l') answer starts = absurd starts
 grow-few (Log l) (Slots s') answer starts = absurd starts
 grow-few (Log l) (Log l') answer starts = log-rests l l' starts.1
 
-pub pumped-few : (tells : Bool) (old new : StoreValue) (answer : Result JobDid PumpFault) → PumpsJob tells old answer new → MakesFew old new
-pumped-few tells (Slots s) (Slots s') answer pumps = slots-pumped tells s s' answer pumps
+pub pumped-few : (tells : Bool) (old new : StoreValue) (answer : Result told_jobs.JobDid PumpFault) → PumpsJob tells old answer new → MakesFew old new
+pumped-few tells (Slots s) (Slots s') answer pumps = slots-pumped tells s s' pumps.0 pumps.1
 pumped-few tells (Slots s) (Log l') answer pumps = absurd pumps
 pumped-few tells (Log l) (Slots s') answer pumps = absurd pumps
 pumped-few tells (Log l) (Log l') answer pumps = log-pumped tells l l' pumps.0 pumps.1

@@ -1,5 +1,5 @@
 -- The jobs of a store, in either layout. Where the log lies in the heap floors alone begin.
-use Rattle.std.proofs.Common.{◌≡◌, ℕ, Bool, true, false, cond, List, [], ◌∷◌, Option, None, Some, Result, Ok, Err, refl, ap, sym, subst, ◌∙◌}
+use Rattle.std.proofs.Common.{◌≡◌, ℕ, Bool, true, false, List, [], ◌∷◌, Option, None, Some, Result, Ok, Err, refl, ap, sym, subst, ◌∙◌}
 use Rattle.std.specs.Prelude.{IsTrue, MatchBool}
 use Rattle.disk.specs.Areas.{AreSound}
 use Rattle.history.specs.Floors.{Raising}
@@ -8,22 +8,25 @@ use Rattle.history.specs.Steps.{Event, Run, FloorStarted, floor_started}
 use Rattle.law_image.specs.Values.{Value, IsValue}
 use Rattle.group.specs.declared.answers.PumpFault.{PumpFault}
 use Rattle.group.specs.declared.answers.PumpFault.TheVariants as pump
-use Rattle.store.specs.declared.job.JobDid.{JobDid}
+use Rattle.store.specs.Jobs as slot_store_jobs
+use Rattle.store.specs.Values as slot_store
+use Rattle.store.specs.declared.job.JobDid as slot_steps
 use Rattle.store.specs.declared.job.StartFault.{StartFault}
 use Rattle.store.specs.declared.job.StartFault.TheVariants as start
 use Rattle.log_store.specs.Jobs as log_jobs
 use Rattle.log_store.specs.Values.{LogStoreValue}
 use Rattle.log_store.specs.declared.job.JobDid as log_steps
-use Rattle.log_store.specs.declared.job.JobDid.TheVariants as log_did
 use Rattle.log_store.specs.declared.job.StartFault as log_starts
 use Rattle.log_store.specs.declared.job.StartFault.TheVariants as log_fault
 use Rattle.any_store.specs.declared.engine.Engine.TheVariants.{Slots, Log}
+use Rattle.any_store.specs.declared.steps.JobDid.{JobDid}
 use Rattle.any_store.specs.Values.{StoreValue, is_log, disk_of}
 use Rattle.any_store.specs.Jobs.{BeginsNone, StartsArchive, StartsReclaim, StartsFloor, StartsGrowth, PumpsJob}
-use Rattle.any_store.specs.Jobs.{told_start, told_did, told_step}
+use Rattle.any_store.specs.Jobs.{told_start}
+use Rattle.any_store.specs.Steps.{slots_job_step, log_job_step}
 use Rattle.law_refinement.specs.Calls.{raising_to}
 use Rattle.law_refinement.specs.Calls as slot_calls
-use Rattle.law_refinement.specs.Laws.{floor_ends_in, floor_ends, job_breaks_in, job_ends_in}
+use Rattle.law_refinement.specs.Laws as slot_ends
 use Rattle.law_refinement.specs.Stands as slots
 use Rattle.law_refinement.proofs.GrowingCalls as slot_laws
 use Rattle.law_refinement.proofs.GrowingJobs as slot_jobs
@@ -36,7 +39,8 @@ use Rattle.law_log_steps.proofs.Jobs.{job-stands}
 use Rattle.law_log_queries.specs.Calls.{OfFloor, OfJob}
 use Rattle.law_log_queries.proofs.Calls.{call-keeps}
 use Rattle.law_any_store.specs.Standing.{Stands}
-use Rattle.law_any_store.specs.Calls.{StartsOn, RunsTo}
+use Rattle.law_any_store.specs.Calls.{StartsOn, RunsTo, job_ends_in}
+use Rattle.law_any_store.proofs.Told.{slots-job-told, log-job-told}
 
 -- nothing has changed
 none-begins : (tells : Bool) (why : StartFault) (answer : Result (Unit {0}) StartFault) (l l' : LogStoreValue) (m : Machine Value) → Stands tells (Log l) m
@@ -119,30 +123,30 @@ floor-start-stands tells (Log l) (Log l') scope floor answer m is starts =
 
 -- ---- the steps of a job
 
--- the machine's events are those that its words tell
-floor-told : (what : log_steps.JobDid) (r : Raising) → log_calls.floor_events what r ≡ floor_ends_in (told_did what) r
-floor-told log_did.Idle r = refl
-floor-told log_did.WroteEntry r = refl
-floor-told log_did.GateClosed r = refl
-floor-told log_did.HeapSynced r = refl
-floor-told log_did.GateWritten r = refl
-floor-told log_did.JobDone r = refl
+-- a step of a job of one whose log is slots
+slots-job-stands : (tells : Bool) (s s' : slot_store.StoreValue) (said : Result slot_steps.JobDid PumpFault) (m : Machine Value) → Stands tells (Slots s) m
+    → (IsTrue tells → AreSound s'.disk.areas) → slot_store_jobs.PumpsJob tells s said s'
+    → MatchBool m.failed ((slots_job_step said ≡ Err pump.Failed) × Stands tells (Slots s') m)
+    (RunsTo tells m (job_ends_in false m (slots_job_step said)) (Slots s'))
+slots-job-stands tells s s' said m is sound pumps = so m.failed (slot_pieces.job-pump-stands tells s s' said m is sound pumps)
+  where
+    so : (b : Bool)
+        → MatchBool b ((said ≡ Err pump.Failed) × slots.Stands tells s' m) ((after : Machine Value)
+        × Run IsValue m (slot_ends.job_ends_in m said) after × slots.Stands tells s' after)
+        → MatchBool b ((slots_job_step said ≡ Err pump.Failed) × Stands tells (Slots s') m)
+        (RunsTo tells m (job_ends_in false m (slots_job_step said)) (Slots s'))
+    so true to = (ap slots_job_step to.0, to.1)
+    so false to = record {
+      after = to.0;
+      run = subst (λ (events : List (Event Value)). Run IsValue m events to.0) (slots-job-told m said) to.1;
+      stands = to.2;
+    }
 
-floors-told : (what : log_steps.JobDid) (o : Option Raising) → log_calls.floor_ends what o ≡ floor_ends (told_did what) o
-floors-told what None = refl
-floors-told what (Some r) = floor-told what r
-
-job-told : (m : Machine Value) (said : Result log_steps.JobDid PumpFault) → m.failed ≡ false
-    → log_calls.job_events_in m said ≡ job_ends_in m (told_step said)
-job-told m (Ok what) works = floors-told what m.raising
-job-told m (Err pump.Busy) works = refl
-job-told m (Err pump.NoMemory) works = refl
-job-told m (Err pump.Failed) works = ap (λ (b : Bool). cond b [] (job_breaks_in m.gate)) works
-
--- a step of a job of one whose log lies in the heap
+-- and of one whose log lies in the heap
 log-job-stands : (tells : Bool) (l l' : LogStoreValue) (said : Result log_steps.JobDid PumpFault) (m : Machine Value) → Stands tells (Log l) m
     → (IsTrue tells → AreSound l'.disk.areas) → log_jobs.PumpsJob tells l said l'
-    → MatchBool m.failed ((told_step said ≡ Err pump.Failed) × Stands tells (Log l') m) (RunsTo tells m (job_ends_in m (told_step said)) (Log l'))
+    → MatchBool m.failed ((log_job_step said ≡ Err pump.Failed) × Stands tells (Log l') m)
+    (RunsTo tells m (job_ends_in true m (log_job_step said)) (Log l'))
 log-job-stands tells l l' said m is sound pumps = so m.failed refl
   where
     stands_then : IsStoreOf tells l m
@@ -153,14 +157,14 @@ log-job-stands tells l l' said m is sound pumps = so m.failed refl
         subst (λ (b : Bool). MatchBool b ((said ≡ Err pump.Failed) × (l' ≡ l)) (log_jobs.StepsJob tells l.job l said l')) failed pumps
 
     so : (b : Bool) → m.failed ≡ b
-        → MatchBool b ((told_step said ≡ Err pump.Failed) × Stands tells (Log l') m) (RunsTo tells m (job_ends_in m (told_step said)) (Log l'))
+        → MatchBool b ((log_job_step said ≡ Err pump.Failed) × Stands tells (Log l') m) (RunsTo tells m (job_ends_in true m (log_job_step said)) (Log l'))
     so true fails =
         let rests = failed-rests (stands_then.memory.failed ∙ fails) in
-        (ap told_step rests.0, subst (λ (x : LogStoreValue). Stands tells (Log x) m) (sym rests.1) is)
+        (ap log_job_step rests.0, subst (λ (x : LogStoreValue). Stands tells (Log x) m) (sym rests.1) is)
     so false works =
         let runs = job-stands tells l l' said m is.0 sound stands_then pumps in record {
           after = runs.after;
-          run = subst (λ (events : List (Event Value)). Run IsValue m events runs.after) (job-told m said works) runs.run;
+          run = subst (λ (events : List (Event Value)). Run IsValue m events runs.after) (log-job-told m said works) runs.run;
           stands = (
             job-in-step tells l l' said is.0 pumps,
             (call-keeps tells l l' m runs.after (log_calls.job_events_in m said) is.1 (OfJob said sound pumps) runs.run runs.stands).0,
@@ -169,17 +173,14 @@ log-job-stands tells l l' said m is sound pumps = so m.failed refl
 
 pub job-pump-stands : (tells : Bool) (old new : StoreValue) (answer : Result JobDid PumpFault) (m : Machine Value) → Stands tells old m
     → (IsTrue tells → AreSound (disk_of new).areas) → PumpsJob tells old answer new
-    → MatchBool m.failed ((answer ≡ Err pump.Failed) × Stands tells new m) (RunsTo tells m (job_ends_in m answer) new)
-job-pump-stands tells (Slots s) (Slots s') answer m is sound pumps = so m.failed (slot_pieces.job-pump-stands tells s s' answer m is sound pumps)
-  where
-    so : (b : Bool)
-        → MatchBool b ((answer ≡ Err pump.Failed) × slots.Stands tells s' m) ((after : Machine Value)
-        × Run IsValue m (job_ends_in m answer) after × slots.Stands tells s' after)
-        → MatchBool b ((answer ≡ Err pump.Failed) × Stands tells (Slots s') m) (RunsTo tells m (job_ends_in m answer) (Slots s'))
-    so true to = to
-    so false to = record { after = to.0; run = to.1; stands = to.2 }
+    → MatchBool m.failed ((answer ≡ Err pump.Failed) × Stands tells new m) (RunsTo tells m (job_ends_in (is_log old) m answer) new)
+job-pump-stands tells (Slots s) (Slots s') answer m is sound pumps =
+    subst (λ (a : Result JobDid PumpFault). MatchBool m.failed ((a ≡ Err pump.Failed) × Stands tells (Slots s') m)
+    (RunsTo tells m (job_ends_in false m a) (Slots s')))
+    (sym pumps.2) (slots-job-stands tells s s' pumps.0 m is sound pumps.1)
 job-pump-stands tells (Slots s) (Log l') answer m is sound pumps = absurd pumps
 job-pump-stands tells (Log l) (Slots s') answer m is sound pumps = absurd pumps
 job-pump-stands tells (Log l) (Log l') answer m is sound pumps =
-    subst (λ (a : Result JobDid PumpFault). MatchBool m.failed ((a ≡ Err pump.Failed) × Stands tells (Log l') m) (RunsTo tells m (job_ends_in m a) (Log l')))
+    subst (λ (a : Result JobDid PumpFault). MatchBool m.failed ((a ≡ Err pump.Failed) × Stands tells (Log l') m)
+    (RunsTo tells m (job_ends_in true m a) (Log l')))
     (sym pumps.2) (log-job-stands tells l l' pumps.0 m is sound pumps.1)

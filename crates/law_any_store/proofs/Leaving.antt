@@ -14,8 +14,6 @@ use Rattle.group.specs.Values as slot_values
 use Rattle.group.specs.declared.commit_order.TicketState.TheVariants as ticket_state
 use Rattle.group.specs.declared.answers.BeginFault.{BeginFault}
 use Rattle.group.specs.declared.answers.BeginFault.TheVariants as fault
-use Rattle.group.specs.declared.answers.Did.{Did}
-use Rattle.group.specs.declared.answers.Did.TheVariants as did
 use Rattle.group.specs.declared.answers.PumpFault.{PumpFault}
 use Rattle.group.specs.declared.answers.PumpFault.TheVariants as pump
 use Rattle.group.specs.declared.answers.Redeemed.{Redeemed}
@@ -24,7 +22,6 @@ use Rattle.group.specs.declared.answers.Submitted.{Submitted}
 use Rattle.group.specs.declared.answers.Submitted.TheVariants as submitted
 use Rattle.group.specs.declared.answers.SubmitFault.{SubmitFault}
 use Rattle.group.specs.declared.answers.SubmitFault.TheVariants as refused
-use Rattle.store.specs.declared.job.JobDid.{JobDid}
 use Rattle.store.specs.declared.job.StartFault.{StartFault}
 use Rattle.commits.specs.Calls as commits
 use Rattle.commits.specs.Steps as commit_steps
@@ -44,7 +41,11 @@ use Rattle.log_store.specs.declared.job.JobStage.TheVariants as log_stage
 use Rattle.log_store.specs.declared.job.JobWork.{JobWork}
 use Rattle.log_store.specs.declared.job.JobWork.TheVariants.{Floor}
 use Rattle.log_store.specs.declared.job.StartFault as log_starts
+use Rattle.log_store.specs.declared.pump.Did as log_group
+use Rattle.log_store.specs.declared.pump.Did.TheVariants as did
 use Rattle.any_store.specs.declared.engine.Engine.TheVariants.{Slots, Log}
+use Rattle.any_store.specs.declared.steps.Did.{Did}
+use Rattle.any_store.specs.declared.steps.JobDid.{JobDid}
 use Rattle.any_store.specs.Values.{StoreValue, commits_in, commits_of}
 use Rattle.any_store.specs.Calls as stores
 use Rattle.any_store.specs.Jobs.{StartsArchive, StartsReclaim, StartsFloor, StartsGrowth, PumpsJob}
@@ -88,11 +89,11 @@ call-left l w Opening = record { mark = refl; opened = refl; heads = refl }
 call-left l w Settling = record { mark = refl; opened = refl; heads = refl }
 call-left l w Done = record { mark = refl; opened = refl; heads = refl }
 
-advance-left : (tells : Bool) (w : WriterState) (l l' : LogStoreValue) (answer : Result Did PumpFault) → Advances tells w l answer l'
+advance-left : (tells : Bool) (w : WriterState) (l l' : LogStoreValue) (answer : Result log_group.Did PumpFault) → Advances tells w l answer l'
     → Leaves l.commits l'.commits
 advance-left tells w l l' answer advances = by-answer answer advances.answer
   where
-    by-answer : (a : Result Did PumpFault)
+    by-answer : (a : Result log_group.Did PumpFault)
         → MatchResult a (λ what. (what ≡ log_steps.did_of (writers.did w.stage) l.commits.group) × (l' ≡ record (after_call l w w.stage) { disk = l'.disk }))
         (λ why. (why ≡ pump.Failed) × (l' ≡ record (log_steps.with_failure l) { disk = l'.disk }))
         → Leaves l.commits l'.commits
@@ -102,7 +103,8 @@ advance-left tells w l l' answer advances = by-answer answer advances.answer
         left-then l.commits (commit_steps.broken l.commits) l'.commits (record { mark = refl; opened = refl; heads = refl })
         (ap (λ (x : LogStoreValue). x.commits) so.1)
 
-log-pump-leaves : (tells : Bool) (l l' : LogStoreValue) (answer : Result Did PumpFault) → log_steps.Pumps tells l answer l' → Leaves l.commits l'.commits
+log-pump-leaves : (tells : Bool) (l l' : LogStoreValue) (answer : Result log_group.Did PumpFault) → log_steps.Pumps tells l answer l'
+    → Leaves l.commits l'.commits
 log-pump-leaves tells l l' answer pumps = by-failed l.commits.failed pumps
   where
     same : l' ≡ l → Leaves l.commits l'.commits
@@ -209,10 +211,10 @@ log-floor-leaves l l' scope floor said starts = by-refusal (log_jobs.floor_refus
 
 pub pump-leaves : (tells : Bool) (old new : StoreValue) (answer : Result Did PumpFault) → stores.Pumps tells old answer new
     → Leaves (commits_of old) (commits_of new)
-pump-leaves tells (Slots s) (Slots s') answer pumps = of-slots s.transactions s'.transactions (slot_leaves.pump-leaves tells s s' answer pumps)
+pump-leaves tells (Slots s) (Slots s') answer pumps = of-slots s.transactions s'.transactions (slot_leaves.pump-leaves tells s s' pumps.0 pumps.1)
 pump-leaves tells (Slots s) (Log l') answer pumps = absurd pumps
 pump-leaves tells (Log l) (Slots s') answer pumps = absurd pumps
-pump-leaves tells (Log l) (Log l') answer pumps = log-pump-leaves tells l l' answer pumps
+pump-leaves tells (Log l) (Log l') answer pumps = log-pump-leaves tells l l' pumps.0 pumps.1
 
 pub start-leaves : (old new : StoreValue) (upto : ℕ) (answer : Result (Unit {0}) StartFault) → StartsArchive old upto answer new
     → Leaves (commits_of old) (commits_of new)
@@ -242,7 +244,7 @@ grow-leaves (Log l) (Log l') answer starts = same-left l.commits l'.commits (ap 
 
 pub pumped-leaves : (tells : Bool) (old new : StoreValue) (answer : Result JobDid PumpFault) → PumpsJob tells old answer new
     → Leaves (commits_of old) (commits_of new)
-pumped-leaves tells (Slots s) (Slots s') answer pumps = of-slots s.transactions s'.transactions (job_leaves.pumped-leaves tells s s' answer pumps)
+pumped-leaves tells (Slots s) (Slots s') answer pumps = of-slots s.transactions s'.transactions (job_leaves.pumped-leaves tells s s' pumps.0 pumps.1)
 pumped-leaves tells (Slots s) (Log l') answer pumps = absurd pumps
 pumped-leaves tells (Log l) (Slots s') answer pumps = absurd pumps
 pumped-leaves tells (Log l) (Log l') answer pumps = log-job-leaves tells l l' pumps.0 pumps.1

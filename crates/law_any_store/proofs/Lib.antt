@@ -1,4 +1,5 @@
 pub mod Memory
+pub mod Told
 pub mod Calls
 pub mod Jobs
 pub mod Leaving

@@ -13,16 +13,16 @@ use Rattle.group.specs.CommitOrder.{IsRisingAfter}
 use Rattle.group.specs.Tickets.{TicketValue}
 use Rattle.group.specs.declared.commit_order.CommitHead.{CommitHead}
 use Rattle.group.specs.declared.answers.BeginFault.{BeginFault}
-use Rattle.group.specs.declared.answers.Did.{Did}
 use Rattle.group.specs.declared.answers.PumpFault.{PumpFault}
 use Rattle.group.specs.declared.answers.Redeemed.{Redeemed}
 use Rattle.group.specs.declared.answers.Submitted.{Submitted}
 use Rattle.group.specs.declared.answers.SubmitFault.{SubmitFault}
 use Rattle.commits.specs.Values.{CommitsValue, order_of}
-use Rattle.store.specs.declared.job.JobDid.{JobDid}
 use Rattle.store.specs.declared.job.StartFault.{StartFault}
 use Rattle.log_store.specs.Values.{LogStoreValue}
 use Rattle.any_store.specs.declared.engine.Engine.TheVariants.{Slots, Log}
+use Rattle.any_store.specs.declared.steps.Did.{Did}
+use Rattle.any_store.specs.declared.steps.JobDid.{JobDid}
 use Rattle.any_store.specs.Values.{StoreValue, commits_of}
 use Rattle.any_store.specs.Calls as stores
 use Rattle.any_store.specs.Jobs.{StartsArchive, StartsReclaim, StartsFloor, StartsGrowth, PumpsJob}
@@ -140,7 +140,7 @@ pub pump-names : (tells : Bool) (old new : StoreValue) (answer : Result Did Pump
 pump-names tells (Slots s) (Slots s') answer pumps = refl
 pump-names tells (Slots s) (Log l') answer pumps = absurd pumps
 pump-names tells (Log l) (Slots s') answer pumps = absurd pumps
-pump-names tells (Log l) (Log l') answer pumps = (log_leaves.pump-leaves tells l l' answer pumps).reclaimed
+pump-names tells (Log l) (Log l') answer pumps = (log_leaves.pump-leaves tells l l' pumps.0 pumps.1).reclaimed
 
 pub start-names : (old new : StoreValue) (upto : ℕ) (answer : Result (Unit {0}) StartFault) → StartsArchive old upto answer new → KeepsNames old new
 start-names (Slots s) (Slots s') upto answer starts = refl

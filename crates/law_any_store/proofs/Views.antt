@@ -20,7 +20,6 @@ use Rattle.group.specs.Values.{TransactionsValue}
 use Rattle.group.specs.Values as slot_groups
 use Rattle.group.specs.declared.answers.BeginFault.{BeginFault}
 use Rattle.group.specs.declared.answers.BeginFault.TheVariants as fault
-use Rattle.group.specs.declared.answers.Did.{Did}
 use Rattle.group.specs.declared.answers.PumpFault.{PumpFault}
 use Rattle.group.specs.declared.answers.Redeemed.{Redeemed}
 use Rattle.group.specs.declared.answers.Redeemed.TheVariants as redeemed
@@ -32,11 +31,12 @@ use Rattle.commits.specs.Values.{CommitsValue, over}
 use Rattle.commits.specs.Values as commits
 use Rattle.store.specs.Calls as slot_queries
 use Rattle.store.specs.Values as slot_values
-use Rattle.store.specs.declared.job.JobDid.{JobDid}
 use Rattle.store.specs.declared.job.StartFault.{StartFault}
 use Rattle.log_store.specs.Queries.{in_log_store}
 use Rattle.log_store.specs.Values.{LogStoreValue, IsInStep}
 use Rattle.any_store.specs.declared.engine.Engine.TheVariants.{Slots, Log}
+use Rattle.any_store.specs.declared.steps.Did.{Did}
+use Rattle.any_store.specs.declared.steps.JobDid.{JobDid}
 use Rattle.any_store.specs.Values.{StoreValue, commits_in}
 use Rattle.any_store.specs.Calls as stores
 use Rattle.any_store.specs.Jobs.{StartsArchive, StartsReclaim, StartsFloor, StartsGrowth, PumpsJob}
@@ -260,14 +260,14 @@ redeem-goes tells (Log l) (Log l') ticket answer redeems =
 
 pub pump-goes : (tells : Bool) (old new : StoreValue) (answer : Result Did PumpFault) (m : Machine Value) → Stands tells old m
     → stores.Pumps tells old answer new → GoesOn tells old new
-pump-goes tells (Slots s) (Slots s') answer m is pumps = slot_asked.pump-goes tells s s' answer m is pumps
+pump-goes tells (Slots s) (Slots s') answer m is pumps = slot_asked.pump-goes tells s s' pumps.0 m is pumps.1
 pump-goes tells (Slots s) (Log l') answer m is pumps = absurd pumps
 pump-goes tells (Log l) (Slots s') answer m is pumps = absurd pumps
-pump-goes tells (Log l) (Log l') answer m is pumps = leaves-goes tells l l' (log_leaves.pump-leaves tells l l' answer pumps)
+pump-goes tells (Log l) (Log l') answer m is pumps = leaves-goes tells l l' (log_leaves.pump-leaves tells l l' pumps.0 pumps.1)
 
 pub job-pump-goes : (tells : Bool) (old new : StoreValue) (answer : Result JobDid PumpFault) (m : Machine Value) → Stands tells old m
     → PumpsJob tells old answer new → GoesOn tells old new
-job-pump-goes tells (Slots s) (Slots s') answer m is pumps = slot_asked.job-pump-goes tells s s' answer m is pumps
+job-pump-goes tells (Slots s) (Slots s') answer m is pumps = slot_asked.job-pump-goes tells s s' pumps.0 m is pumps.1
 job-pump-goes tells (Slots s) (Log l') answer m is pumps = absurd pumps
 job-pump-goes tells (Log l) (Slots s') answer m is pumps = absurd pumps
 job-pump-goes tells (Log l) (Log l') answer m is pumps = leaves-goes tells l l' (log_leaves.job-leaves tells l l' pumps.0 pumps.1)

@@ -37,10 +37,15 @@ use Rattle.log_store.specs.declared.job.Job as log_job
 use Rattle.log_store.specs.declared.job.JobDid as log_steps
 use Rattle.log_store.specs.declared.job.JobStage as log_stages
 use Rattle.log_store.specs.declared.job.JobStage.TheVariants as log_stage
+use Rattle.log_store.specs.declared.pump.Did as log_group
+use Rattle.log_store.specs.declared.pump.Did.TheVariants as log_did
 use Rattle.any_store.specs.declared.engine.Engine.TheVariants.{Slots, Log}
 use Rattle.any_store.specs.Calls as stores
 use Rattle.any_store.specs.Jobs as jobs
+use Rattle.any_store.specs.Steps.{slots_step, log_step, slots_job_step}
 use Rattle.any_store.specs.Values.{StoreValue, disk_of}
+use Rattle.any_store.specs.declared.steps.Did as any_steps
+use Rattle.any_store.specs.declared.steps.JobDid as any_job_steps
 
 at-top : (n : ℕ) → counted n ≡ n → n ≡ top
 at-top n same = omega (arith, same)
@@ -155,6 +160,9 @@ slots-job old new why pumps = by-failed old.transactions.failed pumps
 log-nothing : (old new : LogStoreValue) → new ≡ old → IfUncountedOn old.disk new.disk
 log-nothing old new same is = ap (λ (v : LogStoreValue). v.disk.areas) same
 
+abbrev log_said : PumpFault → Result log_group.Did PumpFault
+log_said why = Err why
+
 log-pump : (old new : LogStoreValue) (why : PumpFault) → logs.Pumps true old (Err why) new → IfUncountedOn old.disk new.disk
 log-pump old new why pumps = by-failed old.commits.failed pumps
   where
@@ -168,12 +176,12 @@ log-pump old new why pumps = by-failed old.commits.failed pumps
         subst (λ (d : DiskState). IfUncountedOn d new.disk) (ap (λ (v : LogStoreValue). v.disk) begun.1.new_is)
         (by-standing begun.0 begun.0.turn begun.2)
 
-    by-job : (b : Bool) → MatchBool b ((pump_said why ≡ pump_said fault.Busy) × (new ≡ old)) (logs.BeginsGroup true old (Err why) new)
+    by-job : (b : Bool) → MatchBool b ((log_said why ≡ log_said fault.Busy) × (new ≡ old)) (logs.BeginsGroup true old (Err why) new)
         → IfUncountedOn old.disk new.disk
     by-job true busy = log-nothing old new busy.1
     by-job false begun = begins begun
 
-    by-queue : (b : Bool) → MatchBool b ((pump_said why ≡ Ok did.Idle) × (new ≡ old)) (logs.BeginsOrWaits true old (Err why) new)
+    by-queue : (b : Bool) → MatchBool b ((log_said why ≡ Ok log_did.Idle) × (new ≡ old)) (logs.BeginsOrWaits true old (Err why) new)
         → IfUncountedOn old.disk new.disk
     by-queue true idle = log-nothing old new idle.1
     by-queue false begun = by-job (logs.bars_groups old.job) begun
@@ -182,7 +190,7 @@ log-pump old new why pumps = by-failed old.commits.failed pumps
     by-turn None takes = by-queue (length old.commits.queue == 0) takes
     by-turn (Some w) advances = uncounted-on refused_answer old.disk new.disk advances.counts
 
-    by-failed : (b : Bool) → MatchBool b ((pump_said why ≡ pump_said fault.Failed) × (new ≡ old)) (logs.TakesStep true old old.turn (Err why) new)
+    by-failed : (b : Bool) → MatchBool b ((log_said why ≡ log_said fault.Failed) × (new ≡ old)) (logs.TakesStep true old old.turn (Err why) new)
         → IfUncountedOn old.disk new.disk
     by-failed true fails = log-nothing old new fails.1
     by-failed false takes = by-turn old.turn takes
@@ -219,14 +227,32 @@ log-job old new said pumps = by-failed old.commits.failed pumps
 
 -- ---- in either
 
+abbrev any_said : PumpFault → Result any_steps.Did PumpFault
+any_said why = Err why
+
+abbrev any_job_said : PumpFault → Result any_job_steps.JobDid PumpFault
+any_job_said why = Err why
+
 pub pump-same : (old new : StoreValue) (why : PumpFault) → stores.Pumps true old (Err why) new → IfUncountedOn (disk_of old) (disk_of new)
-pump-same (Slots s) (Slots s') why pumps = slots-pump s s' why pumps
+pump-same (Slots s) (Slots s') why pumps = by-answer pumps.0 pumps.1 pumps.2
+  where
+    by-answer : (said : Result Did PumpFault) → Pumps true s said s' → any_said why ≡ slots_step said → IfUncountedOn s.disk s'.disk
+    by-answer (Ok what) takes is = absurd (let e = is in cc)
+    by-answer (Err other) takes is = slots-pump s s' other takes
 pump-same (Slots s) (Log l') why pumps = absurd pumps
 pump-same (Log l) (Slots s') why pumps = absurd pumps
-pump-same (Log l) (Log l') why pumps = log-pump l l' why pumps
+pump-same (Log l) (Log l') why pumps = by-answer pumps.0 pumps.1 pumps.2
+  where
+    by-answer : (said : Result log_group.Did PumpFault) → logs.Pumps true l said l' → any_said why ≡ log_step said → IfUncountedOn l.disk l'.disk
+    by-answer (Ok what) takes is = absurd (let e = is in cc)
+    by-answer (Err other) takes is = log-pump l l' other takes
 
 pub job-same : (old new : StoreValue) (why : PumpFault) → jobs.PumpsJob true old (Err why) new → IfUncountedOn (disk_of old) (disk_of new)
-job-same (Slots s) (Slots s') why pumps = slots-job s s' why pumps
+job-same (Slots s) (Slots s') why pumps = by-answer pumps.0 pumps.1 pumps.2
+  where
+    by-answer : (said : Result JobDid PumpFault) → PumpsJob true s said s' → any_job_said why ≡ slots_job_step said → IfUncountedOn s.disk s'.disk
+    by-answer (Ok what) takes is = absurd (let e = is in cc)
+    by-answer (Err other) takes is = slots-job s s' other takes
 job-same (Slots s) (Log l') why pumps = absurd pumps
 job-same (Log l) (Slots s') why pumps = absurd pumps
 job-same (Log l) (Log l') why pumps = log-job l l' pumps.0 pumps.1

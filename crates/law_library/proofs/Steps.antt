@@ -6,13 +6,13 @@ use Rattle.disk.specs.Within.{LeavesWithin}
 use Rattle.history.specs.Histories.{last}
 use Rattle.history.proofs.Runs.{run-shows}
 use Rattle.law_image.specs.Values.{IsValue}
-use Rattle.group.specs.declared.answers.Did.{Did}
+use Rattle.any_store.specs.declared.steps.Did.{Did}
 use Rattle.group.specs.declared.answers.PumpFault.{PumpFault}
 use Rattle.any_store.specs.Calls.{Pumps}
 use Rattle.any_store.specs.Jobs.{PumpsJob}
 use Rattle.any_store.specs.Places.{log_area}
 use Rattle.any_store.specs.Values.{StoreValue, disk_of}
-use Rattle.store.specs.declared.job.JobDid.{JobDid}
+use Rattle.any_store.specs.declared.steps.JobDid.{JobDid}
 use Rattle.law_any_store.proofs.Memory.{last-published}
 use Rattle.run.specs.declared.calls.Call.{Call}
 use Rattle.run.specs.declared.calls.Call.TheVariants as call

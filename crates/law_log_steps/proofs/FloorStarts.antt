@@ -1,6 +1,6 @@
 -- The beginning of a floor is the machine's.
-use Rattle.std.proofs.Common.{rules, ◌≡◌, ℕ, ◌<◌, ◌≤◌, ◌^◌, nat_le, nat_lt, Bool, true, false, cond, List, [], ◌∷◌, Option, None, Some, is_some, Result}
-use Rattle.std.proofs.Common.{Ok, Err, refl, arith, ap, sym, subst, ◌∙◌}
+use Rattle.std.proofs.Common.{rules, ◌≡◌, ℕ, ◌<◌, ◌≤◌, ◌^◌, nat_le, nat_lt, ◌&&◌, ◌||◌, Bool, true, false, cond, List, [], ◌∷◌}
+use Rattle.std.proofs.Common.{Option, None, Some, is_some, Result, Ok, Err, refl, arith, ap, sym, subst, ◌∙◌}
 use Rattle.std.specs.Prelude.{IsTrue, MatchBool, MatchOption, Contains}
 use Rattle.std.specs.List.{AllByRecursion}
 use Rattle.std.proofs.lemmas.Bool.Decides.{nat_tests}
@@ -17,11 +17,12 @@ use Rattle.law_image.specs.Values.{Value, IsValue}
 use Rattle.snapshot.specs.OpenTable.{least_open}
 use Rattle.log_writer.specs.Writer.{WriterState}
 use Rattle.log_room.specs.Rooms.{has_entry_room}
+use Rattle.log_room.specs.Bases as bases
 use Rattle.commits.specs.Values.{CommitsValue, last}
 use Rattle.commits.specs.Calls.{oldest}
 use Rattle.store.specs.Reclaims.{below}
 use Rattle.log_store.specs.Values.{LogStoreValue, IsInStep}
-use Rattle.log_store.specs.Jobs.{with_floor, StartsFloor, BeginsFloor, floor_refusal, refusal_for_use}
+use Rattle.log_store.specs.Jobs.{with_floor, StartsFloor, BeginsFloor, floor_refusal, refusal_for_use, has_floor_room, base_parts}
 use Rattle.log_store.specs.declared.job.Job.{Job}
 use Rattle.log_store.specs.declared.job.StartFault.{StartFault}
 use Rattle.log_store.specs.declared.job.StartFault.TheVariants as start
@@ -45,12 +46,12 @@ record Tests (v : LogStoreValue) (relation floor : ℕ) (a b c d : Bool) : Type 
   low : nat_le floor (floor_at v.commits.floors relation) ≡ c
   high : nat_lt (last v.commits) floor ≡ d
 
-abbrev Refusal : LogStoreValue → ℕ → Bool → Bool → Bool → Bool → Option StartFault
-Refusal v floor a b c d =
+abbrev Refusal : LogStoreValue → ℕ → ℕ → Bool → Bool → Bool → Bool → Option StartFault
+Refusal v relation floor a b c d =
     cond a (Some start.Failed)
     (cond b (Some start.JobBusy)
     (cond c (Some start.NothingToDo)
-    (cond d (Some (start.NotYet (last v.commits))) (refusal_for_use (oldest v.commits) floor (has_entry_room v.room)))))
+    (cond d (Some (start.NotYet (last v.commits))) (refusal_for_use (oldest v.commits) floor (has_floor_room v relation)))))
 
 none-there : (o : Option Job) → is_some o ≡ false → o ≡ None
 none-there None none = refl
@@ -78,18 +79,27 @@ unused-is (Some k) floor room is =
       | false ↦ λ said. (refl, room-left room said)
     ] is
 
+-- its entry has room then
+first-is : (a b : Bool) → IsTrue (a && b) → IsTrue a
+first-is true b both = refl
+first-is false b both = absurd cc
+
+entry-room : (v : LogStoreValue) (relation : ℕ) → IsTrue (has_floor_room v relation) → IsTrue (has_entry_room v.room)
+entry-room v relation room =
+    first-is (has_entry_room v.room) (nat_lt 0 (floor_at v.commits.floors relation) || bases.has_floor_room v.room (base_parts v)) room
+
 may-begin : (v : LogStoreValue) (relation floor : ℕ) → floor_refusal v (Some relation) floor ≡ None → MayBegin v relation floor
 may-begin v relation floor none =
     by-tests v.commits.failed (is_some v.job) (nat_le floor (floor_at v.commits.floors relation)) (nat_lt (last v.commits) floor)
     (record { failed = refl; busy = refl; low = refl; high = refl }) none
   where
-    by-tests : (a b c d : Bool) → Tests v relation floor a b c d → Path (Option StartFault) (Refusal v floor a b c d) None → MayBegin v relation floor
+    by-tests : (a b c d : Bool) → Tests v relation floor a b c d → Path (Option StartFault) (Refusal v relation floor a b c d) None → MayBegin v relation floor
     by-tests true b c d tests is = absurd cc
     by-tests false true c d tests is = absurd cc
     by-tests false false true d tests is = absurd cc
     by-tests false false false true tests is = absurd cc
     by-tests false false false false tests is =
-        let unused = unused-is (oldest v.commits) floor (has_entry_room v.room) is in
+        let unused = unused-is (oldest v.commits) floor (has_floor_room v relation) is in
         let low = tests.low in
         let high = tests.high in
         record {
@@ -98,7 +108,7 @@ may-begin v relation floor none =
           rises = grind (arith, nat_tests);
           by_last = grind (arith, nat_tests);
           unused = unused.0;
-          room = unused.1;
+          room = entry-room v relation unused.1;
         }
 
 -- no snapshot of these is below it
@@ -131,20 +141,20 @@ module _ (tells : Bool) (v : LogStoreValue) (m : Machine Value) (is : IsStoreOf 
       full false so = given start.HeapFull is so
 
       by-use : (o : Option ℕ) → oldest v.commits ≡ o → nat_le floor (m.floors relation) ≡ false → nat_lt (histories.last m.published) floor ≡ false
-          → m.failed ≡ false → refusal_for_use o floor (has_entry_room v.room) ≡ Some why → StartsOn tells m r (Err why) v
-      by-use None none low high works so = full (has_entry_room v.room) so
+          → m.failed ≡ false → refusal_for_use o floor (has_floor_room v relation) ≡ Some why → StartsOn tells m r (Err why) v
+      by-use None none low high works so = full (has_floor_room v relation) so
       by-use (Some k) least low high works so =
           elim (nat_lt k floor) as (λ (b : Bool). nat_lt k floor ≡ b
-          → Path (Option StartFault) (cond b (Some (start.InUse k)) (cond (has_entry_room v.room) None (Some start.HeapFull))) (Some why)
+          → Path (Option StartFault) (cond b (Some (start.InUse k)) (cond (has_floor_room v relation) None (Some start.HeapFull))) (Some why)
           → StartsOn tells m r (Err why) v) [
             | true ↦ λ test said.
                 let used : below (least_open v.commits.opened) floor ≡ Some k = rw least (rw test refl) in
                 given (start.InUse k)
                 ((works, rw (low, high) (in-use v.commits.opened m.snapshots floor k is.memory.snapshots used), refl), is) said
-            | false ↦ λ test said. full (has_entry_room v.room) said
+            | false ↦ λ test said. full (has_floor_room v relation) said
           ] refl so
 
-      by-tests : (a b c d : Bool) → Tests v relation floor a b c d → Path (Option StartFault) (Refusal v floor a b c d) (Some why)
+      by-tests : (a b c d : Bool) → Tests v relation floor a b c d → Path (Option StartFault) (Refusal v relation floor a b c d) (Some why)
           → StartsOn tells m r (Err why) v
       by-tests true b c d tests so = given start.Failed (sym is.memory.failed ∙ tests.failed, is) so
       by-tests false true c d tests so = given start.JobBusy is so

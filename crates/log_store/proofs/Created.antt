@@ -40,8 +40,16 @@ pub created_is : (mark extents : ℕ) (roots : Roots) (heads : List CommitHead) 
     → floors ≡ no_floors → contents ≡ [] → used ≡ replicate extents false → commits ≡ commits_of mark heads versions floors → room ≡ room_of used
     → runs ≡ [] → named ≡ none_named → IsUnread runs archive
     → record {
-        roots = roots; commits = commits; contents = contents; room = room; turn = None; job = None; named = named; archive = archive; disk = disk
-      }
+      roots = roots;
+      commits = commits;
+      contents = contents;
+      room = room;
+      turn = None;
+      job = None;
+      named = named;
+      archive = archive;
+      disk = disk;
+    }
     ≡ created_on mark extents disk
 created_is mark extents roots heads versions floors contents used commits room runs named archive disk roots_are none unwritten unfloored empty free
     commits_are room_is no_runs unnamed unread =

@@ -7,13 +7,12 @@ use Rattle.history.specs.Steps as steps
 use Rattle.law_image.specs.Values.{Value, IsValue}
 use Rattle.group.specs.declared.answers.PumpFault.{PumpFault}
 use Rattle.group.specs.declared.answers.PumpFault.TheVariants as pump
-use Rattle.store.specs.declared.job.JobDid.{JobDid}
 use Rattle.store.specs.declared.job.StartFault.{StartFault}
 use Rattle.store.specs.declared.job.StartFault.TheVariants as start
-use Rattle.any_store.specs.Values.{StoreValue, commits_of, disk_of}
+use Rattle.any_store.specs.declared.steps.JobDid.{JobDid}
+use Rattle.any_store.specs.Values.{StoreValue, is_log, commits_of, disk_of}
 use Rattle.any_store.specs.Jobs.{StartsArchive, StartsReclaim, PumpsJob}
-use Rattle.law_refinement.specs.Laws.{job_ends_in}
-use Rattle.law_any_store.specs.Calls.{RunsTo}
+use Rattle.law_any_store.specs.Calls.{job_ends_in, RunsTo}
 use Rattle.law_any_store.specs.Standing.{Stands}
 use Rattle.law_any_store.specs.Starts.{ArchiveSays, ReclaimSays}
 use Rattle.law_any_store.proofs.Memory.{memory-stands}
@@ -112,10 +111,10 @@ pumped-leads tells v v' xs r sound pumps w is =
 
     Does-so : Bool → World → Type 0
     Does-so b next = MatchBool b ((r ≡ Err pump.Failed) × (next ≡ same w)) ((after : Machine Value) × IfErr r IsStepFault
-        × steps.Run IsValue w.machine (job_ends_in w.machine r) after × (next ≡ same (moved w after)))
+        × steps.Run IsValue w.machine (job_ends_in w.in_heap w.machine r) after × (next ≡ same (moved w after)))
 
     by-failure : (b : Bool) → w.machine.failed ≡ b → IfErr r IsStepFault
-        → MatchBool b ((r ≡ Err pump.Failed) × Stands tells v' w.machine) (RunsTo tells w.machine (job_ends_in w.machine r) v')
+        → MatchBool b ((r ≡ Err pump.Failed) × Stands tells v' w.machine) (RunsTo tells w.machine (job_ends_in (is_log v) w.machine r) v')
         → (next : World) × Does tells w call.JobPump (answer.JobPump r) next × Follows w.machine next.machine × IsWorld tells v' (xs ++ held.Nothing ∷ []) next
     by-failure true failed refused done = (
       same w,
@@ -124,10 +123,12 @@ pumped-leads tells v v' xs r sound pumps w is =
       world w.machine (goes_on-same w.machine.published) done.1,
     )
     by-failure false works refused done =
-        let events = job_ends_in w.machine r in
+        let events = job_ends_in (is_log v) w.machine r in
+        let run : steps.Run IsValue w.machine (job_ends_in w.in_heap w.machine r) done.after =
+        subst (λ (b : Bool). steps.Run IsValue w.machine (job_ends_in b w.machine r) done.after) (sym is.layout) done.run in
         let machine = (memory-stands tells v' done.after done.stands).1 in (
           same (moved w done.after),
-          subst (λ (b : Bool). Does-so b (same (moved w done.after))) (sym works) (done.after, refused, done.run, refl),
+          subst (λ (b : Bool). Does-so b (same (moved w done.after))) (sym works) (done.after, refused, run, refl),
           (events, done.run),
           world done.after (run-goes_on w.machine done.after events machine done.run) done.stands,
         )

@@ -14,19 +14,19 @@ use Rattle.history.specs.Submissions.{Submission, Decision}
 use Rattle.law_image.specs.Values.{Value, IsValue}
 use Rattle.group.specs.declared.answers.BeginFault.{BeginFault}
 use Rattle.group.specs.declared.answers.BeginFault.TheVariants as begin
-use Rattle.group.specs.declared.answers.Did.{Did}
-use Rattle.group.specs.declared.answers.Did.TheVariants as did
 use Rattle.group.specs.declared.answers.PumpFault.{PumpFault}
 use Rattle.group.specs.declared.answers.PumpFault.TheVariants as pump
 use Rattle.group.specs.declared.answers.SubmitFault.{SubmitFault}
 use Rattle.group.specs.declared.answers.SubmitFault.TheVariants as refused
 use Rattle.snapshot.specs.declared.txn.TxnFault.{TxnFault}
-use Rattle.store.specs.declared.job.JobDid.{JobDid}
-use Rattle.store.specs.declared.job.JobDid.TheVariants as job_did
+use Rattle.any_store.specs.declared.steps.Did.{Did}
+use Rattle.any_store.specs.declared.steps.Did.TheVariants as did
+use Rattle.any_store.specs.declared.steps.JobDid.{JobDid}
+use Rattle.any_store.specs.declared.steps.JobDid.TheVariants as job_did
 use Rattle.store.specs.declared.job.StartFault.{StartFault}
 use Rattle.store.specs.declared.job.StartFault.TheVariants as start
-use Rattle.law_any_store.specs.Calls.{pumped_in}
-use Rattle.law_refinement.specs.Laws.{begins_in, breaks_in, ends_in, floor_ends_in, floor_ends, job_breaks_in, job_ends_in}
+use Rattle.law_any_store.specs.Calls.{group_ends, refused_in, pumped_in, floor_ends_in, floor_ends, job_ends_in}
+use Rattle.law_refinement.specs.Laws.{begins_in, breaks_in, job_breaks_in}
 use Rattle.run.specs.declared.calls.Call.{Call}
 use Rattle.run.specs.declared.calls.Call.TheVariants as call
 use Rattle.run.specs.declared.calls.Answer.{Answer}
@@ -100,31 +100,44 @@ begins-keep m rest keeps =
       | false ↦ keeps
     ]
 
+begun-keep : (m : Machine Value) → AllByRecursion KeepsFloors (begins_in m)
+begun-keep m =
+    elim ((m.group == 0) && nat_lt 0 (length m.queue)) as (λ b. AllByRecursion KeepsFloors (cond b (GroupBegan ∷ []) [])) [
+      | true ↦ (
+        tt,
+        tt,
+      )
+      | false ↦ tt
+    ]
+
 breaks-keep : (gate : Gate) → AllByRecursion KeepsFloors (breaks_in gate)
 breaks-keep Shut = (tt, tt)
 breaks-keep (Due OfGroup) = (tt, (tt, tt))
 breaks-keep (Due OfFloor) = (tt, tt)
 breaks-keep (MayBeOpen change) = (tt, tt)
 
-ends-keep : (gate : Gate) (said : Result Did PumpFault) → AllByRecursion KeepsFloors (ends_in gate said)
-ends-keep gate (Ok did.Idle) = tt
-ends-keep gate (Ok did.WroteExtent) = tt
-ends-keep gate (Ok did.HeapSynced) = tt
-ends-keep gate (Ok did.BodyWritten) = tt
-ends-keep gate (Ok did.BodySynced) = (tt, tt)
-ends-keep gate (Ok did.GateWritten) = (tt, tt)
-ends-keep gate (Ok (did.Published count)) = (tt, tt)
-ends-keep gate (Err pump.Busy) = tt
-ends-keep gate (Err pump.NoMemory) = tt
-ends-keep gate (Err pump.Failed) = breaks-keep gate
+ends-keep : (in_heap : Bool) (what : Did) → AllByRecursion KeepsFloors (group_ends in_heap what)
+ends-keep in_heap did.Idle = tt
+ends-keep in_heap did.WroteExtent = tt
+ends-keep in_heap did.GateClosed = tt
+ends-keep true did.HeapSynced = (tt, tt)
+ends-keep false did.HeapSynced = tt
+ends-keep in_heap did.BodyWritten = tt
+ends-keep in_heap did.BodySynced = (tt, tt)
+ends-keep in_heap did.GateWritten = (tt, tt)
+ends-keep in_heap (did.Published count) = (tt, tt)
+
+refused-keep : (in_heap : Bool) (m : Machine Value) (why : PumpFault) → AllByRecursion KeepsFloors (refused_in in_heap m why)
+refused-keep true m pump.Busy = tt
+refused-keep false m pump.Busy = begun-keep m
+refused-keep true m pump.NoMemory = tt
+refused-keep false m pump.NoMemory = begun-keep m
+refused-keep in_heap m pump.Failed = begins-keep m (breaks_in m.gate) (breaks-keep m.gate)
 
 -- so does a step of a group, in either layout
 pumped-keep : (in_heap : Bool) (m : Machine Value) (said : Result Did PumpFault) → AllByRecursion KeepsFloors (pumped_in in_heap m said)
-pumped-keep false m said = begins-keep m (ends_in m.gate said) (ends-keep m.gate said)
-pumped-keep true m (Ok what) = begins-keep m (ends_in m.gate (Ok what)) (ends-keep m.gate (Ok what))
-pumped-keep true m (Err pump.Busy) = tt
-pumped-keep true m (Err pump.NoMemory) = tt
-pumped-keep true m (Err pump.Failed) = begins-keep m (breaks_in m.gate) (breaks-keep m.gate)
+pumped-keep in_heap m (Ok what) = begins-keep m (group_ends in_heap what) (ends-keep in_heap what)
+pumped-keep in_heap m (Err why) = refused-keep in_heap m why
 
 -- ---- a time that is kept
 
@@ -176,22 +189,25 @@ run-kept old (event ∷ events) new relation time none run kept =
     run-kept run.0 events new relation time none.1 run.2 (event-kept old event run.0 relation time none.0 run.1 kept)
 
 -- a step of a job begins no floor
-floor-steps : (what : JobDid) (r : Raising) → AllByRecursion BeginsNone (floor_ends_in what r)
-floor-steps job_did.Idle r = tt
-floor-steps job_did.WroteRun r = tt
-floor-steps job_did.WroteZeros r = tt
-floor-steps job_did.ZerosSynced r = tt
-floor-steps job_did.RunSynced r = tt
-floor-steps job_did.WroteExtent r = tt
-floor-steps job_did.HeapSynced r = tt
-floor-steps job_did.BodyWritten r = tt
-floor-steps job_did.BodySynced r = (tt, tt)
-floor-steps job_did.GateWritten r = (tt, tt)
-floor-steps job_did.JobDone r = (tt, tt)
+floor-steps : (in_heap : Bool) (what : JobDid) (r : Raising) → AllByRecursion BeginsNone (floor_ends_in in_heap what r)
+floor-steps in_heap job_did.Idle r = tt
+floor-steps in_heap job_did.WroteRun r = tt
+floor-steps in_heap job_did.RunSynced r = tt
+floor-steps in_heap job_did.WroteExtent r = tt
+floor-steps true job_did.HeapSynced r = (tt, tt)
+floor-steps false job_did.HeapSynced r = tt
+floor-steps in_heap job_did.WroteZeros r = tt
+floor-steps in_heap job_did.ZerosSynced r = tt
+floor-steps in_heap job_did.BodyWritten r = tt
+floor-steps in_heap job_did.BodySynced r = (tt, tt)
+floor-steps in_heap job_did.WroteEntry r = tt
+floor-steps in_heap job_did.GateClosed r = tt
+floor-steps in_heap job_did.GateWritten r = (tt, tt)
+floor-steps in_heap job_did.JobDone r = (tt, tt)
 
-by-raising : (what : JobDid) (o : Option Raising) → AllByRecursion BeginsNone (floor_ends what o)
-by-raising what None = tt
-by-raising what (Some r) = floor-steps what r
+by-raising : (in_heap : Bool) (what : JobDid) (o : Option Raising) → AllByRecursion BeginsNone (floor_ends in_heap what o)
+by-raising in_heap what None = tt
+by-raising in_heap what (Some r) = floor-steps in_heap what r
 
 job-breaks : (gate : Gate) → AllByRecursion BeginsNone (job_breaks_in gate)
 job-breaks Shut = (tt, tt)
@@ -199,11 +215,11 @@ job-breaks (Due OfGroup) = (tt, tt)
 job-breaks (Due OfFloor) = (tt, (tt, tt))
 job-breaks (MayBeOpen change) = (tt, tt)
 
-job-steps : (m : Machine Value) (said : Result JobDid PumpFault) → AllByRecursion BeginsNone (job_ends_in m said)
-job-steps m (Ok what) = by-raising what m.raising
-job-steps m (Err pump.Busy) = tt
-job-steps m (Err pump.NoMemory) = tt
-job-steps m (Err pump.Failed) = job-breaks m.gate
+job-steps : (in_heap : Bool) (m : Machine Value) (said : Result JobDid PumpFault) → AllByRecursion BeginsNone (job_ends_in in_heap m said)
+job-steps in_heap m (Ok what) = by-raising in_heap what m.raising
+job-steps in_heap m (Err pump.Busy) = tt
+job-steps in_heap m (Err pump.NoMemory) = tt
+job-steps in_heap m (Err pump.Failed) = job-breaks m.gate
 
 submitted-keeps : (m : Machine Value) (s : Submission Value) (said : Result SubmitOutcome SubmitFault) (event : Event Value) (place : Place)
     → Submitted m s said event place → KeepsFloors event
@@ -313,11 +329,12 @@ floor-times w scope floor (Err start.NotGrowable) next does = absurd does
 
 job-times : (w : World) (said : Result JobDid PumpFault) (next : World) (failed : Bool)
     → MatchBool failed ((said ≡ Err pump.Failed) × (next ≡ same w)) ((after : Machine Value) × IfErr said IsStepFault
-    × steps.Run IsValue w.machine (job_ends_in w.machine said) after × (next ≡ same (moved w after))) → KeepsTimes w call.JobPump (answer.JobPump said) next
+    × steps.Run IsValue w.machine (job_ends_in w.in_heap w.machine said) after × (next ≡ same (moved w after)))
+    → KeepsTimes w call.JobPump (answer.JobPump said) next
 job-times w said next true does = unraised w _ _ next (same-floors w next does.1)
 job-times w said next false does = λ relation time allows kept.
     subst (λ (x : World). IsKeptTime x.machine relation time) (sym does.3)
-    (run-kept w.machine (job_ends_in w.machine said) does.0 relation time (job-steps w.machine said) does.2 kept)
+    (run-kept w.machine (job_ends_in w.in_heap w.machine said) does.0 relation time (job-steps w.in_heap w.machine said) does.2 kept)
 
 pub call-times : (tells : Bool) (w : World) (c : Call) (a : Answer) (next : World) → Does tells w c a next → KeepsTimes w c a next
 call-times tells w c answer.Unknown next does = unraised w c answer.Unknown next (same-floors w next does.1)

@@ -7,11 +7,11 @@ use Rattle.history.specs.Steps as steps
 use Rattle.law_image.specs.Values.{Value, IsValue}
 use Rattle.group.specs.CommitOrder.{is_awaited}
 use Rattle.group.specs.declared.commit_order.CommitHead.{CommitHead}
-use Rattle.group.specs.declared.answers.Did.{Did}
 use Rattle.group.specs.declared.answers.PumpFault.{PumpFault}
 use Rattle.group.specs.declared.answers.PumpFault.TheVariants as pump
 use Rattle.snapshot.specs.OpenTable.{snapshot_of}
 use Rattle.commits.specs.Values.{CommitsValue}
+use Rattle.any_store.specs.declared.steps.Did.{Did}
 use Rattle.any_store.specs.Values.{StoreValue, is_log, commits_of, disk_of}
 use Rattle.any_store.specs.Calls as stores
 use Rattle.law_any_store.specs.Calls.{pumped_in, RunsTo}

@@ -23,22 +23,22 @@ use Rattle.snapshot.specs.declared.txn.TxnFault.{TxnFault}
 use Rattle.snapshot.specs.declared.txn.TxnFault.TheVariants as txn
 use Rattle.group.specs.declared.answers.BeginFault.{BeginFault}
 use Rattle.group.specs.declared.answers.BeginFault.TheVariants as begin
-use Rattle.group.specs.declared.answers.Did.{Did}
 use Rattle.group.specs.declared.answers.PumpFault.{PumpFault}
 use Rattle.group.specs.declared.answers.PumpFault.TheVariants as pump
 use Rattle.group.specs.declared.answers.SubmitFault.{SubmitFault}
 use Rattle.group.specs.declared.answers.SubmitFault.TheVariants as refused
 use Rattle.timequery.specs.declared.fault.QueryFault.{QueryFault}
 use Rattle.timequery.specs.declared.fault.QueryFault.TheVariants as query
+use Rattle.any_store.specs.declared.steps.Did.{Did}
+use Rattle.any_store.specs.declared.steps.JobDid.{JobDid}
 use Rattle.any_store.specs.Values.{StoreValue, disk_of}
-use Rattle.store.specs.declared.job.JobDid.{JobDid}
 use Rattle.store.specs.declared.job.StartFault.{StartFault}
 use Rattle.store.specs.declared.job.StartFault.TheVariants as start
 use Rattle.law_refinement.specs.Homes.{IsSure}
 use Rattle.law_refinement.specs.Calls.{raising_to}
-use Rattle.law_any_store.specs.Calls.{pumped_in}
+use Rattle.law_any_store.specs.Calls.{pumped_in, job_ends_in}
 use Rattle.law_any_store.specs.Names.{AreTimesFrom}
-use Rattle.law_refinement.specs.Laws.{job_ends_in, SaysAt, SaysScanAt, SaysBetween, SaysScanBetween}
+use Rattle.law_refinement.specs.Laws.{SaysAt, SaysScanAt, SaysBetween, SaysScanBetween}
 use Rattle.run.specs.declared.calls.Call.{Call}
 use Rattle.run.specs.declared.calls.Call.TheVariants as call
 use Rattle.run.specs.declared.calls.Answer.{Answer}
@@ -287,10 +287,11 @@ Grows w (Err start.ArchiveFull) next = ⊥
 Grows w (Err start.HeapFull) next = ⊥
 Grows w (Err start.NoMemory) next = ⊥
 
--- Of a job's steps those of a floor's slot are the machine's; and it fails where the device refuses one.
+-- Of a job's steps those of a floor are the machine's; and it fails where the device refuses one.
 abbrev pub JobPumps : World → Result JobDid PumpFault → World → Type 0
 JobPumps w said next = MatchBool w.machine.failed ((said ≡ Err pump.Failed) × (next ≡ same w))
-    ((after : Machine Value) × IfErr said IsStepFault × steps.Run IsValue w.machine (job_ends_in w.machine said) after × (next ≡ same (moved w after)))
+    ((after : Machine Value) × IfErr said IsStepFault × steps.Run IsValue w.machine (job_ends_in w.in_heap w.machine said) after
+    × (next ≡ same (moved w after)))
 
 -- ---- calls
 

@@ -1,9 +1,9 @@
 -- Steps of either work, one by one until the last.
 use Rattle.std.proofs.Common.{◌≢◌, Bool, IsTrue, [], ◌∷◌, Result, Ok, Err, refl}
-use Rattle.group.specs.declared.answers.Did.TheVariants as did
 use Rattle.group.specs.declared.answers.PumpFault.{PumpFault}
+use Rattle.any_store.specs.declared.steps.Did.TheVariants as did
+use Rattle.any_store.specs.declared.steps.JobDid.TheVariants as job_did
 use Rattle.any_store.specs.Values.{StoreValue, disk_of}
-use Rattle.store.specs.declared.job.JobDid.TheVariants as job_did
 use Rattle.session.specs.Session.{IsLast, StepsGroup, StepsJob, TakesOne, TakesAll, StepsWork, EndsWork, pumped, worked}
 use Rattle.session.specs.declared.reply.Reply.{Reply}
 use Rattle.session.specs.declared.stepping.Work.{Work}

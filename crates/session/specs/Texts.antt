@@ -10,22 +10,22 @@ use Rattle.group.specs.declared.answers.BeginFault.{BeginFault}
 use Rattle.group.specs.declared.answers.BeginFault.TheVariants as begin
 use Rattle.group.specs.declared.answers.SubmitFault.{SubmitFault}
 use Rattle.group.specs.declared.answers.SubmitFault.TheVariants as submit
-use Rattle.group.specs.declared.answers.Did.{Did}
-use Rattle.group.specs.declared.answers.Did.TheVariants as did
 use Rattle.group.specs.declared.answers.PumpFault.{PumpFault}
 use Rattle.group.specs.declared.answers.PumpFault.TheVariants as pump
 use Rattle.snapshot.specs.declared.txn.TxnFault.{TxnFault}
 use Rattle.snapshot.specs.declared.txn.TxnFault.TheVariants as txn
 use Rattle.timequery.specs.declared.fault.QueryFault.{QueryFault}
 use Rattle.timequery.specs.declared.fault.QueryFault.TheVariants as query
-use Rattle.store.specs.declared.job.JobDid.{JobDid}
-use Rattle.store.specs.declared.job.JobDid.TheVariants as job
 use Rattle.store.specs.declared.job.StartFault.{StartFault}
 use Rattle.store.specs.declared.job.StartFault.TheVariants as start
 use Rattle.recovery.specs.declared.fault.OpenFault.{OpenFault}
 use Rattle.recovery.specs.declared.fault.OpenFault.TheVariants as opening
 use Rattle.recovery.specs.declared.fault.FormatFault.{FormatFault}
 use Rattle.recovery.specs.declared.fault.FormatFault.TheVariants as format
+use Rattle.any_store.specs.declared.steps.Did.{Did}
+use Rattle.any_store.specs.declared.steps.Did.TheVariants as did
+use Rattle.any_store.specs.declared.steps.JobDid.{JobDid}
+use Rattle.any_store.specs.declared.steps.JobDid.TheVariants as job
 use Rattle.session.specs.declared.fault.Fault.{Fault}
 use Rattle.session.specs.declared.fault.Fault.TheVariants as fault
 use Rattle.session.specs.declared.reply.Reply.{Reply}
@@ -88,6 +88,7 @@ records_text found = flat_map record_text found ++ rows_line (length found)
 abbrev pub step_text : Did → Text
 step_text did.Idle = codes "idle\n"
 step_text did.WroteExtent = codes "wrote extent\n"
+step_text did.GateClosed = codes "gate closed\n"
 step_text did.HeapSynced = codes "heap synced\n"
 step_text did.BodyWritten = codes "body written\n"
 step_text did.BodySynced = codes "body synced\n"
@@ -105,6 +106,8 @@ job_step_text job.WroteExtent = codes "wrote extent\n"
 job_step_text job.HeapSynced = codes "heap synced\n"
 job_step_text job.BodyWritten = codes "body written\n"
 job_step_text job.BodySynced = codes "body synced\n"
+job_step_text job.WroteEntry = codes "wrote entry\n"
+job_step_text job.GateClosed = codes "gate closed\n"
 job_step_text job.GateWritten = codes "gate written\n"
 job_step_text job.JobDone = codes "job done\n"
 

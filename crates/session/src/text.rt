@@ -143,6 +143,7 @@ pub fn write_step<W: Write>(output: &mut W, step: Did) -> io::Result<()>
     match step {
         Did::Idle => write_words(output, "idle"),
         Did::WroteExtent => write_words(output, "wrote extent"),
+        Did::GateClosed => write_words(output, "gate closed"),
         Did::HeapSynced => write_words(output, "heap synced"),
         Did::BodyWritten => write_words(output, "body written"),
         Did::BodySynced => write_words(output, "body synced"),
@@ -164,6 +165,8 @@ fn job_step_words(step: JobDid) -> &'static str
         JobDid::ZerosSynced => "zeros synced",
         JobDid::BodyWritten => "body written",
         JobDid::BodySynced => "body synced",
+        JobDid::WroteEntry => "wrote entry",
+        JobDid::GateClosed => "gate closed",
         JobDid::GateWritten => "gate written",
         JobDid::JobDone => "job done",
     }

@@ -33,9 +33,14 @@ use Rattle.log_writer.specs.Writer as writers
 use Rattle.log_store.specs.Pumps as logs
 use Rattle.log_store.specs.Pumps.{did_of}
 use Rattle.log_store.specs.Values.{LogStoreValue, IsInStep, HasTurn}
+use Rattle.log_store.specs.declared.pump.Did.{Did as LogDid}
+use Rattle.log_store.specs.declared.pump.Did.TheVariants as log_did
 use Rattle.any_store.specs.Calls as any_calls
+use Rattle.any_store.specs.Steps.{slots_step, log_step}
 use Rattle.any_store.specs.Values as any
 use Rattle.any_store.specs.declared.engine.Engine.TheVariants.{Slots, Log}
+use Rattle.any_store.specs.declared.steps.Did.{Did as AnyDid}
+use Rattle.any_store.specs.declared.steps.Did.TheVariants as any_did
 use Rattle.law_commits.specs.Standing as log_memory
 use Rattle.law_any_store.specs.Standing.{Stands}
 use Rattle.shared.proofs.Engines.{in-memory}
@@ -154,7 +159,7 @@ slots-idles tells v new m r stands order pumps works = by-lists v.transactions.q
 
 -- ---- where the log lies in the heap
 
-wrote-some : (stage : Stage) (group : ℕ) → did_of (writers.did stage) group ≡ did.Idle → ⊥
+wrote-some : (stage : Stage) (group : ℕ) → did_of (writers.did stage) group ≡ log_did.Idle → ⊥
 wrote-some (Writing done []) group is = absurd cc
 wrote-some (Writing done (p ∷ rest)) group is = absurd cc
 wrote-some Syncing group is = absurd cc
@@ -162,18 +167,26 @@ wrote-some Opening group is = absurd cc
 wrote-some Settling group is = absurd cc
 wrote-some Done group is = absurd cc
 
-advances : (tells : Bool) (w : WriterState) (l l' : LogStoreValue) (r : Result Did PumpFault) → logs.Advances tells w l r l' → r ≡ Ok did.Idle → ⊥
-advances tells w l l' (Ok what) a is = let same : what ≡ did.Idle = cc in wrote-some w.stage l.commits.group (sym a.answer.0 ∙ same)
+advances : (tells : Bool) (w : WriterState) (l l' : LogStoreValue) (r : Result LogDid PumpFault) → logs.Advances tells w l r l' → r ≡ Ok log_did.Idle → ⊥
+advances tells w l l' (Ok what) a is = let same : what ≡ log_did.Idle = cc in wrote-some w.stage l.commits.group (sym a.answer.0 ∙ same)
 advances tells w l l' (Err why) a is = absurd cc
 
-advances-group : (tells : Bool) (l l' : LogStoreValue) (t : Option WriterState) (r : Result Did PumpFault) → logs.AdvancesGroup tells l t r l'
-    → r ≡ Ok did.Idle → ⊥
+advances-group : (tells : Bool) (l l' : LogStoreValue) (t : Option WriterState) (r : Result LogDid PumpFault) → logs.AdvancesGroup tells l t r l'
+    → r ≡ Ok log_did.Idle → ⊥
 advances-group tells l l' None r a is = a
 advances-group tells l l' (Some w) r a is = advances tells w l l' r a is
 
-begins-group : (tells : Bool) (l l' : LogStoreValue) (r : Result Did PumpFault) → logs.BeginsGroup tells l r l' → r ≡ Ok did.Idle → ⊥
-begins-group tells l l' r (inl none) is = let no : Path (Result Did PumpFault) (Err pump.NoMemory) (Ok did.Idle) = sym none.0 ∙ is in absurd cc
+begins-group : (tells : Bool) (l l' : LogStoreValue) (r : Result LogDid PumpFault) → logs.BeginsGroup tells l r l' → r ≡ Ok log_did.Idle → ⊥
+begins-group tells l l' r (inl none) is = let no : Path (Result LogDid PumpFault) (Err pump.NoMemory) (Ok log_did.Idle) = sym none.0 ∙ is in absurd cc
 begins-group tells l l' r (inr begun) is = advances-group tells begun.0 l' (begun.0).turn r begun.2 is
+
+-- a job may bar it
+begins-or-waits : (tells : Bool) (l l' : LogStoreValue) (r : Result LogDid PumpFault) → logs.BeginsOrWaits tells l r l' → r ≡ Ok log_did.Idle → ⊥
+begins-or-waits tells l l' r does is = by-job (logs.bars_groups l.job) does
+  where
+    by-job : (b : Bool) → MatchBool b ((r ≡ Err pump.Busy) × (l' ≡ l)) (logs.BeginsGroup tells l r l') → ⊥
+    by-job true busy = let no : Path (Result LogDid PumpFault) (Err pump.Busy) (Ok log_did.Idle) = sym busy.0 ∙ is in absurd cc
+    by-job false begun = begins-group tells l l' r begun is
 
 -- as many commits wait as the machine's queue has
 many-wait : (reclaimed : ℕ) (before : List KeyWrites) (ws : List WaitingValue) (cs : History Value) → log_memory.AllWait reclaimed before ws cs
@@ -187,8 +200,8 @@ empty-queue : (cs : History Value) → length cs ≡ 0 → cs ≡ []
 empty-queue [] none = refl
 empty-queue (c ∷ cs) none = absurd (omega (arith, none))
 
-log-idles : (tells : Bool) (l l' : LogStoreValue) (m : Machine Value) (r : Result Did PumpFault) → log_memory.StandsInMemory l.commits m → IsInStep l
-    → logs.Pumps tells l r l' → m.failed ≡ false → (r ≡ Ok did.Idle) ↔ (m.queue ≡ [])
+log-idles : (tells : Bool) (l l' : LogStoreValue) (m : Machine Value) (r : Result LogDid PumpFault) → log_memory.StandsInMemory l.commits m → IsInStep l
+    → logs.Pumps tells l r l' → m.failed ≡ false → (r ≡ Ok log_did.Idle) ↔ (m.queue ≡ [])
 log-idles tells l l' m r stands step pumps works = by-turn l.turn step.turn log_takes
   where
     many : length l.commits.queue ≡ length m.queue
@@ -197,20 +210,20 @@ log-idles tells l l' m r stands step pumps works = by-turn l.turn step.turn log_
     log_takes : logs.TakesStep tells l l.turn r l'
     log_takes = subst (λ (b : Bool). MatchBool b ((r ≡ Err pump.Failed) × (l' ≡ l)) (logs.TakesStep tells l l.turn r l')) (stands.failed ∙ works) pumps
 
-    by-queue : (b : Bool) → (length l.commits.queue == 0) ≡ b → MatchBool b ((r ≡ Ok did.Idle) × (l' ≡ l)) (logs.BeginsGroup tells l r l')
-        → (r ≡ Ok did.Idle) ↔ (m.queue ≡ [])
+    by-queue : (b : Bool) → (length l.commits.queue == 0) ≡ b → MatchBool b ((r ≡ Ok log_did.Idle) × (l' ≡ l)) (logs.BeginsOrWaits tells l r l')
+        → (r ≡ Ok log_did.Idle) ↔ (m.queue ≡ [])
     by-queue true none idle =
         let zero_is : length l.commits.queue ≡ 0 = grind (arith, nat_tests) in
         (λ is. empty-queue m.queue (omega (arith, many, zero_is)), λ empty. idle.0)
     by-queue false some begun = (
-      λ is. absurd (begins-group tells l l' r begun is),
+      λ is. absurd (begins-or-waits tells l l' r begun is),
       λ empty.
           let nothing : length m.queue ≡ 0 = ap (λ (h : History Value). length h) empty in
           let zero_is : length l.commits.queue ≡ 0 = omega (arith, many, nothing) in
           absurd (grind (arith, nat_tests)),
     )
 
-    by-turn : (t : Option WriterState) → HasTurn l.commits.group t → logs.TakesStep tells l t r l' → (r ≡ Ok did.Idle) ↔ (m.queue ≡ [])
+    by-turn : (t : Option WriterState) → HasTurn l.commits.group t → logs.TakesStep tells l t r l' → (r ≡ Ok log_did.Idle) ↔ (m.queue ≡ [])
     by-turn None none does = by-queue (length l.commits.queue == 0) refl does
     by-turn (Some w) turning does =
         let group = turning.0 in
@@ -223,9 +236,37 @@ log-idles tells l l' m r stands step pumps works = by-turn l.turn step.turn log_
 
 -- ---- in either layout
 
-pub idles : (tells : Bool) (v new : any.StoreValue) (m : Machine Value) (r : Result Did PumpFault) → Stands tells v m → any_calls.Pumps tells v r new
-    → m.failed ≡ false → (r ≡ Ok did.Idle) ↔ (m.queue ≡ [])
-idles tells (Slots s) (Slots s') m r stands pumps works = slots-idles tells s s' m r stands.memory stands.order pumps works
+-- nothing was to be done just where the engine says so
+slots-said : (said : Result Did PumpFault) → slots_step said ≡ Ok any_did.Idle → said ≡ Ok did.Idle
+slots-said (Ok did.Idle) is = refl
+slots-said (Ok did.WroteExtent) is = absurd cc
+slots-said (Ok did.HeapSynced) is = absurd cc
+slots-said (Ok did.BodyWritten) is = absurd cc
+slots-said (Ok did.BodySynced) is = absurd cc
+slots-said (Ok did.GateWritten) is = absurd cc
+slots-said (Ok (did.Published count)) is = absurd cc
+slots-said (Err why) is = absurd cc
+
+log-said : (said : Result LogDid PumpFault) → log_step said ≡ Ok any_did.Idle → said ≡ Ok log_did.Idle
+log-said (Ok log_did.Idle) is = refl
+log-said (Ok log_did.WroteExtent) is = absurd cc
+log-said (Ok log_did.GateClosed) is = absurd cc
+log-said (Ok log_did.HeapSynced) is = absurd cc
+log-said (Ok log_did.GateWritten) is = absurd cc
+log-said (Ok (log_did.Published count)) is = absurd cc
+log-said (Err why) is = absurd cc
+
+pub idles : (tells : Bool) (v new : any.StoreValue) (m : Machine Value) (r : Result AnyDid PumpFault) → Stands tells v m → any_calls.Pumps tells v r new
+    → m.failed ≡ false → (r ≡ Ok any_did.Idle) ↔ (m.queue ≡ [])
+idles tells (Slots s) (Slots s') m r stands pumps works =
+    let same = slots-idles tells s s' m pumps.0 stands.memory stands.order pumps.1 works in (
+      λ is. same.0 (slots-said pumps.0 (sym pumps.2 ∙ is)),
+      λ empty. pumps.2 ∙ ap slots_step (same.1 empty),
+    )
 idles tells (Slots s) (Log l') m r stands pumps works = absurd pumps
 idles tells (Log l) (Slots s') m r stands pumps works = absurd pumps
-idles tells (Log l) (Log l') m r stands pumps works = log-idles tells l l' m r (in-memory tells (Log l) m stands) stands.0 pumps works
+idles tells (Log l) (Log l') m r stands pumps works =
+    let same = log-idles tells l l' m pumps.0 (in-memory tells (Log l) m stands) stands.0 pumps.1 works in (
+      λ is. same.0 (log-said pumps.0 (sym pumps.2 ∙ is)),
+      λ empty. pumps.2 ∙ ap log_step (same.1 empty),
+    )

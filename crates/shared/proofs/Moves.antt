@@ -19,7 +19,6 @@ use Rattle.group.specs.Tickets.{TicketValue}
 use Rattle.group.specs.declared.commit_order.CommitHead.{CommitHead}
 use Rattle.group.specs.declared.answers.BeginFault.{BeginFault}
 use Rattle.group.specs.declared.answers.BeginFault.TheVariants as begin
-use Rattle.group.specs.declared.answers.Did.{Did}
 use Rattle.group.specs.declared.answers.PumpFault.{PumpFault}
 use Rattle.group.specs.declared.answers.PumpFault.TheVariants as pump
 use Rattle.group.specs.declared.answers.Redeemed.{Redeemed}
@@ -28,17 +27,18 @@ use Rattle.group.specs.declared.answers.Submitted.{Submitted}
 use Rattle.group.specs.declared.answers.Submitted.TheVariants as submitted
 use Rattle.group.specs.declared.answers.SubmitFault.{SubmitFault}
 use Rattle.group.specs.declared.answers.SubmitFault.TheVariants as refused
-use Rattle.store.specs.declared.job.JobDid.{JobDid}
 use Rattle.store.specs.declared.job.StartFault.{StartFault}
 use Rattle.store.specs.declared.job.StartFault.TheVariants as fault
 use Rattle.commits.specs.Values.{CommitsValue, is_own, over}
+use Rattle.any_store.specs.declared.steps.Did.{Did}
+use Rattle.any_store.specs.declared.steps.JobDid.{JobDid}
 use Rattle.any_store.specs.Values.{StoreValue, is_log, commits_of, disk_of}
 use Rattle.any_store.specs.Calls as stores
 use Rattle.any_store.specs.Jobs.{StartsArchive, StartsReclaim, StartsFloor, StartsGrowth, PumpsJob}
 use Rattle.law_refinement.specs.Calls.{raising_to}
-use Rattle.law_refinement.specs.Laws.{submission_of, event_of, job_ends_in}
+use Rattle.law_refinement.specs.Laws.{submission_of, event_of}
 use Rattle.law_commits.specs.Standing.{StandsInMemory}
-use Rattle.law_any_store.specs.Calls.{StartsOn, Goes, RunsTo, pumped_in}
+use Rattle.law_any_store.specs.Calls.{StartsOn, Goes, RunsTo, pumped_in, job_ends_in}
 use Rattle.law_any_store.specs.Leaving.{Leaves, LeftBySubmit, LeftByRedeem}
 use Rattle.law_any_store.specs.Names.{KeepsNames}
 use Rattle.law_any_store.specs.Standing.{Stands, GoesOn}
@@ -624,9 +624,17 @@ reclaim-begins tells start kind brand table old new shares at pass r h starts =
 -- a floor begins, or is refused
 pub floor-begins : (tells : Bool) (start : Machine Value) (kind : Kind) (brand : ℕ) (table : TableId) (old new : StoreValue) (shares : ℕ) (at : TableId)
     (pass : SightValue) (scope : Option ℕ) (floor : ℕ) (r : Result (Unit {0}) StartFault) → IsShared tells start kind brand table old shares at pass
-    → StartsFloor old scope floor r new → IsShared tells start kind brand table new shares at pass × FloorHappens start scope floor r pass.seen
+    → StartsFloor old scope floor r new → IsShared tells start kind brand table new shares at pass × FloorHappens start kind scope floor r pass.seen
 floor-begins tells start kind brand table old new shares at pass scope floor r h starts =
-    let did = by-answer r refl (floor-start-stands tells old new scope floor r h.state h.stands starts) in (did.0, (h.state, h.reached, h.seen, did.1))
+    let did = by-answer r refl (floor-start-stands tells old new scope floor r h.state h.stands starts) in (
+      did.0,
+      (
+        h.state,
+        h.reached,
+        h.seen,
+        subst (λ (b : Bool). FloorSays b h.state (raising_to scope floor) r) (in-heap tells start kind brand table old shares at pass h) did.1,
+      ),
+    )
   where
     left : Leaves (commits_of old) (commits_of new)
     left = laws.floor-leaves old new scope floor r starts
@@ -643,8 +651,8 @@ floor-begins tells start kind brand table old new shares at pass scope floor r h
     works : (x : Result (Unit {0}) StartFault) → r ≡ x → (x ≡ Err fault.Failed → ⊥) → h.state.failed ≡ false
     works x is other = floor-works tells old new scope floor r h.state h.stands starts (λ failed. other (sym is ∙ failed))
 
-    by-answer : (x : Result (Unit {0}) StartFault) → r ≡ x → StartsOn tells h.state (raising_to scope floor) x new
-        → IsShared tells start kind brand table new shares at pass × FloorSays h.state (raising_to scope floor) x
+    by-answer : (x : Result (Unit {0}) StartFault) → r ≡ x → StartsOn tells (is_log old) h.state (raising_to scope floor) x new
+        → IsShared tells start kind brand table new shares at pass × FloorSays (is_log old) h.state (raising_to scope floor) x
     by-answer (Ok done) is did = (
       quiet tells start kind brand table old new shares at pass h (floor_started h.state (raising_to scope floor)) did.1 goes names
           (stepped (FloorStarted (raising_to scope floor)) h.reached did.0) refl left.mark left.heads left.opened,
@@ -658,7 +666,7 @@ floor-begins tells start kind brand table old new shares at pass scope floor r h
     by-answer (Err fault.JobBusy) is did = (same did, works (Err fault.JobBusy) is (λ no. absurd cc))
     by-answer (Err fault.StatusFull) is did = (same did, works (Err fault.StatusFull) is (λ no. absurd cc))
     by-answer (Err fault.ArchiveFull) is did = absurd did
-    by-answer (Err fault.HeapFull) is did = absurd did
+    by-answer (Err fault.HeapFull) is did = (same did.1, (did.0, works (Err fault.HeapFull) is (λ no. absurd cc)))
     by-answer (Err fault.NoMemory) is did = (same did.1, (works (Err fault.NoMemory) is (λ no. absurd cc), did.0))
     by-answer (Err fault.NotGrowable) is did = absurd did
 
@@ -675,7 +683,7 @@ growth-begins tells start kind brand table old new shares at pass r h starts =
 
 pub record JobPumped (tells : Bool) (start : Machine Value) (m : Machine Value) (old new : StoreValue) (r : Result JobDid PumpFault) : Type 0 where
   pub after : Machine Value
-  pub run : MatchBool m.failed ((r ≡ Err pump.Failed) × (after ≡ m)) (Run IsValue m (job_ends_in m r) after)
+  pub run : MatchBool m.failed ((r ≡ Err pump.Failed) × (after ≡ m)) (Run IsValue m (job_ends_in (is_log old) m r) after)
   pub stands : Stands tells new after
   pub reached : Reached start after
   pub seen : seen_of after ≡ job_seen r (raising_in old) (seen_of m)
@@ -688,11 +696,11 @@ pub job-pumped : (tells : Bool) (start : Machine Value) (m : Machine Value) (old
     → Stands tells old m → (IsTrue tells → AreSound (disk_of new).areas) → PumpsJob tells old r new → JobPumped tells start m old new r
 job-pumped tells start m old new r reached stands sound pumps = by-failure m.failed refl (job-pump-stands tells old new r m stands sound pumps)
   where
-    by-failure : (b : Bool) → m.failed ≡ b → MatchBool b ((r ≡ Err pump.Failed) × Stands tells new m) (RunsTo tells m (job_ends_in m r) new)
+    by-failure : (b : Bool) → m.failed ≡ b → MatchBool b ((r ≡ Err pump.Failed) × Stands tells new m) (RunsTo tells m (job_ends_in (is_log old) m r) new)
         → JobPumped tells start m old new r
     by-failure true is did = record {
       after = m;
-      run = subst (λ (b : Bool). MatchBool b ((r ≡ Err pump.Failed) × (m ≡ m)) (Run IsValue m (job_ends_in m r) m)) (sym is) (did.0, refl);
+      run = subst (λ (b : Bool). MatchBool b ((r ≡ Err pump.Failed) × (m ≡ m)) (Run IsValue m (job_ends_in (is_log old) m r) m)) (sym is) (did.0, refl);
       stands = did.1;
       reached = reached;
       seen = subst (λ (x : Result JobDid PumpFault). seen_of m ≡ job_seen x (raising_in old) (seen_of m)) (sym did.0) (broken-seen m is);
@@ -703,15 +711,26 @@ job-pumped tells start m old new r reached stands sound pumps = by-failure m.fai
     }
     by-failure false is did = record {
       after = did.after;
-      run = subst (λ (b : Bool). MatchBool b ((r ≡ Err pump.Failed) × (did.after ≡ m)) (Run IsValue m (job_ends_in m r) did.after)) (sym is) did.run;
+      run =
+          subst (λ (b : Bool). MatchBool b ((r ≡ Err pump.Failed) × (did.after ≡ m)) (Run IsValue m (job_ends_in (is_log old) m r) did.after)) (sym is)
+          did.run;
       stands = did.stands;
-      reached = follows start m did.after (job_ends_in m r) reached did.run;
-      seen = job-seen m did.after (raising_in old) r (raises-is tells old m stands) did.run;
-      later = later-done m did.after (raising_in old) r (is-machine tells old m stands) (raises-is tells old m stands) did.run;
+      reached = follows start m did.after (job_ends_in (is_log old) m r) reached did.run;
+      seen = job-seen (is_log old) m did.after (raising_in old) r (raises-is tells old m stands) did.run;
+      later = later-done (is_log old) m did.after (raising_in old) r (is-machine tells old m stands) (raises-is tells old m stands) did.run;
       left = laws.pumped-leaves tells old new r pumps;
       goes = job-pump-goes tells old new r m stands pumps;
       names = pumped-names tells old new r pumps;
     }
+
+-- what a step of a shared store's job leads to
+pub job-run : (tells : Bool) (start : Machine Value) (kind : Kind) (brand : ℕ) (table : TableId) (old new : StoreValue) (shares : ℕ) (at : TableId)
+    (pass : SightValue) (r : Result JobDid PumpFault) (h : IsShared tells start kind brand table old shares at pass)
+    (p : JobPumped tells start h.state old new r)
+    → MatchBool h.state.failed ((r ≡ Err pump.Failed) × (p.after ≡ h.state)) (Run IsValue h.state (job_ends_in kind.in_heap h.state r) p.after)
+job-run tells start kind brand table old new shares at pass r h p =
+    subst (λ (b : Bool). MatchBool h.state.failed ((r ≡ Err pump.Failed) × (p.after ≡ h.state)) (Run IsValue h.state (job_ends_in b h.state r) p.after))
+    (in-heap tells start kind brand table old shares at pass h) p.run
 
 -- what the pass is to see next is later
 pub job-later : (tells : Bool) (start : Machine Value) (kind : Kind) (brand : ℕ) (table : TableId) (old new : StoreValue) (shares : ℕ) (at : TableId)

@@ -52,6 +52,8 @@ use Rattle.log_roots.proofs.roots.Roots.TheSendSync as roots
 use Rattle.log_room.proofs.content.Content.TheSendSync as content
 use Rattle.log_room.proofs.room.HeapRoom.TheSendSync as room
 use Rattle.log_writer.proofs.writer.ChainWriter.TheSendSync as chain_writer
+use Rattle.log_store.proofs.job.Job.TheSendSync as log_job
+use Rattle.log_store.proofs.named.Named.TheSendSync as named
 use Rattle.log_store.specs.contracts.store.LogStore as LogStore
 use Rattle.log_store.specs.contracts.store.LogStore.TheInside as log_store
 use Rattle.any_store.proofs.engine.Engine.TheSendSync as engine
@@ -224,8 +226,14 @@ module _ (D : RattleType) (disk : devices.Ghosts D.Denot) (crossing : IsSend D) 
             (
               search (sendable, option.the_send, chain_writer.the_send),
               (
-                search (sendable, store_archive.the_send),
-                (search (sendable, crossing), tt),
+                search (sendable, option.the_send, log_job.the_send),
+                (
+                  search (sendable, named.the_send),
+                  (
+                    search (sendable, store_archive.the_send),
+                    (search (sendable, crossing), tt),
+                  ),
+                ),
               ),
             ),
           ),

@@ -1,6 +1,6 @@
 -- What the starts of jobs answer, in either layout.
 use Rattle.std.proofs.Common.{◌≡◌, ℕ, ◌<◌, ◌≤◌, ◌==◌, nat_le, nat_lt, Bool, true, false, cond, is_some, Option, None, Some, Result, Ok, Err, MatchOption}
-use Rattle.std.proofs.Common.{refl, sym}
+use Rattle.std.proofs.Common.{refl, sym, ap}
 use Rattle.std.proofs.Common.{◌∙◌, subst, arith}
 use Rattle.std.proofs.lemmas.Bool.Decides.{nat_tests}
 use Rattle.history.specs.Histories.{last}
@@ -17,8 +17,12 @@ use Rattle.store.specs.Reclaims.{StartsReclaim, BeginsReclaim, below, refusal_fo
 use Rattle.store.specs.Growths.{StartsGrowth, BeginsPiece}
 use Rattle.store.specs.declared.job.StartFault.{StartFault}
 use Rattle.store.specs.declared.job.StartFault.TheVariants as fault
+use Rattle.log_store.specs.Jobs as log_jobs
+use Rattle.log_store.specs.Values.{LogStoreValue}
+use Rattle.log_store.specs.declared.job.StartFault.{StartFault as LogFault}
+use Rattle.log_store.specs.declared.job.StartFault.TheVariants as log_fault
 use Rattle.any_store.specs.Jobs as jobs
-use Rattle.any_store.specs.Jobs.{none_of}
+use Rattle.any_store.specs.Jobs.{none_of, told_start}
 use Rattle.any_store.specs.Values as any
 use Rattle.any_store.specs.Values.{is_log}
 use Rattle.any_store.specs.declared.engine.Engine.TheVariants.{Slots, Log}
@@ -191,6 +195,24 @@ first-works : (failed : Bool) (rest : Option StartFault) (Begins : Type 0) (r : 
 first-works true rest Begins r old new is other = absurd (other is.0)
 first-works false rest Begins r old new is other = refl
 
+-- so it is where the log lies in the heap
+log-works : (old new : LogStoreValue) (scope : Option ℕ) (floor : ℕ) (said : Result (Unit {0}) LogFault) → log_jobs.StartsFloor old scope floor said new
+    → (said ≡ Err log_fault.Failed → ⊥) → old.commits.failed ≡ false
+log-works old new None floor said starts other = by-failure old.commits.failed starts
+  where
+    by-failure : (b : Bool)
+        → MatchOption (cond b (Some log_fault.Failed) (Some log_fault.WrongProfile)) (log_jobs.BeginsFloor old None floor said new) (λ why. (said ≡ Err why)
+        × (new ≡ old)) → b ≡ false
+    by-failure true is = absurd (other is.0)
+    by-failure false is = refl
+log-works old new (Some relation) floor said starts other = by-failure old.commits.failed starts
+  where
+    by-failure : (b : Bool)
+        → MatchOption (cond b (Some log_fault.Failed) (log_jobs.floor_refusal_of old relation floor)) (log_jobs.BeginsFloor old (Some relation) floor said new)
+        (λ why. (said ≡ Err why) × (new ≡ old)) → b ≡ false
+    by-failure true is = absurd (other is.0)
+    by-failure false is = refl
+
 -- so is one of a floor
 pub floor-works : (tells : Bool) (old new : any.StoreValue) (scope : Option ℕ) (floor : ℕ) (r : Result (Unit {0}) StartFault) (m : Machine Value)
     → Stands tells old m → jobs.StartsFloor old scope floor r new → (r ≡ Err fault.Failed → ⊥) → m.failed ≡ false
@@ -199,8 +221,5 @@ floor-works tells (Slots s) (Slots s') scope floor r m stands starts other =
 floor-works tells (Slots s) (Log l') scope floor r m stands starts other = absurd starts
 floor-works tells (Log l) (Slots s') scope floor r m stands starts other = absurd starts
 floor-works tells (Log l) (Log l') scope floor r m stands starts other =
-    sym (in-memory tells (Log l) m stands).failed ∙ by-failure l.commits.failed starts.0
-  where
-    by-failure : (b : Bool) → r ≡ Err (none_of b fault.WrongProfile) → b ≡ false
-    by-failure true says = absurd (other says)
-    by-failure false says = refl
+    sym (in-memory tells (Log l) m stands).failed
+    ∙ log-works l l' scope floor starts.0 starts.1 (λ failed. other (starts.2 ∙ ap told_start failed))

@@ -4,28 +4,26 @@ use Rattle.std.proofs.Common.{Err, refl, sym, ap, ◌∙◌, subst, append_assoc
 use Rattle.std.proofs.lemmas.List.{append-nil, take-append-drop}
 use Rattle.history.specs.Histories.{Commit, History}
 use Rattle.history.specs.Floors.{Raising}
-use Rattle.history.specs.Machine.{Machine, IsMachine, Gate, Shut, Due, MayBeOpen, OfGroup, OfFloor}
-use Rattle.history.specs.Steps.{Event, Step, Run, GroupBegan}
+use Rattle.history.specs.Machine.{Machine, IsMachine, Change, Gate, Shut, Due, MayBeOpen, OfGroup, OfFloor}
+use Rattle.history.specs.Steps.{Event, Step, Run, GroupBegan, GateDue}
 use Rattle.history.specs.Submissions.{Submission, commit_made}
 use Rattle.history.proofs.Machines.{run-floors}
 use Rattle.law_image.specs.Values.{Value, IsValue}
-use Rattle.group.specs.declared.answers.Did.{Did}
-use Rattle.group.specs.declared.answers.Did.TheVariants as did
 use Rattle.group.specs.declared.answers.PumpFault.{PumpFault}
 use Rattle.group.specs.declared.answers.PumpFault.TheVariants as pump
 use Rattle.group.specs.declared.answers.Submitted.{Submitted}
 use Rattle.group.specs.declared.answers.Submitted.TheVariants as submitted
 use Rattle.group.specs.declared.answers.SubmitFault.{SubmitFault}
 use Rattle.group.specs.declared.answers.SubmitFault.TheVariants as refused
-use Rattle.store.specs.declared.job.JobDid.{JobDid}
-use Rattle.store.specs.declared.job.JobDid.TheVariants as job_did
-use Rattle.law_refinement.specs.Laws.{event_of, begins_in, ends_in, floor_ends_in, floor_ends, job_breaks_in, job_ends_in}
-use Rattle.law_refinement.specs.Leaving.{count_in}
-use Rattle.law_any_store.specs.Calls.{pumped_in}
-use Rattle.law_refinement.proofs.Told.{pump-publishes}
+use Rattle.any_store.specs.declared.steps.Did.{Did}
+use Rattle.any_store.specs.declared.steps.Did.TheVariants as did
+use Rattle.any_store.specs.declared.steps.JobDid.{JobDid}
+use Rattle.any_store.specs.declared.steps.JobDid.TheVariants as job_did
+use Rattle.law_refinement.specs.Laws.{event_of, begins_in, breaks_in, job_breaks_in}
+use Rattle.law_any_store.specs.Calls.{group_ends, pumped_in, floor_ends_in, floor_ends, job_ends_in}
 use Rattle.shared.specs.Reached.{Reached, stepped}
 use Rattle.shared.specs.Seen.{Seen, floors_listed, floor_in, seen_of, order_of, IsFrontOf, IsLater}
-use Rattle.shared.specs.Shared.{published_seen, queued_seen, raised_seen, done_seen, failed_seen, pumped_seen, job_seen, is_done, has_failed}
+use Rattle.shared.specs.Shared.{count_in, published_seen, queued_seen, raised_seen, done_seen, failed_seen, pumped_seen, job_seen, is_done, has_failed}
 use Rattle.shared.proofs.Floors.{listed-raised, listed-later}
 use Rattle.shared.proofs.Fronts.{front-same, later-same, later-then, later-failed}
 
@@ -80,68 +78,64 @@ submit-seen m after s (Err refused.Stranger) step = ap seen_of step.1.2
 pub published-none : (s : Seen) → s ≡ published_seen s 0
 published-none s = ap (λ (h : History Value). record s { published = h }) (sym (append-nil s.published))
 
--- whether a store has failed after this answer
-abbrev failed_after : {T : Type 0} → Result T PumpFault → Bool → Bool
-failed_after r before = cond (has_failed r) true before
+-- a group that begins shows nothing
+record Begun (m n : Machine Value) (events : List (Event Value)) : Type 0 where
+  pub after : Machine Value
+  pub seen : seen_of after ≡ seen_of m
+  pub run : Run IsValue after events n
 
-ended-failed : (m n : Machine Value) (gate : Gate) (r : Result Did PumpFault) → Run IsValue m (ends_in gate r) n → n.failed ≡ failed_after r m.failed
-ended-failed m n gate (Ok (did.Published count)) run = ap (λ (x : Machine Value). x.failed) run.2 ∙ ap (λ (x : Machine Value). x.failed) run.1.4
-ended-failed m n gate (Ok did.Idle) run = ap (λ (x : Machine Value). x.failed) run
-ended-failed m n gate (Ok did.WroteExtent) run = ap (λ (x : Machine Value). x.failed) run
-ended-failed m n gate (Ok did.HeapSynced) run = ap (λ (x : Machine Value). x.failed) run
-ended-failed m n gate (Ok did.BodyWritten) run = ap (λ (x : Machine Value). x.failed) run
-ended-failed m n gate (Ok did.BodySynced) run = ap (λ (x : Machine Value). x.failed) run.2 ∙ ap (λ (x : Machine Value). x.failed) run.1.3
-ended-failed m n gate (Ok did.GateWritten) run = ap (λ (x : Machine Value). x.failed) run.2 ∙ ap (λ (x : Machine Value). x.failed) run.1.2
-ended-failed m n gate (Err pump.Busy) run = ap (λ (x : Machine Value). x.failed) run
-ended-failed m n gate (Err pump.NoMemory) run = ap (λ (x : Machine Value). x.failed) run
-ended-failed m n Shut (Err pump.Failed) run = ap (λ (x : Machine Value). x.failed) run.2 ∙ ap (λ (x : Machine Value). x.failed) run.1.1
-ended-failed m n (Due OfGroup) (Err pump.Failed) run = ap (λ (x : Machine Value). x.failed) run.2.2 ∙ ap (λ (x : Machine Value). x.failed) run.2.1.1
-ended-failed m n (Due OfFloor) (Err pump.Failed) run = ap (λ (x : Machine Value). x.failed) run.2 ∙ ap (λ (x : Machine Value). x.failed) run.1.1
-ended-failed m n (MayBeOpen change) (Err pump.Failed) run = ap (λ (x : Machine Value). x.failed) run.2 ∙ ap (λ (x : Machine Value). x.failed) run.1.1
-
-pump-failed : (m n : Machine Value) (r : Result Did PumpFault) → Run IsValue m (begins_in m ++ ends_in m.gate r) n → n.failed ≡ failed_after r m.failed
-pump-failed m n r run = by-group ((m.group == 0) && nat_lt 0 (length m.queue)) run
+begun : (m n : Machine Value) (events : List (Event Value)) → Run IsValue m (begins_in m ++ events) n → Begun m n events
+begun m n events run = by-group ((m.group == 0) && nat_lt 0 (length m.queue)) run
   where
-    by-group : (b : Bool) → Run IsValue m (cond b (GroupBegan ∷ []) [] ++ ends_in m.gate r) n → n.failed ≡ failed_after r m.failed
-    by-group true run = ended-failed run.0 n m.gate r run.2 ∙ ap (λ (x : Machine Value). failed_after r x.failed) run.1.3
-    by-group false run = ended-failed m n m.gate r run
+    by-group : (b : Bool) → Run IsValue m (cond b (GroupBegan ∷ []) [] ++ events) n → Begun m n events
+    by-group true run = record { after = run.0; seen = ap seen_of run.1.3; run = run.2 }
+    by-group false run = record { after = m; seen = refl; run = run }
 
-failed-as : (b : Bool) (s : Seen) → record s { failed = cond b true s.failed } ≡ failed_seen b s
-failed-as true s = refl
-failed-as false s = refl
+-- the sync of the heap is before the gate just where the log lies in the heap
+synced-seen : (in_heap : Bool) (change : Change) (m n : Machine Value) → Run IsValue m (cond in_heap (GateDue change ∷ []) []) n → seen_of n ≡ seen_of m
+synced-seen true change m n run = ap seen_of run.2 ∙ ap seen_of run.1.3
+synced-seen false change m n run = ap seen_of run
 
-pub pump-seen : (m n : Machine Value) (r : Result Did PumpFault) → Run IsValue m (begins_in m ++ ends_in m.gate r) n → seen_of n ≡ pumped_seen r (seen_of m)
-pump-seen m n r run =
-    let p = pump-publishes m n r run in
-    ap (λ (h : History Value). record { published = h; queue = n.queue; floors = floors_listed n.floors; failed = n.failed }) p.published
-    ∙ ap (λ (q : History Value). record {
-      published = m.published ++ take (count_in r) m.queue;
-      queue = q;
-      floors = floors_listed n.floors;
-      failed = n.failed;
-    }) p.queue
-    ∙ ap (λ (f : ℕ → ℕ). record {
-      published = m.published ++ take (count_in r) m.queue;
-      queue = drop (count_in r) m.queue;
-      floors = floors_listed f;
-      failed = n.failed;
-    }) p.floors
-    ∙ ap (λ (b : Bool). record {
-      published = m.published ++ take (count_in r) m.queue;
-      queue = drop (count_in r) m.queue;
-      floors = floors_listed m.floors;
-      failed = b;
-    }) (pump-failed m n r run)
-    ∙ failed-as (has_failed r) (published_seen (seen_of m) (count_in r))
+ended-seen : (in_heap : Bool) (m n : Machine Value) (what : Did) → Run IsValue m (group_ends in_heap what) n
+    → seen_of n ≡ published_seen (seen_of m) (count_in (Ok what))
+ended-seen in_heap m n (did.Published count) run =
+    ap seen_of run.2 ∙ ap seen_of run.1.4 ∙ ap (λ (k : ℕ). published_seen (seen_of m) k) (sym run.1.2)
+ended-seen in_heap m n did.Idle run = ap seen_of run ∙ published-none (seen_of m)
+ended-seen in_heap m n did.WroteExtent run = ap seen_of run ∙ published-none (seen_of m)
+ended-seen in_heap m n did.GateClosed run = ap seen_of run ∙ published-none (seen_of m)
+ended-seen in_heap m n did.HeapSynced run = synced-seen in_heap OfGroup m n run ∙ published-none (seen_of m)
+ended-seen in_heap m n did.BodyWritten run = ap seen_of run ∙ published-none (seen_of m)
+ended-seen in_heap m n did.BodySynced run = ap seen_of run.2 ∙ ap seen_of run.1.3 ∙ published-none (seen_of m)
+ended-seen in_heap m n did.GateWritten run = ap seen_of run.2 ∙ ap seen_of run.1.2 ∙ published-none (seen_of m)
+
+abbrev with_failure : Seen → Seen
+with_failure s = record s { failed = true }
+
+broke-seen : (m n : Machine Value) (gate : Gate) → Run IsValue m (breaks_in gate) n → seen_of n ≡ with_failure (seen_of m)
+broke-seen m n Shut run = ap seen_of run.2 ∙ ap seen_of run.1.1
+broke-seen m n (Due OfGroup) run =
+    ap seen_of run.2.2 ∙ ap seen_of run.2.1.1 ∙ ap (λ (x : Machine Value). with_failure (seen_of x)) run.1.2
+broke-seen m n (Due OfFloor) run = ap seen_of run.2 ∙ ap seen_of run.1.1
+broke-seen m n (MayBeOpen change) run = ap seen_of run.2 ∙ ap seen_of run.1.1
+
+-- a step that is put off begins a group where the log is slots, and none where it lies in the heap
+put_off-seen : (in_heap : Bool) (m n : Machine Value) → Run IsValue m (cond in_heap [] (begins_in m)) n → seen_of n ≡ published_seen (seen_of m) 0
+put_off-seen true m n run = ap seen_of run ∙ published-none (seen_of m)
+put_off-seen false m n run =
+    let b = begun m n [] (subst (λ (events : List (Event Value)). Run IsValue m events n) (sym (append-nil (begins_in m))) run) in
+    ap seen_of b.run ∙ b.seen ∙ published-none (seen_of m)
 
 -- in either layout
 pub pumped-seen : (in_heap : Bool) (m n : Machine Value) (r : Result Did PumpFault) → Run IsValue m (pumped_in in_heap m r) n
     → seen_of n ≡ pumped_seen r (seen_of m)
-pumped-seen false m n r run = pump-seen m n r run
-pumped-seen true m n (Ok what) run = pump-seen m n (Ok what) run
-pumped-seen true m n (Err pump.Busy) run = ap seen_of run ∙ published-none (seen_of m)
-pumped-seen true m n (Err pump.NoMemory) run = ap seen_of run ∙ published-none (seen_of m)
-pumped-seen true m n (Err pump.Failed) run = pump-seen m n (Err pump.Failed) run
+pumped-seen in_heap m n (Ok what) run =
+    let b = begun m n (group_ends in_heap what) run in
+    ended-seen in_heap b.after n what b.run ∙ ap (λ (s : Seen). published_seen s (count_in (Ok what))) b.seen
+pumped-seen in_heap m n (Err pump.Busy) run = put_off-seen in_heap m n run
+pumped-seen in_heap m n (Err pump.NoMemory) run = put_off-seen in_heap m n run
+pumped-seen in_heap m n (Err pump.Failed) run =
+    let b = begun m n (breaks_in m.gate) run in
+    broke-seen b.after n m.gate b.run ∙ ap with_failure b.seen ∙ ap with_failure (published-none (seen_of m))
 
 -- the commits that are seen are the same in another order of words
 pub published-order : (s : Seen) (count : ℕ) → order_of (published_seen s count) ≡ order_of s
@@ -197,27 +191,30 @@ same-seen true s = refl
 same-seen false s = refl
 
 -- of a floor's job
-floor-seen : (m n : Machine Value) (what : JobDid) (r : Raising) → Run IsValue m (floor_ends_in what r) n → seen_of n ≡ done_seen (Ok what) (Some r) (seen_of m)
-floor-seen m n job_did.Idle r run = ap seen_of run
-floor-seen m n job_did.WroteRun r run = ap seen_of run
-floor-seen m n job_did.RunSynced r run = ap seen_of run
-floor-seen m n job_did.WroteExtent r run = ap seen_of run
-floor-seen m n job_did.HeapSynced r run = ap seen_of run
-floor-seen m n job_did.WroteZeros r run = ap seen_of run
-floor-seen m n job_did.ZerosSynced r run = ap seen_of run
-floor-seen m n job_did.BodyWritten r run = ap seen_of run
-floor-seen m n job_did.BodySynced r run = ap seen_of run.2 ∙ ap seen_of run.1.3
-floor-seen m n job_did.GateWritten r run = ap seen_of run.2 ∙ ap seen_of run.1.2
-floor-seen m n job_did.JobDone r run =
+floor-seen : (in_heap : Bool) (m n : Machine Value) (what : JobDid) (r : Raising) → Run IsValue m (floor_ends_in in_heap what r) n
+    → seen_of n ≡ done_seen (Ok what) (Some r) (seen_of m)
+floor-seen in_heap m n job_did.Idle r run = ap seen_of run
+floor-seen in_heap m n job_did.WroteRun r run = ap seen_of run
+floor-seen in_heap m n job_did.RunSynced r run = ap seen_of run
+floor-seen in_heap m n job_did.WroteExtent r run = ap seen_of run
+floor-seen in_heap m n job_did.HeapSynced r run = synced-seen in_heap OfFloor m n run
+floor-seen in_heap m n job_did.WroteZeros r run = ap seen_of run
+floor-seen in_heap m n job_did.ZerosSynced r run = ap seen_of run
+floor-seen in_heap m n job_did.BodyWritten r run = ap seen_of run
+floor-seen in_heap m n job_did.BodySynced r run = ap seen_of run.2 ∙ ap seen_of run.1.3
+floor-seen in_heap m n job_did.WroteEntry r run = ap seen_of run
+floor-seen in_heap m n job_did.GateClosed r run = ap seen_of run
+floor-seen in_heap m n job_did.GateWritten r run = ap seen_of run.2 ∙ ap seen_of run.1.2
+floor-seen in_heap m n job_did.JobDone r run =
     ap seen_of run.2 ∙ ap seen_of run.1.3 ∙ ap (λ (l : List ℕ). record (seen_of m) { floors = l }) (listed-raised r.scope r.floor m.floors)
 
 unchanged-seen : (m n : Machine Value) (what : JobDid) → n ≡ m → seen_of n ≡ done_seen (Ok what) None (seen_of m)
 unchanged-seen m n what run = ap seen_of run ∙ sym (same-seen (is_done (Ok what)) (seen_of m))
 
-raised-seen : (m n : Machine Value) (what : JobDid) (raising : Option Raising) → Run IsValue m (floor_ends what raising) n
+raised-seen : (in_heap : Bool) (m n : Machine Value) (what : JobDid) (raising : Option Raising) → Run IsValue m (floor_ends in_heap what raising) n
     → seen_of n ≡ done_seen (Ok what) raising (seen_of m)
-raised-seen m n what None ran = unchanged-seen m n what ran
-raised-seen m n what (Some r) ran = floor-seen m n what r ran
+raised-seen in_heap m n what None ran = unchanged-seen m n what ran
+raised-seen in_heap m n what (Some r) ran = floor-seen in_heap m n what r ran
 
 job_broken-seen : (m n : Machine Value) (gate : Gate) → Run IsValue m (job_breaks_in gate) n → seen_of n ≡ record (seen_of m) { failed = true }
 job_broken-seen m n Shut run = ap seen_of run.2 ∙ ap seen_of run.1.1
@@ -225,12 +222,13 @@ job_broken-seen m n (Due OfGroup) run = ap seen_of run.2 ∙ ap seen_of run.1.1
 job_broken-seen m n (Due OfFloor) run = ap seen_of run.2.2 ∙ ap seen_of run.2.1.1 ∙ ap (λ (x : Machine Value). record (seen_of x) { failed = true }) run.1.2
 job_broken-seen m n (MayBeOpen change) run = ap seen_of run.2 ∙ ap seen_of run.1.1
 
-pub job-seen : (m n : Machine Value) (raising : Option Raising) (r : Result JobDid PumpFault) → m.raising ≡ raising → Run IsValue m (job_ends_in m r) n
-    → seen_of n ≡ job_seen r raising (seen_of m)
-job-seen m n raising (Ok what) is run = raised-seen m n what raising (subst (λ (o : Option Raising). Run IsValue m (floor_ends what o) n) is run)
-job-seen m n raising (Err pump.Busy) is run = ap seen_of run
-job-seen m n raising (Err pump.NoMemory) is run = ap seen_of run
-job-seen m n raising (Err pump.Failed) is run = job_broken-seen m n m.gate run
+pub job-seen : (in_heap : Bool) (m n : Machine Value) (raising : Option Raising) (r : Result JobDid PumpFault) → m.raising ≡ raising
+    → Run IsValue m (job_ends_in in_heap m r) n → seen_of n ≡ job_seen r raising (seen_of m)
+job-seen in_heap m n raising (Ok what) is run =
+    raised-seen in_heap m n what raising (subst (λ (o : Option Raising). Run IsValue m (floor_ends in_heap what o) n) is run)
+job-seen in_heap m n raising (Err pump.Busy) is run = ap seen_of run
+job-seen in_heap m n raising (Err pump.NoMemory) is run = ap seen_of run
+job-seen in_heap m n raising (Err pump.Failed) is run = job_broken-seen m n m.gate run
 
 -- floors alone are raised
 raised-later : (s n : Seen) (b : Bool) (o : Option Raising) → n ≡ cond b (raised_seen o s) s
@@ -245,15 +243,15 @@ raised-later s n true (Some r) is rise = record {
 raised-later s n false o is rise = subst (λ (x : Seen). IsLater s x) (sym is) (later-same s)
 
 -- so a job's step shows no less
-pub later-done : (m n : Machine Value) (raising : Option Raising) (r : Result JobDid PumpFault) → IsMachine IsValue m → m.raising ≡ raising
-    → Run IsValue m (job_ends_in m r) n → IsLater (seen_of m) (done_seen r raising (seen_of m))
-later-done m n raising (Ok what) legal is run =
-    let seen = job-seen m n raising (Ok what) is run in
+pub later-done : (in_heap : Bool) (m n : Machine Value) (raising : Option Raising) (r : Result JobDid PumpFault) → IsMachine IsValue m
+    → m.raising ≡ raising → Run IsValue m (job_ends_in in_heap m r) n → IsLater (seen_of m) (done_seen r raising (seen_of m))
+later-done in_heap m n raising (Ok what) legal is run =
+    let seen = job-seen in_heap m n raising (Ok what) is run in
     let later =
     raised-later (seen_of m) (seen_of n) (is_done (Ok what)) raising seen
-    (listed-later m.floors n.floors (λ relation. run-floors IsValue m n (job_ends_in m (Ok what)) relation legal run)) in
+    (listed-later m.floors n.floors (λ relation. run-floors IsValue m n (job_ends_in in_heap m (Ok what)) relation legal run)) in
     subst (λ (s : Seen). IsLater (seen_of m) s) seen later
-later-done m n raising (Err why) legal is run = later-same (seen_of m)
+later-done in_heap m n raising (Err why) legal is run = later-same (seen_of m)
 
 -- and where the store fails
 pub later-job : (r : Result JobDid PumpFault) (raising : Option Raising) (s : Seen) → IsLater s (done_seen r raising s) → IsLater s (job_seen r raising s)

@@ -2,13 +2,13 @@
 use Rattle.std.specs.Prelude.{◌≡◌, ◌⊎◌, ℕ, Bool, true, false, Option, None, Some, Result, Ok, Err, MatchOption}
 use Rattle.history.specs.Machine.{Machine}
 use Rattle.law_image.specs.Values.{Value}
-use Rattle.group.specs.declared.answers.Did.{Did}
-use Rattle.group.specs.declared.answers.Did.TheVariants as did
 use Rattle.group.specs.declared.answers.PumpFault.{PumpFault}
 use Rattle.group.specs.declared.answers.PumpFault.TheVariants as pump
-use Rattle.store.specs.declared.job.JobDid.TheVariants as job_did
 use Rattle.store.specs.declared.job.StartFault.{StartFault}
 use Rattle.store.specs.declared.job.StartFault.TheVariants as start_fault
+use Rattle.any_store.specs.declared.steps.Did.{Did}
+use Rattle.any_store.specs.declared.steps.Did.TheVariants as did
+use Rattle.any_store.specs.declared.steps.JobDid.TheVariants as job_did
 use Rattle.shared.specs.declared.vacuuming.Doing.{Doing}
 use Rattle.shared.specs.declared.vacuuming.Doing.TheVariants as doing
 use Rattle.shared.specs.declared.vacuuming.Vacuuming.{Vacuuming}
@@ -27,6 +27,7 @@ use Rattle.shared.specs.Shared.{PumpHappens, JobHappens, ArchiveHappens, Reclaim
 abbrev pub EndsCommits : Result Did PumpFault → Type 0
 EndsCommits (Ok did.Idle) = Unit {0}
 EndsCommits (Ok did.WroteExtent) = ⊥
+EndsCommits (Ok did.GateClosed) = ⊥
 EndsCommits (Ok did.HeapSynced) = ⊥
 EndsCommits (Ok did.BodyWritten) = ⊥
 EndsCommits (Ok did.BodySynced) = ⊥
@@ -40,6 +41,7 @@ EndsCommits (Err pump.Failed) = Unit {0}
 abbrev pub waits_after : Result Did PumpFault → Bool
 waits_after (Ok did.Idle) = true
 waits_after (Ok did.WroteExtent) = false
+waits_after (Ok did.GateClosed) = false
 waits_after (Ok did.HeapSynced) = false
 waits_after (Ok did.BodyWritten) = false
 waits_after (Ok did.BodySynced) = false
@@ -66,7 +68,7 @@ is_running doing.Reclaiming = true
 -- what the store answered to a start of an archive or of a reclaim, or to a step of a job
 abbrev pub VacuumHappens : Machine Value → Kind → Vacuumed → Seen → Type 0
 VacuumHappens start kind (vacuumed.Start result) seen = ((upto : ℕ) × ArchiveHappens start kind upto result seen) ⊎ ReclaimHappens start kind result seen
-VacuumHappens start kind (vacuumed.Job result) seen = JobHappens start result seen
+VacuumHappens start kind (vacuumed.Job result) seen = JobHappens start kind result seen
 
 -- after this answer no job of the vacuum's own runs
 abbrev pub Rests : Vacuumed → Type 0
@@ -82,6 +84,8 @@ Rests (vacuumed.Job (Ok job_did.WroteZeros)) = ⊥
 Rests (vacuumed.Job (Ok job_did.ZerosSynced)) = ⊥
 Rests (vacuumed.Job (Ok job_did.BodyWritten)) = ⊥
 Rests (vacuumed.Job (Ok job_did.BodySynced)) = ⊥
+Rests (vacuumed.Job (Ok job_did.WroteEntry)) = ⊥
+Rests (vacuumed.Job (Ok job_did.GateClosed)) = ⊥
 Rests (vacuumed.Job (Ok job_did.GateWritten)) = ⊥
 Rests (vacuumed.Job (Err why)) = ⊥
 

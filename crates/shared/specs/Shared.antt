@@ -16,8 +16,6 @@ use Rattle.snapshot.specs.Txn.{TxnValue, at_snapshot}
 use Rattle.group.specs.Tickets.{TicketValue}
 use Rattle.group.specs.declared.answers.BeginFault.{BeginFault}
 use Rattle.group.specs.declared.answers.BeginFault.TheVariants as begin
-use Rattle.group.specs.declared.answers.Did.{Did}
-use Rattle.group.specs.declared.answers.Did.TheVariants as did
 use Rattle.group.specs.declared.answers.PumpFault.{PumpFault}
 use Rattle.group.specs.declared.answers.PumpFault.TheVariants as pump
 use Rattle.group.specs.declared.answers.Redeemed.{Redeemed}
@@ -27,18 +25,20 @@ use Rattle.group.specs.declared.answers.Submitted.TheVariants as submitted
 use Rattle.group.specs.declared.answers.SubmitFault.{SubmitFault}
 use Rattle.group.specs.declared.answers.SubmitFault.TheVariants as refused
 use Rattle.timequery.specs.View.{ViewValue}
-use Rattle.store.specs.declared.job.JobDid.{JobDid}
-use Rattle.store.specs.declared.job.JobDid.TheVariants as job_did
 use Rattle.store.specs.declared.job.StartFault.{StartFault}
 use Rattle.store.specs.declared.job.StartFault.TheVariants as start_fault
 use Rattle.law_refinement.specs.Calls.{raising_to}
 use Rattle.law_refinement.specs.Homes.{ViewStands}
-use Rattle.law_refinement.specs.Laws.{submission_of, event_of, job_ends_in}
-use Rattle.law_refinement.specs.Leaving.{count_in}
-use Rattle.law_refinement.specs.Stands.{raising_of}
+use Rattle.law_refinement.specs.Laws.{submission_of, event_of}
+use Rattle.law_refinement.specs.Stands as slots
 use Rattle.any_store.specs.declared.engine.Engine.TheVariants.{Slots, Log}
+use Rattle.any_store.specs.declared.steps.Did.{Did}
+use Rattle.any_store.specs.declared.steps.Did.TheVariants as did
+use Rattle.any_store.specs.declared.steps.JobDid.{JobDid}
+use Rattle.any_store.specs.declared.steps.JobDid.TheVariants as job_did
 use Rattle.any_store.specs.Values.{StoreValue, commits_of}
-use Rattle.law_any_store.specs.Calls.{pumped_in}
+use Rattle.law_log_steps.specs.Store as logs
+use Rattle.law_any_store.specs.Calls.{pumped_in, job_ends_in}
 use Rattle.law_any_store.specs.Standing.{Stands}
 use Rattle.shared.specs.Archives.{ArchiveSeen, IsArchiveLater, ReadsArchive, archive_seen}
 use Rattle.shared.specs.Counts.{told_after, AreToldOf}
@@ -69,6 +69,18 @@ pub record IsShared (tells : Bool) (start : Machine Value) (kind : Kind) (brand 
   pub given : AreOpen pass.tokens.out (commits_of store).opened
 
 -- ---- what was seen
+
+-- how many commits a step of a group published
+abbrev pub count_in : Result Did PumpFault → ℕ
+count_in (Ok (did.Published count)) = count
+count_in (Ok did.Idle) = 0
+count_in (Ok did.WroteExtent) = 0
+count_in (Ok did.GateClosed) = 0
+count_in (Ok did.HeapSynced) = 0
+count_in (Ok did.BodyWritten) = 0
+count_in (Ok did.BodySynced) = 0
+count_in (Ok did.GateWritten) = 0
+count_in (Err why) = 0
 
 -- the history before, with a group of the queue published
 abbrev pub published_seen : Seen → ℕ → Seen
@@ -111,6 +123,8 @@ is_done (Ok job_did.WroteZeros) = false
 is_done (Ok job_did.ZerosSynced) = false
 is_done (Ok job_did.BodyWritten) = false
 is_done (Ok job_did.BodySynced) = false
+is_done (Ok job_did.WroteEntry) = false
+is_done (Ok job_did.GateClosed) = false
 is_done (Ok job_did.GateWritten) = false
 is_done (Err why) = false
 
@@ -123,10 +137,10 @@ raised_seen (Some r) s = record s { floors = floors_listed (raised r.scope r.flo
 abbrev pub done_seen : Result JobDid PumpFault → Option Raising → Seen → Seen
 done_seen result raising s = if is_done result then raised_seen raising s else s
 
--- the floor that the store's job is to raise, if it is to raise one; none runs where the log lies in the heap
+-- the floor that the store's job is to raise, if it is to raise one
 abbrev pub raising_in : StoreValue → Option Raising
-raising_in (Slots s) = raising_of s.job
-raising_in (Log l) = None
+raising_in (Slots s) = slots.raising_of s.job
+raising_in (Log l) = logs.raising_of l.job
 
 -- what is to be seen after a step of a job
 abbrev pub job_seen : Result JobDid PumpFault → Option Raising → Seen → Seen
@@ -211,34 +225,34 @@ pub record PumpHappens (start : Machine Value) (kind : Kind) (result : Result Di
   pub seen_is : seen ≡ seen_of after
 
 -- From a state that steps lead to the machine does what a step of a job answers, and what follows was seen.
-pub record JobHappens (start : Machine Value) (result : Result JobDid PumpFault) (seen : Seen) : Type 0 where
+pub record JobHappens (start : Machine Value) (kind : Kind) (result : Result JobDid PumpFault) (seen : Seen) : Type 0 where
   pub before : Machine Value
   pub after : Machine Value
   pub reached : Reached start before
-  pub run : MatchBool before.failed ((result ≡ Err pump.Failed) × (after ≡ before)) (Run IsValue before (job_ends_in before result) after)
+  pub run : MatchBool before.failed ((result ≡ Err pump.Failed) × (after ≡ before)) (Run IsValue before (job_ends_in kind.in_heap before result) after)
   pub seen_is : seen ≡ seen_of after
 
 -- ---- floors
 
--- a floor begins, or it is refused as the machine says; or the store has no floors by relation, another job runs, the log has no slot for it or memory was
--- refused
-abbrev pub FloorSays : Machine Value → Raising → Result (Unit {0}) StartFault → Type 0
-FloorSays m r (Ok done) = Step IsValue m (FloorStarted r) (floor_started m r)
-FloorSays m r (Err start_fault.NothingToDo) = Step IsValue m (FloorRefused r floor_starts.NothingToDo) m
-FloorSays m r (Err (start_fault.NotYet time)) = Step IsValue m (FloorRefused r (floor_starts.NotYet time)) m
-FloorSays m r (Err (start_fault.InUse snapshot)) = Step IsValue m (FloorRefused r (floor_starts.InUse snapshot)) m
-FloorSays m r (Err start_fault.Failed) = m.failed ≡ true
-FloorSays m r (Err start_fault.JobBusy) = m.failed ≡ false
-FloorSays m r (Err start_fault.StatusFull) = m.failed ≡ false
-FloorSays m r (Err start_fault.WrongProfile) = m.failed ≡ false
-FloorSays m r (Err start_fault.ArchiveFull) = ⊥
-FloorSays m r (Err start_fault.HeapFull) = ⊥
-FloorSays m r (Err start_fault.NotGrowable) = ⊥
-FloorSays m r (Err start_fault.NoMemory) = (m.failed ≡ false) × IsSome r.scope
+-- A floor begins, or it is refused as the machine says; or the store has no such floors, another job runs, the log has no slot for it or memory was refused.
+-- Only where the log lies in the heap may the heap have no room for it.
+abbrev pub FloorSays : Bool → Machine Value → Raising → Result (Unit {0}) StartFault → Type 0
+FloorSays in_heap m r (Ok done) = Step IsValue m (FloorStarted r) (floor_started m r)
+FloorSays in_heap m r (Err start_fault.NothingToDo) = Step IsValue m (FloorRefused r floor_starts.NothingToDo) m
+FloorSays in_heap m r (Err (start_fault.NotYet time)) = Step IsValue m (FloorRefused r (floor_starts.NotYet time)) m
+FloorSays in_heap m r (Err (start_fault.InUse snapshot)) = Step IsValue m (FloorRefused r (floor_starts.InUse snapshot)) m
+FloorSays in_heap m r (Err start_fault.Failed) = m.failed ≡ true
+FloorSays in_heap m r (Err start_fault.JobBusy) = m.failed ≡ false
+FloorSays in_heap m r (Err start_fault.StatusFull) = m.failed ≡ false
+FloorSays in_heap m r (Err start_fault.WrongProfile) = m.failed ≡ false
+FloorSays in_heap m r (Err start_fault.ArchiveFull) = ⊥
+FloorSays in_heap m r (Err start_fault.HeapFull) = IsTrue in_heap × (m.failed ≡ false)
+FloorSays in_heap m r (Err start_fault.NotGrowable) = ⊥
+FloorSays in_heap m r (Err start_fault.NoMemory) = (m.failed ≡ false) × IsSome r.scope
 
 -- at a state that steps lead to the machine does this, and it was seen
-abbrev pub FloorHappens : Machine Value → Option ℕ → ℕ → Result (Unit {0}) StartFault → Seen → Type 0
-FloorHappens start scope floor result seen = OfSeen start seen (λ m. FloorSays m (raising_to scope floor) result)
+abbrev pub FloorHappens : Machine Value → Kind → Option ℕ → ℕ → Result (Unit {0}) StartFault → Seen → Type 0
+FloorHappens start kind scope floor result seen = OfSeen start seen (λ m. FloorSays kind.in_heap m (raising_to scope floor) result)
 
 -- ---- archives and reclaims
 

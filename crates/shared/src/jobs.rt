@@ -13,7 +13,7 @@ use std::sync::Wait;
 
 impl<D: Disk, L: Opening> SharedStore<D, L> {
     /// Begins an archive of the versions that ended by `upto`, in microseconds since 1970. A store whose log
-    /// lies in the heap answers `WrongProfile`, and so it does to a reclaim and to a floor.
+    /// lies in the heap answers `WrongProfile`, and so it does to a reclaim.
     pub fn archive_start<R: Wait>(
         &self,
         rt: &R,
@@ -36,14 +36,14 @@ impl<D: Disk, L: Opening> SharedStore<D, L> {
 
     /// Begins to raise the floor of all relations to a time in microseconds since 1970: views that are
     /// taken once it is raised answer `BeforeKept` below it, and those that were taken before answer as
-    /// they did.
+    /// they did. A store in which each relation has a floor of its own answers `WrongProfile`.
     pub fn floor_start<R: Wait>(
         &self,
         rt: &R,
         floor: u64,
         me: &mut Observer<L>,
     ) -> Result<(), StartFault>
-        ensures happens { FloorHappens L.start None floor result me.new }
+        ensures happens { FloorHappens L.start L.kind None floor result me.new }
         ensures later { IsLater me.old me.new }
     {
         self.locked
@@ -60,7 +60,7 @@ impl<D: Disk, L: Opening> SharedStore<D, L> {
         floor: u64,
         me: &mut Observer<L>,
     ) -> Result<(), StartFault>
-        ensures happens { FloorHappens L.start (Some relation) floor result me.new }
+        ensures happens { FloorHappens L.start L.kind (Some relation) floor result me.new }
         ensures later { IsLater me.old me.new }
     {
         self.locked
@@ -80,7 +80,7 @@ impl<D: Disk, L: Opening> SharedStore<D, L> {
 
     /// One step of the job that runs.
     pub fn job_pump<R: Wait>(&self, rt: &R, me: &mut Observer<L>) -> Result<JobDid, PumpFault>
-        ensures happens { JobHappens L.start result me.new }
+        ensures happens { JobHappens L.start L.kind result me.new }
         ensures later { IsLater me.old me.new }
     {
         let mut locked = self.locked.lock(rt);

@@ -247,7 +247,7 @@ impl<D: Disk, L: Opening> Locked<D, L> {
     ) -> Result<(), StartFault>
         requires { cell.now.table.shared.table_id ≡ L.table }
         ensures is { StartsFloor self.old scope floor result self.new }
-        ensures happens { FloorHappens L.start scope floor result me.new }
+        ensures happens { FloorHappens L.start L.kind scope floor result me.new }
         ensures later { IsLater me.old me.new }
     {
         me.meet(rt, cell, &mut self.writer);
@@ -279,7 +279,7 @@ impl<D: Disk, L: Opening> Locked<D, L> {
     ) -> Result<JobDid, PumpFault>
         requires { cell.now.table.shared.table_id ≡ L.table }
         ensures is { PumpsJob D.tells self.old result self.new }
-        ensures happens { JobHappens L.start result me.new }
+        ensures happens { JobHappens L.start L.kind result me.new }
         ensures later { IsLater me.old me.new }
     {
         let did = self.job_step(rt, cell, me);
@@ -437,7 +437,7 @@ impl<D: Disk, L: Opening> Locked<D, L> {
         requires cell { cell.now.table.shared.table_id ≡ L.table }
         requires raising { raising_in self.old ≡ raising }
         ensures is { PumpsJob D.tells self.old result self.new }
-        ensures happens { JobHappens L.start result me.new }
+        ensures happens { JobHappens L.start L.kind result me.new }
         ensures later { IsLater me.old me.new }
     {
         let did = self.store.job_pump();

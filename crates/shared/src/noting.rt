@@ -5,10 +5,9 @@ ghost use Rattle.history.specs.declared.key.KeyWrite.{KeyWrite};
 ghost use Rattle.history.specs.Floors.{Raising};
 ghost use Rattle.history.specs.Histories.{IsHistory, last};
 ghost use Rattle.law_image.specs.Values.{Value, IsValue};
-ghost use Rattle.law_refinement.specs.Leaving.{count_in};
 ghost use Rattle.shared.specs.Archives.{IsArchiveLater, archive_seen};
 ghost use Rattle.shared.specs.Seen.{IsLater, order_of};
-ghost use Rattle.shared.specs.Shared.{published_seen, queued_seen, done_seen, failed_seen, is_done, has_failed, noted, done_in};
+ghost use Rattle.shared.specs.Shared.{count_in, published_seen, queued_seen, done_seen, failed_seen, is_done, has_failed, noted, done_in};
 
 use crate::cell::{PublishedCell, WriterPass};
 use crate::observer::{go_on, publish_next, queue_next, see_next};
@@ -173,6 +172,7 @@ fn published_in(did: &Result<Did, PumpFault>) -> u32
         Ok(Did::Published(count)) => *count,
         Ok(Did::Idle) => 0,
         Ok(Did::WroteExtent) => 0,
+        Ok(Did::GateClosed) => 0,
         Ok(Did::HeapSynced) => 0,
         Ok(Did::BodyWritten) => 0,
         Ok(Did::BodySynced) => 0,
@@ -208,6 +208,8 @@ pub(crate) fn is_done(did: &Result<JobDid, PumpFault>) -> bool
         Ok(JobDid::ZerosSynced) => false,
         Ok(JobDid::BodyWritten) => false,
         Ok(JobDid::BodySynced) => false,
+        Ok(JobDid::WroteEntry) => false,
+        Ok(JobDid::GateClosed) => false,
         Ok(JobDid::GateWritten) => false,
         Err(_) => false,
     }

@@ -1,22 +1,20 @@
 //! What an action does.
-ghost use Rattle.std.specs.Prelude.{◌++◌, ◌≡◌, ◌≢◌, ◌≤◌, ◌⊎◌, Option, IfOk, IsTrue, MatchOption, MatchResult};
+ghost use Rattle.std.specs.Prelude.{◌++◌, ◌≡◌, ◌≢◌, ◌≤◌, ◌⊎◌, Option, IsTrue, MatchOption, MatchResult};
 ghost use Rattle.script.specs.declared.line.Line.TheVariants.{At, Between, Grow};
 ghost use Rattle.session.specs.Streams.{Says, is_output_refused, text_said};
 ghost use Rattle.session.specs.Texts.{Text, open_line, refusal_line, text_of};
 ghost use Rattle.session.specs.declared.ending.Ending.TheVariants.{Whole};
-ghost use Rattle.shell.specs.Acts.{Acts, Asks, Dumps, GivesOut, Grows, IsRefused, IsTold, Makes, RefusesTime, RunsNew, RunsScript, SaysArchived};
-ghost use Rattle.shell.specs.Acts.{SaysBoth, SaysDump, TellsHeap, HasNoInfo, TellsByLayout, DumpsHeap, HasNoDump, DumpsByLayout};
-ghost use Rattle.shell.specs.Acts.{SaysGrown, SaysSlots, SaysVacuum, Vacuums, given, open_fault_of, told};
+ghost use Rattle.shell.specs.Acts.{Acts, Asks, GivesOut, Grows, IsRefused, IsTold, Makes, RefusesTime, RunsNew, RunsScript, SaysArchived};
+ghost use Rattle.shell.specs.Acts.{SaysBoth, SaysGrown, SaysSlots, SaysVacuum, Vacuums, given, open_fault_of, told};
 ghost use Rattle.forms.specs.Styles.{plain};
-ghost use Rattle.shell.specs.Acts.{IsSaid, IsToldAs, IsToldIn, Raises, RefusesProfile, SaysRaised, Tells, Writes};
+ghost use Rattle.shell.specs.Acts.{IsSaid, IsToldAs, IsToldIn, Raises, RefusesProfile, SaysRaised, Writes};
 ghost use Rattle.shell.specs.Asking.{line_asked};
-ghost use Rattle.shell.specs.Dump.{IsDump};
 ghost use Rattle.shell.specs.Keeps.{KeepsPromise};
 ghost use Rattle.shell.specs.Layouts.{formatted_line, size_of, store_layout};
 ghost use Rattle.shell.specs.Vacuums.{archived_line, reclaimed_line};
 
 use crate::asking::line_asked;
-use crate::dump::write_dump;
+use crate::showing::{dump_by_layout, info_by_layout};
 use crate::styled::{found_lines, record_lines, row_lines, time_lines};
 use crate::vacuuming::{Job, Vacuumed, answer, do_job, do_jobs, is_refusal, log_of, records_in};
 use crate::writing::{answer_write, lines_of};
@@ -24,15 +22,12 @@ use any_store::{OpenFault, StartFault, Store, format};
 use command_line::{Action, Layout, Question, RecordWrite, Style, When};
 use disk::{Area, Disk};
 use history::Key;
-use log_dump::{Dump, DumpFault, read_dump};
-use log_facts::{info_text, read_heap_info};
-use log_store::has_log_header;
 use script::Line;
 use session::{
     Answers, Ending, Fault, LineInput, Lines, MARK, Refused, Reply, Session, answer_lines,
     write_numbered, write_reply,
 };
-use status::{Header, LogFault, read_header, read_log};
+use status::{LogFault, read_header};
 use std::alloc::{AllocError, Global};
 use std::io::Write;
 use wire::Slot;
@@ -41,13 +36,13 @@ use wire::Slot;
 const DONE: u8 = 0;
 
 /// The status of what was refused, or could not be said.
-const REFUSED: u8 = 1;
+pub(crate) const REFUSED: u8 = 1;
 
 /// The layout of the store in memory.
 const EXAMPLE: any_store::Layout = any_store::Layout::Slots(16);
 
 /// The status of what was done, where it was said.
-fn status_of(said: Result<(), Refused>) -> u8
+pub(crate) fn status_of(said: Result<(), Refused>) -> u8
     ensures { MatchResult said (λ _. result ≡ 0) (λ _. result ≡ 1) }
 {
     match said {
@@ -57,7 +52,7 @@ fn status_of(said: Result<(), Refused>) -> u8
 }
 
 /// Says a refusal.
-fn refuse<W: Write>(output: &mut Answers<W>, fault: Fault) -> u8
+pub(crate) fn refuse<W: Write>(output: &mut Answers<W>, fault: Fault) -> u8
     ensures { IsRefused (told W.contents result output.old output.new) (refusal_line fault) }
 {
     let _ = write_reply(output, &Reply::Refused(fault));
@@ -482,7 +477,7 @@ fn open_fault(fault: LogFault) -> OpenFault
 }
 
 /// Says that a log is not to be had.
-fn refuse_log<W: Write>(output: &mut Answers<W>, fault: LogFault) -> u8
+pub(crate) fn refuse_log<W: Write>(output: &mut Answers<W>, fault: LogFault) -> u8
     ensures { IsRefused (told W.contents result output.old output.new) (open_line (open_fault_of fault)) }
 {
     refuse(output, Fault::Open(open_fault(fault)))
@@ -576,143 +571,6 @@ fn raise_upto<D: Disk, W: Write>(
     match time {
         Some(time) => raise(alloc, disk, relation, time, output),
         None => (refuse(output, Fault::Time), disk),
-    }
-}
-
-/// Says what the slots of a store tell, which is not opened for it.
-fn info<D: Disk, W: Write>(alloc: Global, disk: D, json: bool, output: &mut Answers<W>) -> (u8, D)
-    ensures { Tells D.tells (D.state disk) json (told W.contents result.0 output.old output.new) (D.state result.1) }
-{
-    let mut disk = disk;
-    let header = match read_header(&mut disk) {
-        Ok(header) => header,
-        Err(fault) => return (refuse_log(output, fault), disk),
-    };
-    let slots = match read_log(alloc, &mut disk, &header) {
-        Ok(slots) => slots,
-        Err(fault) => return (refuse_log(output, fault), disk),
-    };
-    match info_text(alloc, json, &header, slots.as_slice()) {
-        Ok(text) => (status_of(output.say(text.as_slice())), disk),
-        Err(_) => (refuse(output, Fault::NoMemory), disk),
-    }
-}
-
-/// Says what the log of a store tells that lies in the heap. The store is not opened for it.
-fn info_of_heap<D: Disk, W: Write>(
-    alloc: Global,
-    disk: D,
-    json: bool,
-    output: &mut Answers<W>,
-) -> (u8, D)
-    ensures { TellsHeap D.tells (D.state disk) json (told W.contents result.0 output.old output.new) (D.state result.1)
-        ⊎ HasNoInfo D.tells (D.state disk) (told W.contents result.0 output.old output.new) (D.state result.1) }
-{
-    let mut disk = disk;
-    match read_heap_info(alloc, &mut disk, json) {
-        Ok(text) => (status_of(output.say(text.as_slice())), disk),
-        Err(fault) => (refuse(output, Fault::Open(fault)), disk),
-    }
-}
-
-/// Says what the log of a store tells.
-fn info_by_layout<D: Disk, W: Write>(
-    alloc: Global,
-    disk: D,
-    json: bool,
-    output: &mut Answers<W>,
-) -> (u8, D)
-    ensures { TellsByLayout D.tells (D.state disk) json (told W.contents result.0 output.old output.new) (D.state result.1) }
-{
-    let mut disk = disk;
-    match has_log_header(&mut disk) {
-        Ok(false) => info(alloc, disk, json, output),
-        Ok(true) => info_of_heap(alloc, disk, json, output),
-        Err(_) => (refuse(output, Fault::Open(OpenFault::Device)), disk),
-    }
-}
-
-/// The text of a log. It is made whole before any of it is said, so that no refusal follows a part of it.
-fn dump_text(alloc: Global, header: &Header, slots: &[Slot]) -> Result<Vec<u8>, DumpFault>
-    ensures { IfOk result (λ text. IsDump header.now slots.now text.items) }
-{
-    let mut text = Vec::new(alloc);
-    write_dump(alloc, &mut text, header, slots)?;
-    Ok(text)
-}
-
-/// Writes the slots of a store, which is not opened for it.
-fn dump<D: Disk, W: Write>(alloc: Global, disk: D, output: &mut Answers<W>) -> (u8, D)
-    ensures { Dumps D.tells (D.state disk) (told W.contents result.0 output.old output.new) (D.state result.1) }
-{
-    let mut disk = disk;
-    let header = match read_header(&mut disk) {
-        Ok(header) => header,
-        Err(fault) => return (refuse_log(output, fault), disk),
-    };
-    let slots = match read_log(alloc, &mut disk, &header) {
-        Ok(slots) => slots,
-        Err(fault) => return (refuse_log(output, fault), disk),
-    };
-    match dump_text(alloc, &header, slots.as_slice()) {
-        Ok(text) => (status_of(output.say(text.as_slice())), disk),
-        Err(_) => (refuse(output, Fault::NoMemory), disk),
-    }
-}
-
-/// Says a text, and behind it why no more of it is said.
-fn say_cut_off<W: Write>(
-    output: &mut Answers<W>,
-    text: &[u8],
-    fault: OpenFault,
-) -> Result<(), Refused>
-    ensures { Says (text_said W.contents output.old) (text.now ++ open_line fault) result (text_said W.contents output.new) (is_output_refused output.new) }
-{
-    match output.say(text) {
-        Ok(()) => write_reply(output, &Reply::Refused(Fault::Open(fault))),
-        Err(refused) => Err(refused),
-    }
-}
-
-/// As much of it as the output takes. The program's status is 1.
-fn refuse_behind<W: Write>(output: &mut Answers<W>, text: &[u8], fault: OpenFault) -> u8
-    ensures { IsRefused (told W.contents result output.old output.new) (text.now ++ open_line fault) }
-{
-    let _ = say_cut_off(output, text, fault);
-    REFUSED
-}
-
-/// Says what is shown of a log, and behind it the check that fails.
-fn tell_dump<W: Write>(output: &mut Answers<W>, dump: &Dump) -> u8
-    ensures { SaysDump dump.now (told W.contents result output.old output.new) }
-{
-    match dump.fault {
-        None => status_of(output.say(dump.text.as_slice())),
-        Some(fault) => refuse_behind(output, dump.text.as_slice(), fault),
-    }
-}
-
-/// Writes what is shown of the log of a store that lies in the heap. The store is not opened for it.
-fn dump_of_heap<D: Disk, W: Write>(alloc: Global, disk: D, output: &mut Answers<W>) -> (u8, D)
-    ensures { DumpsHeap D.tells (D.state disk) (told W.contents result.0 output.old output.new) (D.state result.1)
-        ⊎ HasNoDump D.tells (D.state disk) (told W.contents result.0 output.old output.new) (D.state result.1) }
-{
-    let mut disk = disk;
-    match read_dump(alloc, &mut disk) {
-        Ok(dump) => (tell_dump(output, &dump), disk),
-        Err(fault) => (refuse(output, Fault::Open(fault)), disk),
-    }
-}
-
-/// Writes the log of a store.
-fn dump_by_layout<D: Disk, W: Write>(alloc: Global, disk: D, output: &mut Answers<W>) -> (u8, D)
-    ensures { DumpsByLayout D.tells (D.state disk) (told W.contents result.0 output.old output.new) (D.state result.1) }
-{
-    let mut disk = disk;
-    match has_log_header(&mut disk) {
-        Ok(false) => dump(alloc, disk, output),
-        Ok(true) => dump_of_heap(alloc, disk, output),
-        Err(_) => (refuse(output, Fault::Open(OpenFault::Device)), disk),
     }
 }
 

@@ -6,6 +6,7 @@ mod advising;
 mod asking;
 mod dump;
 mod needs;
+mod showing;
 mod stress_answer;
 mod styled;
 mod vacuuming;

@@ -1,8 +1,9 @@
 //! Answers to the calls of a list, as tables have them.
 use crate::answers::are_records;
+use any_store::{Did, JobDid};
 use history::Version;
 use run::{Answer, RedeemOutcome, SubmitOutcome};
-use store::{Did, JobDid, PumpFault, QueryFault, SharedValue, StartFault, TxnFault};
+use store::{PumpFault, QueryFault, SharedValue, StartFault, TxnFault};
 
 /// What a call must answer.
 #[derive(Clone, Copy)]

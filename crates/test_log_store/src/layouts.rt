@@ -1,5 +1,4 @@
 //! One caller, over a store of either layout.
-use crate::on_disk::ONE_EXTENT;
 use crate::queries::is_value;
 use any_store::{Did, JobDid, Layout, Redeemed, StartFault, Store, Submitted, format};
 use disk::{Disk, MemDisk};
@@ -19,6 +18,15 @@ const ONE_SLOT: &[Did] = &[
     Did::HeapSynced,
     Did::BodyWritten,
     Did::BodySynced,
+    Did::GateWritten,
+    Did::Published(1),
+];
+
+/// And in a chain of one extent.
+const ONE_CHAIN: &[Did] = &[
+    Did::WroteExtent,
+    Did::GateClosed,
+    Did::HeapSynced,
     Did::GateWritten,
     Did::Published(1),
 ];
@@ -110,15 +118,15 @@ fn a_store_of_slots_keeps_what_is_committed(rt: HostRuntime) -> Result<(), Fail>
 fn a_store_with_its_log_in_the_heap_keeps_it(rt: HostRuntime) -> Result<(), Fail> {
     let mut disk = MemDisk::new(rt.alloc());
     format(rt.alloc(), &mut disk, Layout::Log(64))?;
-    keeps_red(&rt, rt.alloc(), disk, 4, ONE_EXTENT);
+    keeps_red(&rt, rt.alloc(), disk, 4, ONE_CHAIN);
     Ok(())
 }
 
-/// The steps of a floor, told as those of a group are.
+/// The steps of a floor whose entry is a chain of one extent.
 const ONE_FLOOR: &[JobDid] = &[
-    JobDid::WroteExtent,
-    JobDid::BodyWritten,
-    JobDid::BodySynced,
+    JobDid::WroteEntry,
+    JobDid::GateClosed,
+    JobDid::HeapSynced,
     JobDid::GateWritten,
     JobDid::JobDone,
 ];
@@ -128,7 +136,7 @@ fn floors_alone_begin_where_the_log_lies_in_the_heap(rt: HostRuntime) -> Result<
     let mut disk = MemDisk::new(rt.alloc());
     log_store::format(&mut disk, 64)?;
     let mut store = opened(&rt, rt.alloc(), disk);
-    commit_red(&rt, rt.alloc(), &mut store, ONE_EXTENT);
+    commit_red(&rt, rt.alloc(), &mut store, ONE_CHAIN);
     assert!(rt; store.archive_start(100) == Err(StartFault::WrongProfile));
     assert!(rt; store.reclaim_start() == Err(StartFault::WrongProfile));
     assert!(rt; store.floor_start(100) == Err(StartFault::WrongProfile));

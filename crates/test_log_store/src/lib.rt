@@ -4,8 +4,6 @@
 #[cfg(test)]
 mod dumped;
 #[cfg(test)]
-mod floors;
-#[cfg(test)]
 mod groups;
 #[cfg(test)]
 mod images;
@@ -17,6 +15,8 @@ mod on_disk;
 mod queries;
 #[cfg(test)]
 mod refused;
+#[cfg(test)]
+mod relation_floors;
 #[cfg(test)]
 mod reopened;
 #[cfg(test)]

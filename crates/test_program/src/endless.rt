@@ -19,8 +19,8 @@ const ONE_COMMIT: &str = "begin t | snapshot 0
 put t 1 7 61 | ok
 submit t 9 100 | queued
 pump | wrote extent
-pump | body written
-pump | body synced
+pump | gate closed
+pump | heap synced
 pump | gate written
 pump | published 1
 ";
@@ -37,8 +37,8 @@ put b 1 8 62 | ok
 submit a 1 100 | queued
 submit b 2 100 | queued
 pump | wrote extent
-pump | body written
-pump | body synced
+pump | gate closed
+pump | heap synced
 pump | gate written
 pump | published 2
 redeem a | done 100
@@ -48,8 +48,8 @@ put c 1 7 63 | ok
 del c 1 8 | ok
 submit c 3 110 | queued
 pump | wrote extent
-pump | body written
-pump | body synced
+pump | gate closed
+pump | heap synced
 pump | gate written
 pump | published 1
 redeem c | done 110
@@ -115,9 +115,9 @@ times 9 | times 100
 
 /// The floor of the commit's relation, step by step.
 const ONE_FLOOR: &str = "floorof 1 100 | started
-job | wrote extent
-job | body written
-job | body synced
+job | wrote entry
+job | gate closed
+job | heap synced
 job | gate written
 job | job done
 ";
@@ -210,8 +210,8 @@ submit t# # 100 | queued
         ),
         (
             "pump | wrote extent
-pump | body written
-pump | body synced
+pump | gate closed
+pump | heap synced
 pump | gate written
 redeem t0 | waiting
 pump | published 17

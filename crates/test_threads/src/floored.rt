@@ -112,7 +112,7 @@ fn bars_earlier<L: Opening>(view: &SharedView<L>) -> bool {
 }
 
 /// The view shows nothing before 120, and from then on what stood.
-fn ask_later<D: Disk, L: Opening, R: Wait + Abort>(
+pub fn ask_later<D: Disk, L: Opening, R: Wait + Abort>(
     rt: &R,
     store: &SharedStore<D, L>,
     view: &mut SharedView<L>,

@@ -12,6 +12,8 @@ mod device_calls;
 #[cfg(test)]
 mod floored;
 #[cfg(test)]
+mod floored_log;
+#[cfg(test)]
 mod grown;
 #[cfg(test)]
 mod latest_views;

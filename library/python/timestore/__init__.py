@@ -167,6 +167,8 @@ class Step(IntEnum):
     KEPT_SYNCED = 8
     ZEROS_WRITTEN = 9
     ZEROS_SYNCED = 10
+    ENTRY_WRITTEN = 12
+    GATE_CLOSED = 13
 
 
 def library_version() -> str:

@@ -29,12 +29,16 @@ pub enum Step {
     Published(u64),
     /// Of a reclaim: an extent of what stands at its mark was written.
     KeptWritten,
-    /// Of a reclaim: these were synced.
+    /// Of a reclaim: these were synced. Of a floor where the log lies in the heap: its entry was, but for its gate.
     KeptSynced,
     /// Of a growth: zeros were written behind the slots.
     ZerosWritten,
     /// Of a growth: these were synced.
     ZerosSynced,
+    /// Of a floor where the log lies in the heap: its entry was written, but for its gate.
+    EntryWritten,
+    /// Where the log lies in the heap: the gate where the log will end was closed.
+    GateClosed,
 }
 
 impl Step {
@@ -50,6 +54,8 @@ impl Step {
             8 => Step::KeptSynced,
             9 => Step::ZerosWritten,
             10 => Step::ZerosSynced,
+            12 => Step::EntryWritten,
+            13 => Step::GateClosed,
             _ => Step::Idle,
         }
     }

@@ -60,7 +60,8 @@ impl Watch {
         let lap = self.lap(rt);
         let spent = &mut self.spent;
         match did {
-            Ok(Did::WroteExtent | Did::BodyWritten | Did::GateWritten) if !self.gathers => {
+            Ok(Did::WroteExtent | Did::GateClosed | Did::BodyWritten | Did::GateWritten)
+                if !self.gathers => {
                 spent.writing = spent.writing.wrapping_add(lap);
             }
             Ok(Did::HeapSynced | Did::BodySynced | Did::Published(_)) => {

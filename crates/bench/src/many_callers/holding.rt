@@ -118,7 +118,9 @@ fn publish<D: Disk, L: Opening, R: Wait + Clock>(
         let time = nanoseconds(rt, &start)?;
         match did {
             Did::Idle => return Ok(()),
-            Did::WroteExtent | Did::BodyWritten | Did::GateWritten => held.write.push(time)?,
+            Did::WroteExtent | Did::GateClosed | Did::BodyWritten | Did::GateWritten => {
+                held.write.push(time)?
+            }
             Did::HeapSynced | Did::BodySynced | Did::Published(_) => held.sync.push(time)?,
         }
     }

@@ -7,7 +7,7 @@ use Rattle.any_store.specs.Values.{StoreValue}
 use Rattle.shared.specs.Seen.{Seen, order_of, seen_of}
 use Rattle.shared.specs.Shared.{failed_seen, has_failed, job_seen, raising_in}
 use Rattle.shared.proofs.Engines.{is-machine}
-use Rattle.shared.proofs.Moves.{job-pumped, job-later, job-keeps}
+use Rattle.shared.proofs.Moves.{job-pumped, job-run, job-later, job-keeps}
 use Rattle.shared.proofs.Stepping.{done-order, failed-order}
 use Rattle.shared.proofs.locked.Locked.job_step.Goals as goal
 
@@ -64,7 +64,7 @@ returns-clause-happens g c =
       before = h.state;
       after = p.after;
       reached = h.reached;
-      run = p.run;
+      run = job-run _ _ _ _ _ _ _ _ _ _ _ h p;
       seen_is =
           c.meet.ensures.seen ∙ seen ∙ ap (job_seen r g.raising) h.seen ∙ ap (λ (o : Option Raising). job_seen r o (seen_of h.state)) (sym raising)
           ∙ sym p.seen;

@@ -11,5 +11,5 @@ invariant_of-self g c =
 
 pub returns-clause-happens : goal.returns-clause-happens
 returns-clause-happens g c =
-    subst (λ (s : Seen). FloorHappens g.L.Opening.start c.args.scope c.args.floor c.start_floor.result s) (sym c.meet.ensures.seen)
+    subst (λ (s : Seen). FloorHappens g.L.Opening.start g.L.Opening.kind c.args.scope c.args.floor c.start_floor.result s) (sym c.meet.ensures.seen)
     (floor-begins _ _ _ _ _ _ _ _ _ _ _ _ _ c.self.invariant c.start_floor.ensures).1

@@ -3,7 +3,7 @@ use Rattle.session.specs.Streams.{Says}
 use Rattle.session.specs.Texts.{Text, open_line}
 use Rattle.shell.specs.Acts.{IsRefused, told}
 use Rattle.shell.proofs.Said.{said-by}
-use Rattle.shell.proofs.actions.tell_dump.Goals as goal
+use Rattle.shell.proofs.showing.tell_dump.Goals as goal
 
 pub returns-in-None : goal.returns-in-None
 returns-in-None g c = rw c.in-None.is (said-by (told g.W.Write.contents c.status_of.result c.args.output.now c.say.new.self) c.args.dump.now.text.items

@@ -1,7 +1,7 @@
 use Rattle.std.proofs.Common.{◌≡◌, ◌⊎◌, ◌∙◌, true, false, sym, subst, inl, inr}
 use Rattle.disk.specs.Calls.{DiskState}
 use Rattle.shell.specs.Acts.{DumpsHeap, HasNoDump, Dumps, told}
-use Rattle.shell.proofs.actions.dump_by_layout.Goals as goal
+use Rattle.shell.proofs.showing.dump_by_layout.Goals as goal
 
 pub returns-in-Ok-false : goal.returns-in-Ok-false
 returns-in-Ok-false g c =

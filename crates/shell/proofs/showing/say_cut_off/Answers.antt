@@ -1,6 +1,6 @@
 use Rattle.session.specs.Texts.{open_line}
 use Rattle.shell.proofs.Said.{front-more, says-more}
-use Rattle.shell.proofs.actions.say_cut_off.Goals as goal
+use Rattle.shell.proofs.showing.say_cut_off.Goals as goal
 
 pub returns-in-Err : goal.returns-in-Err
 returns-in-Err g c = (

@@ -1,5 +1,5 @@
 use Rattle.std.proofs.Common.{inl, inr}
-use Rattle.shell.proofs.actions.dump_of_heap.Goals as goal
+use Rattle.shell.proofs.showing.dump_of_heap.Goals as goal
 
 pub returns-in-Ok : goal.returns-in-Ok
 returns-in-Ok g c =

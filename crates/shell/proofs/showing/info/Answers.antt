@@ -4,10 +4,10 @@ use Rattle.status.specs.Reading.{HoldsLog, IsLogFault, refused_by}
 use Rattle.wire.specs.declared.slot.Slot.{Slot}
 use Rattle.session.specs.Texts.{Text}
 use Rattle.session.specs.Streams.{Says}
-use Rattle.shell.specs.Acts.{told}
-use Rattle.shell.specs.Dump.{IsDump}
+use Rattle.shell.specs.Acts.{IsSaid, told}
+use Rattle.log_facts.specs.Texts.{info_text}
 use Rattle.shell.proofs.Said.{said-by}
-use Rattle.shell.proofs.actions.dump.Goals as goal
+use Rattle.shell.proofs.showing.info.Goals as goal
 
 pub returns-in-Err : goal.returns-in-Err
 returns-in-Err g c =
@@ -32,8 +32,8 @@ returns-in-Err-read_log g c =
       said = c.refuse_log-in-Err-read_log.ensures;
     }))
 
-pub returns-in-Ok-dump_text : goal.returns-in-Ok-dump_text
-returns-in-Ok-dump_text g c =
+pub returns-in-Ok-info_text : goal.returns-in-Ok-info_text
+returns-in-Ok-info_text g c =
     let kept = c.in-Ok.ensures.same in
     inr (inl (record {
       header = c.in-Ok.header;
@@ -41,11 +41,11 @@ returns-in-Ok-dump_text g c =
       reads = c.in-Ok.ensures.found;
       log = λ tells. subst (λ (s : DiskState). HoldsLog c.in-Ok.header s.areas.status.bytes c.in-Ok-read_log.slots.items) kept
           (c.in-Ok-read_log.ensures.log tells);
-      text = c.in-Ok-dump_text.text.items;
-      dump = subst (λ (slots : List Slot). IsDump c.in-Ok.header slots c.in-Ok-dump_text.text.items) c.as_slice.ensures.value c.in-Ok-dump_text.ensures;
-      said = said-by (told g.W.Write.contents c.status_of.result c.args.output.now c.say.new.self) c.in-Ok-dump_text.text.items c.say.result
+      said = subst (λ (t : Text). IsSaid (told g.W.Write.contents c.status_of.result c.args.output.now c.say.new.self) t) (subst (λ
+          (slots : List Slot). c.in-Ok-info_text.text.items ≡ info_text c.args.json c.in-Ok.header slots) c.as_slice.ensures.value c.in-Ok-info_text.ensures)
+          (said-by (told g.W.Write.contents c.status_of.result c.args.output.now c.say.new.self) c.in-Ok-info_text.text.items c.say.result
           (subst (λ (t : Text). Says (g.W.Write.contents c.args.output.now.writer) t c.say.result (g.W.Write.contents c.say.new.self.writer)
-          c.say.new.self.refused) c.as_slice-in-Ok-dump_text.ensures.value c.say.ensures) c.status_of.ensures;
+          c.say.new.self.refused) c.as_slice-in-Ok-info_text.ensures.value c.say.ensures) c.status_of.ensures);
       same = c.in-Ok-read_log.ensures.same ∙ kept;
     }))
 

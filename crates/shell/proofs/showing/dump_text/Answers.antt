@@ -2,7 +2,7 @@ use Rattle.std.proofs.Common.{subst, sym}
 use Rattle.session.specs.Texts.{Text}
 use Rattle.shell.specs.Dump.{IsDump}
 use Rattle.shell.proofs.Said.{appended-none}
-use Rattle.shell.proofs.actions.dump_text.Goals as goal
+use Rattle.shell.proofs.showing.dump_text.Goals as goal
 
 pub returns : goal.returns
 returns c =

@@ -2,7 +2,7 @@ use Rattle.std.proofs.Common.{◌++◌, refl}
 use Rattle.session.specs.Texts.{open_line}
 use Rattle.shell.specs.Acts.{told}
 use Rattle.shell.proofs.Said.{either-said}
-use Rattle.shell.proofs.actions.refuse_behind.Goals as goal
+use Rattle.shell.proofs.showing.refuse_behind.Goals as goal
 
 pub returns : goal.returns
 returns g c = (

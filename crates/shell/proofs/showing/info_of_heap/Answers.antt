@@ -3,7 +3,7 @@ use Rattle.session.specs.Streams.{Says}
 use Rattle.session.specs.Texts.{Text}
 use Rattle.shell.specs.Acts.{told}
 use Rattle.shell.proofs.Said.{said-by}
-use Rattle.shell.proofs.actions.info_of_heap.Goals as goal
+use Rattle.shell.proofs.showing.info_of_heap.Goals as goal
 
 pub returns-in-Ok : goal.returns-in-Ok
 returns-in-Ok g c =
