@@ -28,7 +28,7 @@ use Rattle.log_writer.specs.Writer.{WriterState}
 use Rattle.wire.specs.Numbers.{u64_bytes}
 use Rattle.law_log_layout.specs.HeapLog.{HeapLog, PlacedRoll, IsLogOf, IsStoredRoll, name_bytes, heap_parts, turn_of, placed_group}
 use Rattle.law_log_layout.specs.Laws.{KeepsArchive, KeepsLog}
-use Rattle.law_log_layout.specs.Turns.{IsAt, MayBe, MayBecome}
+use Rattle.law_log_layout.specs.Turns.{IsAt, MayBe}
 use Rattle.log_store.specs.Jobs.{is_entering}
 use Rattle.log_store.specs.Runs.{disk_answer, piece_of, behind_piece, CallsWith, CallsAt, did_with, did_at, stage_with, stage_behind, behind, WritesRun}
 use Rattle.log_store.specs.Values.{LogStoreValue, IsStageBeside}
@@ -40,7 +40,8 @@ use Rattle.log_store.specs.declared.job.JobWork.{JobWork}
 use Rattle.log_store.specs.declared.job.JobWork.TheVariants.{Floor}
 use Rattle.log_store.specs.declared.job.JobWork.TheVariants as works
 use Rattle.law_log_store.specs.Standing.{StandsOnHeap, HasTurn, HasJob, HasStage, IsAtRest, KeepsRoots, IsImageOf, IsBehind, IsNextArchive, MayEnter}
-use Rattle.law_log_store.specs.Standing.{MayAllEnter, IsWritten, HasWritten, HasAllWritten, IsAhead, LeavesOne, TakesLast, MayStand, MayStandBy, floors_with}
+use Rattle.law_log_store.specs.Standing.{MayAllEnter, IsWritten, HasWritten, HasAllWritten, IsAhead, LeavesOne, TakesLast, MayStand, MayStandAt, MayStandBy}
+use Rattle.law_log_store.specs.Standing.{StopsBy, floors_with}
 use Rattle.law_log_store.specs.Calls.{HasFailed, floors_by, floors_after}
 use Rattle.law_log_store.proofs.Going.{standing-stops}
 use Rattle.law_log_store.proofs.Spans.{stored-ends}
@@ -272,23 +273,25 @@ module _ (v : LogStoreValue) (h queue : History Value) (floors : ℕ → ℕ) (s
 
   -- ---- what a step leads to
 
-  -- where a job is that a refused call has ended
-  be-become : (stage : Stage) (Old New : Type 0) → MayBe stage Old New → MayBecome stage Old New
-  be-become (chains.Writing done rest) Old New is = is
-  be-become chains.Syncing Old New is = is
-  be-become chains.Opening Old New is = inl is
-  be-become chains.Settling Old New is = is
-  be-become chains.Done Old New is = is
+  -- what holds by the stage of a chain in a store that works holds in one that has failed
+  be-become : (failed : Bool) (stage : Stage) (Old New : Type 0) → MayBe stage Old New → MayStandAt failed stage Old New
+  be-become false stage Old New is = is
+  be-become true (chains.Writing done rest) Old New is = is
+  be-become true chains.Syncing Old New is = is
+  be-become true chains.Opening Old New is = inl is
+  be-become true chains.Settling Old New is = is
+  be-become true chains.Done Old New is = is
 
-  failed-stops : (Old Grouped : Type 0) (Entered : JobWork → Type 0) (after : InWriting) (failed : Bool) → failed ≡ false
-      → MayStand failed v.turn v.job Old Grouped Entered → MayStand true v.turn (Some (record job { stage = Writing after })) Old Grouped Entered
-  failed-stops Old Grouped Entered after failed works is =
+  failed-stops : (failed : Bool) (Old Grouped : Type 0) (Entered : JobWork → Type 0) (after : InWriting) → v.commits.failed ≡ false
+      → MayStand v.commits.failed v.turn v.job Old Grouped Entered
+      → MayStand failed v.turn (Some (record job { stage = Writing after })) Old Grouped Entered
+  failed-stops failed Old Grouped Entered after works is =
       by-turn v.turn (subst (λ (b : Bool). MayStand b v.turn v.job Old Grouped Entered) works is)
     where
       by-turn : (t : Option WriterState) → MayStand false t v.job Old Grouped Entered
-          → MayStand true t (Some (record job { stage = Writing after })) Old Grouped Entered
+          → MayStand failed t (Some (record job { stage = Writing after })) Old Grouped Entered
       by-turn None is = subst (λ (j : Option Job). MayStandBy false j Old Entered) same-job is
-      by-turn (Some w) is = be-become w.stage Old Grouped is
+      by-turn (Some w) is = be-become failed w.stage Old Grouped is
 
   -- the stage behind a refused call is a writing one still
   record IsStill (stage : JobStage) : Type 0 where
@@ -327,6 +330,31 @@ module _ (v : LogStoreValue) (h queue : History Value) (floors : ℕ → ℕ) (s
     pub run-left : (answer : Result JobDid PumpFault) → WritesRun tells job v answer new → (image : Image) → LeavesImage new.disk.areas image
         → LeavesImage v.disk.areas image ⊎ LeavesImage (loose-store).disk.areas image
     run-left answer writes image left = left-before writer.left (disk_answer answer) (call-at answer writes) image left
+
+    -- the store behind a refused call
+    broken-is : (why : PumpFault) → WritesRun tells job v (Err why) new
+        → new ≡ record v {
+          commits = record v.commits { failed = true };
+          job = Some (record job { stage = Writing (still writer.left).writer });
+          disk = new.disk;
+        }
+    broken-is why writes =
+        writes.answer.1
+        ∙ ap (λ (k : JobStage). record v {
+          commits = record v.commits { failed = true };
+          job = Some (record job { stage = k });
+          disk = new.disk;
+        }) (ap (λ (k : JobStage). stage_behind k false) e ∙ (still writer.left).is)
+
+    -- a refused call of a run changes nothing of the heap: what a stop leaves is as of a store that works
+    pub run-breaks : (failed : Bool) (why : PumpFault) → WritesRun tells job v (Err why) new → StopsBy failed new h queue floors
+    run-breaks failed why writes image left =
+        subst (λ (x : LogStoreValue). MayStand failed x.turn x.job (IsImageOf x.roots image h floors)
+        (IsImageOf x.roots image (h ++ take x.commits.group queue) floors) (λ work. IsImageOf x.roots image h (floors_with work floors)))
+        (sym (broken-is why writes))
+        (failed-stops failed (IsImageOf v.roots image h floors) (IsImageOf v.roots image (h ++ take v.commits.group queue) floors)
+        (λ work. IsImageOf v.roots image h (floors_with work floors)) (still writer.left).writer works
+        (standing-left (Err why) writes image left))
 
     module _ (sound : AreSound new.disk.areas) where
       -- a piece more is written
@@ -378,27 +406,10 @@ module _ (v : LogStoreValue) (h queue : History Value) (floors : ℕ → ℕ) (s
           subst (λ (d : JobDid). StandsOnHeap new h queue (floors_by job.work d floors)) (sym did-is)
           (by-left writer.left refl (call-at (Ok what) writes) new-is)
       run-steps (Err why) writes =
-          let after = still writer.left in
-          let new-is : new ≡ record v {
-            commits = record v.commits { failed = true };
-            job = Some (record job { stage = Writing after.writer });
-            disk = new.disk;
-          } =
-          writes.answer.1
-          ∙ ap (λ (k : JobStage). record v {
-            commits = record v.commits { failed = true };
-            job = Some (record job { stage = k });
-            disk = new.disk;
-          }) (ap (λ (k : JobStage). stage_behind k false) e ∙ after.is) in (
+          let failed : new.commits.failed ≡ true = ap (λ (x : LogStoreValue). x.commits.failed) (broken-is why writes) in (
             writes.answer.0,
             record {
-              failed = ap (λ (x : LogStoreValue). x.commits.failed) new-is;
-              stops = λ image left.
-                  subst (λ (x : LogStoreValue). MayStand x.commits.failed x.turn x.job (IsImageOf x.roots image h floors)
-                  (IsImageOf x.roots image (h ++ take x.commits.group queue) floors) (λ work. IsImageOf x.roots image h (floors_with work floors)))
-                  (sym new-is)
-                  (failed-stops (IsImageOf v.roots image h floors) (IsImageOf v.roots image (h ++ take v.commits.group queue) floors)
-                  (λ work. IsImageOf v.roots image h (floors_with work floors)) after.writer v.commits.failed works
-                  (standing-left (Err why) writes image left));
+              failed = failed;
+              stops = subst (λ (b : Bool). StopsBy b new h queue floors) (sym failed) (run-breaks true why writes);
             },
           )

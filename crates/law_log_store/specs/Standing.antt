@@ -287,8 +287,12 @@ MayStand failed (Some w) job Old Grouped Entered = MayStandAt failed w.stage Old
 
 -- Whatever a stop may leave stands for what is published, or, once the write of the gate of a group or an entry has begun, for that or for what is published
 -- with the group, or with what the entry says.
-abbrev pub StopsOnHeap : LogStoreValue → History Value → History Value → (ℕ → ℕ) → Type 0
-StopsOnHeap v h queue floors =
+abbrev pub StopsBy : Bool → LogStoreValue → History Value → History Value → (ℕ → ℕ) → Type 0
+StopsBy failed v h queue floors =
     (image : Image) → LeavesImage v.disk.areas image
-    → MayStand v.commits.failed v.turn v.job (IsImageOf v.roots image h floors) (IsImageOf v.roots image (h ++ take v.commits.group queue) floors)
+    → MayStand failed v.turn v.job (IsImageOf v.roots image h floors) (IsImageOf v.roots image (h ++ take v.commits.group queue) floors)
     (λ work. IsImageOf v.roots image h (floors_with work floors))
+
+-- where the store has failed, by the stage whose call was refused
+abbrev pub StopsOnHeap : LogStoreValue → History Value → History Value → (ℕ → ℕ) → Type 0
+StopsOnHeap v h queue floors = StopsBy v.commits.failed v h queue floors
