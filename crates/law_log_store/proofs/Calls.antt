@@ -100,7 +100,7 @@ module _ (v : LogStoreValue) (opened : List (Option ℕ)) (heads : List CommitHe
       }
 
   names-keep : KeepsDisk v named
-  names-keep = record { stands = λ h queue floors s. names-stand h queue floors s; stops = λ h queue floors stops. stops }
+  names-keep = record { stands = λ h queue floors s. names-stand h queue floors s; stops = λ failed h queue floors stops. stops }
 
 -- the disk is kept
 pub alone-keeps : (old : LogStoreValue) (commits : CommitsValue) → AreNamesAlone old.commits commits → KeepsDisk old (with_commits old commits)
@@ -224,6 +224,6 @@ failed-queues-none old new txn label now answer failed is = by-own (is_own old.c
       ap (queued_by txn label) is.0,
       subst (λ (x : LogStoreValue). KeepsDisk old x) (sym is.1) (record {
         stands = λ h queue floors s. s;
-        stops = λ h queue floors s. s;
+        stops = λ failed h queue floors s. s;
       }),
     )

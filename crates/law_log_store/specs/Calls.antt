@@ -33,7 +33,7 @@ use Rattle.wire.specs.Spelling.{IsRun}
 use Rattle.log_store.specs.Archives.{BeginsArchive, records_to, run_to}
 use Rattle.log_store.specs.declared.pump.Did.{Did}
 use Rattle.log_store.specs.declared.pump.Did.TheVariants as did
-use Rattle.law_log_store.specs.Standing.{StandsOnHeap, IsImageOf, StopsOnHeap, floors_with}
+use Rattle.law_log_store.specs.Standing.{StandsOnHeap, IsImageOf, StopsBy, StopsOnHeap, floors_with}
 
 -- ---- steps of a group
 
@@ -157,7 +157,7 @@ ArchiveBegins =
 -- the disk stands for what it did, and what a stop may leave of it does
 pub record KeepsDisk (old new : LogStoreValue) : Type 0 where
   pub stands : (h queue : History Value) (floors : ℕ → ℕ) → StandsOnHeap old h queue floors → StandsOnHeap new h queue floors
-  pub stops : (h queue : History Value) (floors : ℕ → ℕ) → StopsOnHeap old h queue floors → StopsOnHeap new h queue floors
+  pub stops : (failed : Bool) (h queue : History Value) (floors : ℕ → ℕ) → StopsBy failed old h queue floors → StopsBy failed new h queue floors
 
 -- a begin keeps it
 abbrev pub BeginKeeps : Type 0
