@@ -50,7 +50,7 @@ use Rattle.log_store.specs.Opens.{Opens, commits_on, head_as}
 use Rattle.log_store.proofs.Places.{has-place}
 use Rattle.law_log_store.specs.Standing.{IsImageOf, StandsOnHeap}
 use Rattle.law_log_store.proofs.Opening.{facts-are, members-same, open-stands, read as read-is, same as same-log}
-use Rattle.law_log_steps.specs.Store.{gate_of, raising_of, HasAllMade, IsStoreOf}
+use Rattle.law_log_steps.specs.Store.{gate_of, raising_of, HasAllMade, JobReaches, IsStoreOf}
 use Rattle.log_store.specs.declared.job.Job.{Job}
 use Rattle.law_log_steps.proofs.Resting.{stands-opened}
 
@@ -284,5 +284,15 @@ module _ (tells : Bool) (old : DiskState) (mark : ℕ) (v : LogStoreValue) (root
         made = subst (λ (j : Option Job). HasAllMade v.commits.floors j) (sym (ap (λ (x : LogStoreValue). x.job) opens.new_is)) tt;
         gate = λ works. ap (λ (x : LogStoreValue). gate_of x.turn x.job) (sym opens.new_is);
         left = λ fails. absurd (let no : false ≡ true = fails in cc);
+      })
+      (record {
+        reclaimed =
+            let low = read.holds.ends.archived in
+            let mark = read.end_is.says.mark_is in
+            let archived = read.end_is.says.archived_is in
+            let reclaimed : v.commits.reclaimed ≡ r.heap.end.mark = ap (λ (c : CommitsValue). c.reclaimed) same in
+            let upto : v.named.upto ≡ r.heap.end.archived = ap (λ (x : LogStoreValue). x.named.upto) opens.new_is in
+            omega (arith, low, mark, archived, reclaimed, upto);
+        job = subst (λ (j : Option Job). JobReaches v.named.upto j) (sym (ap (λ (x : LogStoreValue). x.job) opens.new_is)) tt;
       })
       (subst (λ (c : CommitsValue). StandsInMemory c (opened_by 1024 h floors)) (sym same) memory)

@@ -295,12 +295,12 @@ module _ (v : LogStoreValue) (h queue : History Value) (floors : ℕ → ℕ) (s
 
   -- the stage behind a refused call is a writing one still
   record IsStill (stage : JobStage) : Type 0 where
-    pub writer : InWriting
-    pub is : stage ≡ Writing writer
+    pub behind-it : InWriting
+    pub same : stage ≡ Writing behind-it
 
   still : (left : List ℕ) → IsStill (stage_with left writer false)
-  still [] = record { writer = writer; is = refl }
-  still (b ∷ bs) = record { writer = behind_piece writer; is = refl }
+  still [] = record { behind-it = writer; same = refl }
+  still (b ∷ bs) = record { behind-it = behind_piece writer; same = refl }
 
   module _ (tells : Bool) (tell : IsTrue tells) (works : v.commits.failed ≡ false) (new : LogStoreValue) where
     -- what a stop leaves behind the call, refused or not
@@ -335,7 +335,7 @@ module _ (v : LogStoreValue) (h queue : History Value) (floors : ℕ → ℕ) (s
     broken-is : (why : PumpFault) → WritesRun tells job v (Err why) new
         → new ≡ record v {
           commits = record v.commits { failed = true };
-          job = Some (record job { stage = Writing (still writer.left).writer });
+          job = Some (record job { stage = Writing (still writer.left).behind-it });
           disk = new.disk;
         }
     broken-is why writes =
@@ -344,7 +344,7 @@ module _ (v : LogStoreValue) (h queue : History Value) (floors : ℕ → ℕ) (s
           commits = record v.commits { failed = true };
           job = Some (record job { stage = k });
           disk = new.disk;
-        }) (ap (λ (k : JobStage). stage_behind k false) e ∙ (still writer.left).is)
+        }) (ap (λ (k : JobStage). stage_behind k false) e ∙ (still writer.left).same)
 
     -- a refused call of a run changes nothing of the heap: what a stop leaves is as of a store that works
     pub run-breaks : (failed : Bool) (why : PumpFault) → WritesRun tells job v (Err why) new → StopsBy failed new h queue floors
@@ -353,7 +353,7 @@ module _ (v : LogStoreValue) (h queue : History Value) (floors : ℕ → ℕ) (s
         (IsImageOf x.roots image (h ++ take x.commits.group queue) floors) (λ work. IsImageOf x.roots image h (floors_with work floors)))
         (sym (broken-is why writes))
         (failed-stops failed (IsImageOf v.roots image h floors) (IsImageOf v.roots image (h ++ take v.commits.group queue) floors)
-        (λ work. IsImageOf v.roots image h (floors_with work floors)) (still writer.left).writer works
+        (λ work. IsImageOf v.roots image h (floors_with work floors)) (still writer.left).behind-it works
         (standing-left (Err why) writes image left))
 
     module _ (sound : AreSound new.disk.areas) where

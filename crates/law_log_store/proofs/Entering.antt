@@ -182,7 +182,7 @@ module _ (old begun : LogStoreValue) (h queue : History Value) (floors : ℕ →
   last-fits (works.Archive a archives) upto may fits =
       let kept = length s.reading.runs - a.runs in
       let none = none-open s.reading h floors s.stands heap kept a.upto s.made may.plan may.later upto in
-      subst (λ (open : Bool). b.room.log + cond open 1 0 ≤ old.roots.extents / 2) (sym none) (omega (arith, fits))
+      subst (λ (some : Bool). b.room.log + cond some 1 0 ≤ old.roots.extents / 2) (sym none) (omega (arith, fits))
 
   keeps-half : KeepsHalf old.roots.extents b.room.log reading-begun
   keeps-half = by-spare spare
@@ -196,7 +196,7 @@ module _ (old begun : LogStoreValue) (h queue : History Value) (floors : ℕ →
           omega (arith, one, more)
       by-spare (inr takes) = let fits = takes.fits in last-fits job.work (takes.entry).1 may (omega (arith, log-more, fits))
 
-  leaves-one : LeavesOne old.roots.extents b.room
+  pub leaves-one : LeavesOne old.roots.extents b.room
   leaves-one = by-spare spare
     where
       by-spare : LeavesOne old.roots.extents old.room ⊎ TakesLast old.roots.extents old.room h queue (Some job) → LeavesOne old.roots.extents b.room

@@ -177,6 +177,15 @@ module _ (tells : Bool) (old : DiskState) (mark : ℕ) (v : LogStoreValue) (root
       let firm : v.disk.areas.archive.firm ≡ length (image_of old.areas).archive = ap (λ (a : Areas). a.archive.firm) (opens.settled told) in
       omega (arith, within, firm, end-named)
 
+  marks : v.commits.reclaimed ≤ v.named.upto
+  marks =
+      let low = read.holds.ends.archived in
+      let mark = read.end_is.says.mark_is in
+      let archived = read.end_is.says.archived_is in
+      let reclaimed : v.commits.reclaimed ≡ r.heap.end.mark = ap (λ (x : LogStoreValue). x.commits.reclaimed) opens.new_is in
+      let upto : v.named.upto ≡ r.heap.end.archived = ap (λ (n : NamedValue). n.upto) named-is in
+      omega (arith, low, mark, archived, reclaimed, upto)
+
   -- ---- the store
 
   opened : IsOpenedOn v l reading
@@ -191,6 +200,7 @@ module _ (tells : Bool) (old : DiskState) (mark : ℕ) (v : LogStoreValue) (root
     job = ap (λ (x : LogStoreValue). x.job) opens.new_is;
     named = named;
     reach = reach;
+    marks = marks;
   }
 
   pub open-stands : (v.roots ≡ roots) × StandsOnHeap v h [] floors

@@ -54,6 +54,8 @@ pub record IsOpenedOn (v : LogStoreValue) (l : HeapLog) (reading : Reading) : Ty
   pub job : v.job ≡ None
   pub named : IsNamedBy v.named l reading
   pub reach : v.named.end ≤ v.disk.areas.archive.firm
+  -- what memory has forgotten is archived
+  pub marks : v.commits.reclaimed ≤ v.named.upto
 
 -- a store that is opened on an image all of which is synced stands for what the image does
 abbrev pub OpenedStands : Type 0
