@@ -53,7 +53,7 @@ Refusal v relation floor a b c d =
     (cond c (Some start.NothingToDo)
     (cond d (Some (start.NotYet (last v.commits))) (refusal_for_use (oldest v.commits) floor (has_floor_room v relation)))))
 
-none-there : (o : Option Job) → is_some o ≡ false → o ≡ None
+pub none-there : (o : Option Job) → is_some o ≡ false → o ≡ None
 none-there None none = refl
 none-there (Some job) some = absurd (let no : true ≡ false = some in cc)
 
@@ -80,7 +80,7 @@ unused-is (Some k) floor room is =
     ] is
 
 -- its entry has room then
-first-is : (a b : Bool) → IsTrue (a && b) → IsTrue a
+pub first-is : (a b : Bool) → IsTrue (a && b) → IsTrue a
 first-is true b both = refl
 first-is false b both = absurd cc
 
@@ -223,6 +223,7 @@ module _ (tells : Bool) (v : LogStoreValue) (m : Machine Value) (is : IsStoreOf 
           left = λ fails. absurd (let no : false ≡ true = sym works ∙ fails in cc);
         };
         fresh = is.fresh;
+        marks = record { reclaimed = is.marks.reclaimed; job = tt };
         disk = λ told. subst (λ (b : Bool). MatchBool b (StopsOnHeap (with_floor v relation floor) m.published m.queue m.floors)
             (StandsOnHeap (with_floor v relation floor) m.published m.queue m.floors)) (sym may.works)
             (floor-begins v relation floor m.published m.queue m.floors may.free may.room above upto range

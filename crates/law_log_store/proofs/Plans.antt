@@ -83,7 +83,7 @@ drop-all zero (x ∷ xs) few = absurd (omega (arith, few))
 drop-all (suc n) [] few = refl
 drop-all (suc n) (x ∷ xs) few = drop-all n xs (omega (arith, few))
 
-after-higher : (low high : ℕ) (vs : List (Version Value)) → low ≤ high → filter (ends_after high) (filter (ends_after low) vs) ≡ filter (ends_after high) vs
+pub after-higher : (low high : ℕ) (vs : List (Version Value)) → low ≤ high → filter (ends_after high) (filter (ends_after low) vs) ≡ filter (ends_after high) vs
 after-higher low high vs le =
     filter-filter (ends_after high) (ends_after low) vs (λ v is. let past : high < v.to = grind (arith, nat_tests) in is_lt (omega (arith, le, past)))
 
