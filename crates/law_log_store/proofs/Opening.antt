@@ -156,7 +156,7 @@ module _ (tells : Bool) (old : DiskState) (mark : ℕ) (v : LogStoreValue) (root
   end-named =
       ap (λ (n : NamedValue). n.end) named-is ∙ (λ i. max ((end-is).says.runs_end_is i) ((end-is).says.rolls_end_is i))
 
-  named : IsNamedBy v.named l reading
+  pub named : IsNamedBy v.named l reading
   named =
       let log = image.heap.is_log in
       record {

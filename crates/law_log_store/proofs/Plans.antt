@@ -77,7 +77,7 @@ module _ (reading : Reading) (h next : History Value) (floors : ℕ → ℕ) (gr
 
 -- ---- a walk over memory gives it
 
-drop-all : {X : Type 0} (n : ℕ) (xs : List X) → length xs ≤ n → drop n xs ≡ []
+pub drop-all : {X : Type 0} (n : ℕ) (xs : List X) → length xs ≤ n → drop n xs ≡ []
 drop-all zero [] few = refl
 drop-all zero (x ∷ xs) few = absurd (omega (arith, few))
 drop-all (suc n) [] few = refl
