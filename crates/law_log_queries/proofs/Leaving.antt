@@ -1,9 +1,10 @@
 -- Calls that leave the archive as it is.
-use Rattle.std.proofs.Common.{◌≡◌, ℕ, ◌==◌, ◌&&◌, min, nat_lt, Bool, true, false, cond, List, [], ◌∷◌, length, Option, None, Some}
+use Rattle.std.proofs.Common.{◌≡◌, ◌⊎◌, ℕ, ◌+◌, ◌≤◌, ◌==◌, ◌&&◌, min, nat_lt, Bool, true, false, cond, List, [], ◌∷◌, length, Option, None, Some}
 use Rattle.std.proofs.Common.{Result, Ok, Err, refl}
 use Rattle.std.proofs.Common.{arith, ap, sym, subst, ◌∙◌, inl, inr, append-nil}
 use Rattle.std.specs.Prelude.{IsTrue, MatchBool, MatchOption, MatchResult}
 use Rattle.disk.specs.Areas.{Areas}
+use Rattle.disk.specs.Calls.{DiskState}
 use Rattle.disk.specs.declared.area.DeviceFault.{DeviceFault}
 use Rattle.history.specs.Histories.{History, HasRisingTimes}
 use Rattle.history.specs.Machine.{Machine}
@@ -15,37 +16,50 @@ use Rattle.group.specs.declared.answers.Submitted.{Submitted}
 use Rattle.group.specs.declared.answers.Submitted.TheVariants.{ReadOnly, Queued}
 use Rattle.group.specs.declared.answers.SubmitFault.{SubmitFault}
 use Rattle.group.specs.declared.answers.SubmitFault.TheVariants as refused
-use Rattle.archive.specs.Parts.{IsRight}
+use Rattle.archive.specs.declared.run.RunEntry.{RunEntry}
+use Rattle.archive.specs.Parts.{IsRight, EndBy}
+use Rattle.archive.specs.Pieces.{InWriting}
 use Rattle.archive.specs.Runs.{HoldRuns}
 use Rattle.archive.specs.Searches.{archive_of}
 use Rattle.timequery.specs.Archives.{ArchiveValue}
 use Rattle.timequery.specs.View.{mark_of}
-use Rattle.log_writer.specs.Turns.{Stage, Writing, Syncing, Opening, Settling, Done, Turn, IsCallOf, open_gate}
-use Rattle.log_writer.specs.Writer.{WriterState, turn}
+use Rattle.vacuum.specs.Archives.{unwritten}
+use Rattle.log_entries.specs.declared.entry.Archive.{Archive}
+use Rattle.log_entries.specs.Spelling.{entry_bytes}
+use Rattle.log_writer.specs.Turns.{Stage, Writing, Syncing, Opening, Settling, Done, Turn, IsCallOf, open_gate, stage_after, chain_turn}
+use Rattle.log_writer.specs.Writer.{WriterState, turn, with_stage}
 use Rattle.log_writer.specs.Writer as writers
 use Rattle.commits.specs.Values.{CommitsValue, is_own}
 use Rattle.commits.specs.Steps.{grouped}
+use Rattle.log_store.specs.Archives.{archive_refusal, records_to, run_to, with_archive, BeginsArchive, BeginsRun, StartsArchive}
+use Rattle.log_store.specs.Named.{NamedValue, with_archives}
+use Rattle.log_store.specs.Runs as run_calls
+use Rattle.log_store.specs.Runs.{piece_of, CallsWith, CallsAt, did_at, stage_behind, behind, with_job_as, WritesRun}
 use Rattle.log_store.specs.Values.{LogStoreValue}
 use Rattle.log_store.specs.Calls.{with_commits}
 use Rattle.log_store.specs.Submits.{Submits, SubmitsOwn, AnswersSubmit, with_queued, spent}
 use Rattle.log_store.specs.Pumps.{Pumps, TakesStep, bars_groups, BeginsOrWaits, BeginsGroup, AdvancesGroup, Advances, Begins, after_call, with_failure}
 use Rattle.log_store.specs.Pumps.{did_of, disk_answer}
 use Rattle.log_store.specs.Jobs as jobs
-use Rattle.log_store.specs.Jobs.{PumpsJob, StepsJob, StepsAt, StepsReady, AdvancesEntry, AdvancesAt, StartsFloor, BeginsFloor, BeginsEntry, at_stage}
-use Rattle.log_store.specs.Jobs.{with_floor, floor_refusal}
+use Rattle.log_store.specs.Jobs.{PumpsJob, StepsJob, StepsAt, StepsReady, AdvancesEntry, StartsFloor, BeginsFloor, BeginsEntry, at_stage, entry_of}
+use Rattle.log_store.specs.Jobs.{with_work, with_floor, floor_refusal}
 use Rattle.log_store.specs.declared.job.Job.{Job}
 use Rattle.log_store.specs.declared.job.JobDid.{JobDid}
 use Rattle.log_store.specs.declared.job.JobStage.{JobStage}
 use Rattle.log_store.specs.declared.job.JobStage.TheVariants.{Ready, Entering}
+use Rattle.log_store.specs.declared.job.JobStage.TheVariants as stages
 use Rattle.log_store.specs.declared.job.JobWork.{JobWork}
 use Rattle.log_store.specs.declared.job.JobWork.TheVariants.{Floor}
+use Rattle.log_store.specs.declared.job.JobWork.TheVariants as works
 use Rattle.log_store.specs.declared.job.StartFault.{StartFault}
 use Rattle.log_store.specs.declared.pump.Did.{Did}
 use Rattle.log_store.specs.declared.pump.Did.TheVariants as did
-use Rattle.law_refinement.specs.Homes.{AreArchived}
-use Rattle.law_refinement.proofs.RunsKept.{IsLater, archived-later, last-rises, heap-written, heap-synced, up_to-is}
+use Rattle.law_refinement.specs.Homes.{AreArchived, KeepsUpTo}
+use Rattle.law_refinement.proofs.RunsKept.{IsLater, archived-later, last-rises, heap-written, heap-synced, archive-synced, runs-held, right-kept}
+use Rattle.law_refinement.proofs.RunsKept.{up_to-in_part, up_to-is}
 use Rattle.law_log_store.proofs.Calls.{AreNamesAlone}
-use Rattle.law_log_queries.specs.Archive.{RunsStand, GoesOn, end_of}
+use Rattle.law_log_queries.specs.Archive.{JobHasPlace, IsPlaced, RunsStand, GoesOn, end_of}
+use Rattle.law_log_queries.proofs.Runs.{ends-all}
 
 -- what of a store its archive rests on is as it was
 pub record LeavesArchive (tells : Bool) (old new : LogStoreValue) : Type 0 where
@@ -263,7 +277,7 @@ pump-leaves tells old new answer pumps = by-failed old.commits.failed pumps
 
 -- A run that was made is one of the log's.
 pub record AddsRun (tells : Bool) (old new : LogStoreValue) : Type 0 where
-  pub works : old.commits.failed ≡ false
+  pub worked : old.commits.failed ≡ false
   pub a : Archive
   pub archives : List Archive
   pub w : WriterState
@@ -298,7 +312,7 @@ module _ (tells : Bool) (work : JobWork) (w : WriterState) (old new : LogStoreVa
   entry-call-moves answer advances = by-answer answer advances.answer
     where
       same : IsTrue tells → archive_of new.disk ≡ archive_of old.disk
-      same told = call-bytes (turn w) w.stage (disk_answer answer) old.disk.areas new.disk.areas (advances.call told)
+      same told = call-bytes (turn w) w.stage (run_calls.disk_answer answer) old.disk.areas new.disk.areas (advances.call told)
 
       leaving : (next : LogStoreValue) → LeavesMemory old next → new ≡ record next { disk = new.disk } → LeavesArchive tells old new
       leaving next leaves is =
@@ -314,7 +328,7 @@ module _ (tells : Bool) (work : JobWork) (w : WriterState) (old new : LogStoreVa
           inl (leaving (record (with_work (Floor floor kept) old) { job = None })
           (record { runs = refl; kept = refl; named = refl; reclaimed = refl; mark = refl; place = λ place. tt }) is)
       ended (works.Archive a archives) kind-is is = inr (record {
-        works = works-on;
+        worked = works-on;
         a = a;
         archives = archives;
         w = w;
@@ -362,8 +376,8 @@ module _ (tells : Bool) (job : Job) (writer : InWriting) (old new : LogStoreValu
   run-leaves : (answer : Result JobDid PumpFault) → WritesRun tells job old answer new → LeavesArchive tells old new
   run-leaves answer writes =
       on-disk tells old new (memory answer writes.answer) (λ told.
-      run-bytes (disk_answer answer) writer.left (past told)
-      (subst (λ (k : JobStage). CallsAt k (disk_answer answer) old.disk.areas new.disk.areas) e (writes.call told)))
+      run-bytes (run_calls.disk_answer answer) writer.left (past told)
+      (subst (λ (k : JobStage). CallsAt k (run_calls.disk_answer answer) old.disk.areas new.disk.areas) e (writes.call told)))
     where
       memory : (a : Result JobDid PumpFault)
           → MatchResult a (λ what. (what ≡ did_at job.stage) × (new ≡ record (with_job_as old (behind job true)) { disk = new.disk }))
@@ -396,13 +410,15 @@ entry-begins-leaves tells old new job begun answer works-on is-job b advances =
     both-leave tells old target new
     (same-disk tells old target
     (record { runs = refl; kept = refl; named = refl; reclaimed = refl; mark = refl; place = on.place }) refl)
-    (first (entry-call-moves tells job.work writer target new works-on refl answer
+    (first writer.stage
+    (λ at. let no : Writing [] (chain_turn b.numbers b.link (entry_bytes (entry_of job.work))).parts ≡ Settling = at in cc)
+    (entry-call-moves tells job.work writer target new works-on refl answer
     (subst (λ (x : LogStoreValue). AdvancesEntry tells x.job x answer new) b.new_is advances)))
   where
     -- which is no last one
-    first : {X Y : Type 0} {done : List (Part)} {rest : List (Part)} → X ⊎ ((Writing done rest ≡ Settling) × Y) → X
-    first (inl x) = x
-    first (inr (at, y)) = absurd cc
+    first : {X Y : Type 0} (k : Stage) → (k ≡ Settling → ⊥) → X ⊎ ((k ≡ Settling) × Y) → X
+    first k never (inl x) = x
+    first k never (inr last) = absurd (never last.0)
 
 -- a step of a job leaves the archive, or adds a run
 pub job-moves : (tells : Bool) (old new : LogStoreValue) (answer : Result JobDid PumpFault)
@@ -428,7 +444,8 @@ job-moves tells old new answer past pumps = by-failed old.commits.failed refl pu
 
     by-stage : old.commits.failed ≡ false → (job : Job) → old.job ≡ Some job → (k : JobStage) → job.stage ≡ k → StepsAt tells job k old answer new
         → LeavesArchive tells old new ⊎ AddsRun tells old new
-    by-stage works-on job is-job (stages.Writing writer) e step = inl (run-leaves tells job writer old new is-job e (past writer job works-on is-job e) answer step)
+    by-stage works-on job is-job (stages.Writing writer) e step =
+        inl (run-leaves tells job writer old new is-job e (past writer job works-on is-job e) answer step)
     by-stage works-on job is-job (Ready waited) e step = by-turn works-on job is-job old.turn step
     by-stage works-on job is-job (Entering w) e step =
         added (entry-call-moves tells job.work w old new works-on (is-job ∙ ap (λ (k : JobStage). Some (record { work = job.work; stage = k })) e) answer

@@ -40,7 +40,8 @@ end-within place [] run ends low = omega (arith, low)
 end-within place (r ∷ rs) run ends low = let rest = end-within place rs run (omega (arith, ends)) low in omega (arith, ends, rest)
 
 -- so the runs of a log do that end by it
-pub entries-within : (place from : ℕ) (stored : List StoredRun) (entries : List RunEntry) → AreEntriesFrom from (map (λ (s : StoredRun). s.entry) stored) entries
+pub entries-within : (place from : ℕ) (stored : List StoredRun) (entries : List RunEntry)
+    → AreEntriesFrom from (map (λ (s : StoredRun). s.entry) stored) entries
     → AllByRecursion (λ (s : StoredRun). s.entry.start + s.entry.len ≤ place) stored → end_of entries ≤ place
 entries-within place from [] [] are all = omega arith
 entries-within place from [] (e ∷ es) are all = absurd are

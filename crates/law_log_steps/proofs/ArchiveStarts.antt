@@ -1,6 +1,6 @@
 -- The beginning of an archive changes nothing of the machine's.
-use Rattle.std.proofs.Common.{◌≡◌, ◌⊎◌, ℕ, ◌+◌, ◌-◌, ◌/◌, ◌<◌, ◌≤◌, ◌^◌, max, nat_le, nat_lt, ◌&&◌, Bool, true, false, cond, List, [], ◌∷◌, ◌++◌, length, Option}
-use Rattle.std.proofs.Common.{None, Some, is_some, Result, Ok, Err, refl, arith, ap, sym, subst, ◌∙◌, inl, inr, append-nil}
+use Rattle.std.proofs.Common.{◌≡◌, ◌⊎◌, ℕ, ◌+◌, ◌-◌, ◌/◌, ◌<◌, ◌≤◌, ◌^◌, max, nat_le, nat_lt, ◌&&◌, Bool, true, false, cond, List, [], ◌∷◌, ◌++◌, length}
+use Rattle.std.proofs.Common.{Option, None, Some, is_some, Result, Ok, Err, refl, arith, ap, sym, subst, ◌∙◌, inl, inr, append-nil}
 use Rattle.std.specs.Prelude.{IsTrue, MatchBool, MatchOption, filter}
 use Rattle.std.proofs.lemmas.Bool.Decides.{nat_tests}
 use Rattle.history.specs.declared.key.Key.{Key}
@@ -191,8 +191,8 @@ archive-starts tells old new upto answer m step is starts = by-refusal (archive_
     by-answer none (Ok done) so = begins tells old m is upto (may-archive old upto none) step so.2 new so.3
     by-answer none (Err why) so = subst (λ (v : LogStoreValue). IsStoreOf tells v m) (sym so.1) is
 
-    by-refusal : (o : Option StartFault) → archive_refusal old upto ≡ o → MatchOption o (BeginsRun old upto answer new) (λ why. (answer ≡ Err why) × (new ≡ old))
-        → IsStoreOf tells new m
+    by-refusal : (o : Option StartFault) → archive_refusal old upto ≡ o
+        → MatchOption o (BeginsRun old upto answer new) (λ why. (answer ≡ Err why) × (new ≡ old)) → IsStoreOf tells new m
     by-refusal None none so = by-answer none answer so
     by-refusal (Some why) some so = subst (λ (v : LogStoreValue). IsStoreOf tells v m) (sym so.1) is
 
@@ -208,7 +208,7 @@ archive-starts-in-step old new upto answer is starts = by-refusal (archive_refus
         (archive-in-step old (run_to old upto) (unwritten old.named.end (records_to old upto)) (so.3).entry may.free (half-fits old upto may.room) so.1 is)
     by-answer none (Err why) so = subst IsInStep (sym so.1) is
 
-    by-refusal : (o : Option StartFault) → archive_refusal old upto ≡ o → MatchOption o (BeginsRun old upto answer new) (λ why. (answer ≡ Err why) × (new ≡ old))
-        → IsInStep new
+    by-refusal : (o : Option StartFault) → archive_refusal old upto ≡ o
+        → MatchOption o (BeginsRun old upto answer new) (λ why. (answer ≡ Err why) × (new ≡ old)) → IsInStep new
     by-refusal None none so = by-answer none answer so
     by-refusal (Some why) some so = subst IsInStep (sym so.1) is

@@ -142,15 +142,15 @@ module _ (tells : Bool) (floor : RelationFloor) (kept : FloorsValue) (w : Writer
   abbrev r : Raising
   r = raising_by floor
 
-  abbrev job : Job
-  job = record { work = Floor floor kept; stage = Entering w }
+  abbrev floor-job : Job
+  floor-job = record { work = Floor floor kept; stage = Entering w }
 
   may : MayRaise m r
   may = subst (λ (o : Option Raising). MatchOption o (Unit {0}) (MayRaise m)) raising machine.raising
 
   -- the entry is one call further
   further : (next : Gate) (events : List (Event Value)) → Run IsValue m events (record m { gate = next }) → new
-      ≡ record (at_stage old job (Entering (with_stage w (stage_after w.stage)))) { disk = new.disk }
+      ≡ record (at_stage old floor-job (Entering (with_stage w (stage_after w.stage)))) { disk = new.disk }
       → next ≡ gate_at OfFloor (stage_after w.stage) → Gone tells m events (record m { gate = next }) new
   further next events run is next-is = record {
     run = run;
@@ -161,7 +161,7 @@ module _ (tells : Bool) (floor : RelationFloor) (kept : FloorsValue) (w : Writer
     raising = raising ∙ ap (λ (v : LogStoreValue). raising_of v.job) (sym is);
     made = subst (λ (v : LogStoreValue). HasAllMade v.commits.floors v.job) (sym is) made;
     gate = λ still. next-is
-        ∙ sym (ap (λ (t : Option WriterState). gate_of t (Some (record job { stage = Entering (with_stage w (stage_after w.stage)) }))) at_rest)
+        ∙ sym (ap (λ (t : Option WriterState). gate_of t (Some (record floor-job { stage = Entering (with_stage w (stage_after w.stage)) }))) at_rest)
         ∙ ap (λ (v : LogStoreValue). gate_of v.turn v.job) (sym is);
     left = λ fails. absurd (let no : false ≡ true = sym works ∙ fails in cc);
     fresh = subst AreFresh (sym (ap (λ (v : LogStoreValue). v.commits) is)) fresh;
@@ -169,7 +169,7 @@ module _ (tells : Bool) (floor : RelationFloor) (kept : FloorsValue) (w : Writer
   }
 
   -- the entry is the log's
-  ended : m.gate ≡ MayBeOpen OfFloor → new ≡ record (with_entry old job) { disk = new.disk }
+  ended : m.gate ≡ MayBeOpen OfFloor → new ≡ record (with_entry old floor-job) { disk = new.disk }
       → Gone tells m (FloorPublished r ∷ []) (floor_published m r) new
   ended may-be-open is = record {
     run = (floor_published m r, (works, raising, may-be-open, refl), refl);
@@ -196,11 +196,11 @@ module _ (tells : Bool) (floor : RelationFloor) (kept : FloorsValue) (w : Writer
   after did.GateWritten = gated m (MayBeOpen OfFloor)
   after did.JobDone = floor_published m r
 
-  goes : (what : JobDid) → Advances tells job w old (Ok what) new → Gone tells m (floor_events what r) (after what) new
+  goes : (what : JobDid) → Advances tells floor-job w old (Ok what) new → Gone tells m (floor_events what r) (after what) new
   goes what advances =
       subst (λ (d : JobDid). Gone tells m (floor_events d r) (after d) new) (sym advances.answer.0) (by-stage w.stage refl on advances.answer.1)
     where
-      by-stage : (k : Stage) → w.stage ≡ k → IsOnItsWay k → new ≡ record (after_call old job w k) { disk = new.disk }
+      by-stage : (k : Stage) → w.stage ≡ k → IsOnItsWay k → new ≡ record (after_call old floor-job w k) { disk = new.disk }
           → Gone tells m (floor_events (did_of (writers.did k)) r) (after (did_of (writers.did k))) new
       by-stage (Writing d []) e call is =
           further m.gate [] refl is (gate ∙ ap (gate_at OfFloor) e ∙ ap (λ (k : Stage). gate_at OfFloor (stage_after k)) (sym e))
@@ -240,7 +240,7 @@ module _ (tells : Bool) (floor : RelationFloor) (kept : FloorsValue) (w : Writer
   Breaks g = (after : Machine Value) × (after.failed ≡ true) × (after.published ≡ m.published) × (after.queue ≡ m.queue) × (after.floors ≡ m.floors)
       × Gone tells m (job_breaks_in g) after new
 
-  breaks : (why : PumpFault) → Advances tells job w old (Err why) new → Breaks m.gate
+  breaks : (why : PumpFault) → Advances tells floor-job w old (Err why) new → Breaks m.gate
   breaks why advances = by-stage w.stage refl
     where
       here : (g : Gate) → m.gate ≡ g → Breaks g → Breaks m.gate
@@ -294,7 +294,7 @@ module _ (tells : Bool) (floor : RelationFloor) (kept : FloorsValue) (w : Writer
   went did.GateWritten gone = record { after = after did.GateWritten; gone = gone; published = refl; queue = refl; floors-are = refl; failed = works }
   went did.JobDone gone = record { after = after did.JobDone; gone = gone; published = refl; queue = refl; floors-are = refl; failed = works }
 
-  floor-goes : (answer : Result JobDid PumpFault) → Advances tells job w old answer new → Calls tells m new (Floor floor kept) answer
+  floor-goes : (answer : Result JobDid PumpFault) → Advances tells floor-job w old answer new → Calls tells m new (Floor floor kept) answer
   floor-goes (Ok what) advances = went what (goes what advances)
   floor-goes (Err why) advances =
       let broken = breaks why advances in (
@@ -455,7 +455,8 @@ module _ (tells : Bool) (work : JobWork) (writer : InWriting) (old new : LogStor
   calm-behind [] false = refl
   calm-behind (b ∷ bs) made = refl
 
-  run-stays : (k : JobStage) → is_entering k ≡ false → new ≡ record old { job = Some (record { work = work; stage = k }); disk = new.disk } → Gone tells m [] m new
+  run-stays : (k : JobStage) → is_entering k ≡ false → new ≡ record old { job = Some (record { work = work; stage = k }); disk = new.disk }
+      → Gone tells m [] m new
   run-stays k calm is =
       stays tells work (stages.Writing writer) old new m works memory fresh marks group raising made is-job (ap (λ (v : LogStoreValue). v.commits) is)
       (ap (λ (v : LogStoreValue). raising_of v.job) is)
@@ -661,7 +662,8 @@ module _ (tells : Bool) (old new : LogStoreValue) (answer : Result JobDid PumpFa
     by-stage job is-job (stages.Writing writer) e so =
         called job is-job answer
         (run-goes tells job.work writer old new m works-here is.memory is.fresh is.marks is.writing.group (raising-is job is-job) (made-is job is-job)
-        (is.writing.gate works-here) (is-job ∙ ap (λ (k : JobStage). Some (record { work = job.work; stage = k })) e) answer (breaks-calm job writer is-job e so)
+        (is.writing.gate works-here) (is-job ∙ ap (λ (k : JobStage). Some (record { work = job.work; stage = k })) e) answer
+        (breaks-calm job writer is-job e so)
         (at-stage job (stages.Writing writer) e (λ (j : Job). WritesRun tells j old answer new) so)) steps-to
     by-stage job is-job (Ready waited) e so = by-turn job waited is-job e old.turn refl so
     by-stage job is-job (Entering w) e so =

@@ -62,7 +62,8 @@ kept-behind most root place at n l reading old new is behind past sound loose ke
       (λ (r : PlacedRoll). KeepsPart r.roll.start (flat_map name_bytes r.names) new) l.rolls
       (λ (r : PlacedRoll) stored ends kept.
       kept_by_write at n r.roll.start (flat_map name_bytes r.names) old new sound kept
-      (inl (let many = stored.length_is in let long = names-long r.names in omega (arith, many, long, ends, past))) loose) is.each_roll behind.rolls keeps.rolls;
+      (inl (let many = stored.length_is in let long = names-long r.names in omega (arith, many, long, ends, past))) loose) is.each_roll behind.rolls
+      keeps.rolls;
   runs = three IsStoredRun (λ (s : StoredRun). s.entry.start + s.entry.len ≤ place)
       (λ (s : StoredRun). KeepsPart s.entry.start (run_bytes s.records) old)
       (λ (s : StoredRun). KeepsPart s.entry.start (run_bytes s.records) new) l.runs
@@ -304,8 +305,8 @@ module _ (v : LogStoreValue) (h queue : History Value) (floors : ℕ → ℕ) (s
 
   module _ (tells : Bool) (tell : IsTrue tells) (works : v.commits.failed ≡ false) (new : LogStoreValue) where
     -- what a stop leaves behind the call, refused or not
-    left-before : (left : List ℕ) (result : Result (Unit {0}) DeviceFault) → CallsWith left writer result v.disk.areas new.disk.areas → (image : Image) → LeavesImage new.disk.areas image
-        → LeavesImage v.disk.areas image ⊎ LeavesImage loose-areas image
+    left-before : (left : List ℕ) (result : Result (Unit {0}) DeviceFault) → CallsWith left writer result v.disk.areas new.disk.areas → (image : Image)
+        → LeavesImage new.disk.areas image → LeavesImage v.disk.areas image ⊎ LeavesImage loose-areas image
     left-before [] result call image left = inl ((left_by_sync areas.Archive result v.disk.areas new.disk.areas call s.sound).each image left)
     left-before (b ∷ bs) result call image left =
         inr ((left_by_write areas.Archive writer.at piece result v.disk.areas new.disk.areas call s.sound).each image left)

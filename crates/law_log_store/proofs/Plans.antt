@@ -108,7 +108,8 @@ module _ (v : LogStoreValue) (reading : Reading) (h : History Value) (floors : �
       ∙ after-higher r (after key) vs low
 
   -- and memory has it too
-  taken-is : (key : Key) → filter (ends_by upto) (filter (ends_after (since_of (since_now v) key.relation)) (versions (chains.writes_of v.commits.versions key)))
+  taken-is : (key : Key)
+      → filter (ends_by upto) (filter (ends_after (since_of (since_now v) key.relation)) (versions (chains.writes_of v.commits.versions key)))
       ≡ filter (ends_by upto) (filter (ends_after (after key)) (versions_of h key))
   taken-is key =
       ap (λ (n : ℕ). filter (ends_by upto) (filter (ends_after n) (versions (chains.writes_of v.commits.versions key)))) (after-is key)
