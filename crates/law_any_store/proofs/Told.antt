@@ -78,6 +78,8 @@ slots-job-told m (Err pump.Failed) = refl
 
 log-floor : (what : logs_jobs.JobDid) (r : Raising) → log_ends.floor_events what r ≡ floor_ends_in true (log_job_did what) r
 log-floor log_job.Idle r = refl
+log-floor log_job.WroteRun r = refl
+log-floor log_job.RunSynced r = refl
 log-floor log_job.WroteEntry r = refl
 log-floor log_job.GateClosed r = refl
 log-floor log_job.HeapSynced r = refl
