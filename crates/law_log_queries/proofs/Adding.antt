@@ -63,7 +63,7 @@ take-whole : {X : Type 0} (n : ℕ) (xs : List X) → length xs ≤ n → take n
 take-whole zero [] few = refl
 take-whole zero (x ∷ xs) few = absurd (omega (arith, few))
 take-whole (suc n) [] few = refl
-take-whole (suc n) (x ∷ xs) few = ap (λ (ys : List X). x ∷ ys) (take-whole n xs (omega (arith, few)))
+take-whole {X = X} (suc n) (x ∷ xs) few = ap (λ (ys : List X). x ∷ ys) (take-whole n xs (omega (arith, few)))
 
 -- it is that of the log
 whole-mark : (reading : Reading) (h : History Value) (floors : ℕ → ℕ) (kept : ℕ) → StandsFor reading h floors → is_in_heap reading.profile ≡ true
