@@ -1,5 +1,5 @@
 -- What the machine does in a step, by the name that an engine gives the step and by the name that it is told by.
-use Rattle.std.proofs.Common.{◌≡◌, Bool, true, false, cond, List, [], ◌++◌, Option, None, Some, Result, Ok, Err, refl, ap, append-nil}
+use Rattle.std.proofs.Common.{◌≡◌, Bool, true, false, cond, [], ◌++◌, Option, None, Some, Result, Ok, Err, refl, ap, append-nil}
 use Rattle.history.specs.Floors.{Raising}
 use Rattle.history.specs.Machine.{Machine, Gate}
 use Rattle.law_image.specs.Values.{Value}

@@ -1,5 +1,5 @@
 -- A store that is opened stands for the history of its image over another disk too, if that has the same areas.
-use Rattle.std.proofs.Common.{◌≡◌, ℕ, ◌≤◌, Bool, true, false, IsTrue, List, Option, Some, None, MatchBool, refl, sym, ◌∙◌, subst, ap, inl, inr}
+use Rattle.std.proofs.Common.{◌≡◌, ℕ, ◌≤◌, Bool, true, false, List, Option, Some, None, MatchBool, refl, sym, ◌∙◌, subst, inl, inr}
 use Rattle.disk.specs.Areas.{Areas, AreSound, Image, LeavesImage, settled_on}
 use Rattle.disk.specs.Calls.{DiskState, fresh_on}
 use Rattle.archive.specs.Runs.{HoldRuns}
@@ -27,7 +27,6 @@ use Rattle.law_log_layout.specs.Turns.{IsAt}
 use Rattle.law_log_store.specs.Standing.{HasCommits, HasTurn, HasJob, HasStage, IsAtRest, KeepsRoots, StandsOnHeap, StopsBy, StopsOnHeap}
 use Rattle.law_log_store.specs.Standing.{HasAllWritten, placed_entry}
 use Rattle.law_log_steps.specs.Store.{IsLeft, IsStoreOf, IsWriting}
-use Rattle.law_log_queries.specs.Archive as logs
 use Rattle.law_log_queries.specs.Archive.{RunsStand}
 use Rattle.law_refinement.proofs.Growing.{as-still}
 use Rattle.law_refinement.specs.OnDisk as slot_images

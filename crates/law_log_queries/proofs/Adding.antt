@@ -1,22 +1,21 @@
 -- A run that was made is one of the log's.
-use Rattle.std.proofs.Common.{◌≡◌, ℕ, zero, suc, ◌+◌, ◌-◌, ◌<◌, ◌≤◌, max, Bool, true, false, List, [], ◌∷◌, ◌++◌, length, take, drop, filter}
-use Rattle.std.proofs.Common.{Option, Some, refl, arith, ap, sym, subst, ◌∙◌, append-nil}
+use Rattle.std.proofs.Common.{◌≡◌, ℕ, zero, suc, ◌+◌, ◌-◌, ◌≤◌, max, Bool, true, List, [], ◌∷◌, ◌++◌, length, take, drop, filter}
+use Rattle.std.proofs.Common.{Option, refl, arith, ap, sym, subst, ◌∙◌, append-nil}
 use Rattle.std.specs.Prelude.{IsTrue, MatchBool, flat_map, Contains}
 use Rattle.std.proofs.lemmas.List.Elements.{filter-append}
 use Rattle.std.proofs.lemmas.Grind.{flat_map-append}
-use Rattle.disk.specs.Areas.{AreaState}
-use Rattle.disk.specs.Parts.{HoldsPart, KeepsPart}
+use Rattle.disk.specs.Parts.{KeepsPart}
 use Rattle.disk.specs.declared.area.Area.TheVariants as areas
 use Rattle.disk.proofs.Parts.{read_part}
 use Rattle.history.specs.declared.key.Key.{Key}
 use Rattle.history.specs.declared.time.Version.{Version}
-use Rattle.history.specs.Histories.{History, HasRisingTimes, last, versions_of, writes_of}
+use Rattle.history.specs.Histories.{History, HasRisingTimes, versions_of, writes_of}
 use Rattle.history.specs.Machine.{Machine}
 use Rattle.history.specs.Versions.{ends_after, ends_by}
 use Rattle.history.proofs.Histories.{writes_of-rising}
 use Rattle.history.proofs.Values.{versions-apart}
 use Rattle.law_image.specs.Values.{Value}
-use Rattle.law_image.specs.Reading.{ArchiveRecord, Reading, Slot}
+use Rattle.law_image.specs.Reading.{ArchiveRecord, Reading}
 use Rattle.law_image.specs.Log.{archive_mark, floor_of, is_in_heap}
 use Rattle.law_image.specs.Facts.{heap_versions, run_versions}
 use Rattle.law_image.specs.HeapPlans.{IsMergePlan, first_runs, marks_of}
@@ -29,12 +28,12 @@ use Rattle.wire.specs.declared.slot.Run.{Run}
 use Rattle.floors.specs.Floors.{FloorsValue, floor_at}
 use Rattle.archive.specs.declared.run.RunEntry.{RunEntry}
 use Rattle.archive.specs.Answers.{versions_in}
-use Rattle.archive.specs.Parts.{IsRight, EndBy}
+use Rattle.archive.specs.Parts.{IsRight}
 use Rattle.archive.specs.Runs as written
 use Rattle.archive.specs.Runs.{HoldRuns, run_end}
 use Rattle.archive.specs.Searches.{archive_of}
 use Rattle.timequery.specs.View.{mark_of}
-use Rattle.law_layout.specs.Runs.{StoredRun, run_bytes}
+use Rattle.law_layout.specs.Runs.{run_bytes}
 use Rattle.log_entries.specs.declared.entry.Archive.{Archive}
 use Rattle.log_roots.specs.Roots.{root_of}
 use Rattle.log_store.specs.Named.{NamedValue}
@@ -46,7 +45,6 @@ use Rattle.law_refinement.proofs.RunsStep.{mark-more}
 use Rattle.law_log_store.specs.Standing.{StandsOnHeap, StopsOnHeap, IsNextArchive, HasAllWritten, MayAllEnter, run_made}
 use Rattle.law_log_store.proofs.Joining as joins
 use Rattle.law_log_store.proofs.Plans.{drop-all}
-use Rattle.law_log_steps.specs.Store.{IsStoreOf}
 use Rattle.law_log_queries.specs.Archive.{RunHasPlace, JobHasPlace, RunsStand, Stands, GoesOn, end_of}
 use Rattle.law_log_queries.proofs.Leaving.{AddsRun}
 use Rattle.law_log_queries.proofs.Runs.{end-more, end-within, one-run}

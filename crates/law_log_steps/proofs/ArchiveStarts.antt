@@ -1,5 +1,5 @@
 -- The beginning of an archive changes nothing of the machine's.
-use Rattle.std.proofs.Common.{◌≡◌, ◌⊎◌, ℕ, ◌+◌, ◌-◌, ◌/◌, ◌<◌, ◌≤◌, ◌^◌, max, nat_le, nat_lt, ◌&&◌, Bool, true, false, cond, List, [], ◌∷◌, ◌++◌, length}
+use Rattle.std.proofs.Common.{◌≡◌, ℕ, ◌+◌, ◌-◌, ◌/◌, ◌<◌, ◌≤◌, max, nat_le, nat_lt, Bool, true, false, cond, List, [], ◌∷◌, ◌++◌, length}
 use Rattle.std.proofs.Common.{Option, None, Some, is_some, Result, Ok, Err, refl, arith, ap, sym, subst, ◌∙◌, inl, inr, append-nil}
 use Rattle.std.specs.Prelude.{IsTrue, MatchBool, MatchOption, filter}
 use Rattle.std.proofs.lemmas.Bool.Decides.{nat_tests}
@@ -12,16 +12,15 @@ use Rattle.history.specs.Time.{IsRisingAfter}
 use Rattle.history.specs.Versions.{versions, ends_after}
 use Rattle.history.proofs.Histories.{last_after-append}
 use Rattle.history.proofs.Runs.{last-later}
-use Rattle.law_image.specs.Values.{Value, IsValue}
+use Rattle.law_image.specs.Values.{Value}
 use Rattle.wire.specs.Spelling.{IsRun}
 use Rattle.chains.specs.Writes.{Write}
 use Rattle.chains.specs.KeyWrites as chains
-use Rattle.archive.specs.Runs.{run_bytes}
 use Rattle.vacuum.specs.Archives.{AreInMemory, unwritten}
 use Rattle.log_writer.specs.Writer.{WriterState}
 use Rattle.log_room.specs.Bases.{has_base_room}
 use Rattle.log_room.specs.Rooms.{has_entry_room, has_last_room}
-use Rattle.commits.specs.Values.{CommitsValue, last, last_assigned}
+use Rattle.commits.specs.Values.{last, last_assigned}
 use Rattle.log_store.specs.Values.{LogStoreValue, IsInStep}
 use Rattle.log_store.specs.Archives.{has_archive_room, archive_refusal, records_to, run_to, with_archive, BeginsArchive, BeginsRun, StartsArchive}
 use Rattle.log_store.specs.Jobs.{base_parts}

@@ -5,11 +5,11 @@ use Rattle.std.specs.Prelude.{IsTrue, MatchBool, MatchOption, Contains}
 use Rattle.std.specs.List.{AllByRecursion}
 use Rattle.std.proofs.lemmas.Bool.Decides.{nat_tests}
 use Rattle.std.proofs.lemmas.List.Sorted.{Contains-permutation}
-use Rattle.history.specs.Floors.{Raising, covers, covered}
+use Rattle.history.specs.Floors.{Raising, covered}
 use Rattle.history.specs.FloorStarts as floors
 use Rattle.history.specs.Histories as histories
 use Rattle.history.specs.Machine.{Machine, MayRaise}
-use Rattle.history.specs.Steps.{Step, FloorStarted, FloorRefused, floor_started}
+use Rattle.history.specs.Steps.{Step, FloorStarted, floor_started}
 use Rattle.history.proofs.Machines.{run-machine}
 use Rattle.history.proofs.Members.{Contains-head, Contains-tail}
 use Rattle.floors.specs.Floors.{floor_at}
@@ -18,7 +18,7 @@ use Rattle.snapshot.specs.OpenTable.{least_open}
 use Rattle.log_writer.specs.Writer.{WriterState}
 use Rattle.log_room.specs.Rooms.{has_entry_room}
 use Rattle.log_room.specs.Bases as bases
-use Rattle.commits.specs.Values.{CommitsValue, last}
+use Rattle.commits.specs.Values.{last}
 use Rattle.commits.specs.Calls.{oldest}
 use Rattle.store.specs.Reclaims.{below}
 use Rattle.log_store.specs.Values.{LogStoreValue, IsInStep}
@@ -33,7 +33,7 @@ use Rattle.law_refinement.proofs.Reclaiming.{none-reads-below}
 use Rattle.law_commits.proofs.Names.{last-is}
 use Rattle.law_log_store.specs.Standing.{StandsOnHeap, StopsOnHeap}
 use Rattle.law_log_store.proofs.Jobs.{floor-begins}
-use Rattle.law_log_steps.specs.Store.{gate_of, gate_left, raising_of, IsStoreOf}
+use Rattle.law_log_steps.specs.Store.{gate_of, raising_of, IsStoreOf}
 use Rattle.law_log_steps.specs.Laws.{StartsOn}
 use Rattle.law_log_steps.proofs.InStep.{floor-in-step}
 use Rattle.law_log_steps.proofs.Jobs.{making-memory}

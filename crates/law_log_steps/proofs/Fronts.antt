@@ -1,10 +1,9 @@
 -- What a stop leaves is a front of the machine, and opens as one.
-use Rattle.std.proofs.Common.{◌≡◌, ◌⊎◌, ℕ, Bool, true, false, List, ◌++◌, take, Option, None, Some, refl, ap, sym, subst, ◌∙◌, inl, inr}
+use Rattle.std.proofs.Common.{◌≡◌, ◌⊎◌, ℕ, Bool, true, false, ◌++◌, take, Option, None, Some, refl, ap, sym, subst, ◌∙◌, inl, inr}
 use Rattle.std.specs.Prelude.{IsTrue, MatchBool}
 use Rattle.history.specs.Floors.{Raising}
-use Rattle.history.specs.Fronts.{OnRaised, OnOpened, OnFront, with_group}
-use Rattle.history.specs.Histories.{History}
-use Rattle.history.specs.Machine.{Machine, Change, Gate, Shut, Due, MayBeOpen, OfGroup, OfFloor, opened_by}
+use Rattle.history.specs.Fronts.{OnRaised, OnOpened, OnFront}
+use Rattle.history.specs.Machine.{Machine, Gate, Shut, Due, MayBeOpen, OfGroup, OfFloor, opened_by}
 use Rattle.disk.specs.Areas.{Image, AreSound, LeavesImage, image_of}
 use Rattle.disk.specs.Calls.{DiskState}
 use Rattle.law_image.specs.Values.{Value}

@@ -1,6 +1,6 @@
 -- A store stays in step by its calls.
-use Rattle.std.proofs.Common.{◌≡◌, ℕ, zero, suc, ◌==◌, ◌*◌, ◌/◌, ◌<◌, ◌≤◌, ◌^◌, ◌-◌, ◌+◌, ◌&&◌, nat_le, Bool, true, false, List, [], ◌∷◌, ◌++◌, length, take}
-use Rattle.std.proofs.Common.{drop, Option, None, Some}
+use Rattle.std.proofs.Common.{◌≡◌, ℕ, ◌==◌, ◌*◌, ◌/◌, ◌<◌, ◌≤◌, ◌^◌, ◌-◌, ◌+◌, ◌&&◌, nat_le, Bool, true, false, List, [], ◌∷◌, ◌++◌, length}
+use Rattle.std.proofs.Common.{Option, None, Some}
 use Rattle.std.proofs.Common.{Result, Ok, Err, refl, arith, ap, sym, subst, ◌∙◌, inl, inr}
 use Rattle.std.specs.Prelude.{IsTrue, MatchBool, MatchResult}
 use Rattle.std.proofs.lemmas.Bool.Decides.{nat_tests}
@@ -31,8 +31,8 @@ use Rattle.log_room.specs.Rooms as rooms
 use Rattle.log_room.specs.Rooms.{RoomValue, fits, has_entry_room}
 use Rattle.log_room.proofs.Taken.{used_len}
 use Rattle.log_room.specs.Contents.{content_over, extents_over, extents_of}
-use Rattle.commits.specs.Values.{CommitsValue, ordered, is_own, over}
-use Rattle.commits.specs.Steps.{with_waiting, published, broken}
+use Rattle.commits.specs.Values.{ordered, is_own}
+use Rattle.commits.specs.Steps.{with_waiting}
 use Rattle.log_store.specs.Values.{LogStoreValue, IsBeside, IsStageBeside, promised_at, promised_to, IsJobInPlace, IsInStep}
 use Rattle.log_store.specs.declared.job.Job.{Job}
 use Rattle.log_store.specs.declared.job.JobStage.{JobStage}
@@ -54,7 +54,6 @@ use Rattle.log_store.specs.Jobs.{PumpsJob, StepsJob, StepsAt, StepsReady, Advanc
 use Rattle.log_store.specs.Submits.{Submits, SubmitsOwn, AnswersSubmit, anchors_behind, has_room, spent, with_queued}
 use Rattle.log_store.proofs.InStep.{queued_in_step, begun_in_step}
 use Rattle.law_log_store.proofs.Calls.{AreNamesAlone, begin-alone, abort-alone, redeem-alone, has-room}
-use Rattle.law_log_store.proofs.Submitting.{group-within}
 
 -- ---- names
 

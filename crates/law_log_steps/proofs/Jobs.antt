@@ -1,27 +1,19 @@
 -- The steps of a job, and the beginning of a floor, are the machine's.
-use Rattle.std.proofs.Common.{◌≡◌, ℕ, ◌<◌, ◌≤◌, ◌^◌, nat_le, nat_lt, Bool, true, false, cond, List, [], ◌∷◌, ◌++◌, length, Option, None, Some, is_some, Result}
+use Rattle.std.proofs.Common.{◌≡◌, ℕ, ◌≤◌, Bool, true, false, cond, List, [], ◌∷◌, Option, None, Some, Result}
 use Rattle.std.proofs.Common.{Ok, Err, refl, arith, ap, sym, subst, ◌∙◌, inl, inr}
-use Rattle.std.specs.Prelude.{IsTrue, IsSome, MatchBool, MatchOption, MatchResult, Contains}
-use Rattle.std.specs.List.{AllByRecursion}
-use Rattle.std.proofs.lemmas.Bool.Decides.{nat_tests}
-use Rattle.std.proofs.lemmas.List.Sorted.{Contains-permutation}
-use Rattle.history.specs.Floors.{Raising, covers, covered, raised}
-use Rattle.history.specs.FloorStarts as floors
-use Rattle.history.specs.FloorStarts.{in_use_below, in_use_refusal}
-use Rattle.history.specs.Histories as histories
+use Rattle.std.specs.Prelude.{IsTrue, IsSome, MatchBool, MatchOption}
+use Rattle.history.specs.Floors.{Raising, raised}
 use Rattle.history.specs.Histories.{History}
 use Rattle.history.specs.Machine.{Machine, Gate, Shut, Due, MayBeOpen, OfGroup, OfFloor, IsMachine, MayRaise}
-use Rattle.history.specs.Steps.{Event, Step, Run, FloorStarted, FloorRefused, FloorPublished, GateDue, GateWritten, Broke, gated, floor_started}
+use Rattle.history.specs.Steps.{Event, Run, FloorPublished, GateDue, GateWritten, Broke, gated}
 use Rattle.history.specs.Steps.{floor_published}
 use Rattle.history.specs.Steps as steps
-use Rattle.history.proofs.Machines.{run-machine, step-machine}
-use Rattle.history.proofs.Members.{Contains-head, Contains-tail}
+use Rattle.history.proofs.Machines.{run-machine}
 use Rattle.disk.specs.Areas.{AreSound}
 use Rattle.floors.specs.Floors.{FloorsValue, floor_at, raised_in}
 use Rattle.floors.proofs.Owns.{raised-is}
 use mathlib.Core.Path.{fun_ext}
 use Rattle.law_image.specs.Values.{Value, IsValue}
-use Rattle.snapshot.specs.OpenTable.{least_open}
 use Rattle.archive.specs.Pieces.{InWriting}
 use Rattle.group.specs.declared.answers.PumpFault.{PumpFault}
 use Rattle.group.specs.declared.answers.PumpFault.TheVariants as pump
@@ -31,12 +23,10 @@ use Rattle.log_entries.specs.Spelling.{entry_bytes}
 use Rattle.log_writer.specs.Turns.{Stage, Writing, Syncing, Opening, Settling, Done, stage_after, chain_turn}
 use Rattle.log_writer.specs.Writer.{WriterState, IsOnItsWay, with_stage}
 use Rattle.log_writer.specs.Writer as writers
-use Rattle.log_room.specs.Rooms.{has_entry_room}
 use Rattle.commits.specs.Values.{CommitsValue, with_floors}
-use Rattle.commits.specs.Calls.{oldest}
 use Rattle.log_store.specs.Values.{LogStoreValue, IsInStep, IsBeside, IsStageBeside}
 use Rattle.log_store.specs.Pumps.{with_failure}
-use Rattle.log_store.specs.Jobs.{PumpsJob, StepsJob, StepsAt, StepsReady, Enters, AdvancesEntry, AdvancesAt, Advances, BeginsEntry, at_stage, with_entry}
+use Rattle.log_store.specs.Jobs.{PumpsJob, StepsJob, StepsAt, StepsReady, AdvancesEntry, Advances, BeginsEntry, at_stage, with_entry}
 use Rattle.log_store.specs.Jobs.{after_call}
 use Rattle.log_store.specs.Jobs.{did_of, entry_of, is_entering}
 use Rattle.log_store.specs.Runs.{did_with, stage_with, WritesRun}
@@ -49,11 +39,10 @@ use Rattle.log_store.specs.declared.job.JobStage.TheVariants as stages
 use Rattle.log_store.specs.declared.job.JobWork.{JobWork}
 use Rattle.log_store.specs.declared.job.JobWork.TheVariants.{Floor}
 use Rattle.log_store.specs.declared.job.JobWork.TheVariants as kinds
-use Rattle.law_refinement.specs.Calls.{raising_to}
 use Rattle.law_refinement.specs.Laws.{job_breaks_in}
 use Rattle.law_commits.specs.Standing.{StandsInMemory}
 use Rattle.law_commits.proofs.Beside.{raises}
-use Rattle.law_log_store.specs.Standing.{StandsOnHeap, StopsBy, StopsOnHeap, floors_with}
+use Rattle.law_log_store.specs.Standing.{StandsOnHeap, StopsBy, StopsOnHeap}
 use Rattle.law_log_store.specs.Calls.{JobStepsTo, floors_by, floors_after}
 use Rattle.law_log_store.proofs.Archiving.{run-breaks}
 use Rattle.law_log_store.proofs.Jobs.{job-steps}

@@ -1,5 +1,5 @@
 -- Calls that change only which transactions are open and which commits are awaited.
-use Rattle.std.proofs.Common.{◌≡◌, ℕ, ◌≤◌, Bool, true, false, List, Result, Ok, Err, refl, arith, ap, sym, subst, ◌∙◌, inl, inr}
+use Rattle.std.proofs.Common.{◌≡◌, ℕ, Bool, true, false, List, Result, Ok, Err, refl, arith, ap, sym, subst, ◌∙◌, inl, inr}
 use Rattle.std.proofs.Common.{Option}
 use Rattle.std.specs.Prelude.{MatchBool}
 use Rattle.history.specs.Histories.{History}

@@ -6,8 +6,8 @@ use Rattle.std.proofs.Common.{refl, arith, ap, sym, subst, ◌∙◌, append-nil
 use Rattle.std.specs.Prelude.{IsTrue, MatchBool, MatchResult}
 use Rattle.std.proofs.lemmas.Bool.Decides.{nat_tests}
 use Rattle.history.specs.Histories.{History}
-use Rattle.history.specs.Machine.{Machine, Gate, Shut, Due, MayBeOpen, OfGroup, OfFloor, IsMachine}
-use Rattle.history.specs.Steps.{Event, Step, Run, GroupBegan, Published, GateDue, GateWritten, Broke, gated, grouped, group_published}
+use Rattle.history.specs.Machine.{Machine, Gate, Shut, Due, MayBeOpen, OfGroup, IsMachine}
+use Rattle.history.specs.Steps.{Event, Step, Run, GroupBegan, Broke, gated, grouped, group_published}
 use Rattle.history.specs.Steps as steps
 use Rattle.history.proofs.Machines.{run-machine}
 use Rattle.disk.specs.Areas.{AreSound}

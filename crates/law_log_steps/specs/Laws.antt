@@ -3,7 +3,7 @@ use Rattle.std.specs.Prelude.{ℕ, ◌≡◌, ◌<◌, ◌^◌, Bool, true, fals
 use Rattle.std.specs.Prelude.{if◌then◌else◌}
 use Rattle.history.specs.Fronts.{OnFront}
 use Rattle.history.specs.Histories.{History}
-use Rattle.history.specs.Machine.{Machine, Gate, Shut, Due, MayBeOpen, OfGroup, OfFloor, opened_by}
+use Rattle.history.specs.Machine.{Machine, OfGroup, OfFloor, opened_by}
 use Rattle.history.specs.Answers as answers
 use Rattle.history.specs.Floors.{Raising}
 use Rattle.history.specs.FloorStarts as floors

@@ -1,6 +1,6 @@
 -- An archive begins.
-use Rattle.std.proofs.Common.{◌≡◌, ℕ, ◌+◌, ◌-◌, ◌/◌, ◌<◌, ◌≤◌, ◌^◌, nat_le, List, [], ◌∷◌, ◌++◌, length, take, drop, Option, None, Some, refl, arith, ap, sym}
-use Rattle.std.proofs.Common.{subst, ◌∙◌, ◌⊎◌, inl, inr}
+use Rattle.std.proofs.Common.{◌≡◌, ℕ, ◌+◌, ◌-◌, ◌/◌, ◌<◌, ◌≤◌, List, [], ◌∷◌, ◌++◌, length, take, drop, Option, None, Some, refl, arith, ap, sym}
+use Rattle.std.proofs.Common.{subst, ◌⊎◌, inl, inr}
 use Rattle.std.specs.Prelude.{slice_range}
 use Rattle.history.specs.Histories.{History, last}
 use Rattle.disk.specs.declared.area.Area.TheVariants as areas
@@ -15,13 +15,10 @@ use Rattle.vacuum.specs.Archives.{unwritten}
 use Rattle.log_entries.specs.declared.entry.Archive.{Archive}
 use Rattle.log_roots.specs.Roots.{root_of}
 use Rattle.log_room.specs.Contents.{extents_of}
-use Rattle.log_room.specs.Rooms.{RoomValue}
 use Rattle.log_writer.specs.Writer.{WriterState}
 use Rattle.log_store.specs.Archives.{archive_as, records_to, run_to, with_archive, BeginsArchive}
 use Rattle.log_store.specs.Values.{LogStoreValue, IsInStep, promised_to}
 use Rattle.log_store.specs.declared.job.Job.{Job}
-use Rattle.log_store.specs.declared.job.JobStage.TheVariants.{Writing}
-use Rattle.log_store.specs.declared.job.JobWork.TheVariants as works
 use Rattle.law_log_layout.specs.HeapLog.{HeapLog}
 use Rattle.law_log_store.specs.Calls.{HoldsUnarchived, HasRoomFor}
 use Rattle.law_log_store.specs.Standing.{StandsOnHeap, HasTurn, HasJob, IsAtRest, IsRoomOf, IsNextArchive, IsWritten, LeavesOne, TakesLast}

@@ -1,7 +1,7 @@
 -- The run of an archive is written, call by call, beside whatever group is in the writing.
-use Rattle.std.proofs.Common.{◌≡◌, ℕ, ◌+◌, ◌*◌, ◌<◌, ◌≤◌, Bool, true, false, IsTrue, List, [], ◌∷◌, ◌++◌, length, map, take, drop, Option, None, Some, Result}
+use Rattle.std.proofs.Common.{◌≡◌, ℕ, ◌+◌, ◌*◌, ◌≤◌, Bool, true, false, IsTrue, List, [], ◌∷◌, ◌++◌, length, take, drop, Option, None, Some, Result}
 use Rattle.std.proofs.Common.{Ok, Err, refl, arith, ap, sym, subst, ◌∙◌, ◌⊎◌, inl, inr, length-append, append_assoc, append-nil, take-append-drop}
-use Rattle.std.specs.Prelude.{flat_map, MatchBool, MatchResult}
+use Rattle.std.specs.Prelude.{flat_map, MatchResult}
 use Rattle.std.specs.List.{AllByRecursion}
 use Rattle.history.specs.Histories.{History, last}
 use Rattle.disk.specs.Areas.{AreaState, Areas, Image, AreSound, IsSound, LeavesImage, loosened, synced, written}

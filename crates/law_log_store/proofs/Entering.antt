@@ -1,8 +1,7 @@
 -- A job's entry: it begins, and goes its way to the disk, call by call.
-use Rattle.std.proofs.Common.{◌≡◌, ℕ, ◌+◌, ◌-◌, ◌*◌, ◌/◌, ◌<◌, ◌≤◌, ◌^◌, Bool, true, false, cond, nat_lt, nat_le, List, [], ◌∷◌, ◌++◌, length, map, take}
+use Rattle.std.proofs.Common.{◌≡◌, ℕ, ◌+◌, ◌-◌, ◌*◌, ◌/◌, ◌<◌, ◌≤◌, Bool, true, false, cond, nat_lt, List, [], ◌∷◌, ◌++◌, length, take}
 use Rattle.std.proofs.Common.{Option, None, Some, Result, Ok, Err, refl, arith, ap, sym, subst, ◌∙◌, ◌⊎◌, inl, inr}
-use Rattle.std.specs.Prelude.{flat_map, IsTrue, MatchBool, MatchResult}
-use Rattle.std.proofs.lemmas.Bool.Decides.{nat_tests}
+use Rattle.std.specs.Prelude.{flat_map, IsTrue, MatchResult}
 use Rattle.history.specs.Histories.{History, last}
 use Rattle.history.proofs.Filters.{AllByRecursion-append}
 use Rattle.history.proofs.Orders.{not_lt}
@@ -27,32 +26,28 @@ use Rattle.log_entries.specs.Lengths.{length-archive, length-floor}
 use Rattle.log_entries.specs.Ranges.{IsEntry}
 use Rattle.log_entries.specs.Spelling.{entry_bytes}
 use Rattle.log_roots.specs.Roots.{root_of}
-use Rattle.log_writer.specs.Turns.{open_gate, written_parts, Turn, Stage, Writing, Syncing, Opening, Settling, Done, IsCallOf, stage_after, chain_turn}
+use Rattle.log_writer.specs.Turns.{Turn, Stage, Writing, Syncing, Opening, Settling, Done, IsCallOf, stage_after, chain_turn}
 use Rattle.log_writer.specs.Writer.{WriterState, turn, with_stage}
 use Rattle.log_writer.specs.Writer as writers
-use Rattle.log_room.specs.Rooms.{RoomValue, has_entry_room}
-use Rattle.commits.specs.Values.{CommitsValue}
-use Rattle.log_store.specs.Values.{LogStoreValue, IsInStep, IsStageBeside, IsBeside}
-use Rattle.log_store.specs.Values as stores
+use Rattle.log_room.specs.Rooms.{RoomValue}
+use Rattle.log_store.specs.Values.{LogStoreValue, IsInStep}
 use Rattle.log_store.specs.Jobs.{Advances, BeginsEntry, at_stage, with_entry, after_call}
 use Rattle.log_store.specs.Jobs.{entry_of, did_of, named_with, with_work}
 use Rattle.log_store.specs.Runs.{disk_answer}
 use Rattle.log_store.specs.declared.job.Job.{Job}
 use Rattle.log_store.specs.declared.job.JobDid.{JobDid}
-use Rattle.log_store.specs.declared.job.JobDid.TheVariants as did
-use Rattle.log_store.specs.declared.job.JobStage.{JobStage}
-use Rattle.log_store.specs.declared.job.JobStage.TheVariants.{Ready, Entering}
+use Rattle.log_store.specs.declared.job.JobStage.TheVariants.{Entering}
 use Rattle.log_store.specs.declared.job.JobWork.{JobWork}
 use Rattle.log_store.specs.declared.job.JobWork.TheVariants.{Floor}
 use Rattle.log_store.specs.declared.job.JobWork.TheVariants as works
 use Rattle.law_log_layout.specs.HeapLog.{HeapLog, PlacedChain, heap_parts, AreAnchorsAt, KeepsShares, IsBaseSmall, counted_of, MayJoin, with_chain, turn_of}
 use Rattle.law_log_layout.specs.HeapLog.{HeapStandsFor}
-use Rattle.law_log_layout.specs.Laws.{KeepsArchive, KeepsLog, IsEntryWay}
-use Rattle.law_log_layout.specs.Turns.{IsAt, MayBe, MayBecome}
-use Rattle.law_log_store.specs.Standing.{StandsOnHeap, HasTurn, HasJob, HasStage, IsAtRest, IsEntering, IsRoomOf, HasAnchors, KeepsRoots, IsImageOf}
+use Rattle.law_log_layout.specs.Laws.{KeepsArchive}
+use Rattle.law_log_layout.specs.Turns.{IsAt, MayBecome}
+use Rattle.law_log_store.specs.Standing.{StandsOnHeap, HasTurn, IsAtRest, IsEntering, IsRoomOf, HasAnchors, KeepsRoots, IsImageOf}
 use Rattle.law_log_store.specs.Standing.{HasCommits, MayStand, MayStandBy, MayEnter, placed_entry, log_with, floors_with, reading_with, HasWritten, IsNamedBy}
 use Rattle.law_log_store.specs.Standing.{LeavesOne, TakesLast, IsUpTo}
-use Rattle.law_log_store.specs.Calls.{HasFailed, HasEntered, IsFront, floors_after, JobStepsTo}
+use Rattle.law_log_store.specs.Calls.{HasFailed, floors_after}
 use Rattle.law_log_store.proofs.Flags.{IsTaken}
 use Rattle.law_log_store.proofs.Beginning.{room-is, taken, spare-then, leaves-then, one-or-none}
 use Rattle.law_log_store.proofs.Going.{entered, entry-way-at, entry-way, entry-turn, runs-kept, same-archive, same-status, status-left, map-within}

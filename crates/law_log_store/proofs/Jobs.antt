@@ -1,5 +1,5 @@
 -- The steps of a store's jobs, and the beginning of a floor.
-use Rattle.std.proofs.Common.{◌≡◌, ℕ, ◌+◌, ◌*◌, ◌-◌, ◌/◌, ◌<◌, ◌≤◌, ◌^◌, nat_le, Bool, true, false, List, [], length, Option, None, Some, Result, Ok, Err, refl}
+use Rattle.std.proofs.Common.{◌≡◌, ℕ, ◌+◌, ◌-◌, ◌/◌, ◌<◌, ◌≤◌, ◌^◌, nat_le, Bool, true, false, List, length, Option, None, Some, Result, Ok, Err, refl}
 use Rattle.std.proofs.Common.{arith}
 use Rattle.std.proofs.Common.{ap, sym, subst, ◌∙◌, ◌⊎◌, inl, inr}
 use Rattle.std.specs.Prelude.{IsTrue, MatchBool, MatchResult}
@@ -12,10 +12,8 @@ use Rattle.law_image.specs.Values.{Value}
 use Rattle.law_image.specs.Reading.{ArchiveRecord}
 use Rattle.group.specs.declared.answers.PumpFault.{PumpFault}
 use Rattle.group.specs.declared.answers.PumpFault.TheVariants as fault
-use Rattle.log_writer.specs.Turns.{Stage}
 use Rattle.log_writer.specs.Writer.{WriterState}
 use Rattle.log_room.specs.Rooms.{has_entry_room}
-use Rattle.log_room.specs.Contents.{extents_of}
 use Rattle.log_store.specs.Values.{LogStoreValue, IsInStep, IsBeside, IsStageBeside, promised_at, promised_to}
 use Rattle.log_store.specs.Jobs.{PumpsJob, StepsJob, StepsAt, StepsReady, AdvancesEntry, Advances, BeginsEntry, at_stage, is_entering, with_floor}
 use Rattle.log_store.specs.Runs.{disk_answer}

@@ -1,47 +1,36 @@
 -- A store that is opened stands for what it is opened on.
-use Rattle.std.proofs.Common.{◌≡◌, ℕ, ◌+◌, ◌*◌, ◌/◌, ◌<◌, ◌≤◌, ◌-◌, Bool, true, false, List, [], ◌∷◌, ◌++◌, length, map, take, drop, replicate, ◌≢◌}
+use Rattle.std.proofs.Common.{◌≡◌, ℕ, ◌+◌, ◌*◌, ◌/◌, ◌≤◌, ◌-◌, Bool, true, false, List, [], ◌∷◌, ◌++◌, length, take, drop, replicate, ◌≢◌}
 use Rattle.std.proofs.Common.{Option, inl, refl, arith, ap, sym, subst, ◌∙◌, length-append}
 use Rattle.std.specs.Prelude.{flat_map}
 use Rattle.std.specs.List.{AllByRecursion}
 use Rattle.std.proofs.lemmas.List.{length-replicate}
-use Rattle.std.proofs.lemmas.List.Concat.{flat_map-cons}
-use Rattle.history.specs.declared.key.Key.{Key}
 use Rattle.history.specs.Histories.{History}
-use Rattle.history.specs.Queries.{values_after}
 use Rattle.history.proofs.Filters.{AllByRecursion-append}
 use Rattle.disk.specs.Areas.{Areas, Image, AreSound, settled_on, settled_area}
 use Rattle.disk.specs.Parts.{HoldsPart, KeepsPart}
 use Rattle.disk.proofs.Parts.{synced_part}
 use Rattle.law_image.specs.Values.{Value}
-use Rattle.law_image.specs.Reading.{Member, Reading, Slot, Archived}
-use Rattle.law_image.specs.Reading as slots
-use Rattle.law_image.specs.HeapPlans.{marks_of, first_runs}
-use Rattle.law_image.specs.Facts.{commit_read, values_at_mark}
-use Rattle.law_image.specs.Log.{last_time_after, is_in_heap}
+use Rattle.law_image.specs.Reading.{Reading}
+use Rattle.law_image.specs.Facts.{values_at_mark}
+use Rattle.law_image.specs.Log.{is_in_heap}
 use Rattle.law_image.specs.StandsFor.{StandsFor, IsHeapLog, reclaimed_upto}
 use Rattle.law_image.proofs.Forms.{in-heap}
 use Rattle.law_image.proofs.Recent.{latest-is}
-use Rattle.law_log.specs.Chains.{LogChain, OfBase, OfGroup, OfRun, OfFloor, IsNoBase, MayFollow, MayAllFollow, told_behind, base_slots, commits_in}
-use Rattle.law_log.specs.Chains as logs
 use Rattle.law_layout.specs.Runs.{StoredRun, HoldsRun, run_bytes}
 use Rattle.deltas.specs.Extents.{extent_start}
 use Rattle.log_extents.specs.Chains.{count_of, IsNumberOf, IsNew}
-use Rattle.log_entries.specs.declared.entry.Entry.{Entry}
-use Rattle.log_entries.specs.declared.entry.Entry.TheVariants.{Group, Archived as ArchivedEntry, Floor}
-use Rattle.log_entries.specs.declared.entry.Entry.TheVariants as entries
-use Rattle.log_entries.specs.Spelling.{entry_bytes}
 use Rattle.log_space.specs.Uses.{IsFree, with_use, all_used, used_count}
 use Rattle.log_space.proofs.Uses.{others_are_free, used_are_counted, used_in_turn}
 use Rattle.log_writer.specs.Writer.{WriterState}
 use Rattle.log_recovery.specs.Opening.{ReadsRoots}
 use Rattle.log_roots.specs.Roots.{root_of}
-use Rattle.law_log_layout.specs.HeapLog.{PlacedChain, PlacedRoll, HeapLog, heap_parts, name_bytes, HoldsRoll, IsPlaced, chain_told, chains_told}
-use Rattle.law_log_layout.specs.HeapLog.{counted_of, IsBaseSmall, IsLogOf, HoldsLog}
+use Rattle.law_log_layout.specs.HeapLog.{PlacedRoll, HeapLog, heap_parts, name_bytes, HoldsRoll}
+use Rattle.law_log_layout.specs.HeapLog.{IsLogOf, HoldsLog}
 use Rattle.law_log_layout.specs.Laws.{KeepsArchive, KeepsLog}
 use Rattle.law_log_layout.specs.Turns.{IsClosed, KeepsClosed}
 use Rattle.law_log_layout.proofs.Parts.{all-synced}
 use Rattle.law_log_layout.proofs.Places.{AreNew, ArePart, new-front, new-back, distinct-parts}
-use Rattle.law_log_sizes.specs.Sizes.{anchors_len, len_after, len_from, lens_behind, sizes, size_now}
+use Rattle.law_log_sizes.specs.Sizes.{anchors_len, sizes, size_now}
 use Rattle.law_log_sizes.proofs.Orders.{standing-ordered}
 use Rattle.law_log_sizes.proofs.Told.{bounds-same}
 use Rattle.log_room.specs.Rooms.{RoomValue}

@@ -1,10 +1,10 @@
 -- A store that was opened on an image which stands for a history stands for it.
-use Rattle.std.proofs.Common.{◌≡◌, ℕ, ◌+◌, ◌^◌, ◌<◌, ◌≤◌, max, Bool, true, false, List, [], ◌++◌, length, take, refl, arith, ap, sym, subst, ◌∙◌, replicate}
-use Rattle.std.specs.Prelude.{IsTrue, flat_map}
+use Rattle.std.proofs.Common.{◌≡◌, ℕ, ◌+◌, ◌^◌, ◌<◌, ◌≤◌, max, Bool, true, List, [], ◌++◌, length, take, refl, arith, ap, sym, subst, ◌∙◌}
+use Rattle.std.specs.Prelude.{IsTrue}
 use Rattle.history.specs.declared.key.Key.{Key}
 use Rattle.history.specs.declared.time.TimedWrite.{TimedWrite}
 use Rattle.history.specs.Histories.{History, writes_of}
-use Rattle.disk.specs.Areas.{Areas, Image, AreSound, image_of, settled_on}
+use Rattle.disk.specs.Areas.{Areas, AreSound, image_of, settled_on}
 use Rattle.disk.specs.Calls.{DiskState}
 use Rattle.disk.specs.declared.area.Area.TheVariants.{Status, Heap, Archive}
 use Rattle.law_image.specs.Values.{Value}
@@ -36,7 +36,6 @@ use Rattle.law_log_opening.proofs.Named.{alike-from, alike-mark, alike-none, mar
 use Rattle.law_log_opening.proofs.Once.{anchors-once}
 use Rattle.law_log_opening.proofs.Opens.{stands-opens}
 use Rattle.law_log_opening.proofs.Sound.{sound}
-use Rattle.log_room.specs.Rooms.{RoomValue}
 use Rattle.log_store.specs.Values.{LogStoreValue}
 use Rattle.log_store.specs.Named.{NamedValue}
 use Rattle.log_store.specs.Opens.{Opens, OpenRefuses, named_on}

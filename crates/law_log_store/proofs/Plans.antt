@@ -28,7 +28,7 @@ use Rattle.law_image.proofs.Standing.{facts-rise}
 use Rattle.law_layout.specs.Records.{IsArchiveRecord}
 use Rattle.law_refinement.proofs.Ranges.{versions-in-range, writes-in-range}
 use Rattle.chains.specs.KeyWrites as chains
-use Rattle.vacuum.specs.Archives.{since_of, records_of}
+use Rattle.vacuum.specs.Archives.{since_of}
 use Rattle.log_store.specs.Archives.{since_now, records_to}
 use Rattle.log_store.specs.Values.{LogStoreValue}
 use Rattle.law_log_store.specs.Calls.{HoldsUnarchived}

@@ -1,10 +1,9 @@
 -- The entry of a job begins.
-use Rattle.std.proofs.Common.{◌≡◌, ℕ, ◌<◌, ◌≤◌, List, length, Option, None, Some, refl, arith, sym, ap, subst, ◌∙◌, MatchOption}
+use Rattle.std.proofs.Common.{◌≡◌, ℕ, List, Option, Some, refl, sym, ap, subst, ◌∙◌, MatchOption}
 use Rattle.floors.specs.Floors.{FloorsValue}
 use Rattle.log_entries.specs.declared.entry.Archive.{Archive}
 use Rattle.log_entries.specs.declared.entry.RelationFloor.{RelationFloor}
 use Rattle.log_entries.specs.Spelling.{entry_bytes, archive_bytes, floor_bytes}
-use Rattle.log_extents.specs.Chains.{count_of}
 use Rattle.log_room.specs.Rooms.{RoomValue, TakesChain}
 use Rattle.log_writer.specs.Writer.{WriterState}
 use Rattle.log_store.specs.Values.{LogStoreValue}

@@ -1,5 +1,5 @@
 -- The beginning of a job, and its steps to the disk.
-use Rattle.std.specs.Prelude.{ℕ, ◌≡◌, ◌⊎◌, ◌+◌, ◌-◌, ◌/◌, ◌<◌, ◌^◌, nat_le, nat_lt, ◌&&◌, ◌||◌, Bool, true, false, IsTrue, [], is_some, Option, Some, None}
+use Rattle.std.specs.Prelude.{ℕ, ◌≡◌, ◌⊎◌, ◌<◌, ◌^◌, nat_le, nat_lt, ◌&&◌, ◌||◌, Bool, true, false, IsTrue, [], is_some, Option, Some, None}
 use Rattle.std.specs.Prelude.{Result, Ok, Err, MatchBool, MatchOption, MatchResult, List, length, if◌then◌else◌}
 use Rattle.disk.specs.Areas.{Areas}
 use Rattle.disk.specs.Calls.{Counts}
