@@ -1,4 +1,4 @@
--- The first version that ends after a time, among the writes on both sides of a piece.
+-- The first version that ends after a time, among the writes on both sides of a chunk.
 use Rattle.std.proofs.Common.{◌≡◌, ℕ, ◌<◌, ◌≤◌, false, List, [], ◌∷◌, ◌++◌, length, Option, None, Some, refl, ap, ◌∙◌, arith}
 use Rattle.std.specs.Prelude.{find, nat_lt}
 use Rattle.history.specs.declared.time.Version.{Version}
@@ -38,8 +38,8 @@ find_recent t xs ys e =
     ap (λ (vs : List (Version Value)). find (ends_after t) vs) (versions-parts xs ys)
     ∙ find-past (ends_after t) (versions_upto (first_time ys) xs) (versions ys) e
 
--- none of those before a piece that begins by the time
-pub none-piece : (t : ℕ) (xs ps ys : List Write) → 0 < length ps → first_time ps ≤ t → IsRisingAfter 0 (xs ++ (ps ++ ys))
+-- none of those before a chunk that begins by the time
+pub none-chunk : (t : ℕ) (xs ps ys : List Write) → 0 < length ps → first_time ps ≤ t → IsRisingAfter 0 (xs ++ (ps ++ ys))
     → find (ends_after t) (versions_upto (first_time ps) xs) ≡ None
-none-piece t xs [] ys some h up = absurd (omega arith)
-none-piece t xs (p ∷ ps) ys some h up = none-before t 0 xs p (ps ++ ys) up h
+none-chunk t xs [] ys some h up = absurd (omega arith)
+none-chunk t xs (p ∷ ps) ys some h up = none-before t 0 xs p (ps ++ ys) up h

@@ -1,4 +1,4 @@
--- Versions that lie together: those of the writes on one side of a piece among all.
+-- Versions that lie together: those of the writes on one side of a chunk among all.
 use Rattle.std.proofs.Common.{◌≡◌, ℕ, ◌<◌, drop, List, [], ◌∷◌, ◌++◌, length, Option, None, Some, Result, IfOk, refl, ap, sym, subst, ◌∙◌, arith, append_assoc}
 use Rattle.std.proofs.Common.{append-nil, take, ◌-◌}
 use Rattle.std.specs.Prelude.{find}

@@ -29,8 +29,8 @@ last-is bs b some is = ap last_of (last-of bs b some is) ∙ last-put (before bs
 
 -- ---- branches of older writes
 
-pub branch-of-some : (older : Shape Write) → 0 < length older.pieces → branches_of older older.pieces ≡ as_branch older ∷ []
-branch-of-some older some = by older.pieces some
+pub branch-of-some : (older : Shape Write) → 0 < length older.chunks → branches_of older older.chunks ≡ as_branch older ∷ []
+branch-of-some older some = by older.chunks some
   where
     by : (ws : List Write) → 0 < length ws → branches_of older ws ≡ as_branch older ∷ []
     by [] none = absurd (omega (arith, none))
@@ -65,11 +65,11 @@ module _ {self : Shape Write} {bs : List (Shape Write)} (fork : IsFork self bs) 
       ∙ full-fork n b.together (length bs) b.forks full
 
   -- some writes of the last are writes of all
-  pub some-writes : 0 < length b.pieces → 0 < length self.pieces
+  pub some-writes : 0 < length b.chunks → 0 < length self.chunks
   some-writes long =
-      let whole : length self.pieces ≡ length (all_of (before bs) ++ (b.pieces ++ [])) =
+      let whole : length self.chunks ≡ length (all_of (before bs) ++ (b.chunks ++ [])) =
       ap (λ (ws : List Write). length ws) (sym fork.writes ∙ ap all_of (last-of bs b some is) ∙ all_of-append (before bs) (b ∷ [])) in
-      omega (arith, whole, length-append (all_of (before bs)) (b.pieces ++ []), length-append b.pieces [], long)
+      omega (arith, whole, length-append (all_of (before bs)) (b.chunks ++ []), length-append b.chunks [], long)
 
   module _ (n : ℕ) (w : Shape Write) (below : b ≡ as_branch w) where
     forks-below : self.forks ≡ length bs ∷ w.forks
@@ -166,9 +166,9 @@ if-true : (b : Bool) (P Q : Type 0) → b ≡ true → P → MatchBool b P Q
 if-true true P Q e p = p
 if-true false P Q e p = absurd cc
 
-pub longer-higher : (n : ℕ) (old alone new : Shape Write) (bs : List (Shape Write)) → has_room n old.together old.forks ≡ false → 0 < length old.pieces
-    → 0 < length alone.pieces
-    → bs ≡ branches_of old old.pieces ++ branches_of alone alone.pieces
+pub longer-higher : (n : ℕ) (old alone new : Shape Write) (bs : List (Shape Write)) → has_room n old.together old.forks ≡ false → 0 < length old.chunks
+    → 0 < length alone.chunks
+    → bs ≡ branches_of old old.chunks ++ branches_of alone alone.chunks
     → IsAlone n old alone
     → (0 < length bs → IsForkOf bs new)
     → IsLonger n old new
@@ -186,10 +186,10 @@ pub longer-first : (ws : List Write) (old new : Shape Write) → old ≡ leaf []
 longer-first ws old new none is = rw (none, is) (record { forks = refl; together = omega arith; height = omega arith })
 
 -- what was put before branches is no higher than they, or than it was
-pub first-low : (first : Shape Write) (behind bs : List (Shape Write)) (new : Shape Write) → bs ≡ branches_of first first.pieces ++ behind → IsForkOf bs new
+pub first-low : (first : Shape Write) (behind bs : List (Shape Write)) (new : Shape Write) → bs ≡ branches_of first first.chunks ++ behind → IsForkOf bs new
     → new.height ≤ max (first.height + 1) (highest behind) + 1
 first-low first behind bs new are shape =
-    let same : highest bs ≡ highest (branches_of first first.pieces ++ behind) = ap highest are in omega (arith, shape.height, same, by first.pieces)
+    let same : highest bs ≡ highest (branches_of first first.chunks ++ behind) = ap highest are in omega (arith, shape.height, same, by first.chunks)
   where
     by : (ws : List Write) → highest (branches_of first ws ++ behind) ≤ max (first.height + 1) (highest behind)
     by [] = omega arith

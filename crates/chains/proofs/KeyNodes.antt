@@ -17,7 +17,7 @@ use Rattle.chains.specs.Shapes.{Shape, all_of, highest}
 use Rattle.chains.proofs.Bounds.{find-past, out-below}
 use Rattle.chains.proofs.Order.{above-back, forgotten-two, ordered-back, lt-other}
 use Rattle.chains.proofs.Relations.{other-part, relation-above, relation-append, relation-below}
-use Rattle.chains.proofs.Shapes.{all_of-append, highest-append, at_low, behind, pieces_are, first_low}
+use Rattle.chains.proofs.Shapes.{all_of-append, highest-append, at_low, behind, chunks_are, first_low}
 use Rattle.chains.proofs.Walks.{in-later}
 
 -- ---- the nodes from the last one on that begins without the bound
@@ -36,14 +36,14 @@ within-back bound (c ∷ cs) qs within = within-back bound cs qs within.1
 
 within-nodes : (bound : Bound) (ns : List (Shape KeyWrites)) → FirstWithin bound ns → IsOrdered (all_of ns) → AreWithin bound (all_of ns)
 within-nodes bound [] first o = tt
-within-nodes bound (n ∷ ns) first o = within-all bound n.pieces (all_of ns) first o
+within-nodes bound (n ∷ ns) first o = within-all bound n.chunks (all_of ns) first o
 
 within-drop : (bound : Bound) (k : ℕ) (ns : List (Shape KeyWrites)) → FirstWithin bound (drop (suc k) ns) → IsOrdered (all_of ns)
     → AreWithinBehind bound (drop k ns)
 within-drop bound zero [] first o = tt
 within-drop bound (suc k) [] first o = tt
-within-drop bound zero (n ∷ ns) first o = within-nodes bound ns first (ordered-back n.pieces (all_of ns) o)
-within-drop bound (suc k) (n ∷ ns) first o = within-drop bound k ns first (ordered-back n.pieces (all_of ns) o)
+within-drop bound zero (n ∷ ns) first o = within-nodes bound ns first (ordered-back n.chunks (all_of ns) o)
+within-drop bound (suc k) (n ∷ ns) first o = within-drop bound k ns first (ordered-back n.chunks (all_of ns) o)
 
 behind-any : (bound : Bound) (front rest : List (Shape KeyWrites)) → FirstWithout bound rest → WithoutBehind bound front rest
 behind-any bound [] rest without = tt
@@ -52,7 +52,7 @@ behind-any bound (n ∷ ns) rest without = without
 from-all : (bound : Bound) (ns : List (Shape KeyWrites)) → FirstWithin bound ns → IsOrdered (all_of ns) → IsFromBound bound ns ns
 from-all bound [] first o = record { front = []; parts = refl; begun = tt; later = tt }
 from-all bound (n ∷ ns) first o =
-    record { front = []; parts = refl; begun = tt; later = within-back bound n.pieces (all_of ns) (within-nodes bound (n ∷ ns) first o) }
+    record { front = []; parts = refl; begun = tt; later = within-back bound n.chunks (all_of ns) (within-nodes bound (n ∷ ns) first o) }
 
 from-without : (bound : Bound) (k : ℕ) (ns : List (Shape KeyWrites)) → FirstWithout bound (drop k ns) → FirstWithin bound (drop (suc k) ns)
     → IsOrdered (all_of ns) → IsFromBound bound ns (drop k ns)
@@ -139,7 +139,7 @@ module _ {bound : Bound} {all rest : List (Shape KeyWrites)} (from : IsFromBound
           → find (λ (c : KeyWrites). is_in bound c.key) (all_of front) ≡ None
       none [] rest begun o = refl
       none (f ∷ fs) [] begun o = absurd (omega (arith, begun))
-      none (f ∷ fs) (n ∷ ns) begun o = least-front bound (all_of (f ∷ fs)) n.pieces (all_of ns) begun o
+      none (f ∷ fs) (n ∷ ns) begun o = least-front bound (all_of (f ∷ fs)) n.chunks (all_of ns) begun o
 
 pub relation_from : {X : Type 0} {relation : ℕ} {all rest : List (Shape KeyWrites)} (shown : KeyWrites
     → List X) (from : IsFromBound (From (record { relation = relation; «record» = 0 })) all rest) → IsOrdered (all_of all)
@@ -153,19 +153,19 @@ relation_from {X} {relation} {all} {rest} shown from o =
         → IsOrdered (all_of front ++ all_of rest) → of_relation relation shown (all_of front) ≡ []
     none [] rest begun o = refl
     none (f ∷ fs) [] begun o = absurd (omega (arith, begun))
-    none (f ∷ fs) (n ∷ ns) begun o = relation-front relation shown (all_of (f ∷ fs)) n.pieces (all_of ns) begun o
+    none (f ∷ fs) (n ∷ ns) begun o = relation-front relation shown (all_of (f ∷ fs)) n.chunks (all_of ns) begun o
 
 pub key_from : {key : Key} {all : List (Shape KeyWrites)} {n : Shape KeyWrites} {ns : List (Shape KeyWrites)} (from : IsFromBound (After key) all (n ∷ ns))
-    → IsOrdered (all_of all) → find (is_of key) (all_of all) ≡ find (is_of key) n.pieces
+    → IsOrdered (all_of all) → find (is_of key) (all_of all) ≡ find (is_of key) n.chunks
 key_from {key} {all} {n} {ns} from o =
     ap (λ (m : List KeyWrites). find (is_of key) m) (parted from)
-    ∙ find-past (is_of key) (all_of from.front) (n.pieces ++ all_of ns) (none from.front from.begun (rw (parted from) at o))
-    ∙ find-front (is_of key) n.pieces (all_of ns) (none-later key (all_of ns) from.later)
+    ∙ find-past (is_of key) (all_of from.front) (n.chunks ++ all_of ns) (none from.front from.begun (rw (parted from) at o))
+    ∙ find-front (is_of key) n.chunks (all_of ns) (none-later key (all_of ns) from.later)
   where
-    none : (front : List (Shape KeyWrites)) → WithoutBehind (After key) front (n ∷ ns) → IsOrdered (all_of front ++ (n.pieces ++ all_of ns))
+    none : (front : List (Shape KeyWrites)) → WithoutBehind (After key) front (n ∷ ns) → IsOrdered (all_of front ++ (n.chunks ++ all_of ns))
         → find (is_of key) (all_of front) ≡ None
     none [] begun o = refl
-    none (f ∷ fs) begun o = key-front key (all_of (f ∷ fs)) n.pieces (all_of ns) begun o
+    none (f ∷ fs) begun o = key-front key (all_of (f ∷ fs)) n.chunks (all_of ns) begun o
 
 -- ---- of a fork
 
@@ -177,7 +177,7 @@ module _ {self : Shape KeyWrites} {ns : List (Shape KeyWrites)} (fork : IsKeyFor
   pub rest_ordered : IsOrdered (all_of rest)
   rest_ordered = ordered_from from fork.ordered
 
-  pub rest_least : find (λ (c : KeyWrites). is_in bound c.key) (all_of rest) ≡ find (λ (c : KeyWrites). is_in bound c.key) self.pieces
+  pub rest_least : find (λ (c : KeyWrites). is_in bound c.key) (all_of rest) ≡ find (λ (c : KeyWrites). is_in bound c.key) self.chunks
   rest_least = least_from from fork.ordered ∙ ap (λ (m : List KeyWrites). find (λ (c : KeyWrites). is_in bound c.key) m) fork.chains
 
   pub lower : {n : Shape KeyWrites} → 1 ≤ length rest → n ≡ get_or rest 0 n → n.height < self.height
@@ -185,7 +185,7 @@ module _ {self : Shape KeyWrites} {ns : List (Shape KeyWrites)} (fork : IsKeyFor
 
 module _ {self : Shape KeyWrites} {ns : List (Shape KeyWrites)} (fork : IsKeyFork self ns) (key : Key) (k : ℕ) (first : FirstWithin (After key) (drop k ns))
   where
-    pub none_without : k ≡ 0 → find (is_of key) self.pieces ≡ None
+    pub none_without : k ≡ 0 → find (is_of key) self.chunks ≡ None
     none_without none =
         ap (λ (m : List KeyWrites). find (is_of key) m) (sym fork.chains)
         ∙ none-later key (all_of ns) (within-nodes (After key) ns (subst (λ (i : ℕ). FirstWithin (After key) (drop i ns)) none first) fork.ordered)
@@ -194,7 +194,7 @@ module _ {self : Shape KeyWrites} {ns : List (Shape KeyWrites)} (fork : IsKeyFor
       pub node_lower : n.height < self.height
       node_lower = omega (arith, fork.height, at_low ns (k - 1) n (omega (arith, some, within)) is)
 
-      pub node_key : (0 < k → FirstWithout (After key) (drop (k - 1) ns)) → find (is_of key) self.pieces ≡ find (is_of key) n.pieces
+      pub node_key : (0 < k → FirstWithout (After key) (drop (k - 1) ns)) → find (is_of key) self.chunks ≡ find (is_of key) n.chunks
       node_key without =
           ap (λ (m : List KeyWrites). find (is_of key) m) (sym fork.chains)
           ∙ key_from (from-number (After key) k ns n some within is without first fork.ordered) fork.ordered
@@ -202,31 +202,31 @@ module _ {self : Shape KeyWrites} {ns : List (Shape KeyWrites)} (fork : IsKeyFor
 pub fork_relation : {X : Type 0} {self : Shape KeyWrites} {ns : List (Shape KeyWrites)} (fork : IsKeyFork self ns) {relation : ℕ}
     {rest : List (Shape KeyWrites)} (shown : KeyWrites → List X)
     → IsFromBound (From (record { relation = relation; «record» = 0 })) ns rest → of_relation relation shown (all_of rest)
-    ≡ of_relation relation shown self.pieces
+    ≡ of_relation relation shown self.chunks
 fork_relation fork {relation} shown from = relation_from shown from fork.ordered ∙ ap (λ (m : List KeyWrites). of_relation relation shown m) fork.chains
 
 -- ---- the first of some nodes and those behind it
 
 module _ (rest : List (Shape KeyWrites)) {n : Shape KeyWrites} (some : 1 ≤ length rest) (is : n ≡ get_or rest 0 n) where
-  pub relation_first : {X : Type 0} (relation : ℕ) (shown : KeyWrites → List X) → of_relation relation shown (all_of rest) ≡ of_relation relation shown n.pieces
+  pub relation_first : {X : Type 0} (relation : ℕ) (shown : KeyWrites → List X) → of_relation relation shown (all_of rest) ≡ of_relation relation shown n.chunks
       ++ of_relation relation shown (all_of (behind rest))
   relation_first relation shown =
-      ap (λ (m : List KeyWrites). of_relation relation shown m) (pieces_are rest some is) ∙ relation-append relation shown n.pieces (all_of (behind rest))
+      ap (λ (m : List KeyWrites). of_relation relation shown m) (chunks_are rest some is) ∙ relation-append relation shown n.chunks (all_of (behind rest))
 
-  pub kept_first : (mark : ℕ) → forgotten mark (all_of rest) ≡ forgotten mark n.pieces ++ forgotten mark (all_of (behind rest))
-  kept_first mark = ap (λ (m : List KeyWrites). forgotten mark m) (pieces_are rest some is) ∙ forgotten-two mark n.pieces (all_of (behind rest))
+  pub kept_first : (mark : ℕ) → forgotten mark (all_of rest) ≡ forgotten mark n.chunks ++ forgotten mark (all_of (behind rest))
+  kept_first mark = ap (λ (m : List KeyWrites). forgotten mark m) (chunks_are rest some is) ∙ forgotten-two mark n.chunks (all_of (behind rest))
 
-  pub same_first : (mark : ℕ) → forgotten mark n.pieces ≡ n.pieces → forgotten mark (all_of (behind rest)) ≡ all_of (behind rest) → forgotten mark (all_of rest)
+  pub same_first : (mark : ℕ) → forgotten mark n.chunks ≡ n.chunks → forgotten mark (all_of (behind rest)) ≡ all_of (behind rest) → forgotten mark (all_of rest)
       ≡ all_of rest
-  same_first mark e f = kept_first mark ∙ (λ i. e i ++ f i) ∙ sym (pieces_are rest some is)
+  same_first mark e f = kept_first mark ∙ (λ i. e i ++ f i) ∙ sym (chunks_are rest some is)
 
   pub behind_ordered : IsOrdered (all_of rest) → IsOrdered (all_of (behind rest))
-  behind_ordered o = ordered-back n.pieces (all_of (behind rest)) (rw (pieces_are rest some is) at o)
+  behind_ordered o = ordered-back n.chunks (all_of (behind rest)) (rw (chunks_are rest some is) at o)
 
-  pub relation_late : {X : Type 0} (relation : ℕ) (shown : KeyWrites → List X) (first : Key) → BeginAt first n.pieces → relation < first.relation
+  pub relation_late : {X : Type 0} (relation : ℕ) (shown : KeyWrites → List X) (first : Key) → BeginAt first n.chunks → relation < first.relation
       → IsOrdered (all_of rest) → of_relation relation shown (all_of rest) ≡ []
   relation_late {X} relation shown first begin late o =
-      ap (λ (m : List KeyWrites). of_relation relation shown m) (pieces_are rest some is) ∙ none n.pieces begin (rw (pieces_are rest some is) at o)
+      ap (λ (m : List KeyWrites). of_relation relation shown m) (chunks_are rest some is) ∙ none n.chunks begin (rw (chunks_are rest some is) at o)
     where
       none : (ps : List KeyWrites) → BeginAt first ps → IsOrdered (ps ++ all_of (behind rest)) → of_relation relation shown (ps ++ all_of (behind rest)) ≡ []
       none [] begin o = absurd (omega (arith, begin))

@@ -38,7 +38,7 @@ next_older t older recent w e = find-found (is_after t) older recent w e
 pub next_recent : (t : ℕ) (older recent : List Write) → find (is_after t) older ≡ None → find (is_after t) (older ++ recent) ≡ find (is_after t) recent
 next_recent t older recent e = find-past (is_after t) older recent e
 
--- none of those before a piece that begins by the time
+-- none of those before a chunk that begins by the time
 pub none-before : (t : ℕ) (xs ps ys : List Write) → 0 < length ps → first_time ps ≤ t → IsRisingAfter 0 (xs ++ (ps ++ ys)) → find (is_after t) xs ≡ None
 none-before t xs [] ys some h up = absurd (omega arith)
 none-before t xs (p ∷ ps) ys some h up = none-after 0 t xs p (ps ++ ys) up h

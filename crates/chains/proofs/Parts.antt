@@ -72,13 +72,13 @@ kept-back s mark (x ∷ v ∷ vs) w ys up by =
     let early : nat_le v.time mark ≡ true = is_le (omega (arith, by, below v.time vs w ys up.2.2)) in
     rw early (kept-back x.time mark (v ∷ vs) w ys up.2 by)
 
--- what is before a piece that begins by the mark is not needed
-pub kept-piece : (mark : ℕ) (older recent : List Write) → 0 < length recent → first_time recent ≤ mark → IsRisingAfter 0 (older ++ recent)
+-- what is before a chunk that begins by the mark is not needed
+pub kept-chunk : (mark : ℕ) (older recent : List Write) → 0 < length recent → first_time recent ≤ mark → IsRisingAfter 0 (older ++ recent)
     → kept_after mark (older ++ recent) ≡ kept_after mark recent
-kept-piece mark older [] some h up = absurd (omega arith)
-kept-piece mark older (w ∷ ws) some h up = kept-back 0 mark older w ws up h
+kept-chunk mark older [] some h up = absurd (omega arith)
+kept-chunk mark older (w ∷ ws) some h up = kept-back 0 mark older w ws up h
 
--- the value at a time: that of the last piece where it has begun, and else that of an older write
+-- the value at a time: that of the last chunk where it has begun, and else that of an older write
 pub value_older : (time : ℕ) (older recent : List Write) → 0 < length recent → time < first_time recent → IsRisingAfter 0 (older ++ recent)
     → value_at (older ++ recent) time ≡ value_at older time
 value_older time older [] some h up = absurd (omega arith)

@@ -91,16 +91,16 @@ no-rows_from end a b s (y ∷ ys) up late =
     rows-append a b (version_of y.time (first_time_or end ys) y.write) (versions_upto end ys)
     ∙ rw (no-row_late y.time (first_time_or end ys) a b y.write late) (no-rows_after end a b y.time ys late up.2)
 
--- the writes before a piece end where it begins
-pub first-piece : (end : ℕ) (ps ys : List Write) → 0 < length ps → first_time_or end (ps ++ ys) ≡ first_time ps
-first-piece end [] ys some = absurd (omega arith)
-first-piece end (p ∷ ps) ys some = refl
+-- the writes before a chunk end where it begins
+pub first-chunk : (end : ℕ) (ps ys : List Write) → 0 < length ps → first_time_or end (ps ++ ys) ≡ first_time ps
+first-chunk end [] ys some = absurd (omega arith)
+first-chunk end (p ∷ ps) ys some = refl
 
--- no version of the writes before a piece lasts beyond its beginning
-pub no-rows_piece : (a b : ℕ) (xs ps ys : List Write) → 0 < length ps → first_time ps ≤ a → IsRisingAfter 0 (xs ++ (ps ++ ys))
+-- no version of the writes before a chunk lasts beyond its beginning
+pub no-rows_chunk : (a b : ℕ) (xs ps ys : List Write) → 0 < length ps → first_time ps ≤ a → IsRisingAfter 0 (xs ++ (ps ++ ys))
     → rows (versions_upto (first_time ps) xs) a b ≡ []
-no-rows_piece a b xs [] ys some early up = absurd (omega arith)
-no-rows_piece a b xs (p ∷ ps) ys some early up = no-rows_before a b 0 xs p (ps ++ ys) up early
+no-rows_chunk a b xs [] ys some early up = absurd (omega arith)
+no-rows_chunk a b xs (p ∷ ps) ys some early up = no-rows_before a b 0 xs p (ps ++ ys) up early
 
 pub on-ok : {A E : Type 0} {P Q : Type 0} (r : Result A E) → (P → Q) → OnOk r P → OnOk r Q
 on-ok (Ok x) f p = f p

@@ -1,4 +1,4 @@
--- The rows that a walk goes over: those of a piece's writes, and behind them those from the time at which its last version ends.
+-- The rows that a walk goes over: those of a chunk's writes, and behind them those from the time at which its last version ends.
 use Rattle.std.proofs.Common.{◌≡◌, ℕ, ◌^◌, ◌<◌, ◌≤◌, max, min, false, List, [], ◌∷◌, ◌++◌, length, filter, Option, None, Some, refl, ap, sym, subst, ◌∙◌, arith}
 use Rattle.std.proofs.Common.{append_assoc, append-nil}
 use Rattle.std.proofs.lemmas.Bool.Decides.{nat_tests}
@@ -68,7 +68,7 @@ rows-from_first end a c b (z ∷ zs) some up p q =
     ∙ (λ i. here i ++ behind i)
     ∙ sym (rows-append c b (version_of z.time (first_time_or end zs) z.write) (versions_upto end zs))
 
--- ---- writes of which the later ones begin with a piece
+-- ---- writes of which the later ones begin with a chunk
 
 first_or-some : (end : ℕ) (zs : List Write) → 0 < length zs → first_time_or end zs ≡ first_time zs
 first_or-some end [] some = absurd (omega arith)

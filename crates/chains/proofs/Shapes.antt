@@ -9,10 +9,10 @@ use Rattle.chains.proofs.Bounds.{find-found, find-past}
 
 pub all_of-append : {E : Type 0} (ts us : List (Shape E)) → all_of (ts ++ us) ≡ all_of ts ++ all_of us
 all_of-append [] us = refl
-all_of-append {E} (t ∷ ts) us = ap (λ (xs : List E). t.pieces ++ xs) (all_of-append ts us) ∙ sym (append_assoc t.pieces (all_of ts) (all_of us))
+all_of-append {E} (t ∷ ts) us = ap (λ (xs : List E). t.chunks ++ xs) (all_of-append ts us) ∙ sym (append_assoc t.chunks (all_of ts) (all_of us))
 
-pub all_of-push : {E : Type 0} (ts : List (Shape E)) (t : Shape E) → all_of (ts ++ t ∷ []) ≡ all_of ts ++ t.pieces
-all_of-push {E} ts t = all_of-append ts (t ∷ []) ∙ ap (λ (xs : List E). all_of ts ++ xs) (append-nil t.pieces)
+pub all_of-push : {E : Type 0} (ts : List (Shape E)) (t : Shape E) → all_of (ts ++ t ∷ []) ≡ all_of ts ++ t.chunks
+all_of-push {E} ts t = all_of-append ts (t ∷ []) ∙ ap (λ (xs : List E). all_of ts ++ xs) (append-nil t.chunks)
 
 pub highest-append : {E : Type 0} (ts us : List (Shape E)) → highest us ≤ highest (ts ++ us)
 highest-append [] us = omega arith
@@ -52,8 +52,8 @@ module _ {E : Type 0} (rest : List (Shape E)) {t : Shape E} (some : 1 ≤ length
   pub rest_is : rest ≡ t ∷ behind rest
   rest_is = first-of-rest rest t some is
 
-  pub pieces_are : all_of rest ≡ t.pieces ++ all_of (behind rest)
-  pieces_are = ap all_of rest_is
+  pub chunks_are : all_of rest ≡ t.chunks ++ all_of (behind rest)
+  chunks_are = ap all_of rest_is
 
   pub first_low : t.height ≤ highest rest
   first_low = rw rest_is (omega arith)
@@ -62,11 +62,11 @@ module _ {E : Type 0} (rest : List (Shape E)) {t : Shape E} (some : 1 ≤ length
   behind_low = let whole = ap highest rest_is in omega (arith, whole)
 
   -- what is found in the first, and behind it
-  pub find_first : (p : E → Bool) (x : E) → find p t.pieces ≡ Some x → find p (all_of rest) ≡ Some x
-  find_first p x e = ap (λ (xs : List E). find p xs) pieces_are ∙ find-found p t.pieces (all_of (behind rest)) x e
+  pub find_first : (p : E → Bool) (x : E) → find p t.chunks ≡ Some x → find p (all_of rest) ≡ Some x
+  find_first p x e = ap (λ (xs : List E). find p xs) chunks_are ∙ find-found p t.chunks (all_of (behind rest)) x e
 
-  pub find_behind : (p : E → Bool) → find p t.pieces ≡ None → find p (all_of (behind rest)) ≡ find p (all_of rest)
-  find_behind p e = sym (ap (λ (xs : List E). find p xs) pieces_are ∙ find-past p t.pieces (all_of (behind rest)) e)
+  pub find_behind : (p : E → Bool) → find p t.chunks ≡ None → find p (all_of (behind rest)) ≡ find p (all_of rest)
+  find_behind p e = sym (ap (λ (xs : List E). find p xs) chunks_are ∙ find-past p t.chunks (all_of (behind rest)) e)
 
 -- what was put behind others, and a part that grows, are as much as they were with what came next
 pub put-part : {X : Type 0} (f f' p p' p'' xs rest rest' total : List X) → f' ++ p' ≡ f ++ p → p'' ≡ p' ++ xs → rest ≡ xs ++ rest' → f ++ (p ++ rest) ≡ total
@@ -86,7 +86,7 @@ put-two {X} f f2 f3 p q whole first second is =
     second ∙ ap (λ (l : List X). l ++ q) first ∙ append_assoc f p q ∙ ap (λ (l : List X). f ++ l) (sym is)
 
 -- the last of them and those before it
-pub popped : {E : Type 0} {ts : List (Shape E)} (us : List (Shape E)) (t : Shape E) → ts ≡ us ++ t ∷ [] → all_of ts ≡ all_of us ++ t.pieces
+pub popped : {E : Type 0} {ts : List (Shape E)} (us : List (Shape E)) (t : Shape E) → ts ≡ us ++ t ∷ [] → all_of ts ≡ all_of us ++ t.chunks
 popped {E} {ts} us t is = ap all_of is ∙ all_of-push us t
 
 pub popped_low : {E : Type 0} {ts : List (Shape E)} (us : List (Shape E)) (t : Shape E) → ts ≡ us ++ t ∷ [] → t.height ≤ highest ts

@@ -1,4 +1,4 @@
--- One key's older writes: those of one piece, or those of several branches that lie together, one behind another.
+-- One key's older writes: those of one chunk, or those of several branches that lie together, one behind another.
 use Rattle.std.specs.Prelude.{ℕ, ◌≡◌, ◌+◌, ◌<◌, ◌≤◌, List, [], ◌∷◌, ◌++◌, length, take}
 use Rattle.history.specs.Time.{IsRisingAfter}
 use Rattle.history.specs.Versions.{first_time}
@@ -21,7 +21,7 @@ older_in (Wide count shared) = fork_of (highest shared.value + 1) (take count sh
 abbrev pub IsOlder : Inside → Type 0
 IsOlder (Fork shared) = IsRisingAfter 0 (all_of shared.value.items) × (0 < length shared.value.items)
 IsOlder (Wide count shared) = IsRisingAfter 0 (all_of (take count shared.value)) × (count ≤ 32) × (0 < length (take count shared.value))
-IsOlder inside = IsRisingAfter 0 (older_in inside).pieces
+IsOlder inside = IsRisingAfter 0 (older_in inside).chunks
 
 -- some writes by rising times, of which the first was made at that time
 abbrev pub BeginAt : ℕ → List Write → Type 0
@@ -29,7 +29,7 @@ BeginAt first writes = IsRisingAfter 0 writes × (0 < length writes) × (first �
 
 -- older writes are those of these branches
 pub record IsFork (fork : Shape Write) (branches : List (Shape Write)) : Type 0 where
-  pub writes : all_of branches ≡ fork.pieces
+  pub writes : all_of branches ≡ fork.chunks
   pub height : highest branches < fork.height
   pub rising : IsRisingAfter 0 (all_of branches)
   pub some : 0 < length branches
@@ -44,12 +44,12 @@ IsMadeOf older (Branches branches) = IsFork older branches.now
 -- there are branches, of which the first begins by a time
 abbrev pub BeginBy : ℕ → List (Shape Write) → Type 0
 BeginBy time [] = 1 ≤ 0
-BeginBy time (b ∷ bs) = (0 < length b.pieces) × (first_time b.pieces ≤ time)
+BeginBy time (b ∷ bs) = (0 < length b.chunks) × (first_time b.chunks ≤ time)
 
 -- branches, if there are some, begin after a time
 abbrev pub BeginAfter : ℕ → List (Shape Write) → Type 0
 BeginAfter time [] = Unit {0}
-BeginAfter time (b ∷ bs) = (0 < length b.pieces) × (time < first_time b.pieces)
+BeginAfter time (b ∷ bs) = (0 < length b.chunks) × (time < first_time b.chunks)
 
 -- behind some branches come those of which the first begins by a time
 abbrev pub BeginByBehind : ℕ → List (Shape Write) → List (Shape Write) → Type 0

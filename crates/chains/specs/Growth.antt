@@ -1,7 +1,7 @@
--- How high a key's older writes grow: as a number that counts on, whose digits are the branches of the forks on the way to the last piece. A fork has one
+-- How high a key's older writes grow: as a number that counts on, whose digits are the branches of the forks on the way to the last chunk. A fork has one
 -- branch
 -- more only where nothing below it has room, and what is new begins with one branch below each fork. A fork above all stands only where each has 32. So the
--- height grows as the logarithm of how many pieces came.
+-- height grows as the logarithm of how many chunks came.
 use Rattle.std.specs.Prelude.{ℕ, ◌≡◌, ◌+◌, ◌≤◌, Bool, List, [], ◌∷◌, length, map, nat_le, nat_lt, ◌==◌, ◌||◌, MatchBool, if◌then◌else◌}
 use Rattle.chains.specs.Shapes.{Shape, highest, last_of}
 use Rattle.chains.specs.Writes.{Write}

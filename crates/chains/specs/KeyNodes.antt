@@ -15,7 +15,7 @@ use Rattle.chains.specs.Shapes.{Shape, all_of, highest, leaf, fork_of}
 -- the chains of the node on top, if there is one
 abbrev pub chains_below : Option (Shape KeyWrites) → List KeyWrites
 chains_below None = []
-chains_below (Some node) = node.pieces
+chains_below (Some node) = node.chunks
 
 -- what lies in a node, in the order of the keys, and how many forks stand above one another in it
 abbrev pub chains_in : KeyInside → Shape KeyWrites
@@ -34,7 +34,7 @@ IsKeyNode (Fork first shared) = BeginAt first (all_of shared.value.items) × IsO
 
 -- a node is a fork of these
 pub record IsKeyFork (fork : Shape KeyWrites) (nodes : List (Shape KeyWrites)) : Type 0 where
-  pub chains : all_of nodes ≡ fork.pieces
+  pub chains : all_of nodes ≡ fork.chunks
   pub height : fork.height ≡ highest nodes + 1
   pub ordered : IsOrdered (all_of nodes)
   pub some : 1 ≤ length nodes
@@ -67,12 +67,12 @@ BeginWithin bound (c ∷ cs) = is_in bound c.key ≡ true
 -- there are nodes, of which the first begins without the bound
 abbrev pub FirstWithout : Bound → List (Shape KeyWrites) → Type 0
 FirstWithout bound [] = 1 ≤ 0
-FirstWithout bound (n ∷ ns) = BeginWithout bound n.pieces
+FirstWithout bound (n ∷ ns) = BeginWithout bound n.chunks
 
 -- the first of some nodes, if there is one, begins within the bound
 abbrev pub FirstWithin : Bound → List (Shape KeyWrites) → Type 0
 FirstWithin bound [] = Unit {0}
-FirstWithin bound (n ∷ ns) = BeginWithin bound n.pieces
+FirstWithin bound (n ∷ ns) = BeginWithin bound n.chunks
 
 -- behind some nodes come those of which the first begins without the bound
 abbrev pub WithoutBehind : Bound → List (Shape KeyWrites) → List (Shape KeyWrites) → Type 0

@@ -24,8 +24,8 @@ pub record IsFront (time upto : ℕ) (all part : List (Version Value)) : Type 0 
   pub later : time < upto
   pub rows_are : (b : ℕ) → rows all time b ≡ rows part time b ++ rows all upto b
 
--- writes of a piece are those from which the rows of all from a time on go on
-pub record IsNextPiece (time upto : ℕ) (all : List (Version Value)) (ws : List (TimedWrite Value)) (end : ℕ) : Type 0 where
+-- writes of a chunk are those from which the rows of all from a time on go on
+pub record IsNextChunk (time upto : ℕ) (all : List (Version Value)) (ws : List (TimedWrite Value)) (end : ℕ) : Type 0 where
   pub before : time < upto
   pub rising : IsRisingAfter 0 ws
   pub front : IsFront time end all (versions_upto end ws)

@@ -2,9 +2,9 @@
 use Rattle.std.specs.Prelude.{ℕ, max, List, [], ◌∷◌, ◌++◌, length}
 
 -- What a tree holds, in order, and how many nodes stand below one another in it. Of the way from the top to what stands last: how many branches each fork on it
--- has, and how many pieces lie together at its end.
+-- has, and how many chunks lie together at its end.
 pub record Shape (E : Type 0) : Type 0 where
-  pub pieces : List E
+  pub chunks : List E
   pub height : ℕ
   pub forks : List ℕ
   pub together : ℕ
@@ -12,7 +12,7 @@ pub record Shape (E : Type 0) : Type 0 where
 -- what several trees hold, one behind another
 abbrev pub all_of : {E : Type 0} → List (Shape E) → List E
 all_of [] = []
-all_of (t ∷ ts) = t.pieces ++ all_of ts
+all_of (t ∷ ts) = t.chunks ++ all_of ts
 
 -- how high the highest of them is
 abbrev pub highest : {E : Type 0} → List (Shape E) → ℕ
@@ -21,7 +21,7 @@ highest (t ∷ ts) = max t.height (highest ts)
 
 -- these lie together
 abbrev pub leaf : {E : Type 0} → List E → Shape E
-leaf pieces = record { pieces = pieces; height = 0; forks = []; together = length pieces }
+leaf chunks = record { chunks = chunks; height = 0; forks = []; together = length chunks }
 
 -- the last of several trees, or this one where there is none
 abbrev pub last_or : {E : Type 0} → Shape E → List (Shape E) → Shape E
@@ -34,4 +34,4 @@ last_of ts = last_or (leaf []) ts
 
 -- several trees below a fork of this height
 abbrev pub fork_of : {E : Type 0} → ℕ → List (Shape E) → Shape E
-fork_of height ts = record { pieces = all_of ts; height = height; forks = length ts ∷ (last_of ts).forks; together = (last_of ts).together }
+fork_of height ts = record { chunks = all_of ts; height = height; forks = length ts ∷ (last_of ts).forks; together = (last_of ts).together }

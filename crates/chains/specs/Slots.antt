@@ -1,10 +1,10 @@
--- What lies in the slots of a piece.
+-- What lies in the slots of a chunk.
 use Rattle.std.specs.Prelude.{◌≡◌, ◌<◌, List, [], ◌∷◌, length}
 use Rattle.history.specs.Time.{IsRisingAfter}
 use Rattle.history.specs.Versions.{first_time}
 use Rattle.chains.specs.Writes.{Write}
-use Rattle.chains.specs.declared.piece.Slots.{Slots}
-use Rattle.chains.specs.declared.piece.Slots.TheVariants.{One, Many, Full}
+use Rattle.chains.specs.declared.chunk.Slots.{Slots}
+use Rattle.chains.specs.declared.chunk.Slots.TheVariants.{One, Many, Full}
 
 -- the writes, oldest first
 abbrev pub writes_at : Slots → List Write

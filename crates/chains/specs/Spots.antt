@@ -12,7 +12,7 @@ value_there time Nothing = None
 value_there time (found.Value value) = Some value.now
 value_there time (Full full place) = value_at full.now time
 
--- the writes of a full piece rise by their times, and the search begins within it
+-- the writes of a full chunk rise by their times, and the search begins within it
 abbrev pub IsSpot : SpotInside → Type 0
 IsSpot (Full full place) = IsRisingAfter 0 full.now × (place < 32)
 IsSpot inside = Unit {0}

@@ -43,8 +43,8 @@ pub(crate) fn padded(branches: Vec<Branch>) -> Result<Vec<Branch>, AllocError>
 
 /// Puts a branch of older writes behind others, where there are some.
 pub(crate) fn add_branch(branches: &mut Vec<Branch>, older: Older) -> Result<(), AllocError>
-    ensures pieces { OnOk result (all_of branches.new.items ≡ all_of branches.old.items ++ older.pieces) }
-    ensures branches { OnOk result (branches.new.items ≡ branches.old.items ++ branches_of older older.pieces) }
+    ensures chunks { OnOk result (all_of branches.new.items ≡ all_of branches.old.items ++ older.chunks) }
+    ensures branches { OnOk result (branches.new.items ≡ branches.old.items ++ branches_of older older.chunks) }
 {
     if let Some(branch) = Branch::of(older) {
         branches.push(branch)?;

@@ -149,9 +149,9 @@ impl KeyNode {
         writes: &[KeyWrite<SharedValue>],
     ) -> Result<(), AllocError>
         requires rising { IsStrictlySortedBy key_cmp (map (λ w. w.key) writes.now) }
-        requires later { latest self.now.pieces < time }
+        requires later { latest self.now.chunks < time }
         requires in_range { time < 2 ^ 63 }
-        ensures { OnOk result (all_of found.new.items ≡ all_of found.old.items ++ with_commit self.now.pieces time writes.now) }
+        ensures { OnOk result (all_of found.new.items ≡ all_of found.old.items ++ with_commit self.now.chunks time writes.now) }
     {
         if writes.is_empty() {
             found.push(self.share()?)?;
@@ -187,9 +187,9 @@ impl KeyNode {
         writes: &[KeyWrite<SharedValue>],
     ) -> Result<(), AllocError>
         requires rising { IsStrictlySortedBy key_cmp (map (λ w. w.key) writes.now) }
-        requires later { latest self.pieces < time }
+        requires later { latest self.chunks < time }
         requires in_range { time < 2 ^ 63 }
-        ensures { OnOk result (all_of found.new.items ≡ all_of found.old.items ++ with_commit self.pieces time writes.now) }
+        ensures { OnOk result (all_of found.new.items ≡ all_of found.old.items ++ with_commit self.chunks time writes.now) }
     {
         if writes.is_empty() {
             found.push(self)?;
@@ -228,8 +228,8 @@ impl KeyNode {
         found: &mut Vec<KeyNode>,
         chain: Chain,
     ) -> Result<(), AllocError>
-        requires { IsOrdered (self.pieces ++ chain ∷ []) }
-        ensures { OnOk result (all_of found.new.items ≡ all_of found.old.items ++ (self.pieces ++ chain ∷ [])) }
+        requires { IsOrdered (self.chunks ++ chain ∷ []) }
+        ensures { OnOk result (all_of found.new.items ≡ all_of found.old.items ++ (self.chunks ++ chain ∷ [])) }
     {
         let parts = self.into_own_parts(alloc)?;
         match parts {
@@ -253,8 +253,8 @@ impl KeyNode {
         found: &mut Vec<KeyNode>,
         mark: u64,
     ) -> Result<bool, AllocError>
-        ensures is { OnOk result (all_of found.new.items ≡ all_of found.old.items ++ forgotten mark self.now.pieces) }
-        ensures same { IfOk result (λ same. IsTrue same → forgotten mark self.now.pieces ≡ self.now.pieces) }
+        ensures is { OnOk result (all_of found.new.items ≡ all_of found.old.items ++ forgotten mark self.now.chunks) }
+        ensures same { IfOk result (λ same. IsTrue same → forgotten mark self.now.chunks ≡ self.now.chunks) }
     {
         let nodes = match self.parts() {
             KeyParts::Chains(chains) => {

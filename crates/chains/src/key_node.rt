@@ -88,7 +88,7 @@ impl KeyNode {
     pub(crate) fn leaf(alloc: Global, first: Key, chains: Vec<Chain>) -> Result<Self, AllocError>
         requires first { BeginAt first chains.items }
         requires ordered { IsOrdered chains.items }
-        ensures { IfOk result (λ n. n.pieces ≡ chains.items) }
+        ensures { IfOk result (λ n. n.chunks ≡ chains.items) }
     {
         let shared = Arc::new(alloc, chains)?;
         Ok(KeyNode {
@@ -100,7 +100,7 @@ impl KeyNode {
     pub(crate) fn fork(alloc: Global, first: Key, nodes: Vec<KeyNode>) -> Result<Self, AllocError>
         requires first { BeginAt first (all_of nodes.items) }
         requires ordered { IsOrdered (all_of nodes.items) }
-        ensures { IfOk result (λ n. n.pieces ≡ all_of nodes.items) }
+        ensures { IfOk result (λ n. n.chunks ≡ all_of nodes.items) }
     {
         let shared = Arc::new(alloc, nodes)?;
         Ok(KeyNode {
@@ -169,7 +169,7 @@ impl KeyNode {
 
     /// The first of its keys.
     pub(crate) fn first_key(&self) -> Key
-        ensures { BeginAt result self.now.pieces }
+        ensures { BeginAt result self.now.chunks }
     {
         match &self.inside {
             KeyInside::Leaf { first, .. } => *first,

@@ -45,7 +45,7 @@ fn first_within(chains: &[Chain], bound: Bound) -> Option<&Chain>
 impl KeyNode {
     /// The chain of a key.
     pub(crate) fn get(&self, key: Key) -> Option<&Chain>
-        ensures { option_copied result ≡ find (is_of key) self.now.pieces }
+        ensures { option_copied result ≡ find (is_of key) self.now.chunks }
     {
         match self.parts() {
             KeyParts::Chains(chains) => chain_of(chains, key),
@@ -61,7 +61,7 @@ impl KeyNode {
 
     /// The chain of the least key within the bound.
     pub(crate) fn least(&self, bound: Bound) -> Option<&Chain>
-        ensures { option_copied result ≡ find (λ c. is_in bound c.key) self.now.pieces }
+        ensures { option_copied result ≡ find (λ c. is_in bound c.key) self.now.chunks }
     {
         let nodes = match self.parts() {
             KeyParts::Chains(chains) => return first_within(chains, bound),
@@ -86,7 +86,7 @@ impl KeyNode {
         relation: u16,
         time: u64,
     ) -> Result<(), AllocError>
-        ensures { OnOk result (found.new.items ≡ found.old.items ++ of_relation relation (shown_value time) self.now.pieces) }
+        ensures { OnOk result (found.new.items ≡ found.old.items ++ of_relation relation (shown_value time) self.now.chunks) }
     {
         let nodes = match self.parts() {
             KeyParts::Chains(chains) => {
@@ -121,7 +121,7 @@ impl KeyNode {
         a: u64,
         b: u64,
     ) -> Result<(), AllocError>
-        ensures { OnOk result (found.new.items ≡ found.old.items ++ of_relation relation (shown_rows a b) self.now.pieces) }
+        ensures { OnOk result (found.new.items ≡ found.old.items ++ of_relation relation (shown_rows a b) self.now.chunks) }
     {
         let nodes = match self.parts() {
             KeyParts::Chains(chains) => {

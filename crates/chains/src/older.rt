@@ -1,4 +1,4 @@
-//! One key's older writes: pieces in a search tree whose nodes are wide.
+//! One key's older writes: chunks in a search tree whose nodes are wide.
 ghost use Rattle.std.specs.Prelude.{◌≡◌, ◌<◌, ◌≤◌, [], IfOk, IfSome, IsTrue, MatchOption, length};
 ghost use Rattle.history.specs.Time.{IsRisingAfter};
 ghost use Rattle.history.specs.Versions.{first_time};
@@ -7,8 +7,8 @@ ghost use Rattle.chains.specs.Growth.{IsForkOf, as_branch};
 ghost use Rattle.chains.specs.Shapes.{all_of, leaf};
 
 use crate::branching::{NEARLY_ALL, WIDTH, padded};
-use crate::full_piece::FullPiece;
-use crate::piece::Piece;
+use crate::chunk::Chunk;
+use crate::full_chunk::FullChunk;
 use crate::share::Share;
 use crate::stamped::StampedWrite;
 use std::alloc::{AllocError, Global};
@@ -16,7 +16,7 @@ use std::marker::Model;
 use std::mem::size_of;
 use std::sync::Arc;
 
-/// The writes of a key but those of its last piece, oldest first; most keys have none. They never change,
+/// The writes of a key but those of its last chunk, oldest first; most keys have none. They never change,
 /// and share their memory with what they were taken from.
 #[cycle(older)]
 #[derive(Drop)]
@@ -28,11 +28,11 @@ pub(crate) struct Older {
 #[derive(Drop)]
 enum Inside {
     Nothing,
-    /// The writes of one piece.
+    /// The writes of one chunk.
     Few(Arc<Vec<StampedWrite>>),
-    /// As many as one piece has at most, which lie beside the count of those who share them: one place of
+    /// As many as one chunk has at most, which lie beside the count of those who share them: one place of
     /// memory less on the way to them.
-    Full(Arc<FullPiece>),
+    Full(Arc<FullChunk>),
     /// Branches one behind another that lie together, so that a search among them reads few places that lie
     /// apart.
     Fork(Arc<Vec<Branch>>),
@@ -55,7 +55,7 @@ pub(crate) struct Branch {
 
 const _: () = prove!(size_of::<Older>() == 16 && size_of::<Branch>() == 24);
 
-/// What older writes are made of, in a loan: the writes of one piece, or branches one behind another.
+/// What older writes are made of, in a loan: the writes of one chunk, or branches one behind another.
 #[derive(Drop)]
 pub(crate) enum Parts<'a> {
     Writes(&'a [StampedWrite]),
@@ -93,7 +93,7 @@ impl Model for Branch {
 
     ghost use Rattle.chains.specs.Branches.{BeginAt};
 
-    ghost invariant = { λ b. BeginAt b.first b.older.pieces };
+    ghost invariant = { λ b. BeginAt b.first b.older.chunks };
 
     ghost size = { λ b. b.height };
 
@@ -137,7 +137,7 @@ impl Older {
         }
     }
 
-    /// The writes of one piece.
+    /// The writes of one chunk.
     pub(crate) fn few(writes: Arc<Vec<StampedWrite>>) -> Self
         requires { IsRisingAfter 0 writes.value.items }
         ensures { result ≡ leaf writes.value.items }
@@ -147,8 +147,8 @@ impl Older {
         }
     }
 
-    /// The writes of one piece, as many as it has at most.
-    pub(crate) fn full(writes: Arc<FullPiece>) -> Self
+    /// The writes of one chunk, as many as it has at most.
+    pub(crate) fn full(writes: Arc<FullChunk>) -> Self
         requires { IsRisingAfter 0 writes.value }
         ensures { result ≡ leaf writes.value }
     {
@@ -160,7 +160,7 @@ impl Older {
     /// The writes of branches, one behind another.
     pub(crate) fn fork(alloc: Global, branches: Vec<Branch>) -> Result<Self, AllocError>
         requires { IsRisingAfter 0 (all_of branches.items) }
-        ensures is { IfOk result (λ o. o.pieces ≡ all_of branches.items) }
+        ensures is { IfOk result (λ o. o.chunks ≡ all_of branches.items) }
         ensures shape { IfOk result (λ o. 0 < length branches.items → IsForkOf branches.items o) }
     {
         let count = branches.len();
@@ -181,7 +181,7 @@ impl Older {
         requires rising { IsRisingAfter 0 (all_of branches.items) }
         requires some { 0 < length branches.items }
         requires few { length branches.items ≤ 32 }
-        ensures is { IfOk result (λ o. o.pieces ≡ all_of branches.items) }
+        ensures is { IfOk result (λ o. o.chunks ≡ all_of branches.items) }
         ensures shape { IfOk result (IsForkOf branches.items) }
     {
         let count = branches.len() as u8;
@@ -215,15 +215,15 @@ impl Older {
         }
     }
 
-    /// Whether they lie in more than a few places, so that some may lie in full pieces.
+    /// Whether they lie in more than a few places, so that some may lie in full chunks.
     pub(crate) fn are_many(&self) -> bool {
         !matches!(&self.inside, Inside::Nothing | Inside::Few(_))
     }
 
-    /// The piece that they are, where it is a full one.
+    /// The chunk that they are, where it is a full one.
     #[inline]
-    pub(crate) fn full_piece(&self) -> Option<&FullPiece>
-        ensures { IfSome result (λ full. (self.now.pieces ≡ full.now) × IsRisingAfter 0 full.now) }
+    pub(crate) fn full_chunk(&self) -> Option<&FullChunk>
+        ensures { IfSome result (λ full. (self.now.chunks ≡ full.now) × IsRisingAfter 0 full.now) }
     {
         match &self.inside {
             Inside::Full(shared) => Some(shared),
@@ -231,15 +231,15 @@ impl Older {
         }
     }
 
-    /// A piece that is one more holder of the same writes.
-    pub(crate) fn piece(&self) -> Result<Piece, AllocError>
+    /// A chunk that is one more holder of the same writes.
+    pub(crate) fn chunk(&self) -> Result<Chunk, AllocError>
         requires one { self.now.height ≡ 0 }
-        requires some { 0 < length self.now.pieces }
-        ensures { IfOk result (λ p. p ≡ self.now.pieces) }
+        requires some { 0 < length self.now.chunks }
+        ensures { IfOk result (λ p. p ≡ self.now.chunks) }
     {
         match &self.inside {
-            Inside::Few(shared) => Ok(Piece::many(Arc::try_clone(shared)?)),
-            Inside::Full(shared) => Ok(Piece::full(Arc::try_clone(shared)?)),
+            Inside::Few(shared) => Ok(Chunk::many(Arc::try_clone(shared)?)),
+            Inside::Full(shared) => Ok(Chunk::full(Arc::try_clone(shared)?)),
             _ => unreachable!(),
         }
     }
@@ -248,8 +248,8 @@ impl Older {
 impl Branch {
     /// The same writes, where there are some.
     pub(crate) fn of(older: Older) -> Option<Self>
-        ensures is { MatchOption result (older.pieces ≡ []) (λ b. b ≡ as_branch older) }
-        ensures some { IfSome result (λ b. 0 < length older.pieces) }
+        ensures is { MatchOption result (older.chunks ≡ []) (λ b. b ≡ as_branch older) }
+        ensures some { IfSome result (λ b. 0 < length older.chunks) }
     {
         let first = match older.parts() {
             Parts::Writes(writes) => writes.first()?.time(),
@@ -261,9 +261,9 @@ impl Branch {
     /// When the first of its writes was made.
     #[inline]
     pub(crate) fn first_time(&self) -> u64
-        ensures is { result ≡ first_time self.now.pieces }
-        ensures some { 0 < length self.now.pieces }
-        ensures rising { IsRisingAfter 0 self.now.pieces }
+        ensures is { result ≡ first_time self.now.chunks }
+        ensures some { 0 < length self.now.chunks }
+        ensures rising { IsRisingAfter 0 self.now.chunks }
     {
         self.first
     }
@@ -271,7 +271,7 @@ impl Branch {
     /// Its writes.
     #[inline]
     pub(crate) fn writes(&self) -> &Older
-        ensures is { result.now.pieces ≡ self.now.pieces }
+        ensures is { result.now.chunks ≡ self.now.chunks }
         ensures lower { result.now.height < self.now.height }
         ensures branch { self.now ≡ as_branch result.now }
     {

@@ -9,7 +9,7 @@ ghost use Rattle.chains.specs.Writes.{is_after, last_time};
 
 use crate::branching::{begun_by, first_time_or, from_begun};
 use crate::ending::ending_in;
-use crate::full_piece::even_place;
+use crate::full_chunk::even_place;
 use crate::older::{Older, Parts};
 use crate::part::{Part, before_part};
 use crate::rows::{Rows, add_rows_in};
@@ -22,12 +22,12 @@ use std::alloc::AllocError;
 
 impl Older {
     /// Where the value at a time lies. That the first of the writes was made at `first`, and those behind them from
-    /// `end` on, says where the search in a full piece begins, and no more; so does `near` of a search among
+    /// `end` on, says where the search in a full chunk begins, and no more; so does `near` of a search among
     /// branches, where the last such search ended, and where this one does from then on.
     pub(crate) fn spot(&self, first: u64, end: u64, time: u64, near: &mut usize) -> Spot<'_>
-        ensures { result ≡ value_at self.now.pieces time }
+        ensures { result ≡ value_at self.now.chunks time }
     {
-        if let Some(full) = self.full_piece() {
+        if let Some(full) = self.full_chunk() {
             return Spot::full(time, full, even_place(first, end, time));
         }
         let branches = match self.parts() {
@@ -46,7 +46,7 @@ impl Older {
 
     /// The first write made after a time.
     pub(crate) fn next_after(&self, time: u64) -> Option<&StampedWrite>
-        ensures { option_copied result ≡ find (is_after time) self.now.pieces }
+        ensures { option_copied result ≡ find (is_after time) self.now.chunks }
     {
         let branches = match self.parts() {
             Parts::Writes(writes) => return next_in(writes, time),
@@ -64,7 +64,7 @@ impl Older {
 
     /// The first version that ends after a time; the last one ends at `end`.
     pub(crate) fn ending_after(&self, end: u64, time: u64) -> Option<Version<&SharedValue>>
-        ensures { option_map version_of_loan result ≡ find (ends_after time) (versions_upto end self.now.pieces) }
+        ensures { option_map version_of_loan result ≡ find (ends_after time) (versions_upto end self.now.chunks) }
     {
         let branches = match self.parts() {
             Parts::Writes(writes) => return ending_in(writes, end, time),
@@ -81,7 +81,7 @@ impl Older {
         None
     }
 
-    /// Versions of one piece, from the first one on that ends after the time; the last of all ends at
+    /// Versions of one chunk, from the first one on that ends after the time; the last of all ends at
     /// `end`. It looks at those that begin before the time `near`.
     pub(crate) fn part_after(
         &self,
@@ -89,13 +89,13 @@ impl Older {
         time: u64,
         near: u64,
     ) -> Result<Option<Part>, AllocError>
-        ensures { IfOk result (IsFound time (versions_upto end self.now.pieces)) }
+        ensures { IfOk result (IsFound time (versions_upto end self.now.chunks)) }
     {
         let branches = match self.parts() {
             Parts::Writes(writes) => {
                 return match before_part(writes, end, time, near) {
                     None => Ok(None),
-                    Some(passed) => Ok(Some(Part::new(self.piece()?, end, passed))),
+                    Some(passed) => Ok(Some(Part::new(self.chunk()?, end, passed))),
                 };
             }
             Parts::Branches(branches) => branches,
@@ -111,13 +111,13 @@ impl Older {
         Ok(None)
     }
 
-    /// The writes of the last piece that begins by the time, or else of the first one, and when their last
+    /// The writes of the last chunk that begins by the time, or else of the first one, and when their last
     /// version ends; the last of all ends at `end`.
-    pub(crate) fn piece_at(&self, end: u64, time: u64) -> (&[StampedWrite], u64)
-        requires ended { last_time self.now.pieces ≤ end }
+    pub(crate) fn chunk_at(&self, end: u64, time: u64) -> (&[StampedWrite], u64)
+        requires ended { last_time self.now.chunks ≤ end }
         requires later { time < end }
         ensures rising { IsRisingAfter 0 result.0.now }
-        ensures is { IsFront time result.1 (versions_upto end self.now.pieces) (versions_upto result.1 result.0.now) }
+        ensures is { IsFront time result.1 (versions_upto end self.now.chunks) (versions_upto result.1 result.0.now) }
         ensures upto { result.1 ≤ end }
     {
         let branches = match self.parts() {
@@ -126,7 +126,7 @@ impl Older {
         };
         match from_begun(branches, time) {
             [] => (&[], end),
-            [branch, behind @ ..] => branch.writes().piece_at(first_time_or(behind, end), time),
+            [branch, behind @ ..] => branch.writes().chunk_at(first_time_or(behind, end), time),
         }
     }
 
@@ -139,7 +139,7 @@ impl Older {
         a: u64,
         b: u64,
     ) -> Result<(), AllocError>
-        ensures { OnOk result (found.new.items ≡ found.old.items ++ rows (versions_upto end self.now.pieces) a b) }
+        ensures { OnOk result (found.new.items ≡ found.old.items ++ rows (versions_upto end self.now.chunks) a b) }
     {
         let branches = match self.parts() {
             Parts::Writes(writes) => return add_rows_in(found, writes, end, a, b),

@@ -4,7 +4,7 @@ ghost use Rattle.history.specs.Versions.{version_of, ends_after};
 ghost use Rattle.chains.specs.Found.{IsFound};
 ghost use Rattle.chains.specs.Rows.{versions_upto, version_of_loan};
 
-use crate::piece::Piece;
+use crate::chunk::Chunk;
 use crate::rows::one_if_near;
 use crate::share::Share;
 use crate::shared_value::SharedValue;
@@ -18,7 +18,7 @@ use std::marker::Model;
 /// whatever is made of the chain that they are of.
 #[derive(Drop)]
 pub struct Part {
-    piece: Piece,
+    chunk: Chunk,
     end: u64,
     passed: usize,
 }
@@ -30,9 +30,9 @@ impl Model for Part {
 
     ghost Value = { Versions };
 
-    ghost view = { λ p. versions_upto p.end (drop p.passed p.piece) };
+    ghost view = { λ p. versions_upto p.end (drop p.passed p.chunk) };
 
-    ghost invariant = { λ p. p.passed ≤ length p.piece };
+    ghost invariant = { λ p. p.passed ≤ length p.chunk };
 }
 
 /// Whether a write has a version that ends at `to`, after the time.
@@ -146,27 +146,27 @@ pub(crate) fn before_part(writes: &[StampedWrite], end: u64, time: u64, near: u6
 }
 
 impl Part {
-    /// The versions of a piece, without those of so many of its writes; the last one ends at `end`.
-    pub(crate) fn new(piece: Piece, end: u64, passed: usize) -> Self
-        requires { passed ≤ length piece }
-        ensures { result ≡ versions_upto end (drop passed piece) }
+    /// The versions of a chunk, without those of so many of its writes; the last one ends at `end`.
+    pub(crate) fn new(chunk: Chunk, end: u64, passed: usize) -> Self
+        requires { passed ≤ length chunk }
+        ensures { result ≡ versions_upto end (drop passed chunk) }
     {
-        Part { piece, end, passed }
+        Part { chunk, end, passed }
     }
 
-    /// The versions of a piece from the first one on that ends after the time; the last one ends at
+    /// The versions of a chunk from the first one on that ends after the time; the last one ends at
     /// `end`. It looks at those that begin before the time `near`.
     pub(crate) fn of(
-        piece: &Piece,
+        chunk: &Chunk,
         end: u64,
         time: u64,
         near: u64,
     ) -> Result<Option<Part>, AllocError>
-        ensures { IfOk result (IsFound time (versions_upto end piece.now)) }
+        ensures { IfOk result (IsFound time (versions_upto end chunk.now)) }
     {
-        match before_part(piece.as_slice(), end, time, near) {
+        match before_part(chunk.as_slice(), end, time, near) {
             None => Ok(None),
-            Some(passed) => Ok(Some(Part::new(piece.share()?, end, passed))),
+            Some(passed) => Ok(Some(Part::new(chunk.share()?, end, passed))),
         }
     }
 
@@ -174,14 +174,14 @@ impl Part {
     pub fn peek(&self) -> Option<Version<&SharedValue>>
         ensures { option_map version_of_loan result ≡ slice_get self.now 0 }
     {
-        first_version(&self.piece.as_slice()[self.passed..], self.end)
+        first_version(&self.chunk.as_slice()[self.passed..], self.end)
     }
 
     /// Goes on behind the first of the versions.
     pub fn advance(&mut self)
         ensures { self.new ≡ drop 1 self.old }
     {
-        let passed = upto_first(&self.piece.as_slice()[self.passed..]);
+        let passed = upto_first(&self.chunk.as_slice()[self.passed..]);
         self.passed += passed;
     }
 }

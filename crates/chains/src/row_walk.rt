@@ -4,7 +4,7 @@ ghost use Rattle.std.specs.Option.{option_copied};
 ghost use Rattle.history.specs.Time.{IsRisingAfter};
 ghost use Rattle.history.specs.Versions.{versions, rows};
 ghost use Rattle.chains.specs.KeyWrites.{writes_in};
-ghost use Rattle.chains.specs.Rows.{versions_upto, version_of_loan, IsNextPiece};
+ghost use Rattle.chains.specs.Rows.{versions_upto, version_of_loan, IsNextChunk};
 
 use crate::chain::Chain;
 use crate::rows::{are_between, near_count, row_of};
@@ -20,7 +20,7 @@ use std::marker::Model;
 #[derive(Drop)]
 pub struct RowWalk<'a> {
     chain: Option<&'a Chain>,
-    // The writes that are left of one piece, whose rows begin at `from` and whose last version ends at
+    // The writes that are left of one chunk, whose rows begin at `from` and whose last version ends at
     // `end`; the rows of the chain from then on come behind them.
     left: &'a [StampedWrite],
     from: u64,
@@ -83,22 +83,22 @@ fn looked_at(writes: &[StampedWrite], from: u64, upto: u64) -> &[StampedWrite]
     writes
 }
 
-/// The writes of the piece of a chain from which rows go on at a time, and when its last version ends;
+/// The writes of the chunk of a chain from which rows go on at a time, and when its last version ends;
 /// none where no rows are left.
-fn next_piece<'a>(
+fn next_chunk<'a>(
     chain: Option<&'a Chain>,
     time: u64,
     upto: u64,
 ) -> Option<(&'a [StampedWrite], u64)>
     ensures { MatchOption result (rows (versions (writes_in (option_copied chain.entry))) time upto ≡ [])
-        (λ found. IsNextPiece time upto (versions (writes_in (option_copied chain.entry))) found.0.now found.1) }
+        (λ found. IsNextChunk time upto (versions (writes_in (option_copied chain.entry))) found.0.now found.1) }
 {
     if upto <= time {
         return None;
     }
     match chain {
         None => None,
-        Some(chain) => chain.piece_at(time),
+        Some(chain) => chain.chunk_at(time),
     }
 }
 
@@ -126,7 +126,7 @@ impl<'a> RowWalk<'a> {
                 self.left = left;
                 return Some(row);
             }
-            let (left, end) = next_piece(self.chain, self.end, self.upto)?;
+            let (left, end) = next_chunk(self.chain, self.end, self.upto)?;
             self.left = looked_at(left, self.end, self.upto);
             self.from = self.end;
             self.end = end;

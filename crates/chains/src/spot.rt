@@ -3,11 +3,11 @@ ghost use Rattle.std.specs.Prelude.{◌≡◌, ◌<◌};
 ghost use Rattle.std.specs.Option.{option_copied};
 ghost use Rattle.history.specs.Time.{value_at, IsRisingAfter};
 
-use crate::full_piece::FullPiece;
+use crate::full_chunk::FullChunk;
 use crate::shared_value::SharedValue;
 use std::marker::Model;
 
-/// Where a key's value at a time lies, if it has one then. A full piece that it is in was not looked at yet: who
+/// Where a key's value at a time lies, if it has one then. A full chunk that it is in was not looked at yet: who
 /// wants the values of several keys finds all of these places first.
 #[derive(Drop)]
 pub(crate) struct Spot<'a> {
@@ -19,8 +19,8 @@ pub(crate) struct Spot<'a> {
 enum SpotInside<'a> {
     Nothing,
     Value(&'a SharedValue),
-    /// In this piece, where there is a value; the search for it begins at a place.
-    Full { full: &'a FullPiece, place: usize },
+    /// In this chunk, where there is a value; the search for it begins at a place.
+    Full { full: &'a FullChunk, place: usize },
 }
 
 impl<'a> Model for Spot<'a> {
@@ -48,9 +48,9 @@ impl<'a> Spot<'a> {
         Spot { time, inside }
     }
 
-    /// In a full piece; the search for it begins at a place.
+    /// In a full chunk; the search for it begins at a place.
     #[inline]
-    pub(crate) fn full(time: u64, full: &'a FullPiece, place: usize) -> Self
+    pub(crate) fn full(time: u64, full: &'a FullChunk, place: usize) -> Self
         requires rising { IsRisingAfter 0 full.now }
         requires within { place < 32 }
         ensures { result ≡ value_at full.now time }

@@ -9,13 +9,13 @@ use Rattle.chains.specs.contracts.frozen.Frozen as Frozen
 use Rattle.chains.specs.contracts.key_node.KeyNode as KeyNode
 use Rattle.chains.specs.contracts.keys.Keys as Keys
 use Rattle.chains.specs.contracts.older.Older as Older
-use Rattle.chains.specs.contracts.piece.Piece as Piece
+use Rattle.chains.specs.contracts.chunk.Chunk as Chunk
 
-piece_send : IsSend Piece.the_row
-piece_send = search (sendable, crosses, shared_value.the_send, shared_value.the_sync) depth 40
+chunk_send : IsSend Chunk.the_row
+chunk_send = search (sendable, crosses, shared_value.the_send, shared_value.the_sync) depth 40
 
-piece_sync : IsSync Piece.the_row
-piece_sync = search (sendable, crosses, shared_value.the_send, shared_value.the_sync) depth 40
+chunk_sync : IsSync Chunk.the_row
+chunk_sync = search (sendable, crosses, shared_value.the_send, shared_value.the_sync) depth 40
 
 older_send : IsSend Older.the_row
 older_send = search (sendable, crosses, branches.crosses, shared_value.the_send, shared_value.the_sync) depth 40
@@ -24,10 +24,10 @@ older_sync : IsSync Older.the_row
 older_sync = search (sendable, crosses, branches.crosses, shared_value.the_send, shared_value.the_sync) depth 40
 
 chain_send : IsSend Chain.the_row
-chain_send = search (sendable, crosses, older_send, piece_send) depth 40
+chain_send = search (sendable, crosses, older_send, chunk_send) depth 40
 
 chain_sync : IsSync Chain.the_row
-chain_sync = search (sendable, crosses, older_sync, piece_sync) depth 40
+chain_sync = search (sendable, crosses, older_sync, chunk_sync) depth 40
 
 key_node_send : IsSend KeyNode.the_row
 key_node_send = search (sendable, crosses, key_nodes.crosses, chain_send, chain_sync) depth 40

@@ -18,11 +18,11 @@ loop-node-preserved c =
     record {
       ordered =
           subst (λ (l : List KeyWrites). IsOrdered (l ++ rest)) (sym grown)
-          (subst IsOrdered (sym (append_assoc part node.pieces rest))
-          (c.in_ok-put_full_fork.ensures.ordered (node.pieces
+          (subst IsOrdered (sym (append_assoc part node.chunks rest))
+          (c.in_ok-put_full_fork.ensures.ordered (node.chunks
           ++ rest) (subst (λ (l : List KeyWrites). IsOrdered (all_of c.loop-node.part.items ++ l)) first c.loop-node.invariant.ordered)));
       left =
           put-part (all_of c.loop-node.found.items) (all_of c.put_full_fork.new.found.items) (all_of c.loop-node.part.items) part (all_of c.push.new.self.items)
-          node.pieces (all_of c.loop-node.node-iterator.rest.items) rest _
+          node.chunks (all_of c.loop-node.node-iterator.rest.items) rest _
           c.in_ok-put_full_fork.ensures.is grown first c.loop-node.invariant.left;
     }

@@ -11,7 +11,7 @@ use Rattle.chains.proofs.chain.Chain.ending_after.Goals as goal
 
 pub returns-in-Some-clause-is : goal.returns-in-Some-clause-is
 returns-in-Some-clause-is c =
-    let older = c.self.inside.older.pieces in
+    let older = c.self.inside.older.chunks in
     let last = c.self.inside.last in
     let v = version_of_loan c.in-Some.version in
     let found : find (ends_after c.args.time) (versions_upto (first_time last) older) ≡ Some v = rw c.first_time-first.ensures.is at (sym c.in-Some.ensures) in
@@ -19,7 +19,7 @@ returns-in-Some-clause-is c =
 
 pub returns-in-None-clause-is : goal.returns-in-None-clause-is
 returns-in-None-clause-is c =
-    let older = c.self.inside.older.pieces in
+    let older = c.self.inside.older.chunks in
     let last = c.self.inside.last in
     let none : find (ends_after c.args.time) (versions_upto (first_time last) older) ≡ None = rw c.first_time-first.ensures.is at (sym c.in-None.ensures) in
     subst (λ (k : KeyWrites). option_map version_of_loan c.ending_in.result ≡ find (ends_after c.args.time) (versions k.writes)) c.self.view_is

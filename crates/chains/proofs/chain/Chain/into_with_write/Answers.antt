@@ -9,7 +9,7 @@ use Rattle.chains.proofs.chain.Chain.into_with_write.Goals as goal
 
 pub put_write-requires-clause-later : goal.put_write-requires-clause-later
 put_write-requires-clause-later c =
-    let older = c.self.inside.older.pieces in
+    let older = c.self.inside.older.chunks in
     let last = c.self.inside.last in
     let later : last_time (older ++ last) < c.args.write.time =
     subst (λ (k : KeyWrites). last_time k.writes < c.args.write.time) (sym c.self.view_is) c.requires.later in
@@ -17,7 +17,7 @@ put_write-requires-clause-later c =
 
 pub of-requires : goal.of-requires
 of-requires c =
-    let older = c.self.inside.older.pieces in
+    let older = c.self.inside.older.chunks in
     let last = c.self.inside.last in
     let later : last_time (older ++ last) < c.args.write.time =
     subst (λ (k : KeyWrites). last_time k.writes < c.args.write.time) (sym c.self.view_is) c.requires.later in
@@ -25,7 +25,7 @@ of-requires c =
 
 pub of-requires-2 : goal.of-requires-2
 of-requires-2 c =
-    let older = c.self.inside.older.pieces in
+    let older = c.self.inside.older.chunks in
     let last = c.self.inside.last in
     let later : last_time (older ++ last) < c.args.write.time =
     subst (λ (k : KeyWrites). last_time k.writes < c.args.write.time) (sym c.self.view_is) c.requires.later in

@@ -6,7 +6,7 @@ use Rattle.chains.proofs.chain.Chain.is_kept.Goals as goal
 
 pub returns-then-mark-first_time : goal.returns-then-mark-first_time
 returns-then-mark-first_time c = λ kept.
-    let older = c.self.inside.older.pieces in
+    let older = c.self.inside.older.chunks in
     let last = c.self.inside.last in
     let later =
     rising-later c.args.mark last c.first_time.ensures.some (rw c.first_time.ensures.is at c.if-mark-first_time.true)

@@ -12,7 +12,7 @@ use Rattle.chains.proofs.chain.Chain.part_after.Goals as goal
 
 pub returns-in-Some-clause-is : goal.returns-in-Some-clause-is
 returns-in-Some-clause-is c =
-    let older = c.self.inside.older.pieces in
+    let older = c.self.inside.older.chunks in
     let last = c.self.inside.last in
     let found : IsPartFrom c.args.time (versions_upto (first_time last) older) c.in-Some.part =
     rw (c.in-Some.is, c.first_time-first.ensures.is) at c.in_ok-part.ensures in
@@ -21,7 +21,7 @@ returns-in-Some-clause-is c =
 
 pub returns-in-None-clause-is : goal.returns-in-None-clause-is
 returns-in-None-clause-is c =
-    let older = c.self.inside.older.pieces in
+    let older = c.self.inside.older.chunks in
     let last = c.self.inside.last in
     let none : find (ends_after c.args.time) (versions_upto (first_time last) older) ≡ None =
     rw (c.in-None.is, c.first_time-first.ensures.is) at c.in_ok-part.ensures in

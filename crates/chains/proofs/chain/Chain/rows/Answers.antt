@@ -9,7 +9,7 @@ use Rattle.chains.proofs.chain.Chain.rows.Goals as goal
 
 pub returns : goal.returns
 returns c =
-    let older = c.self.inside.older.pieces in
+    let older = c.self.inside.older.chunks in
     let last = c.self.inside.last in
     let first : c.add_rows.new.found.items ≡ rows (versions_upto (first_time last) older) c.args.a c.args.b =
     rw (c.new-found.ensures.items, c.first_time.ensures.is) at c.in_ok-add_rows.ensures in

@@ -9,10 +9,10 @@ use Rattle.chains.proofs.key_node.KeyNode.+add_kept.Goals as goal
 pub returns-then-are_kept-clause-is : goal.returns-then-are_kept-clause-is
 returns-then-are_kept-clause-is t c =
     let found = all_of c.args.found.now.items in
-    let same : forgotten c.args.mark c.args.self.now.pieces ≡ c.args.self.now.pieces =
+    let same : forgotten c.args.mark c.args.self.now.chunks ≡ c.args.self.now.chunks =
     subst (λ (m : List KeyWrites). forgotten c.args.mark m
-    ≡ m) (sym (ap (λ (n : Shape KeyWrites). n.pieces) c.in-Chains.ensures.0)) (c.are_kept.ensures c.if-are_kept.true) in
-    popped _ _ c.in_ok-push-in-Chains.ensures.items ∙ ap (λ (n : Shape KeyWrites). found ++ n.pieces) c.in_ok-share-in-Chains.ensures
+    ≡ m) (sym (ap (λ (n : Shape KeyWrites). n.chunks) c.in-Chains.ensures.0)) (c.are_kept.ensures c.if-are_kept.true) in
+    popped _ _ c.in_ok-push-in-Chains.ensures.items ∙ ap (λ (n : Shape KeyWrites). found ++ n.chunks) c.in_ok-share-in-Chains.ensures
     ∙ ap (λ (m : List KeyWrites). found ++ m) (sym same)
 
 pub add_leaves-requires : goal.add_leaves-requires
@@ -27,7 +27,7 @@ loop-rest-preserved-then-branch t c =
       low = omega (arith, behind_low rest some c.node-item.is, c.loop-rest.invariant.low);
       put =
           ap (λ (l : List KeyWrites). l ++ later) c.in_ok-is_same.ensures.is
-          ∙ append_assoc (all_of c.loop-rest.all.items) (forgotten c.args.mark c.node-item.result.pieces) later
+          ∙ append_assoc (all_of c.loop-rest.all.items) (forgotten c.args.mark c.node-item.result.chunks) later
           ∙ ap (λ (l : List KeyWrites). all_of c.loop-rest.all.items ++ l) (sym (kept_first rest some c.node-item.is c.args.mark))
           ∙ c.loop-rest.invariant.put;
       same = λ is kept. c.loop-rest.invariant.same is (same_first rest some c.node-item.is c.args.mark (c.in_ok-is_same.ensures.same c.if-branch.true) kept);
@@ -42,7 +42,7 @@ loop-rest-preserved t c =
       low = omega (arith, behind_low rest some c.node-item.is, c.loop-rest.invariant.low);
       put =
           ap (λ (l : List KeyWrites). l ++ later) c.in_ok-is_same.ensures.is
-          ∙ append_assoc (all_of c.loop-rest.all.items) (forgotten c.args.mark c.node-item.result.pieces) later
+          ∙ append_assoc (all_of c.loop-rest.all.items) (forgotten c.args.mark c.node-item.result.chunks) later
           ∙ ap (λ (l : List KeyWrites). all_of c.loop-rest.all.items ++ l) (sym (kept_first rest some c.node-item.is c.args.mark))
           ∙ c.loop-rest.invariant.put;
       same = λ is kept. absurd (cc);
@@ -52,14 +52,14 @@ pub returns-then-is_same-clause-is : goal.returns-then-is_same-clause-is
 returns-then-is_same-clause-is t c =
     let found = all_of c.args.found.now.items in
     let none : all_of c.loop-rest.rest.now ≡ [] = none-left c.loop-rest.rest.now c.in_default.len_below in
-    let same : forgotten c.args.mark c.args.self.now.pieces ≡ c.args.self.now.pieces = c.loop-rest.invariant.same c.if-is_same.true (rw none refl) in
-    popped _ _ c.in_ok-push.ensures.items ∙ ap (λ (n : Shape KeyWrites). found ++ n.pieces) c.in_ok-share.ensures
+    let same : forgotten c.args.mark c.args.self.now.chunks ≡ c.args.self.now.chunks = c.loop-rest.invariant.same c.if-is_same.true (rw none refl) in
+    popped _ _ c.in_ok-push.ensures.items ∙ ap (λ (n : Shape KeyWrites). found ++ n.chunks) c.in_ok-share.ensures
     ∙ ap (λ (m : List KeyWrites). found ++ m) (sym same)
 
 pub add_forks-requires : goal.add_forks-requires
 add_forks-requires t c =
     let all = all_of c.loop-rest.all.items in
     let none : all_of c.loop-rest.rest.now ≡ [] = none-left c.loop-rest.rest.now c.in_default.len_below in
-    let is : all ≡ forgotten c.args.mark c.args.self.now.pieces =
+    let is : all ≡ forgotten c.args.mark c.args.self.now.chunks =
     sym (append-nil all) ∙ ap (λ (m : List KeyWrites). all ++ forgotten c.args.mark m) (sym none) ∙ c.loop-rest.invariant.put in
-    rw is (ordered-forgotten c.args.mark c.args.self.now.pieces (subst IsOrdered c.in-Nodes.ensures.chains c.in-Nodes.ensures.ordered))
+    rw is (ordered-forgotten c.args.mark c.args.self.now.chunks (subst IsOrdered c.in-Nodes.ensures.chains c.in-Nodes.ensures.ordered))

@@ -11,8 +11,8 @@ decreases-add_kept l = goal.size-add_kept l
 abbrev pub invariant-loop-rest : goal.invariant-loop-rest
 invariant-loop-rest l = record {
   low : highest l.rest < l.self.height;
-  put : all_of l.all.items ++ forgotten l.mark (all_of l.rest) ≡ forgotten l.mark l.self.pieces;
-  same : IsTrue l.is_same → forgotten l.mark (all_of l.rest) ≡ all_of l.rest → forgotten l.mark l.self.pieces ≡ l.self.pieces;
+  put : all_of l.all.items ++ forgotten l.mark (all_of l.rest) ≡ forgotten l.mark l.self.chunks;
+  same : IsTrue l.is_same → forgotten l.mark (all_of l.rest) ≡ all_of l.rest → forgotten l.mark l.self.chunks ≡ l.self.chunks;
 }
 
 abbrev pub decreases-loop-rest : goal.decreases-loop-rest

@@ -23,7 +23,7 @@ pub loop-rest-preserved : goal.loop-rest-preserved
 loop-rest-preserved t c =
     let rest = c.loop-rest.rest.now in
     let some = c.in-len1-up.len_at_least in
-    let here = of_relation c.args.relation (shown_rows c.args.a c.args.b) c.node-item.result.pieces in
+    let here = of_relation c.args.relation (shown_rows c.args.a c.args.b) c.node-item.result.chunks in
     let later = of_relation c.args.relation (shown_rows c.args.a c.args.b) (all_of (behind rest)) in
     record {
       low = omega (arith, behind_low rest some c.node-item.is, c.loop-rest.invariant.low);

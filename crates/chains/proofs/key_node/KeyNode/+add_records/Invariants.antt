@@ -13,7 +13,7 @@ invariant-loop-rest l = record {
   low : highest l.rest < l.self.height;
   ordered : IsOrdered (all_of l.rest);
   left : l.found.items ++ of_relation l.relation (shown_rows l.a l.b) (all_of l.rest) ≡ l.fn.found.items
-      ++ of_relation l.relation (shown_rows l.a l.b) l.self.pieces;
+      ++ of_relation l.relation (shown_rows l.a l.b) l.self.chunks;
 }
 
 abbrev pub decreases-loop-rest : goal.decreases-loop-rest

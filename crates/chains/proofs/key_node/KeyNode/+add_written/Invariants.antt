@@ -18,7 +18,7 @@ invariant-loop-rest l = record {
   earlier : latest (all_of l.rest) < l.time;
   rising : IsStrictlySortedBy key_cmp (map (λ (w : KeyWrite Value). w.key) l.left);
   none : length l.rest < 1 → l.left ≡ [];
-  put : all_of l.all.items ++ with_commit (all_of l.rest) l.time l.left ≡ with_commit l.self.pieces l.time l.fn.writes;
+  put : all_of l.all.items ++ with_commit (all_of l.rest) l.time l.left ≡ with_commit l.self.chunks l.time l.fn.writes;
 }
 
 abbrev pub decreases-loop-rest : goal.decreases-loop-rest

@@ -19,7 +19,7 @@ pub returns-then-is_empty : goal.returns-then-is_empty
 returns-then-is_empty t c =
     let found = all_of c.args.found.now.items in
     let none : length c.args.writes.now ≡ 0 = grind (arith, nat_tests) in
-    popped _ _ c.in_ok-push.ensures.items ∙ ap (λ (m : List KeyWrites). found ++ m) (sym (commit-nothing c.args.self.pieces c.args.time c.args.writes.now none))
+    popped _ _ c.in_ok-push.ensures.items ∙ ap (λ (m : List KeyWrites). found ++ m) (sym (commit-nothing c.args.self.chunks c.args.time c.args.writes.now none))
 
 pub add_leaves-requires : goal.add_leaves-requires
 add_leaves-requires t c =
@@ -34,9 +34,9 @@ into_written-requires t c =
     let rest = c.next.new.self.rest.items in
     let all : highest (before ∷ node ∷ rest) < c.args.self.height = rw (c.in-Some-last.is, c.in-Some.ensures.steps.0) at c.loop-node.invariant.low in
     let low : before.height < c.args.self.height = omega (arith, all) in
-    let earlier : latest (before.pieces ++ all_of (node ∷ rest)) < c.args.time =
+    let earlier : latest (before.chunks ++ all_of (node ∷ rest)) < c.args.time =
     rw (c.in-Some-last.is, c.in-Some.ensures.steps.0) at c.loop-node.invariant.earlier in
-    let later = (latest-parts before.pieces (all_of (node ∷ rest)) c.args.time earlier).0 in
+    let later = (latest-parts before.chunks (all_of (node ∷ rest)) c.args.time earlier).0 in
     let rising = c.parted.ensures.rising_before in
     search rules
 
@@ -65,16 +65,16 @@ loop-node-preserved t c =
         | in-Some-last+in_ok-into_written w ↦
             let before = w.in-Some-last.before in
             let later = with_commit (all_of (node ∷ rest)) c.args.time w.parted.result.1.now in
-            let ordered : IsOrdered (before.pieces ++ all_of (node ∷ rest)) = rw (w.in-Some-last.is, first) at c.loop-node.invariant.ordered in
-            let two = commit-two before.pieces (all_of (node ∷ rest)) c.args.time c.loop-node.left.now w.parted.result.0.now w.parted.result.1.now
-            (parted-first node.pieces (all_of rest) w.first_key.result c.loop-node.left.now w.parted.result.0.now w.parted.result.1.now w.first_key.ensures
+            let ordered : IsOrdered (before.chunks ++ all_of (node ∷ rest)) = rw (w.in-Some-last.is, first) at c.loop-node.invariant.ordered in
+            let two = commit-two before.chunks (all_of (node ∷ rest)) c.args.time c.loop-node.left.now w.parted.result.0.now w.parted.result.1.now
+            (parted-first node.chunks (all_of rest) w.first_key.result c.loop-node.left.now w.parted.result.0.now w.parted.result.1.now w.first_key.ensures
             w.parted.ensures) ordered in
-            let so_far : all_of c.loop-node.all.items ++ with_commit (before.pieces ++ all_of (node ∷ rest)) c.args.time c.loop-node.left.now
-            ≡ with_commit c.args.self.pieces c.args.time c.args.writes.now =
+            let so_far : all_of c.loop-node.all.items ++ with_commit (before.chunks ++ all_of (node ∷ rest)) c.args.time c.loop-node.left.now
+            ≡ with_commit c.args.self.chunks c.args.time c.args.writes.now =
             rw (w.in-Some-last.is, first) at c.loop-node.invariant.put in
             rw (w.left-is, w.all-is)
             (ap (λ (l : List KeyWrites). l ++ later) w.in_ok-into_written.ensures
-            ∙ append_assoc (all_of c.loop-node.all.items) (with_commit before.pieces c.args.time w.parted.result.0.now) later
+            ∙ append_assoc (all_of c.loop-node.all.items) (with_commit before.chunks c.args.time w.parted.result.0.now) later
             ∙ ap (λ (l : List KeyWrites). all_of c.loop-node.all.items ++ l) (sym two)
             ∙ so_far)
         | in_default w ↦ rw (w.left-is, w.all-is) (rw (w.in_default.is, first) at c.loop-node.invariant.put)
@@ -84,23 +84,23 @@ loop-node-preserved t c =
 pub add_forks-requires : goal.add_forks-requires
 add_forks-requires t c =
     let fork : IsKeyFork c.args.self c.in-Ok-Nodes.nodes.items = rw c.in-Ok-Nodes.field-0-is at c.in-Ok-Nodes.ensures in
-    let ordered = ordered-with_commit c.args.self.pieces c.args.time c.args.writes.now (subst IsOrdered fork.chains fork.ordered) in
+    let ordered = ordered-with_commit c.args.self.chunks c.args.time c.args.writes.now (subst IsOrdered fork.chains fork.ordered) in
     let empty : c.loop-node.node-iterator.rest.items ≡ [] =
     nothing c.loop-node.node-iterator.rest.items (sym c.loop-node.node-iterator.rest.ok.0 ∙ c.in-None.ensures.steps.0) in
     elim c.match-last-2.branch [
       | in-Some-last-2+in_ok-into_written-2 w ↦
           let node = w.in-Some-last-2.node in
-          let so_far : all_of c.loop-node.all.items ++ with_commit (node.pieces ++ []) c.args.time c.loop-node.left.now
-          ≡ with_commit c.args.self.pieces c.args.time c.args.writes.now =
+          let so_far : all_of c.loop-node.all.items ++ with_commit (node.chunks ++ []) c.args.time c.loop-node.left.now
+          ≡ with_commit c.args.self.chunks c.args.time c.args.writes.now =
           rw (w.in-Some-last-2.is, empty) at c.loop-node.invariant.put in
           let is = w.in_ok-into_written-2.ensures
-          ∙ ap (λ (m : List KeyWrites). all_of c.loop-node.all.items ++ with_commit m c.args.time c.loop-node.left.now) (sym (append-nil node.pieces))
+          ∙ ap (λ (m : List KeyWrites). all_of c.loop-node.all.items ++ with_commit m c.args.time c.loop-node.left.now) (sym (append-nil node.chunks))
           ∙ so_far in
           rw (w.all-is, is) ordered
       | in_default-last w ↦
           let all = all_of c.loop-node.all.items in
           let left : c.loop-node.left.now ≡ [] = c.loop-node.invariant.none (rw (w.in_default-last.is, empty) (omega arith)) in
-          let so_far : all ++ with_commit [] c.args.time c.loop-node.left.now ≡ with_commit c.args.self.pieces c.args.time c.args.writes.now =
+          let so_far : all ++ with_commit [] c.args.time c.loop-node.left.now ≡ with_commit c.args.self.chunks c.args.time c.args.writes.now =
           rw (w.in_default-last.is, empty) at c.loop-node.invariant.put in
           let is = sym (append-nil all) ∙ ap (λ ws. all ++ with_commit [] c.args.time ws) (sym left) ∙ so_far in
           rw (w.all-is, is) ordered

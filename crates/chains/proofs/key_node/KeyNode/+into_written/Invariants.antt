@@ -21,5 +21,5 @@ invariant-loop-node l =
       earlier : latest (all_of rest) < l.time;
       rising : IsStrictlySortedBy key_cmp (map (λ (w : KeyWrite Value). w.key) l.left);
       none : length rest < 1 → l.left ≡ [];
-      put : all_of l.all.items ++ with_commit (all_of rest) l.time l.left ≡ with_commit l.fn.self.pieces l.time l.fn.writes;
+      put : all_of l.all.items ++ with_commit (all_of rest) l.time l.left ≡ with_commit l.fn.self.chunks l.time l.fn.writes;
     }

@@ -12,7 +12,7 @@ decreases-least l = goal.size-least l
 abbrev pub invariant-loop-rest : goal.invariant-loop-rest
 invariant-loop-rest l = record {
   low : highest l.rest < l.self.height;
-  found : find (λ (c : KeyWrites). is_in l.bound c.key) (all_of l.rest) ≡ find (λ (c : KeyWrites). is_in l.bound c.key) l.self.pieces;
+  found : find (λ (c : KeyWrites). is_in l.bound c.key) (all_of l.rest) ≡ find (λ (c : KeyWrites). is_in l.bound c.key) l.self.chunks;
 }
 
 abbrev pub decreases-loop-rest : goal.decreases-loop-rest

@@ -5,9 +5,9 @@ use Rattle.chains.proofs.keys.Keys.into_writes.Goals as goal
 
 pub of-requires : goal.of-requires
 of-requires c =
-    let view : c.in-Some.node.pieces ≡ c.args.self = rw c.in-Some.is at c.self.view_is in
+    let view : c.in-Some.node.chunks ≡ c.args.self = rw c.in-Some.is at c.self.view_is in
     rw (
       c.in_ok-into_written.ensures,
       c.in-Some.node-is,
       c.in_ok-nodes.ensures.items,
-    ) (ordered-with_commit c.in-Some.node.pieces c.args.time c.args.writes.now (subst IsOrdered (sym view) c.requires.ordered))
+    ) (ordered-with_commit c.in-Some.node.chunks c.args.time c.args.writes.now (subst IsOrdered (sym view) c.requires.ordered))

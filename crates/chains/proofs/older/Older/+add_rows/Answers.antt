@@ -17,7 +17,7 @@ loop-rest-init t c = record {
 
 pub returns-then-b-first_time : goal.returns-then-b-first_time
 returns-then-b-first_time t c =
-    let late : c.args.b ≤ first_time c.branch-item.result.pieces = rw c.first_time.ensures.is at c.if-b-first_time.true in
+    let late : c.args.b ≤ first_time c.branch-item.result.chunks = rw c.first_time.ensures.is at c.if-b-first_time.true in
     let none =
     no_rows_late c.loop-rest.rest.now c.in-len1-up.len_at_least c.branch-item.is c.args.end c.args.a c.args.b c.loop-rest.invariant.rising
     c.first_time.ensures.some late in
@@ -29,7 +29,7 @@ pub loop-rest-preserved : goal.loop-rest-preserved
 loop-rest-preserved t c =
     let rest = c.loop-rest.rest.now in
     let some = c.in-len1-up.len_at_least in
-    let here = rows (versions_upto (first_time_or c.args.end (all_of (behind rest))) c.branch-item.result.pieces) c.args.a c.args.b in
+    let here = rows (versions_upto (first_time_or c.args.end (all_of (behind rest))) c.branch-item.result.chunks) c.args.a c.args.b in
     let later = rows (versions_upto c.args.end (all_of (behind rest))) c.args.a c.args.b in
     let put : c.add_rows.new.found.items ≡ c.loop-rest.found.items ++ here =
     rw (c.writes.ensures.is, c.first_time_or-next.ensures) at c.in_ok-add_rows.ensures in

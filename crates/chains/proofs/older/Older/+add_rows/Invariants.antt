@@ -13,7 +13,7 @@ abbrev pub invariant-loop-rest : goal.invariant-loop-rest
 invariant-loop-rest l = record {
   low : highest l.rest < l.self.height;
   rising : IsRisingAfter 0 (all_of l.rest);
-  left : l.found.items ++ rows (versions_upto l.end (all_of l.rest)) l.a l.b ≡ l.fn.found.items ++ rows (versions_upto l.end l.self.pieces) l.a l.b;
+  left : l.found.items ++ rows (versions_upto l.end (all_of l.rest)) l.a l.b ≡ l.fn.found.items ++ rows (versions_upto l.end l.self.chunks) l.a l.b;
 }
 
 abbrev pub decreases-loop-rest : goal.decreases-loop-rest

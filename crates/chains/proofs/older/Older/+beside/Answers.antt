@@ -18,10 +18,10 @@ beside-requires t c =
 
 pub returns-clause-alone : goal.returns-clause-alone
 returns-clause-alone t c =
-    let n = length c.args.piece in
+    let n = length c.args.chunk in
     let below = c.in_ok-below.below in
-    let some : 0 < length below.pieces = rw c.in_ok-below.ensures.is c.beside.ensures.some in
-    ok-map c.with_last.result (λ o. 0 < length below.pieces → IsForkOf (as_branch below ∷ []) o) (IsAlone n c.args.self.now)
+    let some : 0 < length below.chunks = rw c.in_ok-below.ensures.is c.beside.ensures.some in
+    ok-map c.with_last.result (λ o. 0 < length below.chunks → IsForkOf (as_branch below ∷ []) o) (IsAlone n c.args.self.now)
     (λ o shape.
     alone-below c.in-Branches-len1-up.ensures c.in-Branches-len1-up.len_at_least c.branch-item.is n c.writes.result.now c.writes.ensures.branch below o
     c.in_ok-below.ensures.alone (shape some))

@@ -16,7 +16,7 @@ returns-in-Some t c =
     let some = c.in-len1-up.len_at_least in
     let v = version_of_loan c.in-Some.version in
     let here : find (ends_after c.args.time)
-    (versions_upto (first_time_or c.args.end (all_of (behind c.loop-rest.rest.now))) c.branch-item.result.pieces) ≡ Some v =
+    (versions_upto (first_time_or c.args.end (all_of (behind c.loop-rest.rest.now))) c.branch-item.result.chunks) ≡ Some v =
     rw (c.writes.ensures.is, c.first_time_or-next.ensures) at (sym c.in-Some.ensures) in
     sym (ending_first c.loop-rest.rest.now some c.branch-item.is c.args.time c.args.end v here) ∙ c.loop-rest.invariant.found
 
@@ -24,7 +24,7 @@ pub loop-rest-preserved : goal.loop-rest-preserved
 loop-rest-preserved t c =
     let some = c.in-len1-up.len_at_least in
     let none : find (ends_after c.args.time)
-    (versions_upto (first_time_or c.args.end (all_of (behind c.loop-rest.rest.now))) c.branch-item.result.pieces) ≡ None =
+    (versions_upto (first_time_or c.args.end (all_of (behind c.loop-rest.rest.now))) c.branch-item.result.chunks) ≡ None =
     rw (c.writes.ensures.is, c.first_time_or-next.ensures) at (sym c.in_default-ending_after.ensures) in
     record {
       low = omega (arith, behind_low c.loop-rest.rest.now some c.branch-item.is, c.loop-rest.invariant.low);

@@ -12,7 +12,7 @@ decreases-ending_after l = goal.size-ending_after l
 abbrev pub invariant-loop-rest : goal.invariant-loop-rest
 invariant-loop-rest l = record {
   low : highest l.rest < l.self.height;
-  found : find (ends_after l.time) (versions_upto l.end (all_of l.rest)) ≡ find (ends_after l.time) (versions_upto l.end l.self.pieces);
+  found : find (ends_after l.time) (versions_upto l.end (all_of l.rest)) ≡ find (ends_after l.time) (versions_upto l.end l.self.chunks);
 }
 
 abbrev pub decreases-loop-rest : goal.decreases-loop-rest

@@ -20,14 +20,14 @@ has_room_for-requires t c =
 
 pub returns-in-len1-up-clause-is : goal.returns-in-len1-up-clause-is
 returns-in-len1-up-clause-is t c =
-    let n = length c.args.piece.now in
+    let n = length c.args.chunk.now in
     c.has_room_for.ensures.is
     ∙ sym (room-below c.in-Branches.ensures c.in-len1-up.len_at_least c.last-item.is n c.if-branches-ge-WIDTH.true
     ∙ ap (λ (b : Shape Write). has_room n b.together b.forks) c.writes.ensures.branch)
 
 pub returns-in-len1-up-clause-some : goal.returns-in-len1-up-clause-some
 returns-in-len1-up-clause-some t c =
-    elim c.has_room_for.ensures.some as (λ _. IsTrue c.has_room_for.result ⊎ (0 < length c.args.self.now.pieces)) [
+    elim c.has_room_for.ensures.some as (λ _. IsTrue c.has_room_for.result ⊎ (0 < length c.args.self.now.chunks)) [
       | inl room ↦ inl room
       | inr some ↦ inr (some-writes c.in-Branches.ensures c.in-len1-up.len_at_least c.last-item.is (rw c.writes.ensures.is at some))
     ]

@@ -41,10 +41,10 @@ returns-in-len1-up-clause-height t c =
 
 pub returns-in-len1-up-clause-is : goal.returns-in-len1-up-clause-is
 returns-in-len1-up-clause-is t c =
-    let first : c.in_ok-first-in-len1-up.first.pieces ≡ kept_after c.args.mark c.branch-item.result.pieces =
+    let first : c.in_ok-first-in-len1-up.first.chunks ≡ kept_after c.args.mark c.branch-item.result.chunks =
     rw c.writes.ensures.is at c.in_ok-first-in-len1-up.ensures.is in
     let kept = fork_kept c.in-Branches.ensures c.from_begun.ensures c.in-len1-up.len_at_least c.branch-item.is in
-    subst (λ (ws : List Write). IfOk c.with_first.result (λ o. o.pieces ≡ ws)) (ap (λ (ws : List Write). ws ++ all_of (behind c.from_begun.result.now)) first
+    subst (λ (ws : List Write). IfOk c.with_first.result (λ o. o.chunks ≡ ws)) (ap (λ (ws : List Write). ws ++ all_of (behind c.from_begun.result.now)) first
     ∙ sym kept) c.with_first.ensures.is
 
 pub of_shared-requires : goal.of_shared-requires

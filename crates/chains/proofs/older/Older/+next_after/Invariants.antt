@@ -11,7 +11,7 @@ decreases-next_after l = goal.size-next_after l
 abbrev pub invariant-loop-rest : goal.invariant-loop-rest
 invariant-loop-rest l = record {
   low : highest l.rest < l.self.height;
-  found : find (is_after l.time) (all_of l.rest) ≡ find (is_after l.time) l.self.pieces;
+  found : find (is_after l.time) (all_of l.rest) ≡ find (is_after l.time) l.self.chunks;
 }
 
 abbrev pub decreases-loop-rest : goal.decreases-loop-rest

@@ -18,7 +18,7 @@ loop-rest-init t c =
 pub returns-in-Some-2 : goal.returns-in-Some-2
 returns-in-Some-2 t c =
     let rest = c.loop-rest.rest.now in
-    let here : IsPartFrom c.args.time (versions_upto (first_time_or c.args.end (all_of (behind rest))) c.branch-item.result.pieces) c.in-Some-2.part =
+    let here : IsPartFrom c.args.time (versions_upto (first_time_or c.args.end (all_of (behind rest))) c.branch-item.result.chunks) c.in-Some-2.part =
     rw (c.in-Some-2.is, c.writes.ensures.is, c.first_time_or-next.ensures) at c.in_ok-part.ensures in
     c.loop-rest.invariant.found (Some c.in-Some-2.part)
     (found_first rest c.in-len1-up.len_at_least c.branch-item.is c.args.time c.args.end c.in-Some-2.part here)
@@ -26,7 +26,7 @@ returns-in-Some-2 t c =
 pub loop-rest-preserved : goal.loop-rest-preserved
 loop-rest-preserved t c =
     let rest = c.loop-rest.rest.now in
-    let none : find (ends_after c.args.time) (versions_upto (first_time_or c.args.end (all_of (behind rest))) c.branch-item.result.pieces) ≡ None =
+    let none : find (ends_after c.args.time) (versions_upto (first_time_or c.args.end (all_of (behind rest))) c.branch-item.result.chunks) ≡ None =
     rw (c.in_default-2.is, c.writes.ensures.is, c.first_time_or-next.ensures) at c.in_ok-part.ensures in
     record {
       low = omega (arith, behind_low rest c.in-len1-up.len_at_least c.branch-item.is, c.loop-rest.invariant.low);

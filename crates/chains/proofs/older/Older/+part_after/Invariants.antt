@@ -11,7 +11,7 @@ decreases-part_after l = goal.size-part_after l
 abbrev pub invariant-loop-rest : goal.invariant-loop-rest
 invariant-loop-rest l = record {
   low : highest l.rest < l.self.height;
-  found : (o : Option Versions) → IsFound l.time (versions_upto l.end (all_of l.rest)) o → IsFound l.time (versions_upto l.end l.self.pieces) o;
+  found : (o : Option Versions) → IsFound l.time (versions_upto l.end (all_of l.rest)) o → IsFound l.time (versions_upto l.end l.self.chunks) o;
 }
 
 abbrev pub decreases-loop-rest : goal.decreases-loop-rest

@@ -1,8 +1,0 @@
-use Rattle.std.proofs.Common.{◌≤◌, ◌-◌}
-use Rattle.chains.proofs.full_piece.FullPiece.later_from.Given as goal
-
-abbrev pub invariant-loop-begun : goal.invariant-loop-begun
-invariant-loop-begun l = l.begun ≤ 32
-
-abbrev pub decreases-loop-begun : goal.decreases-loop-begun
-decreases-loop-begun l = 32 - l.begun
