@@ -187,13 +187,13 @@ def forms(program, folder):
 
 
 def shown(program, store):
-    """The log of a store of profile 4 that has commits at 100 and at 200 and a floor between: what is shown of it, and up to a damaged chain."""
+    """The log of a store of profile 4 that has commits at 100 and at 200: what is shown of it, and up to a damaged chain."""
     front = "header extents 64 root 1\nchain 1 commits extents 1\nmember 5 100 1 1970-01-01T00:00:00Z\n"
-    log = front + "chain 2 floor 100 relation 2\nchain 3 commits extents 1\nmember 6 200 2 1970-01-01T00:00:00Z\nnext 4\nused 3 of 64\n"
-    facts = {"profile": 4, "heap": 64, "extents": 3, "log": 4, "free": 28, "commits": 2, "last": 200, "archived": 0, "archive": 0, "reclaimed": 0}
+    log = front + "chain 2 commits extents 1\nmember 6 200 2 1970-01-01T00:00:00Z\nnext 3\nused 2 of 64\n"
+    facts = {"profile": 4, "heap": 64, "extents": 2, "log": 3, "free": 29, "commits": 2, "last": 200, "archived": 0, "archive": 0, "reclaimed": 0}
     assert run(program, ["dump", store]) == (0, log, "")
-    assert run(program, ["info", store]) == (0, "".join(f"{name} {number}\n" for name, number in facts.items()) + "floor 2 100\n", "")
-    assert json.loads(run(program, ["info", store, "--json"])[1]) == {**facts, "floors": [{"relation": 2, "floor": 100}]}
+    assert run(program, ["info", store]) == (0, "".join(f"{name} {number}\n" for name, number in facts.items()), "")
+    assert json.loads(run(program, ["info", store, "--json"])[1]) == {**facts, "floors": []}
     with open(os.path.join(store, "heap"), "r+b") as heap:
         heap.seek(8192 + 12)
         used = heap.read(1)

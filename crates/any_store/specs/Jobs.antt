@@ -40,6 +40,7 @@ told_fault log_fault.NothingToDo = fault.NothingToDo
 told_fault (log_fault.NotYet time) = fault.NotYet time
 told_fault (log_fault.InUse snapshot) = fault.InUse snapshot
 told_fault log_fault.HeapFull = fault.HeapFull
+told_fault log_fault.ArchiveFull = fault.ArchiveFull
 told_fault log_fault.NoMemory = fault.NoMemory
 
 abbrev pub told_start : Result (Unit {0}) log_starts.StartFault → Result (Unit {0}) StartFault

@@ -71,6 +71,8 @@ slots_job_did slots_job.JobDone = job.JobDone
 
 abbrev pub log_job_did : logs_jobs.JobDid → JobDid
 log_job_did log_job.Idle = job.Idle
+log_job_did log_job.WroteRun = job.WroteRun
+log_job_did log_job.RunSynced = job.RunSynced
 log_job_did log_job.WroteEntry = job.WroteEntry
 log_job_did log_job.GateClosed = job.GateClosed
 log_job_did log_job.HeapSynced = job.HeapSynced

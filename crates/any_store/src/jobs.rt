@@ -101,6 +101,7 @@ fn told_fault(why: LogStartFault) -> StartFault
         LogStartFault::NotYet(last) => StartFault::NotYet(last),
         LogStartFault::InUse(snapshot) => StartFault::InUse(snapshot),
         LogStartFault::HeapFull => StartFault::HeapFull,
+        LogStartFault::ArchiveFull => StartFault::ArchiveFull,
         LogStartFault::NoMemory => StartFault::NoMemory,
     }
 }

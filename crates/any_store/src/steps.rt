@@ -141,6 +141,8 @@ fn log_job_did(what: LogJobDid) -> JobDid
 {
     match what {
         LogJobDid::Idle => JobDid::Idle,
+        LogJobDid::WroteRun => JobDid::WroteRun,
+        LogJobDid::RunSynced => JobDid::RunSynced,
         LogJobDid::WroteEntry => JobDid::WroteEntry,
         LogJobDid::GateClosed => JobDid::GateClosed,
         LogJobDid::HeapSynced => JobDid::HeapSynced,

@@ -47,6 +47,13 @@ impl Commits {
         first_conflict(self.ordered(), snapshot, writes)
     }
 
+    /// The last time that was given to a commit, published or not, or the reclaim mark where that is later, in microseconds since 1970.
+    pub fn last_assigned(&self) -> u64
+        ensures { result ≡ last_assigned self.now }
+    {
+        self.reclaimed.max(self.order.last_assigned())
+    }
+
     /// The time of a commit that is submitted now: `now` in microseconds since 1970, or just after the
     /// last commit, where that is later.
     ///
@@ -59,8 +66,7 @@ impl Commits {
         ensures later { IfOk result (λ time. last_assigned self.now < time) }
         ensures in_range { IfOk result (λ time. time < 2 ^ 63) }
     {
-        let last = self.reclaimed.max(self.order.last_assigned());
-        CommitClock::new(last).next(now)
+        CommitClock::new(self.last_assigned()).next(now)
     }
 
     /// One more commit waits, of this time in microseconds since 1970, with this label and these

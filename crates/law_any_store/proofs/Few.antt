@@ -277,6 +277,7 @@ log-pumped tells l l' said pumps = by-failed l.commits.failed pumps
   where
     by-at : (x : LogStoreValue) (job : log_job.Job) (k : log_stages.JobStage) → x.disk ≡ l.disk → log_jobs.AdvancesAt tells job k x said l'
         → MakesFew (Log l) (Log l')
+    by-at x job (log_stage.Writing writer) same advances = absurd advances
     by-at x job (log_stage.Ready waited) same advances = absurd advances
     by-at x job (log_stage.Entering w) same advances = advance-entry tells job w l x l' said same advances
 
@@ -290,6 +291,7 @@ log-pumped tells l l' said pumps = by-failed l.commits.failed pumps
     by-turn job (Some w) busy = log-same l l' (ap (λ (x : LogStoreValue). x.disk) busy.1)
 
     by-stage : (job : log_job.Job) (k : log_stages.JobStage) → log_jobs.StepsAt tells job k l said l' → MakesFew (Log l) (Log l')
+    by-stage job (log_stage.Writing writer) step = omega (arith, step.counts.made, counted-few l.disk.made)
     by-stage job (log_stage.Ready waited) step = by-turn job l.turn step
     by-stage job (log_stage.Entering w) step = advance-entry tells job w l l l' said refl step
 

@@ -1,5 +1,5 @@
 -- The jobs of a store, in either layout. Where the log lies in the heap floors alone begin.
-use Rattle.std.proofs.Common.{◌≡◌, ℕ, Bool, true, false, List, [], ◌∷◌, Option, None, Some, Result, Ok, Err, refl, ap, sym, subst, ◌∙◌}
+use Rattle.std.proofs.Common.{◌≡◌, ℕ, Bool, true, false, List, [], ◌∷◌, Option, Result, Ok, Err, refl, ap, sym, subst, ◌∙◌}
 use Rattle.std.specs.Prelude.{IsTrue, MatchBool}
 use Rattle.disk.specs.Areas.{AreSound}
 use Rattle.history.specs.Floors.{Raising}
@@ -94,6 +94,7 @@ log-floor-stands tells l l' scope floor said m is starts = by-answer said (floor
     by-answer (Err log_fault.WrongProfile) to = rests to.1
     by-answer (Err log_fault.JobBusy) to = rests to
     by-answer (Err log_fault.HeapFull) to = (refl, rests to)
+    by-answer (Err log_fault.ArchiveFull) to = absurd to
     by-answer (Err log_fault.NoMemory) to = (to.0, rests to.1)
 
 pub floor-start-stands : (tells : Bool) (old new : StoreValue) (scope : Option ℕ) (floor : ℕ) (answer : Result (Unit {0}) StartFault) (m : Machine Value)

@@ -34,12 +34,13 @@ use Rattle.log_store.specs.Pumps as log_steps
 use Rattle.log_store.specs.Pumps.{Advances, AdvancesGroup, bars_groups, BeginsOrWaits, BeginsGroup, TakesStep, after_call}
 use Rattle.log_store.specs.Submits as log_submits
 use Rattle.log_store.specs.Jobs as log_jobs
+use Rattle.log_store.specs.Runs as log_runs
 use Rattle.log_store.specs.declared.job.Job as log_job
 use Rattle.log_store.specs.declared.job.JobDid as log_did
 use Rattle.log_store.specs.declared.job.JobStage as log_stages
 use Rattle.log_store.specs.declared.job.JobStage.TheVariants as log_stage
 use Rattle.log_store.specs.declared.job.JobWork.{JobWork}
-use Rattle.log_store.specs.declared.job.JobWork.TheVariants.{Floor}
+use Rattle.log_store.specs.declared.job.JobWork.TheVariants.{Floor, Archive}
 use Rattle.log_store.specs.declared.job.StartFault as log_starts
 use Rattle.log_store.specs.declared.pump.Did as log_group
 use Rattle.log_store.specs.declared.pump.Did.TheVariants as did
@@ -137,8 +138,9 @@ log-pump-leaves tells l l' answer pumps = by-failed l.commits.failed pumps
     by-failed false takes = by-turn l.turn takes
 
 -- what the work of a job puts into memory
-work-left : (v : CommitsValue) (work : JobWork) → Leaves v (log_jobs.with_work work v)
+work-left : (v : CommitsValue) (work : JobWork) → Leaves v (log_jobs.commits_with work v)
 work-left v (Floor floor kept) = record { mark = refl; opened = refl; heads = refl }
+work-left v (Archive archive archives) = record { mark = refl; opened = refl; heads = refl }
 
 entry-left : (l : LogStoreValue) (job : log_job.Job) (w : WriterState) (stage : Stage) → Leaves l.commits (log_jobs.after_call l job w stage).commits
 entry-left l job w (Writing done rest) = record { mark = refl; opened = refl; heads = refl }
@@ -161,6 +163,21 @@ advance-entry-left tells job w l l' said advances = by-answer said advances.answ
         left-then l.commits (commit_steps.broken l.commits) l'.commits (record { mark = refl; opened = refl; heads = refl })
         (ap (λ (x : LogStoreValue). x.commits) so.1)
 
+-- a call of the writing of a run
+run-left : (tells : Bool) (job : log_job.Job) (l l' : LogStoreValue) (said : Result log_did.JobDid PumpFault) → log_runs.WritesRun tells job l said l'
+    → Leaves l.commits l'.commits
+run-left tells job l l' said writes = by-answer said writes.answer
+  where
+    by-answer : (a : Result log_did.JobDid PumpFault)
+        → MatchResult a (λ what. (what ≡ log_runs.did_at job.stage)
+        × (l' ≡ record (log_runs.with_job_as l (log_runs.behind job true)) { disk = l'.disk }))
+        (λ why. (why ≡ pump.Failed) × (l' ≡ record (log_steps.with_failure (log_runs.with_job_as l (log_runs.behind job false))) { disk = l'.disk }))
+        → Leaves l.commits l'.commits
+    by-answer (Ok what) so = same-left l.commits l'.commits (ap (λ (x : LogStoreValue). x.commits) so.1)
+    by-answer (Err why) so =
+        left-then l.commits (commit_steps.broken l.commits) l'.commits (record { mark = refl; opened = refl; heads = refl })
+        (ap (λ (x : LogStoreValue). x.commits) so.1)
+
 log-job-leaves : (tells : Bool) (l l' : LogStoreValue) (said : Result log_did.JobDid PumpFault) → log_jobs.PumpsJob tells l said l'
     → Leaves l.commits l'.commits
 log-job-leaves tells l l' said pumps = by-failed l.commits.failed pumps
@@ -170,6 +187,7 @@ log-job-leaves tells l l' said pumps = by-failed l.commits.failed pumps
 
     by-at : (x : LogStoreValue) (job : log_job.Job) (k : log_stages.JobStage) → x.commits ≡ l.commits → log_jobs.AdvancesAt tells job k x said l'
         → Leaves l.commits l'.commits
+    by-at x job (log_stage.Writing writer) kept advances = absurd advances
     by-at x job (log_stage.Ready waited) kept advances = absurd advances
     by-at x job (log_stage.Entering w) kept advances =
         subst (λ (v : CommitsValue). Leaves v l'.commits) kept (advance-entry-left tells job w x l' said advances)
@@ -184,6 +202,7 @@ log-job-leaves tells l l' said pumps = by-failed l.commits.failed pumps
     by-turn job (Some w) busy = same (log_jobs.at_stage l job (log_stage.Ready true)) refl busy.1
 
     by-stage : (job : log_job.Job) (k : log_stages.JobStage) → log_jobs.StepsAt tells job k l said l' → Leaves l.commits l'.commits
+    by-stage job (log_stage.Writing writer) step = run-left tells job l l' said step
     by-stage job (log_stage.Ready waited) step = by-turn job l.turn step
     by-stage job (log_stage.Entering w) step = advance-entry-left tells job w l l' said step
 

@@ -81,11 +81,11 @@ module _ (tells : Bool) (old : DiskState) (mark : ℕ) (l : LogStoreValue) (root
       by-failed true works on = absurd cc
       by-failed false works on = on
 
-      by-job : (j : Option Job) → j ≡ None → (heap : StandsOnHeap l h [] floors) → HasJob l heap.l heap.reading j → length l.room.used ≡ l.roots.extents
+      by-job : (j : Option Job) → j ≡ None → (heap : StandsOnHeap l h [] floors) → HasJob l heap.l heap.reading heap.made j → length l.room.used ≡ l.roots.extents
       by-job None none heap rests = rests.room.many
       by-job (Some job) none heap way = absurd cc
 
-      by-turn : (t : Option WriterState) → t ≡ None → (heap : StandsOnHeap l h [] floors) → HasTurn l [] heap.l heap.reading h t
+      by-turn : (t : Option WriterState) → t ≡ None → (heap : StandsOnHeap l h [] floors) → HasTurn l [] heap.l heap.reading heap.made h t
           → length l.room.used ≡ l.roots.extents
       by-turn None none heap rests = by-job l.job (ap (λ (x : LogStoreValue). x.job) opens.new_is) heap rests
       by-turn (Some w) none heap way = absurd cc
@@ -110,6 +110,7 @@ module _ (tells : Bool) (old : DiskState) (mark : ℕ) (l : LogStoreValue) (root
         many = subst (λ (x : LogStoreValue). length x.room.used ≤ 2 ^ 20) opens.new_is log-few;
         turn = refl;
         beside = tt;
+        place = tt;
       })
 
 -- ---- in either

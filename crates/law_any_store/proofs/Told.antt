@@ -1,5 +1,5 @@
 -- What the machine does in a step, by the name that an engine gives the step and by the name that it is told by.
-use Rattle.std.proofs.Common.{◌≡◌, Bool, true, false, cond, List, [], ◌++◌, Option, None, Some, Result, Ok, Err, refl, ap, append-nil}
+use Rattle.std.proofs.Common.{◌≡◌, Bool, true, false, cond, [], ◌++◌, Option, None, Some, Result, Ok, Err, refl, ap, append-nil}
 use Rattle.history.specs.Floors.{Raising}
 use Rattle.history.specs.Machine.{Machine, Gate}
 use Rattle.law_image.specs.Values.{Value}
@@ -78,6 +78,8 @@ slots-job-told m (Err pump.Failed) = refl
 
 log-floor : (what : logs_jobs.JobDid) (r : Raising) → log_ends.floor_events what r ≡ floor_ends_in true (log_job_did what) r
 log-floor log_job.Idle r = refl
+log-floor log_job.WroteRun r = refl
+log-floor log_job.RunSynced r = refl
 log-floor log_job.WroteEntry r = refl
 log-floor log_job.GateClosed r = refl
 log-floor log_job.HeapSynced r = refl

@@ -1,5 +1,5 @@
 -- A store that is opened stands for the history of its image over another disk too, if that has the same areas.
-use Rattle.std.proofs.Common.{◌≡◌, ℕ, Bool, true, false, IsTrue, Option, Some, None, MatchBool, refl, sym, ◌∙◌, subst, ap}
+use Rattle.std.proofs.Common.{◌≡◌, ℕ, ◌≤◌, Bool, true, false, List, Option, Some, None, MatchBool, refl, sym, ◌∙◌, subst, inl, inr}
 use Rattle.disk.specs.Areas.{Areas, AreSound, Image, LeavesImage, settled_on}
 use Rattle.disk.specs.Calls.{DiskState, fresh_on}
 use Rattle.archive.specs.Runs.{HoldRuns}
@@ -8,11 +8,11 @@ use Rattle.chains.specs.KeyWrites.{IsOrdered}
 use Rattle.history.specs.Histories.{History}
 use Rattle.history.specs.Machine.{Machine, opened}
 use Rattle.law_image.specs.Values.{Value}
-use Rattle.law_image.specs.Reading.{Reading}
+use Rattle.law_image.specs.Reading.{ArchiveRecord, Reading}
 use Rattle.log_store.specs.Values.{LogStoreValue, IsInStep}
 use Rattle.log_store.specs.declared.job.Job.{Job}
 use Rattle.log_store.specs.declared.job.JobStage.{JobStage}
-use Rattle.log_store.specs.declared.job.JobStage.TheVariants.{Ready, Entering}
+use Rattle.log_store.specs.declared.job.JobStage.TheVariants.{Writing, Ready, Entering}
 use Rattle.log_store.specs.declared.job.JobWork.{JobWork}
 use Rattle.log_writer.specs.Writer.{WriterState}
 use Rattle.status.specs.declared.header.Header.{Header}
@@ -24,9 +24,9 @@ use Rattle.any_store.specs.Values.{StoreValue, disk_of, with_disk}
 use Rattle.law_log_layout.specs.HeapLog.{HeapLog, heap_parts, placed_group, turn_of}
 use Rattle.law_log_layout.specs.Laws.{KeepsArchive, KeepsLog}
 use Rattle.law_log_layout.specs.Turns.{IsAt}
-use Rattle.law_log_store.specs.Standing.{HasCommits, HasTurn, HasJob, HasStage, IsAtRest, KeepsRoots, StandsOnHeap, StopsOnHeap, placed_entry}
-use Rattle.law_log_steps.specs.Store.{IsStoreOf, IsWriting}
-use Rattle.law_log_queries.specs.Archive as logs
+use Rattle.law_log_store.specs.Standing.{HasCommits, HasTurn, HasJob, HasStage, IsAtRest, KeepsRoots, StandsOnHeap, StopsBy, StopsOnHeap}
+use Rattle.law_log_store.specs.Standing.{HasAllWritten, placed_entry}
+use Rattle.law_log_steps.specs.Store.{IsLeft, IsStoreOf, IsWriting}
 use Rattle.law_log_queries.specs.Archive.{RunsStand}
 use Rattle.law_refinement.proofs.Growing.{as-still}
 use Rattle.law_refinement.specs.OnDisk as slot_images
@@ -44,7 +44,16 @@ module _ (l : LogStoreValue) (disk : DiskState) (same : disk.areas ≡ l.disk.ar
 
   over-step : IsInStep l → IsInStep other
   over-step is =
-      record { contents = is.contents; bytes = is.bytes; promised = is.promised; few = is.few; many = is.many; turn = is.turn; beside = is.beside }
+      record {
+        contents = is.contents;
+        bytes = is.bytes;
+        promised = is.promised;
+        few = is.few;
+        many = is.many;
+        turn = is.turn;
+        beside = is.beside;
+        place = is.place;
+      }
 
   over-commits : (h queue : History Value) → HasCommits l h queue → HasCommits other h queue
   over-commits h queue is = record { ordered = is.ordered; values = is.values; told = is.told; contents = is.contents; may = is.may }
@@ -52,9 +61,11 @@ module _ (l : LogStoreValue) (disk : DiskState) (same : disk.areas ≡ l.disk.ar
   over-rest : (log : HeapLog) → IsAtRest l log → IsAtRest other log
   over-rest log is = record { log = subst (λ (a : Areas). KeepsLog log a.heap) (sym same) is.log; room = is.room }
 
-  over-stage : (log : HeapLog) (reading : Reading) (work : JobWork) (k : JobStage) → HasStage l log reading work k → HasStage other log reading work k
-  over-stage log reading work (Ready waited) is = over-rest log is
-  over-stage log reading work (Entering w) is = record {
+  over-stage : (log : HeapLog) (reading : Reading) (made : List ArchiveRecord) (work : JobWork) (k : JobStage) → HasStage l log reading made work k
+      → HasStage other log reading made work k
+  over-stage log reading made work (Writing writer) is = over-rest log is
+  over-stage log reading made work (Ready waited) is = over-rest log is
+  over-stage log reading made work (Entering w) is = record {
     content = is.content;
     joins = is.joins;
     shares = is.shares;
@@ -62,14 +73,14 @@ module _ (l : LogStoreValue) (disk : DiskState) (same : disk.areas ≡ l.disk.ar
     room = is.room;
   }
 
-  over-job : (log : HeapLog) (reading : Reading) (j : Option Job) → HasJob l log reading j → HasJob other log reading j
-  over-job log reading None is = over-rest log is
-  over-job log reading (Some job) is = over-stage log reading job.work job.stage is
+  over-job : (log : HeapLog) (reading : Reading) (made : List ArchiveRecord) (j : Option Job) → HasJob l log reading made j → HasJob other log reading made j
+  over-job log reading made None is = over-rest log is
+  over-job log reading made (Some job) is = over-stage log reading made job.work job.stage is
 
-  over-turn : (t : Option WriterState) (queue : History Value) (log : HeapLog) (reading : Reading) (h : History Value) → HasTurn l queue log reading h t
-      → HasTurn other queue log reading h t
-  over-turn None queue log reading h is = over-job log reading l.job is
-  over-turn (Some w) queue log reading h is = record {
+  over-turn : (t : Option WriterState) (queue : History Value) (log : HeapLog) (reading : Reading) (made : List ArchiveRecord) (h : History Value)
+      → HasTurn l queue log reading made h t → HasTurn other queue log reading made h t
+  over-turn None queue log reading made h is = over-job log reading made l.job is
+  over-turn (Some w) queue log reading made h is = record {
     group = is.group;
     told = is.told;
     is_group = is.is_group;
@@ -81,10 +92,15 @@ module _ (l : LogStoreValue) (disk : DiskState) (same : disk.areas ≡ l.disk.ar
     alone = is.alone;
   }
 
+  -- what is written of a run is there
+  over-written : (made : List ArchiveRecord) (j : Option Job) → HasAllWritten made j l.disk.areas.archive → HasAllWritten made j disk.areas.archive
+  over-written made j is = subst (λ (a : Areas). HasAllWritten made j a.archive) (sym same) is
+
   over-heap : (h queue : History Value) (floors : ℕ → ℕ) → StandsOnHeap l h queue floors → StandsOnHeap other h queue floors
   over-heap h queue floors is = record {
     l = is.l;
     reading = is.reading;
+    made = is.made;
     is_log = is.is_log;
     stands = is.stands;
     archive = subst (λ (a : Areas). KeepsArchive is.l a.archive) (sym same) is.archive;
@@ -92,20 +108,35 @@ module _ (l : LogStoreValue) (disk : DiskState) (same : disk.areas ≡ l.disk.ar
     sound = subst AreSound (sym same) is.sound;
     commits = over-commits h queue is.commits;
     anchors = is.anchors;
-    turn = over-turn l.turn queue is.l is.reading h is.turn;
+    turn = over-turn l.turn queue is.l is.reading is.made h is.turn;
     job = is.job;
+    written = over-written is.made l.job is.written;
+    named = is.named;
+    reach = subst (λ (a : Areas). l.named.end ≤ a.archive.firm) (sym same) is.reach;
+    spare = is.spare;
   }
 
-  over-stops : (h queue : History Value) (floors : ℕ → ℕ) → StopsOnHeap l h queue floors → StopsOnHeap other h queue floors
-  over-stops h queue floors is image left = is image (subst (λ (a : Areas). LeavesImage a image) same left)
+  over-stops : (failed : Bool) (h queue : History Value) (floors : ℕ → ℕ) → StopsBy failed l h queue floors → StopsBy failed other h queue floors
+  over-stops failed h queue floors is image left = is image (subst (λ (a : Areas). LeavesImage a image) same left)
 
   over-disk : (b : Bool) (h queue : History Value) (floors : ℕ → ℕ) → MatchBool b (StopsOnHeap l h queue floors) (StandsOnHeap l h queue floors)
       → MatchBool b (StopsOnHeap other h queue floors) (StandsOnHeap other h queue floors)
-  over-disk true h queue floors is = over-stops h queue floors is
+  over-disk true h queue floors is = over-stops l.commits.failed h queue floors is
   over-disk false h queue floors is = over-heap h queue floors is
 
-  over-writing : (m : Machine Value) → IsWriting l m → IsWriting other m
-  over-writing m is = record { most = is.most; group = is.group; raising = is.raising; made = is.made; gate = is.gate; left = is.left }
+  over-left : (m : Machine Value) → IsLeft true l m → IsLeft true other m
+  over-left m (inl gate) = inl gate
+  over-left m (inr calm) = inr (record { gate = calm.gate; stops = λ told. over-stops false m.published m.queue m.floors (calm.stops told) })
+
+  over-writing : (m : Machine Value) → IsWriting true l m → IsWriting true other m
+  over-writing m is = record {
+    most = is.most;
+    group = is.group;
+    raising = is.raising;
+    made = is.made;
+    gate = is.gate;
+    left = λ fails. over-left m (is.left fails);
+  }
 
   over-store : (m : Machine Value) → IsStoreOf true l m → IsStoreOf true other m
   over-store m is = record {
@@ -113,6 +144,7 @@ module _ (l : LogStoreValue) (disk : DiskState) (same : disk.areas ≡ l.disk.ar
     machine = is.machine;
     writing = over-writing m is.writing;
     fresh = is.fresh;
+    marks = record { reclaimed = is.marks.reclaimed; job = is.marks.job };
     disk = λ told. over-disk l.commits.failed m.published m.queue m.floors (is.disk told);
   }
 
@@ -125,11 +157,13 @@ module _ (l : LogStoreValue) (disk : DiskState) (same : disk.areas ≡ l.disk.ar
     archived = is.archived;
     right = subst (λ (a : Areas). IsRight l.archive.kept a.archive.bytes) (sym same) is.right;
     near = is.near;
+    ends = is.ends;
+    named = is.named;
   }
 
   over-log : (m : Machine Value) → Stands true (Log l) m → Stands true (Log other) m
   over-log m is =
-      (over-step is.0, record { store = over-store m is.1.store; runs = λ told. over-runs m.published m.floors (is.1.runs told) })
+      (over-step is.0, record { store = over-store m is.1.store; place = is.1.place; runs = λ told. over-runs m.published m.floors (is.1.runs told) })
 
 -- ---- in either layout
 

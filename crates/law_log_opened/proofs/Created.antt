@@ -1,5 +1,5 @@
 -- A store that is created stands for the empty history.
-use Rattle.std.proofs.Common.{◌≡◌, ℕ, Bool, true, false, IsTrue, List, [], ◌∷◌, replicate, refl, arith, sym, subst}
+use Rattle.std.proofs.Common.{◌≡◌, ℕ, Bool, true, false, IsTrue, List, [], ◌∷◌, replicate, refl, arith, sym, subst, inl}
 use Rattle.disk.specs.Areas.{Areas, AreSound, written}
 use Rattle.disk.specs.Calls.{DiskState}
 use Rattle.disk.proofs.Parts.{synced_part}
@@ -53,6 +53,7 @@ module _ (mark extents : ℕ) (old : Areas) (disk : DiskState) (size : IsHeapSiz
       record {
         l = empty_log 1;
         reading = empty_heap extents;
+        made = [];
         is_log = is;
         stands = stands;
         archive = record { rolls = tt; runs = tt };
@@ -62,6 +63,10 @@ module _ (mark extents : ℕ) (old : Areas) (disk : DiskState) (size : IsHeapSiz
         anchors = record { len = refl; fit = tt };
         turn = record { log = log; room = (leaves-room extents 1 (empty_log 1) (empty_heap extents) [] (λ relation. 0) is stands).room };
         job = tt;
+        written = tt;
+        named = record { archives = refl; rolls = refl; upto = refl; end = record { runs = tt; rolls = tt } };
+        reach = omega arith;
+        spare = inl (λ some. absurd (omega (arith, some)));
       }
 
   -- ---- memory
@@ -102,7 +107,7 @@ module _ (mark extents : ℕ) (old : Areas) (disk : DiskState) (size : IsHeapSiz
   store tells =
       stands-opened tells v [] (λ relation. 0) (empty_heap extents) (empty-stands (new_roots extents) (new-in_range extents size)) on-heap refl refl
       (record { most = refl; group = refl; raising = refl; made = tt; gate = λ works. refl; left = λ fails. absurd (let no : false ≡ true = fails in cc) })
-      memory
+      (record { reclaimed = omega arith; job = tt }) memory
 
   runs : RunsStand v [] (λ relation. 0)
   runs = record {
@@ -113,10 +118,12 @@ module _ (mark extents : ℕ) (old : Areas) (disk : DiskState) (size : IsHeapSiz
     archived = λ key. refl;
     right = record { each = λ from bytes there. absurd (Contains-nil (from, bytes) there) };
     near = record { each = λ from bytes there. absurd (Contains-nil (from, bytes) there) };
+    ends = omega arith;
+    named = refl;
   }
 
   pub created : (tells : Bool) → Stands tells v (opened_by 1024 [] (λ relation. 0))
-  created tells = record { store = store tells; runs = λ told. runs }
+  created tells = record { store = store tells; place = tt; runs = λ told. runs }
 
 pub create-stands : (tells : Bool) (old : DiskState) (mark extents : ℕ) (v : LogStoreValue) → IsHeapSize extents → AreSound v.disk.areas
     → Creates tells old mark extents v → IsTrue tells → Stands tells v (opened_by 1024 [] (λ relation. 0))

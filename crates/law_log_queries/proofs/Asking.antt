@@ -1,6 +1,6 @@
 -- A query leaves the store standing for what it stood for.
 use Rattle.std.proofs.Common.{◌≡◌, ℕ, ◌==◌, Bool, true, false, IsTrue, [], Option, None, Some, Result, Err, MatchBool, refl, arith}
-use Rattle.std.proofs.Common.{ap, sym, subst, ◌∙◌}
+use Rattle.std.proofs.Common.{ap, sym, subst, ◌∙◌, inl, inr}
 use Rattle.std.proofs.lemmas.List.{append-nil}
 use Rattle.disk.specs.Calls.{DiskState}
 use Rattle.history.specs.Histories.{History}
@@ -17,14 +17,14 @@ use Rattle.log_writer.specs.Writer.{WriterState}
 use Rattle.log_store.specs.Values.{LogStoreValue}
 use Rattle.log_store.specs.declared.job.Job.{Job}
 use Rattle.log_store.specs.declared.job.JobStage.{JobStage}
-use Rattle.log_store.specs.declared.job.JobStage.TheVariants.{Ready, Entering}
+use Rattle.log_store.specs.declared.job.JobStage.TheVariants.{Writing, Ready, Entering}
 use Rattle.log_store.specs.declared.job.JobWork.{JobWork}
 use Rattle.log_store.specs.Queries.{in_log_store}
 use Rattle.law_refinement.proofs.Asking.{after-is, own-front}
 use Rattle.law_refinement.proofs.RunsKept.{up_to-same}
 use Rattle.law_refinement.proofs.RunsStep.{front-ends}
 use Rattle.law_log_store.specs.Standing.{StandsOnHeap, StopsOnHeap, HasTurn, HasJob, HasStage}
-use Rattle.law_log_steps.specs.Store.{IsStoreOf}
+use Rattle.law_log_steps.specs.Store.{IsLeft, IsStoreOf}
 use Rattle.law_log_queries.specs.Archive.{RunsStand, Stands, GoesOn, end_of}
 use Rattle.law_log_queries.proofs.Runs.{ends-all}
 use Rattle.law_log_queries.proofs.Leaving.{leaves-same, leaves-goes}
@@ -38,6 +38,7 @@ module _ (v : LogStoreValue) (archive : ArchiveValue) (refused : ℕ) where
   asked-heap h queue floors s = record {
     l = s.l;
     reading = s.reading;
+    made = s.made;
     is_log = s.is_log;
     stands = s.stands;
     archive = s.archive;
@@ -53,17 +54,22 @@ module _ (v : LogStoreValue) (archive : ArchiveValue) (refused : ℕ) where
     anchors = s.anchors;
     turn = by-turn v.turn s.turn;
     job = s.job;
+    written = s.written;
+    named = s.named;
+    reach = s.reach;
+    spare = s.spare;
   }
     where
-      by-stage : (work : JobWork) (k : JobStage) → HasStage v s.l s.reading work k → HasStage asked s.l s.reading work k
+      by-stage : (work : JobWork) (k : JobStage) → HasStage v s.l s.reading s.made work k → HasStage asked s.l s.reading s.made work k
+      by-stage work (Writing writer) is = record { log = is.log; room = is.room }
       by-stage work (Ready waited) is = record { log = is.log; room = is.room }
       by-stage work (Entering w) is = record { content = is.content; joins = is.joins; shares = is.shares; at = is.at; room = is.room }
 
-      by-job : (j : Option Job) → HasJob v s.l s.reading j → HasJob asked s.l s.reading j
+      by-job : (j : Option Job) → HasJob v s.l s.reading s.made j → HasJob asked s.l s.reading s.made j
       by-job None is = record { log = is.log; room = is.room }
       by-job (Some job) is = by-stage job.work job.stage is
 
-      by-turn : (t : Option WriterState) → HasTurn v queue s.l s.reading h t → HasTurn asked queue s.l s.reading h t
+      by-turn : (t : Option WriterState) → HasTurn v queue s.l s.reading s.made h t → HasTurn asked queue s.l s.reading s.made h t
       by-turn None is = by-job v.job is
       by-turn (Some w) is = record {
         group = is.group;
@@ -82,6 +88,10 @@ module _ (v : LogStoreValue) (archive : ArchiveValue) (refused : ℕ) where
   asked-disk true h queue floors stops = stops
   asked-disk false h queue floors s = asked-heap h queue floors s
 
+  asked-left : (tells : Bool) (m : Machine Value) → IsLeft tells v m → IsLeft tells asked m
+  asked-left tells m (inl gate) = inl gate
+  asked-left tells m (inr calm) = inr (record { gate = calm.gate; stops = calm.stops })
+
   asked-store : (tells : Bool) (m : Machine Value) → IsStoreOf tells v m → IsStoreOf tells asked m
   asked-store tells m is = record {
     memory = is.memory;
@@ -92,9 +102,10 @@ module _ (v : LogStoreValue) (archive : ArchiveValue) (refused : ℕ) where
       raising = is.writing.raising;
       made = is.writing.made;
       gate = is.writing.gate;
-      left = is.writing.left;
+      left = λ fails. asked-left tells m (is.writing.left fails);
     };
     fresh = is.fresh;
+    marks = record { reclaimed = is.marks.reclaimed; job = is.marks.job };
     disk = λ told. asked-disk v.commits.failed m.published m.queue m.floors (is.disk told);
   }
 
@@ -118,6 +129,8 @@ asks-stands tells v new m view answer stands front asks =
       archived = r.archived;
       right = keeps.right told r.right;
       near = keeps.ends end (omega arith) r.near;
+      ends = r.ends;
+      named = r.named;
     } in
     let goes : GoesOn tells v (asked v archive refused) = record {
       mark = refl;
@@ -125,7 +138,8 @@ asks-stands tells v new m view answer stands front asks =
       runs = sym (append-nil v.archive.runs);
       bytes = λ told. up_to-same end (archive_of v.disk);
     } in (
-      subst (λ (x : LogStoreValue). Stands tells x m) (sym is) (record { store = asked-store v archive refused tells m stands.store; runs = runs }),
+      subst (λ (x : LogStoreValue). Stands tells x m) (sym is)
+          (record { store = asked-store v archive refused tells m stands.store; place = stands.place; runs = runs }),
       subst (λ (x : LogStoreValue). GoesOn tells v x) (sym is) goes,
     )
 

@@ -1,6 +1,6 @@
 -- After each call, and after any calls, the store stands for a state of the machine, and its views go on.
-use Rattle.std.proofs.Common.{◌≤◌, Bool, true, false, IsTrue, List, [], ◌∷◌, ◌++◌, Result, Ok, Err, MatchBool, refl, arith, ap, sym, subst, ◌∙◌}
-use Rattle.std.proofs.Common.{append_assoc}
+use Rattle.std.proofs.Common.{◌≡◌, ◌⊎◌, ◌≤◌, Bool, true, false, IsTrue, List, [], ◌∷◌, ◌++◌, Option, Some, Result, Ok, Err, MatchBool, refl, arith, ap}
+use Rattle.std.proofs.Common.{sym, subst, ◌∙◌, inl, inr, append_assoc}
 use Rattle.history.specs.Machine.{Machine}
 use Rattle.history.specs.Steps.{Event, Run, Began, Aborted, begun}
 use Rattle.law_image.specs.Values.{Value, IsValue}
@@ -9,7 +9,15 @@ use Rattle.group.specs.declared.answers.BeginFault.{BeginFault}
 use Rattle.group.specs.declared.answers.BeginFault.TheVariants as fault
 use Rattle.archive.specs.declared.run.RunEntry.{RunEntry}
 use Rattle.commits.specs.Values.{is_own}
+use Rattle.archive.specs.Pieces.{InWriting}
 use Rattle.log_store.specs.Values.{LogStoreValue, IsInStep}
+use Rattle.log_store.specs.declared.job.Job.{Job}
+use Rattle.log_store.specs.declared.job.JobStage.{JobStage}
+use Rattle.log_store.specs.declared.job.JobStage.TheVariants as stages
+use Rattle.log_store.specs.declared.job.JobWork.{JobWork}
+use Rattle.log_store.specs.declared.job.JobWork.TheVariants as works
+use Rattle.law_image.specs.Reading.{ArchiveRecord}
+use Rattle.law_log_store.specs.Standing.{StandsOnHeap, StopsOnHeap, HasWritten, HasAllWritten}
 use Rattle.law_refinement.specs.Laws.{submission_of, event_of}
 use Rattle.law_refinement.proofs.RunsKept.{IsLater, machine-rises, run-later}
 use Rattle.law_log_store.proofs.Calls.{begin-alone, abort-alone, redeem-alone}
@@ -24,14 +32,16 @@ use Rattle.law_log_steps.proofs.Keeping.{begin-stands, abort-stands, redeem-stan
 use Rattle.law_log_steps.proofs.Submitting.{submit-stands}
 use Rattle.law_log_steps.proofs.Pumping.{pump-stands}
 use Rattle.law_log_steps.proofs.Jobs.{job-stands}
+use Rattle.law_log_steps.proofs.ArchiveStarts.{archive-starts}
 use Rattle.law_log_steps.proofs.FloorStarts.{floor-starts}
-use Rattle.law_log_queries.specs.Archive.{Stands, GoesOn, end_of}
-use Rattle.law_log_queries.specs.Calls.{IsCall, LeadsTo, OfBegin, OfAbort, OfRedeem, OfSubmit, OfPump, OfFloor, OfJob, OfAt, OfScanAt}
+use Rattle.law_log_queries.specs.Archive.{HasPlace, JobHasPlace, Stands, GoesOn, end_of}
+use Rattle.law_log_queries.specs.Calls.{IsCall, LeadsTo, OfBegin, OfAbort, OfRedeem, OfSubmit, OfPump, OfFloor, OfArchive, OfJob, OfAt, OfScanAt}
 use Rattle.law_log_queries.specs.Calls.{OfBetween, OfScanBetween}
 use Rattle.law_log_queries.specs.Laws.{GoesTo}
 use Rattle.law_log_queries.proofs.Runs.{end-more}
-use Rattle.law_log_queries.proofs.Leaving.{LeavesArchive, alone-leaves, submit-leaves, pump-leaves, floor-leaves, job-leaves, leaves-goes, leaves-same}
-use Rattle.law_log_queries.proofs.Leaving.{runs-left}
+use Rattle.law_log_queries.proofs.Leaving.{LeavesArchive, AddsRun, alone-leaves, submit-leaves, pump-leaves, floor-leaves, archive-leaves, job-moves}
+use Rattle.law_log_queries.proofs.Leaving.{leaves-goes, leaves-same, runs-left}
+use Rattle.law_log_queries.proofs.Adding.{added-goes, runs-added}
 use Rattle.law_log_queries.proofs.Asking.{query-stands}
 
 -- ---- one call
@@ -40,9 +50,42 @@ use Rattle.law_log_queries.proofs.Asking.{query-stands}
 kept : (tells : Bool) (old new : LogStoreValue) (m after : Machine Value) → Stands tells old m → LeavesArchive tells old new → IsLater m after
     → IsStoreOf tells new after → Stands tells new after × GoesOn tells old new
 kept tells old new m after stands leaves later is = (
-  record { store = is; runs = λ told. runs-left tells old new m after (machine-rises m stands.store.machine) later leaves told (stands.runs told) },
+  record {
+    store = is;
+    place = leaves.place stands.place;
+    runs = λ told. runs-left tells old new m after (machine-rises m stands.store.machine) later leaves told (stands.runs told);
+  },
   leaves-goes tells old new leaves,
 )
+
+-- a run that was made stands for each later state
+added : (tells : Bool) (old new : LogStoreValue) (m after : Machine Value) → Stands tells old m → AddsRun tells old new → IsLater m after
+    → IsStoreOf tells new after → Stands tells new after × GoesOn tells old new
+added tells old new m after stands adds later is = (
+  record {
+    store = is;
+    place = subst (λ (j : Option Job). JobHasPlace new.named new.archive.runs new.archive.next j) (sym adds.no-job) tt;
+    runs = λ told. runs-added tells old new m after stands adds told (machine-rises m stands.store.machine) later;
+  },
+  added-goes tells old new m after stands adds,
+)
+
+-- a run goes behind those that stand
+run-past : (tells : Bool) (old : LogStoreValue) (m : Machine Value) → Stands tells old m → (writer : InWriting) (job : Job) → old.commits.failed ≡ false
+    → old.job ≡ Some job → job.stage ≡ stages.Writing writer → IsTrue tells → end_of old.archive.runs ≤ writer.at
+run-past tells old m stands writer job works-on is-job e told =
+    let s : StandsOnHeap old m.published m.queue m.floors =
+    subst (λ (b : Bool). MatchBool b (StopsOnHeap old m.published m.queue m.floors) (StandsOnHeap old m.published m.queue m.floors)) works-on
+    (stands.store.disk told) in
+    by-work (s.made) job.work (subst (λ (j : Option Job). JobHasPlace old.named old.archive.runs old.archive.next j) is-job stands.place)
+    (subst (λ (k : JobStage). HasWritten job.work s.made k old.disk.areas.archive) e
+    (subst (λ (j : Option Job). HasAllWritten s.made j old.disk.areas.archive) is-job s.written))
+  where
+    by-work : (made : List ArchiveRecord) (work : JobWork) → HasPlace old.named old.archive.runs old.archive.next work
+        → HasWritten work made (stages.Writing writer) old.disk.areas.archive → end_of old.archive.runs ≤ writer.at
+    by-work made (works.Floor floor kept) place has = absurd has
+    by-work made (works.Archive a archives) place has =
+        let end = (stands.runs told).ends in let behind = place.behind in let at = has.place in omega (arith, end, behind, at)
 
 -- a query keeps it for the state that stood, and so for each later one
 asked : (tells : Bool) (old new : LogStoreValue) (m after : Machine Value) → IsLater m after → IsStoreOf tells new after
@@ -62,6 +105,10 @@ call-keeps tells old new m after events stands call run is = by-call call
     leaving : LeavesArchive tells old new → Stands tells new after × GoesOn tells old new
     leaving leaves = kept tells old new m after stands leaves later is
 
+    moving : LeavesArchive tells old new ⊎ AddsRun tells old new → Stands tells new after × GoesOn tells old new
+    moving (inl leaves) = leaving leaves
+    moving (inr adds) = added tells old new m after stands adds later is
+
     by-call : IsCall tells old new → Stands tells new after × GoesOn tells old new
     by-call (OfBegin answer begins) =
         leaving (alone-leaves tells old new (begin-alone old.commits new.commits answer begins.is) begins.new_is)
@@ -71,7 +118,8 @@ call-keeps tells old new m after events stands call run is = by-call call
     by-call (OfSubmit txn label now answer are range submits) = leaving (submit-leaves tells old new txn label now answer submits)
     by-call (OfPump answer sound pumps) = leaving (pump-leaves tells old new answer pumps)
     by-call (OfFloor scope floor answer starts) = leaving (floor-leaves tells old new scope floor answer starts)
-    by-call (OfJob answer sound pumps) = leaving (job-leaves tells old new answer pumps)
+    by-call (OfArchive upto answer starts) = leaving (archive-leaves tells old new upto answer starts)
+    by-call (OfJob answer sound pumps) = moving (job-moves tells old new answer (run-past tells old m stands) pumps)
     by-call (OfAt view key time answer says) =
         asked tells old new m after later is (query-stands tells old new m view time _ _ _ _ answer stands says)
     by-call (OfScanAt view relation time answer says) =
@@ -114,6 +162,7 @@ module _ (tells : Bool) (old new : LogStoreValue) (m : Machine Value) (told : Is
   started-on r (Err start.WrongProfile) to = stays to.1
   started-on r (Err start.JobBusy) to = stays to
   started-on r (Err start.HeapFull) to = stays to
+  started-on r (Err start.ArchiveFull) to = absurd to
   started-on r (Err start.NoMemory) to = stays to.1
 
   queried : Stands tells new m × GoesOn tells old new → GoesTo tells old new
@@ -130,6 +179,7 @@ module _ (tells : Bool) (old new : LogStoreValue) (m : Machine Value) (told : Is
       let runs = pump-stands tells old new answer m step sound stands.store pumps in through (events_in m answer) runs.after runs.run runs.stands
   by-call (OfFloor scope floor answer starts) =
       started-on (raising_to scope floor) answer (floor-starts tells old new scope floor answer m stands.store starts)
+  by-call (OfArchive upto answer starts) = stays (archive-starts tells old new upto answer m step stands.store starts)
   by-call (OfJob answer sound pumps) =
       let runs = job-stands tells old new answer m step sound stands.store pumps in through (job_events_in m answer) runs.after runs.run runs.stands
   by-call (OfAt view key time answer says) = queried (query-stands tells old new m view time _ _ _ _ answer stands says)

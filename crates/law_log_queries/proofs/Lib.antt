@@ -1,5 +1,6 @@
 pub mod Runs
 pub mod Leaving
+pub mod Adding
 pub mod Asking
 pub mod Views
 pub mod Opening

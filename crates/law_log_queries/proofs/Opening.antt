@@ -1,5 +1,5 @@
 -- A store that was opened on an image has the archive that the image's log names.
-use Rattle.std.proofs.Common.{◌≡◌, ℕ, Bool, List, [], map, arith, ap, sym, subst, ◌∙◌}
+use Rattle.std.proofs.Common.{◌≡◌, ℕ, Bool, List, [], map, Option, arith, ap, sym, subst, ◌∙◌}
 use Rattle.std.specs.Prelude.{IsTrue}
 use Rattle.disk.specs.Areas.{Areas, AreSound, LeavesImage, image_of}
 use Rattle.disk.specs.Calls.{DiskState}
@@ -37,13 +37,15 @@ use Rattle.law_refinement.specs.Homes.{AreArchived}
 use Rattle.law_refinement.proofs.Growing.{front-map}
 use Rattle.log_store.specs.Values.{LogStoreValue, IsInStep}
 use Rattle.log_store.specs.Opens.{Opens, AreEntriesFrom}
-use Rattle.law_log_store.specs.Standing.{IsImageOf}
-use Rattle.law_log_store.proofs.Opening.{read as read-is, same as same-log}
+use Rattle.log_store.specs.declared.job.Job.{Job}
+use Rattle.law_log_store.specs.Standing.{IsImageOf, IsNamedBy}
+use Rattle.law_log_store.proofs.Opening.{read as read-is, same as same-log, named as opened-named}
+use Rattle.law_log_store.proofs.Spans.{stored-ends}
 use Rattle.law_log_steps.specs.Store.{IsStoreOf}
 use Rattle.law_log_steps.proofs.Fronts.{leaves-fronts}
 use Rattle.law_log_steps.proofs.Opening.{is-opened}
-use Rattle.law_log_queries.specs.Archive.{RunsStand, Stands, end_of}
-use Rattle.law_log_queries.proofs.Runs.{runs-hold, mark-is}
+use Rattle.law_log_queries.specs.Archive.{JobHasPlace, RunsStand, Stands, end_of}
+use Rattle.law_log_queries.proofs.Runs.{entries-within, runs-hold, mark-is}
 
 module _ (tells : Bool) (old : DiskState) (mark : ℕ) (v : LogStoreValue) (roots : Roots) (h : History Value) (floors : ℕ → ℕ) (tells_so : IsTrue tells)
     (are_sound : AreSound old.areas) (image : IsImageOf roots (image_of old.areas) h floors) (opens : Opens tells old mark v) where
@@ -113,6 +115,9 @@ module _ (tells : Bool) (old : DiskState) (mark : ℕ) (v : LogStoreValue) (root
   mark-archived : mark_of v.archive.runs ≡ archived_upto reading
   mark-archived = mark-is 0 0 entries v.archive.runs are-entries ∙ ap (last_mark 0) marks-are ∙ sym (last_mark-is 0 reading.log)
 
+  named : IsNamedBy v.named l reading
+  named = opened-named tells old mark v roots h floors tells_so are_sound image opens
+
   area : archive_of v.disk ≡ (image_of old.areas).archive
   area = ap (λ (areas : Areas). areas.archive.bytes) (opens.settled tells_so)
 
@@ -133,11 +138,14 @@ module _ (tells : Bool) (old : DiskState) (mark : ℕ) (v : LogStoreValue) (root
             (record { each = λ from bytes there. absurd (Contains-nil (from, bytes) there) });
         near = subst (λ (parts : List (ℕ × List ℕ)). EndBy (end_of v.archive.runs) parts) (sym opens.archive.unread.kept)
             (record { each = λ from bytes there. absurd (Contains-nil (from, bytes) there) });
+        ends = entries-within v.named.end 0 l.runs v.archive.runs are-entries (stored-ends v.named.end l image.heap.is_log.runs_named named.end);
+        named = mark-archived ∙ sym named.upto;
       }
 
   pub opened-stands : Stands tells v (opened_by 1024 h floors)
   opened-stands = record {
     store = is-opened tells old mark v roots h floors tells_so are_sound image opens;
+    place = subst (λ (j : Option Job). JobHasPlace v.named v.archive.runs v.archive.next j) (sym (ap (λ (x : LogStoreValue). x.job) opens.new_is)) tt;
     runs = λ told. runs-stand;
   }
 

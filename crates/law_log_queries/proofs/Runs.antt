@@ -1,5 +1,5 @@
 -- The runs of a store stand for later states of the machine too, and are what their log says at its opening.
-use Rattle.std.proofs.Common.{◌≡◌, ℕ, zero, suc, ◌≤◌, max, List, [], ◌∷◌, ◌++◌, length, map, Some, refl, arith, ap, sym, subst, ◌∙◌}
+use Rattle.std.proofs.Common.{◌≡◌, ℕ, zero, suc, ◌+◌, ◌≤◌, max, List, [], ◌∷◌, ◌++◌, length, map, Some, refl, arith, ap, sym, subst, ◌∙◌}
 use Rattle.std.specs.Prelude.{slice_get}
 use Rattle.std.specs.List.{AllByRecursion}
 use Rattle.disk.specs.Parts.{HoldsPart}
@@ -34,9 +34,27 @@ pub end-more : (runs more : List RunEntry) → end_of runs ≤ end_of (runs ++ m
 end-more [] more = omega arith
 end-more (r ∷ rs) more = let rest = end-more rs more in omega arith
 
+-- all of them do by a place where each does
+pub end-within : (place : ℕ) (runs : List RunEntry) (run : RunEntry) → end_of runs ≤ place → run_end run ≤ place → end_of (runs ++ run ∷ []) ≤ place
+end-within place [] run ends low = omega (arith, low)
+end-within place (r ∷ rs) run ends low = let rest = end-within place rs run (omega (arith, ends)) low in omega (arith, ends, rest)
+
+-- so the runs of a log do that end by it
+pub entries-within : (place from : ℕ) (stored : List StoredRun) (entries : List RunEntry)
+    → AreEntriesFrom from (map (λ (s : StoredRun). s.entry) stored) entries
+    → AllByRecursion (λ (s : StoredRun). s.entry.start + s.entry.len ≤ place) stored → end_of entries ≤ place
+entries-within place from [] [] are all = omega arith
+entries-within place from [] (e ∷ es) are all = absurd are
+entries-within place from (s ∷ ss) [] are all = absurd are
+entries-within place from (s ∷ ss) (e ∷ es) are all =
+    let rest = entries-within place s.entry.upto ss es are.3 all.1 in
+    let same : run_end e ≡ s.entry.start + s.entry.len = ap (λ (r : Run). r.start + r.len) are.0 in
+    let first = all.0 in
+    omega (arith, rest, same, first)
+
 -- ---- at the opening
 
-one-run : (area : List ℕ) (s : StoredRun) (entry : RunEntry) (mark : ℕ) → entry.slot ≡ s.entry → entry.mark ≡ mark
+pub one-run : (area : List ℕ) (s : StoredRun) (entry : RunEntry) (mark : ℕ) → entry.slot ≡ s.entry → entry.mark ≡ mark
     → ((relation : ℕ) → floor_at entry.floors relation ≡ 0) → IsRun mark (no_floors []) s.entry.upto s.records → IsStoredRun s → HoldsRun area s
     → written.HoldsRun area entry s.records
 one-run area s entry mark slot marked floored rules stored held =

@@ -1,5 +1,5 @@
 -- The archive of a store whose log lies in the heap, what its views need of it, and what stays of it while the store goes on.
-use Rattle.std.specs.Prelude.{ℕ, ◌≡◌, ◌≤◌, max, Bool, true, IsTrue, List, [], ◌∷◌, ◌++◌}
+use Rattle.std.specs.Prelude.{ℕ, ◌≡◌, ◌≤◌, max, Bool, true, IsTrue, List, [], ◌∷◌, ◌++◌, Option, None, Some}
 use Rattle.history.specs.Histories.{History, last}
 use Rattle.history.specs.Machine.{Machine}
 use Rattle.law_image.specs.Values.{Value}
@@ -10,7 +10,15 @@ use Rattle.archive.specs.Runs.{HoldRuns, run_end}
 use Rattle.archive.specs.Searches.{archive_of}
 use Rattle.timequery.specs.Archives.{is_front}
 use Rattle.timequery.specs.View.{ViewValue, mark_of}
+use Rattle.floors.specs.Floors.{no_floors}
+use Rattle.log_entries.specs.declared.entry.Archive.{Archive}
+use Rattle.log_entries.specs.Ranges.{run_of}
+use Rattle.log_store.specs.Named.{NamedValue}
 use Rattle.log_store.specs.Values.{LogStoreValue}
+use Rattle.log_store.specs.declared.job.Job.{Job}
+use Rattle.log_store.specs.declared.job.JobWork.{JobWork}
+use Rattle.log_store.specs.declared.job.JobWork.TheVariants.{Floor}
+use Rattle.log_store.specs.declared.job.JobWork.TheVariants as works
 use Rattle.law_refinement.specs.Homes.{AreArchived, KeepsUpTo}
 use Rattle.law_log_steps.specs.Store.{IsStoreOf}
 
@@ -18,6 +26,28 @@ use Rattle.law_log_steps.specs.Store.{IsStoreOf}
 abbrev pub end_of : List RunEntry → ℕ
 end_of [] = 0
 end_of (run ∷ runs) = max (run_end run) (end_of runs)
+
+-- The run that a job makes has its place behind all that the log has named, and takes the place of none.
+pub record RunHasPlace (named : NamedValue) (runs next : List RunEntry) (a : Archive) : Type 0 where
+  pub entry : RunEntry
+  pub slot : entry.slot ≡ run_of a
+  pub mark : entry.mark ≡ named.upto
+  pub floors : entry.floors ≡ no_floors
+  pub next_is : next ≡ runs ++ entry ∷ []
+  pub alone : a.runs ≡ 0
+  pub behind : named.end ≤ a.start
+
+-- so it is of the job that runs, if there is one
+abbrev pub HasPlace : NamedValue → List RunEntry → List RunEntry → JobWork → Type 0
+HasPlace named runs next (Floor floor kept) = Unit {0}
+HasPlace named runs next (works.Archive a archives) = RunHasPlace named runs next a
+
+abbrev pub JobHasPlace : NamedValue → List RunEntry → List RunEntry → Option Job → Type 0
+JobHasPlace named runs next None = Unit {0}
+JobHasPlace named runs next (Some job) = HasPlace named runs next job.work
+
+abbrev pub IsPlaced : LogStoreValue → Type 0
+IsPlaced v = JobHasPlace v.named v.archive.runs v.archive.next v.job
 
 -- The archive's bytes hold the runs of the store, and those have what the history says. What the reader keeps of them is right.
 pub record RunsStand (v : LogStoreValue) (h : History Value) (floors : ℕ → ℕ) : Type 0 where
@@ -28,10 +58,14 @@ pub record RunsStand (v : LogStoreValue) (h : History Value) (floors : ℕ → �
   pub archived : AreArchived h floors (mark_of v.archive.runs) lists
   pub right : IsRight v.archive.kept (archive_of v.disk)
   pub near : EndBy (end_of v.archive.runs) v.archive.kept
+  -- they are what the log names
+  pub ends : end_of v.archive.runs ≤ v.named.end
+  pub named : mark_of v.archive.runs ≡ v.named.upto
 
 -- Memory, disk and archive stand for one state of the machine. Of the archive it is said where the disk tells its bytes.
 pub record Stands (tells : Bool) (v : LogStoreValue) (m : Machine Value) : Type 0 where
   pub store : IsStoreOf tells v m
+  pub place : IsPlaced v
   pub runs : IsTrue tells → RunsStand v m.published m.floors
 
 -- ---- views

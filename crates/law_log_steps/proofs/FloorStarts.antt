@@ -5,11 +5,11 @@ use Rattle.std.specs.Prelude.{IsTrue, MatchBool, MatchOption, Contains}
 use Rattle.std.specs.List.{AllByRecursion}
 use Rattle.std.proofs.lemmas.Bool.Decides.{nat_tests}
 use Rattle.std.proofs.lemmas.List.Sorted.{Contains-permutation}
-use Rattle.history.specs.Floors.{Raising, covers, covered}
+use Rattle.history.specs.Floors.{Raising, covered}
 use Rattle.history.specs.FloorStarts as floors
 use Rattle.history.specs.Histories as histories
 use Rattle.history.specs.Machine.{Machine, MayRaise}
-use Rattle.history.specs.Steps.{Step, FloorStarted, FloorRefused, floor_started}
+use Rattle.history.specs.Steps.{Step, FloorStarted, floor_started}
 use Rattle.history.proofs.Machines.{run-machine}
 use Rattle.history.proofs.Members.{Contains-head, Contains-tail}
 use Rattle.floors.specs.Floors.{floor_at}
@@ -18,7 +18,7 @@ use Rattle.snapshot.specs.OpenTable.{least_open}
 use Rattle.log_writer.specs.Writer.{WriterState}
 use Rattle.log_room.specs.Rooms.{has_entry_room}
 use Rattle.log_room.specs.Bases as bases
-use Rattle.commits.specs.Values.{CommitsValue, last}
+use Rattle.commits.specs.Values.{last}
 use Rattle.commits.specs.Calls.{oldest}
 use Rattle.store.specs.Reclaims.{below}
 use Rattle.log_store.specs.Values.{LogStoreValue, IsInStep}
@@ -33,7 +33,7 @@ use Rattle.law_refinement.proofs.Reclaiming.{none-reads-below}
 use Rattle.law_commits.proofs.Names.{last-is}
 use Rattle.law_log_store.specs.Standing.{StandsOnHeap, StopsOnHeap}
 use Rattle.law_log_store.proofs.Jobs.{floor-begins}
-use Rattle.law_log_steps.specs.Store.{gate_of, gate_left, raising_of, IsStoreOf}
+use Rattle.law_log_steps.specs.Store.{gate_of, raising_of, IsStoreOf}
 use Rattle.law_log_steps.specs.Laws.{StartsOn}
 use Rattle.law_log_steps.proofs.InStep.{floor-in-step}
 use Rattle.law_log_steps.proofs.Jobs.{making-memory}
@@ -53,7 +53,7 @@ Refusal v relation floor a b c d =
     (cond c (Some start.NothingToDo)
     (cond d (Some (start.NotYet (last v.commits))) (refusal_for_use (oldest v.commits) floor (has_floor_room v relation)))))
 
-none-there : (o : Option Job) → is_some o ≡ false → o ≡ None
+pub none-there : (o : Option Job) → is_some o ≡ false → o ≡ None
 none-there None none = refl
 none-there (Some job) some = absurd (let no : true ≡ false = some in cc)
 
@@ -80,7 +80,7 @@ unused-is (Some k) floor room is =
     ] is
 
 -- its entry has room then
-first-is : (a b : Bool) → IsTrue (a && b) → IsTrue a
+pub first-is : (a b : Bool) → IsTrue (a && b) → IsTrue a
 first-is true b both = refl
 first-is false b both = absurd cc
 
@@ -223,6 +223,7 @@ module _ (tells : Bool) (v : LogStoreValue) (m : Machine Value) (is : IsStoreOf 
           left = λ fails. absurd (let no : false ≡ true = sym works ∙ fails in cc);
         };
         fresh = is.fresh;
+        marks = record { reclaimed = is.marks.reclaimed; job = tt };
         disk = λ told. subst (λ (b : Bool). MatchBool b (StopsOnHeap (with_floor v relation floor) m.published m.queue m.floors)
             (StandsOnHeap (with_floor v relation floor) m.published m.queue m.floors)) (sym may.works)
             (floor-begins v relation floor m.published m.queue m.floors may.free may.room above upto range

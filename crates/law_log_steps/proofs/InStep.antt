@@ -1,10 +1,13 @@
 -- A store stays in step by its calls.
-use Rattle.std.proofs.Common.{◌≡◌, ℕ, zero, suc, ◌==◌, ◌*◌, ◌/◌, ◌<◌, ◌≤◌, ◌^◌, ◌-◌, ◌+◌, ◌&&◌, nat_le, Bool, true, false, List, [], ◌∷◌, ◌++◌, length, take}
-use Rattle.std.proofs.Common.{drop, Option, None, Some}
+use Rattle.std.proofs.Common.{◌≡◌, ℕ, ◌==◌, ◌*◌, ◌/◌, ◌<◌, ◌≤◌, ◌^◌, ◌-◌, ◌+◌, ◌&&◌, nat_le, Bool, true, false, List, [], ◌∷◌, ◌++◌, length}
+use Rattle.std.proofs.Common.{Option, None, Some}
 use Rattle.std.proofs.Common.{Result, Ok, Err, refl, arith, ap, sym, subst, ◌∙◌, inl, inr}
 use Rattle.std.specs.Prelude.{IsTrue, MatchBool, MatchResult}
 use Rattle.std.proofs.lemmas.Bool.Decides.{nat_tests}
 use Rattle.std.proofs.lemmas.List.{length-drop}
+use Rattle.wire.specs.declared.slot.Run.{Run}
+use Rattle.archive.specs.Pieces.{InWriting}
+use Rattle.archive.specs.declared.run.RunEntry.{RunEntry}
 use Rattle.disk.specs.Calls.{DiskState}
 use Rattle.history.specs.declared.key.KeyWrite.{KeyWrite}
 use Rattle.law_image.specs.Values.{Value}
@@ -28,12 +31,13 @@ use Rattle.log_room.specs.Rooms as rooms
 use Rattle.log_room.specs.Rooms.{RoomValue, fits, has_entry_room}
 use Rattle.log_room.proofs.Taken.{used_len}
 use Rattle.log_room.specs.Contents.{content_over, extents_over, extents_of}
-use Rattle.commits.specs.Values.{CommitsValue, ordered, is_own, over}
-use Rattle.commits.specs.Steps.{with_waiting, published, broken}
-use Rattle.log_store.specs.Values.{LogStoreValue, IsBeside, IsStageBeside, promised_at, promised_to, IsInStep}
+use Rattle.commits.specs.Values.{ordered, is_own}
+use Rattle.commits.specs.Steps.{with_waiting}
+use Rattle.log_store.specs.Values.{LogStoreValue, IsBeside, IsStageBeside, promised_at, promised_to, IsJobInPlace, IsInStep}
 use Rattle.log_store.specs.declared.job.Job.{Job}
 use Rattle.log_store.specs.declared.job.JobStage.{JobStage}
 use Rattle.log_store.specs.declared.job.JobStage.TheVariants.{Ready, Entering}
+use Rattle.log_store.specs.declared.job.JobStage.TheVariants as stages
 use Rattle.log_store.specs.Values as stores
 use Rattle.log_store.specs.Calls as calls
 use Rattle.log_store.specs.Calls.{with_commits}
@@ -42,12 +46,14 @@ use Rattle.log_store.specs.Pumps.{with_failure, did_of}
 use Rattle.log_store.specs.declared.job.JobDid.{JobDid}
 use Rattle.log_store.specs.declared.job.JobWork.{JobWork}
 use Rattle.log_store.specs.declared.job.JobWork.TheVariants.{Floor}
+use Rattle.log_store.specs.declared.job.JobWork.TheVariants as kinds
+use Rattle.log_store.specs.Archives.{with_archive}
+use Rattle.log_store.specs.Runs.{stage_with, stage_behind, did_at, behind, with_job_as, WritesRun}
 use Rattle.log_store.specs.Jobs as jobs
 use Rattle.log_store.specs.Jobs.{PumpsJob, StepsJob, StepsAt, StepsReady, AdvancesEntry, BeginsEntry, at_stage, with_entry, with_work, with_floor}
 use Rattle.log_store.specs.Submits.{Submits, SubmitsOwn, AnswersSubmit, anchors_behind, has_room, spent, with_queued}
 use Rattle.log_store.proofs.InStep.{queued_in_step, begun_in_step}
 use Rattle.law_log_store.proofs.Calls.{AreNamesAlone, begin-alone, abort-alone, redeem-alone, has-room}
-use Rattle.law_log_store.proofs.Submitting.{group-within}
 
 -- ---- names
 
@@ -61,6 +67,7 @@ names-in-step old new is alone new_is =
       many = is.many;
       turn = is.turn;
       beside = is.beside;
+      place = is.place;
     })
 
 pub begin-in-step : (old new : LogStoreValue) (answer : Result TxnValue BeginFault) → IsInStep old → calls.Begins old answer new → IsInStep new
@@ -76,7 +83,16 @@ redeem-in-step old new ticket answer is redeems = names-in-step old new is (rede
 
 spent-in-step : (v : LogStoreValue) (number : ℕ) → IsInStep v → IsInStep (spent v number)
 spent-in-step v number is =
-    record { contents = is.contents; bytes = is.bytes; promised = is.promised; few = is.few; many = is.many; turn = is.turn; beside = is.beside }
+    record {
+      contents = is.contents;
+      bytes = is.bytes;
+      promised = is.promised;
+      few = is.few;
+      many = is.many;
+      turn = is.turn;
+      beside = is.beside;
+      place = is.place;
+    }
 
 -- a commit that fits leaves few extents promised
 fits-few : (v : LogStoreValue) (count anchors : ℕ) → IsInStep v → IsTrue (fits v.room count anchors) → v.room.promised + count ≤ 2 ^ 20
@@ -126,6 +142,7 @@ other-beside w x None beside = tt
 other-beside w x (Some job) beside = by-stage job.stage beside
   where
     by-stage : (k : JobStage) → IsStageBeside (Some w) k → IsStageBeside (Some x) k
+    by-stage (stages.Writing writer) beside = tt
     by-stage (Ready waited) beside = tt
     by-stage (Entering e) beside = absurd (let no = beside.0 in cc)
 
@@ -134,12 +151,22 @@ none-beside t None beside = tt
 none-beside t (Some job) beside = by-stage job.stage beside
   where
     by-stage : (k : JobStage) → IsStageBeside t k → IsStageBeside None k
+    by-stage (stages.Writing writer) beside = tt
     by-stage (Ready waited) beside = tt
     by-stage (Entering e) beside = (refl, beside.1)
 
 failed-in-step : (v : LogStoreValue) → IsInStep v → IsInStep (with_failure v)
 failed-in-step v is =
-    record { contents = is.contents; bytes = is.bytes; promised = is.promised; few = is.few; many = is.many; turn = is.turn; beside = is.beside }
+    record {
+      contents = is.contents;
+      bytes = is.bytes;
+      promised = is.promised;
+      few = is.few;
+      many = is.many;
+      turn = is.turn;
+      beside = is.beside;
+      place = is.place;
+    }
 
 published-in-step : (v : LogStoreValue) → IsInStep v → IsInStep (with_published v)
 published-in-step v is = record {
@@ -150,6 +177,7 @@ published-in-step v is = record {
   many = is.many;
   turn = refl;
   beside = none-beside v.turn v.job is.beside;
+  place = is.place;
 }
 
 next-in-step : (v : LogStoreValue) (w : WriterState) → v.turn ≡ Some w → IsInStep v → 0 < v.commits.group → IsOnItsWay (stage_after w.stage)
@@ -162,6 +190,7 @@ next-in-step v w standing is some on = record {
   many = is.many;
   turn = (some, on);
   beside = other-beside w (with_stage w (stage_after w.stage)) v.job (subst (λ (t : Option WriterState). IsBeside t v.job) standing is.beside);
+  place = is.place;
 }
 
 call-in-step : (v : LogStoreValue) (w : WriterState) (stage : Stage) → v.turn ≡ Some w → w.stage ≡ stage → IsInStep v → 0 < v.commits.group
@@ -180,7 +209,16 @@ call-in-step v w Done standing same is some = is
 -- a store over another disk
 disk-in-step : (v : LogStoreValue) (disk : DiskState) → IsInStep v → IsInStep (record v { disk = disk })
 disk-in-step v disk is =
-    record { contents = is.contents; bytes = is.bytes; promised = is.promised; few = is.few; many = is.many; turn = is.turn; beside = is.beside }
+    record {
+      contents = is.contents;
+      bytes = is.bytes;
+      promised = is.promised;
+      few = is.few;
+      many = is.many;
+      turn = is.turn;
+      beside = is.beside;
+      place = is.place;
+    }
 
 advance-in-step : (tells : Bool) (w : WriterState) (old new : LogStoreValue) (answer : Result Did PumpFault) → old.turn ≡ Some w → IsInStep old
     → 0 < old.commits.group → Advances tells w old answer new → IsInStep new
@@ -238,7 +276,66 @@ floor-in-step v relation time none room is = record {
   many = is.many;
   turn = is.turn;
   beside = tt;
+  place = tt;
 }
+
+-- so is an archive, whose run ends at a place that a disk has
+pub archive-in-step : (v : LogStoreValue) (run : Run) (writer : InWriting) (entry : RunEntry) → v.job ≡ None
+    → v.room.log + v.room.promised + 1 ≤ length v.room.used / 2 → run.start + run.len < 2 ^ 63 → IsInStep v → IsInStep (with_archive v run writer entry)
+archive-in-step v run writer entry none fits low is = record {
+  contents = is.contents;
+  bytes = is.bytes;
+  promised = let was = is.promised in let nothing : promised_to v.job ≡ 0 = ap promised_to none in omega (arith, was, nothing);
+  few = let many = is.many in omega (arith, many, fits);
+  many = is.many;
+  turn = is.turn;
+  beside = tt;
+  place = low;
+}
+
+-- a job is at another stage before its entry, over another disk
+moved-in-step : (v : LogStoreValue) (job : Job) (stage : JobStage) (disk : DiskState) → v.job ≡ Some job → promised_at job.stage ≡ 1 → promised_at stage ≡ 1
+    → IsInStep v → IsInStep (record v { job = Some (record job { stage = stage }); disk = disk })
+moved-in-step v job stage disk is-job was now is = record {
+  contents = is.contents;
+  bytes = is.bytes;
+  promised = is.promised ∙ ap (λ (n : ℕ). extents_of v.contents + n) (ap promised_to is-job ∙ was ∙ sym now);
+  few = is.few;
+  many = is.many;
+  turn = is.turn;
+  beside = by-stage stage now;
+  place = subst IsJobInPlace is-job is.place;
+}
+  where
+    by-stage : (k : JobStage) → promised_at k ≡ 1 → IsStageBeside v.turn k
+    by-stage (stages.Writing writer) one = tt
+    by-stage (Ready waited) one = tt
+    by-stage (Entering w) one = absurd (omega (arith, one))
+
+-- a call of the run
+run-in-step : (tells : Bool) (job : Job) (writer : InWriting) (old new : LogStoreValue) (answer : Result JobDid PumpFault) → old.job ≡ Some job
+    → job.stage ≡ stages.Writing writer → IsInStep old → WritesRun tells job old answer new → IsInStep new
+run-in-step tells job writer old new answer is-job e is writes = by-answer answer writes.answer
+  where
+    stage-promised : (left : List ℕ) (made : Bool) → promised_at (stage_with left writer made) ≡ 1
+    stage-promised [] true = refl
+    stage-promised [] false = refl
+    stage-promised (b ∷ bs) made = refl
+
+    behind-promised : (made : Bool) → promised_at (stage_behind job.stage made) ≡ 1
+    behind-promised made = ap (λ (k : JobStage). promised_at (stage_behind k made)) e ∙ stage-promised writer.left made
+
+    by-answer : (a : Result JobDid PumpFault)
+        → MatchResult a (λ what. (what ≡ did_at job.stage) × (new ≡ record (with_job_as old (behind job true)) { disk = new.disk }))
+        (λ why. (why ≡ pump.Failed) × (new ≡ record (with_failure (with_job_as old (behind job false))) { disk = new.disk }))
+        → IsInStep new
+    by-answer (Ok what) so =
+        subst IsInStep (sym so.1)
+        (moved-in-step old job (stage_behind job.stage true) new.disk is-job (ap promised_at e) (behind-promised true) is)
+    by-answer (Err why) so =
+        subst IsInStep (sym so.1)
+        (failed-in-step (record old { job = Some (behind job false); disk = new.disk })
+        (moved-in-step old job (stage_behind job.stage false) new.disk is-job (ap promised_at e) (behind-promised false) is))
 
 -- a job waits for a group
 waits-in-step : (v : LogStoreValue) (job : Job) (waited : Bool) → v.job ≡ Some job → job.stage ≡ Ready waited → IsInStep v
@@ -251,6 +348,7 @@ waits-in-step v job waited is-job e is = record {
   many = is.many;
   turn = is.turn;
   beside = tt;
+  place = subst IsJobInPlace is-job is.place;
 }
 
 -- an entry begins
@@ -270,6 +368,7 @@ begun-entry-in-step old new job waited is-job e at_rest is b =
           (sym (ap (λ (r : RoomValue). length r.used) b.takes.new_is ∙ used_len old.room.used (b.takes.others ++ b.link ∷ []))) is.many;
       turn = is.turn;
       beside = (at_rest, tt);
+      place = subst IsJobInPlace is-job is.place;
     })
 
 -- a call of the entry's chain
@@ -283,12 +382,14 @@ next-entry-in-step v job w at_rest is-job e is on = record {
   many = is.many;
   turn = is.turn;
   beside = (at_rest, on);
+  place = subst IsJobInPlace is-job is.place;
 }
 
 entered-in-step : (v : LogStoreValue) (job : Job) (w : WriterState) → v.job ≡ Some job → job.stage ≡ Entering w → IsInStep v → IsInStep (with_entry v job)
 entered-in-step v job w is-job e is = by-work job.work
   where
-    by-work : (work : JobWork) → IsInStep (record v { commits = with_work work v.commits; job = None })
+    -- memory has the same commits that wait
+    by-work : (work : JobWork) → IsInStep (record (with_work work v) { job = None })
     by-work (Floor floor kept) = record {
       contents = is.contents;
       bytes = is.bytes;
@@ -297,6 +398,17 @@ entered-in-step v job w is-job e is = by-work job.work
       many = is.many;
       turn = is.turn;
       beside = tt;
+      place = tt;
+    }
+    by-work (kinds.Archive archive archives) = record {
+      contents = is.contents;
+      bytes = is.bytes;
+      promised = is.promised ∙ ap (λ (n : ℕ). extents_of v.contents + n) (ap promised_to is-job ∙ ap promised_at e);
+      few = is.few;
+      many = is.many;
+      turn = is.turn;
+      beside = tt;
+      place = tt;
     }
 
 entry-call-in-step : (v : LogStoreValue) (job : Job) (w : WriterState) (stage : Stage) → v.turn ≡ None → v.job ≡ Some job → job.stage ≡ Entering w
@@ -338,6 +450,7 @@ job-in-step tells old new answer is pumps = by-failed old.commits.failed pumps
     by-begun v (Some job) is-job step advances = by-at job.stage refl advances
       where
         by-at : (k : JobStage) → job.stage ≡ k → jobs.AdvancesAt tells job k v answer new → IsInStep new
+        by-at (stages.Writing writer) e advances = absurd advances
         by-at (Ready waited) e advances = absurd advances
         by-at (Entering w) e advances = advance-entry-in-step tells job w v new answer is-job e step advances
 
@@ -349,6 +462,7 @@ job-in-step tells old new answer is pumps = by-failed old.commits.failed pumps
     by-turn job waited is-job e (Some w) standing so = subst IsInStep (sym so.1) (waits-in-step old job waited is-job e is)
 
     by-stage : (job : Job) → old.job ≡ Some job → (k : JobStage) → job.stage ≡ k → StepsAt tells job k old answer new → IsInStep new
+    by-stage job is-job (stages.Writing writer) e so = run-in-step tells job writer old new answer is-job e is so
     by-stage job is-job (Ready waited) e so = by-turn job waited is-job e old.turn refl so
     by-stage job is-job (Entering w) e so = advance-entry-in-step tells job w old new answer is-job e is so
 

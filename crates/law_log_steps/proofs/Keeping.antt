@@ -1,5 +1,5 @@
 -- Calls that change only which transactions are open and which commits are awaited.
-use Rattle.std.proofs.Common.{◌≡◌, ℕ, Bool, true, false, List, Result, Ok, Err, refl, ap, sym, subst, ◌∙◌}
+use Rattle.std.proofs.Common.{◌≡◌, ℕ, Bool, true, false, List, Result, Ok, Err, refl, arith, ap, sym, subst, ◌∙◌, inl, inr}
 use Rattle.std.proofs.Common.{Option}
 use Rattle.std.specs.Prelude.{MatchBool}
 use Rattle.history.specs.Histories.{History}
@@ -14,6 +14,7 @@ use Rattle.group.specs.declared.answers.BeginFault.{BeginFault}
 use Rattle.group.specs.declared.answers.BeginFault.TheVariants as fault
 use Rattle.group.specs.declared.answers.Redeemed.{Redeemed}
 use Rattle.commits.specs.Values.{CommitsValue, is_own}
+use Rattle.log_store.specs.Named.{NamedValue}
 use Rattle.log_store.specs.Values.{LogStoreValue}
 use Rattle.log_store.specs.Calls as calls
 use Rattle.log_store.specs.Calls.{with_commits}
@@ -24,10 +25,10 @@ use Rattle.law_commits.specs.Standing.{StandsInMemory}
 use Rattle.law_commits.specs.Laws as memory
 use Rattle.law_commits.proofs.Memory.{begin-step, abort-step}
 use Rattle.law_commits.proofs.Answering.{redeem-step}
-use Rattle.law_log_store.specs.Standing.{StandsOnHeap, StopsOnHeap}
+use Rattle.law_log_store.specs.Standing.{StandsOnHeap, StopsBy, StopsOnHeap}
 use Rattle.law_log_store.specs.Calls.{KeepsDisk}
 use Rattle.law_log_store.proofs.Calls.{AreNamesAlone, begin-alone, abort-alone, redeem-alone, begin-keeps, abort-keeps, redeem-keeps}
-use Rattle.law_log_steps.specs.Store.{OnDisk, AreFresh, gate_of, gate_left, raising_of, HasAllMade, IsWriting, IsStoreOf}
+use Rattle.law_log_steps.specs.Store.{OnDisk, AreFresh, gate_of, gate_left, raising_of, HasAllMade, JobReaches, HasMarks, IsLeft, IsWriting, IsStoreOf}
 use Rattle.law_log_steps.specs.Laws.{BeginsTo, Goes}
 
 -- what the disk stands for is kept
@@ -38,7 +39,8 @@ on-disk old new h queue floors keeps same disk =
   where
     by-failed : (b : Bool) → MatchBool b (StopsOnHeap old h queue floors) (StandsOnHeap old h queue floors)
         → MatchBool b (StopsOnHeap new h queue floors) (StandsOnHeap new h queue floors)
-    by-failed true stops = keeps.stops h queue floors stops
+    by-failed true stops =
+        subst (λ (b : Bool). StopsBy b new h queue floors) (sym same) (keeps.stops old.commits.failed h queue floors stops)
     by-failed false stands = keeps.stands h queue floors stands
 
 -- the machine has the same group, which is as far as it was
@@ -56,6 +58,8 @@ same-group m = record { most = refl; group = refl; raising = refl; gate = refl; 
 pub record WritesSame (old new : LogStoreValue) : Type 0 where
   pub group : new.commits.group ≡ old.commits.group
   pub floors : new.commits.floors ≡ old.commits.floors
+  pub reclaimed : new.commits.reclaimed ≡ old.commits.reclaimed
+  pub named : new.named ≡ old.named
   pub turn : new.turn ≡ old.turn
   pub job : new.job ≡ old.job
 
@@ -63,20 +67,44 @@ pub writes-all-same : (old new : LogStoreValue) → new ≡ old → WritesSame o
 writes-all-same old new is = record {
   group = ap (λ (v : LogStoreValue). v.commits.group) is;
   floors = ap (λ (v : LogStoreValue). v.commits.floors) is;
+  reclaimed = ap (λ (v : LogStoreValue). v.commits.reclaimed) is;
+  named = ap (λ (v : LogStoreValue). v.named) is;
   turn = ap (λ (v : LogStoreValue). v.turn) is;
   job = ap (λ (v : LogStoreValue). v.job) is;
 }
 
-pub writes-on : (old new : LogStoreValue) (m n : Machine Value) → IsWriting old m → WritesSame old new → HasSameGroup m n → IsWriting new n
-writes-on old new m n is writes same = record {
+-- what memory has forgotten is archived still
+pub marks-on : (old new : LogStoreValue) → HasMarks old → WritesSame old new → HasMarks new
+marks-on old new is writes = record {
+  reclaimed = (
+      let low = is.reclaimed in
+      let same = writes.reclaimed in
+      let upto = ap (λ (n : NamedValue). n.upto) writes.named in
+      omega (arith, low, same, upto)
+  );
+  job = subst (λ (n : NamedValue). JobReaches n.upto new.job) (sym writes.named)
+      (subst (λ (j : Option Job). JobReaches old.named.upto j) (sym writes.job) is.job);
+}
+
+-- where what a stop may leave is kept too
+pub writes-on : (tells : Bool) (old new : LogStoreValue) (m n : Machine Value) → IsWriting tells old m → WritesSame old new → HasSameGroup m n
+    → (m.failed ≡ true → StopsBy false old m.published m.queue m.floors → StopsBy false new n.published n.queue n.floors) → IsWriting tells new n
+writes-on tells old new m n is writes same stops = record {
   most = same.most ∙ is.most;
   group = same.group ∙ is.group ∙ sym writes.group;
   raising = same.raising ∙ is.raising ∙ ap raising_of (sym writes.job);
   made = subst (λ (f : FloorsValue). HasAllMade f new.job) (sym writes.floors)
       (subst (λ (j : Option Job). HasAllMade old.commits.floors j) (sym writes.job) is.made);
   gate = λ works. same.gate ∙ is.gate (sym same.failed ∙ works) ∙ (λ i. gate_of (sym writes.turn i) (sym writes.job i));
-  left = λ fails. same.gate ∙ is.left (sym same.failed ∙ fails) ∙ (λ i. gate_left (sym writes.turn i) (sym writes.job i));
+  left = λ fails. by-left (sym same.failed ∙ fails) (is.left (sym same.failed ∙ fails));
 }
+  where
+    by-left : m.failed ≡ true → IsLeft tells old m → IsLeft tells new n
+    by-left fails (inl gate) = inl (same.gate ∙ gate ∙ (λ i. gate_left (sym writes.turn i) (sym writes.job i)))
+    by-left fails (inr calm) = inr (record {
+      gate = same.gate ∙ calm.gate ∙ (λ i. gate_of (sym writes.turn i) (sym writes.job i));
+      stops = λ told. stops fails (calm.stops told);
+    })
 
 -- the machine has the same history, queue and floors
 pub record IsAlike (m n : Machine Value) : Type 0 where
@@ -90,6 +118,13 @@ disk-alike v m n alike disk =
     subst (λ (h : History Value). OnDisk v h n.queue n.floors) alike.published
     (subst (λ (queue : History Value). OnDisk v m.published queue n.floors) alike.queue
     (subst (λ (floors : ℕ → ℕ). OnDisk v m.published m.queue floors) alike.floors disk))
+
+pub stops-alike : (v : LogStoreValue) (m n : Machine Value) → IsAlike m n → StopsBy false v m.published m.queue m.floors
+    → StopsBy false v n.published n.queue n.floors
+stops-alike v m n alike stops =
+    subst (λ (h : History Value). StopsBy false v h n.queue n.floors) alike.published
+    (subst (λ (queue : History Value). StopsBy false v m.published queue n.floors) alike.queue
+    (subst (λ (floors : ℕ → ℕ). StopsBy false v m.published m.queue floors) alike.floors stops))
 
 pub itself : (m : Machine Value) → IsAlike m m
 itself m = record { published = refl; queue = refl; floors = refl; group = same-group m }
@@ -108,17 +143,24 @@ pub store-keeps : (tells : Bool) (old new : LogStoreValue) (m n : Machine Value)
 store-keeps tells old new m n is keeps alone new_is stands machine alike = record {
   memory = stands;
   machine = machine;
-  writing = writes-on old new m n is.writing (record {
-    group = ap (λ (c : CommitsValue). c.group) alone.new_is;
-    floors = ap (λ (c : CommitsValue). c.floors) alone.new_is;
-    turn = ap (λ (v : LogStoreValue). v.turn) new_is;
-    job = ap (λ (v : LogStoreValue). v.job) new_is;
-  }) alike.group;
+  writing = writes-on tells old new m n is.writing writes alike.group
+      (λ fails stops. stops-alike new m n alike (keeps.stops false m.published m.queue m.floors stops));
   fresh = subst AreFresh (sym alone.new_is) is.fresh;
+  marks = marks-on old new is.marks writes;
   disk = λ told.
       disk-alike new m n alike
       (on-disk old new m.published m.queue m.floors keeps (ap (λ (c : CommitsValue). c.failed) alone.new_is) (is.disk told));
 }
+  where
+    writes : WritesSame old new
+    writes = record {
+      group = ap (λ (c : CommitsValue). c.group) alone.new_is;
+      floors = ap (λ (c : CommitsValue). c.floors) alone.new_is;
+      reclaimed = ap (λ (c : CommitsValue). c.reclaimed) alone.new_is;
+      named = ap (λ (v : LogStoreValue). v.named) new_is;
+      turn = ap (λ (v : LogStoreValue). v.turn) new_is;
+      job = ap (λ (v : LogStoreValue). v.job) new_is;
+    }
 
 -- ---- transactions
 

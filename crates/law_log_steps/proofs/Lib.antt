@@ -7,3 +7,4 @@ pub mod Fronts
 pub mod InStep
 pub mod Jobs
 pub mod FloorStarts
+pub mod ArchiveStarts

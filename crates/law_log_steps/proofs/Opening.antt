@@ -1,5 +1,5 @@
 -- A store that was opened on an image which stands for a history stands for a machine that is opened on it.
-use Rattle.std.proofs.Common.{◌≡◌, ℕ, ◌+◌, ◌<◌, ◌≤◌, ◌^◌, nat_lt, Bool, true, false, cond, IsTrue, List, [], ◌∷◌, ◌++◌, length, map, filter, refl, arith, ap}
+use Rattle.std.proofs.Common.{◌≡◌, ℕ, ◌+◌, ◌<◌, ◌≤◌, nat_lt, Bool, true, false, cond, IsTrue, List, [], ◌∷◌, ◌++◌, length, map, filter, refl, arith, ap}
 use Rattle.std.proofs.Common.{Option}
 use Rattle.std.proofs.Common.{sym, subst, ◌∙◌, ⊎_elim, length-append}
 use Rattle.std.specs.Prelude.{if◌then◌else◌}
@@ -11,7 +11,7 @@ use Rattle.history.specs.declared.key.Key.{Key}
 use Rattle.history.specs.declared.time.TimedWrite.{TimedWrite}
 use Rattle.history.specs.Time.{IsRisingAfter, writes_after}
 use Rattle.history.specs.Versions.{ends_after, versions}
-use Rattle.history.specs.Histories.{Commit, History, versions_of, writes_of}
+use Rattle.history.specs.Histories.{History, versions_of, writes_of}
 use Rattle.history.specs.Machine.{opened_by}
 use Rattle.history.proofs.Orders.{is_lt, not_lt}
 use Rattle.history.proofs.Histories.{writes_of-commits_after}
@@ -19,8 +19,8 @@ use Rattle.history.proofs.Members.{Contains-nil}
 use Rattle.disk.specs.Areas.{AreSound, image_of}
 use Rattle.disk.specs.Calls.{DiskState}
 use Rattle.law_image.specs.Values.{Value}
-use Rattle.law_image.specs.Reading.{Head, Member, Reading, Slot}
-use Rattle.law_image.specs.Log.{AreRisingAfter, floor_of, heads_of, reclaim_mark}
+use Rattle.law_image.specs.Reading.{Head, Reading, Slot}
+use Rattle.law_image.specs.Log.{AreRisingAfter, floor_of, reclaim_mark}
 use Rattle.law_image.specs.Facts.{heap_facts, old_writes}
 use Rattle.law_image.specs.StandsFor.{StandsFor, head_of, reclaimed_upto}
 use Rattle.law_image.proofs.Standing.{archived-range, facts-rise, heads-rising, rises}
@@ -29,8 +29,6 @@ use Rattle.law_log.proofs.Telling.{tells-all}
 use Rattle.floors.specs.Floors.{floor_at}
 use Rattle.chains.specs.Writes.{kept_after, last_time}
 use Rattle.chains.specs.KeyWrites as chains
-use Rattle.group.specs.declared.commit_order.CommitHead.{CommitHead}
-use Rattle.group.specs.CommitOrder as orders
 use Rattle.commits.specs.Values.{CommitsValue}
 use Rattle.recovery.proofs.HistoryRead.{anchors_upto}
 use Rattle.log_roots.specs.declared.roots.Roots.{Roots}
@@ -48,9 +46,9 @@ use Rattle.law_commits.specs.Standing.{HasNames, StandsInMemory}
 use Rattle.log_store.specs.Values.{LogStoreValue}
 use Rattle.log_store.specs.Opens.{Opens, commits_on, head_as}
 use Rattle.log_store.proofs.Places.{has-place}
-use Rattle.law_log_store.specs.Standing.{IsImageOf, StandsOnHeap}
+use Rattle.law_log_store.specs.Standing.{IsImageOf}
 use Rattle.law_log_store.proofs.Opening.{facts-are, members-same, open-stands, read as read-is, same as same-log}
-use Rattle.law_log_steps.specs.Store.{gate_of, raising_of, HasAllMade, IsStoreOf}
+use Rattle.law_log_steps.specs.Store.{gate_of, raising_of, HasAllMade, JobReaches, IsStoreOf}
 use Rattle.log_store.specs.declared.job.Job.{Job}
 use Rattle.law_log_steps.proofs.Resting.{stands-opened}
 
@@ -284,5 +282,15 @@ module _ (tells : Bool) (old : DiskState) (mark : ℕ) (v : LogStoreValue) (root
         made = subst (λ (j : Option Job). HasAllMade v.commits.floors j) (sym (ap (λ (x : LogStoreValue). x.job) opens.new_is)) tt;
         gate = λ works. ap (λ (x : LogStoreValue). gate_of x.turn x.job) (sym opens.new_is);
         left = λ fails. absurd (let no : false ≡ true = fails in cc);
+      })
+      (record {
+        reclaimed =
+            let low = read.holds.ends.archived in
+            let mark = read.end_is.says.mark_is in
+            let archived = read.end_is.says.archived_is in
+            let reclaimed : v.commits.reclaimed ≡ r.heap.end.mark = ap (λ (c : CommitsValue). c.reclaimed) same in
+            let upto : v.named.upto ≡ r.heap.end.archived = ap (λ (x : LogStoreValue). x.named.upto) opens.new_is in
+            omega (arith, low, mark, archived, reclaimed, upto);
+        job = subst (λ (j : Option Job). JobReaches v.named.upto j) (sym (ap (λ (x : LogStoreValue). x.job) opens.new_is)) tt;
       })
       (subst (λ (c : CommitsValue). StandsInMemory c (opened_by 1024 h floors)) (sym same) memory)

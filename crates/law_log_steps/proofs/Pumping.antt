@@ -6,8 +6,8 @@ use Rattle.std.proofs.Common.{refl, arith, ap, sym, subst, ◌∙◌, append-nil
 use Rattle.std.specs.Prelude.{IsTrue, MatchBool, MatchResult}
 use Rattle.std.proofs.lemmas.Bool.Decides.{nat_tests}
 use Rattle.history.specs.Histories.{History}
-use Rattle.history.specs.Machine.{Machine, Gate, Shut, Due, MayBeOpen, OfGroup, OfFloor, IsMachine}
-use Rattle.history.specs.Steps.{Event, Step, Run, GroupBegan, Published, GateDue, GateWritten, Broke, gated, grouped, group_published}
+use Rattle.history.specs.Machine.{Machine, Gate, Shut, Due, MayBeOpen, OfGroup, IsMachine}
+use Rattle.history.specs.Steps.{Event, Step, Run, GroupBegan, Broke, gated, grouped, group_published}
 use Rattle.history.specs.Steps as steps
 use Rattle.history.proofs.Machines.{run-machine}
 use Rattle.disk.specs.Areas.{AreSound}
@@ -20,10 +20,12 @@ use Rattle.log_writer.specs.Writer as writers
 use Rattle.commits.specs.Values.{CommitsValue, WaitingValue, mark_after}
 use Rattle.commits.specs.Steps.{members, published}
 use Rattle.commits.specs.Steps as commit_steps
+use Rattle.log_store.specs.Named.{NamedValue}
 use Rattle.log_store.specs.Values.{LogStoreValue, IsBeside, IsStageBeside, IsInStep}
 use Rattle.log_store.specs.declared.job.Job.{Job}
 use Rattle.log_store.specs.declared.job.JobStage.{JobStage}
 use Rattle.log_store.specs.declared.job.JobStage.TheVariants.{Ready, Entering}
+use Rattle.log_store.specs.declared.job.JobStage.TheVariants as stages
 use Rattle.log_store.proofs.InStep.{beside_group}
 use Rattle.floors.specs.Floors.{FloorsValue}
 use Rattle.log_store.specs.Values as stores
@@ -42,7 +44,8 @@ use Rattle.law_log_store.specs.Calls.{count_in, StepsTo}
 use Rattle.law_log_store.proofs.Beginning.{grouped-is}
 use Rattle.law_log_store.proofs.Pumping.{pump-steps, failed-rests}
 use Rattle.law_log_store.proofs.Submitting.{group-within}
-use Rattle.law_log_steps.specs.Store.{HaveMark, AreFresh, gate_at, gate_on, gate_by, gate_of, gate_behind, gate_left, raising_of, HasAllMade, IsStoreOf}
+use Rattle.law_log_steps.specs.Store.{HaveMark, AreFresh, gate_at, gate_on, gate_by, gate_of, gate_behind, gate_left, raising_of, HasAllMade, JobReaches}
+use Rattle.law_log_steps.specs.Store.{HasMarks, IsStoreOf}
 use Rattle.law_refinement.specs.Laws.{begins_in, breaks_in}
 use Rattle.law_log_steps.specs.Laws.{group_ends, events_in, Runs}
 
@@ -140,7 +143,8 @@ shut-beside : (w : WriterState) (j : Option Job) → IsBeside (Some w) j → gat
 shut-beside w None alone = refl
 shut-beside w (Some job) alone = by-stage job.stage alone
   where
-    by-stage : (k : JobStage) → IsStageBeside (Some w) k → gate_on k ≡ Shut
+    by-stage : (k : JobStage) → IsStageBeside (Some w) k → gate_on job.work k ≡ Shut
+    by-stage (stages.Writing writer) alone = refl
     by-stage (Ready waited) alone = refl
     by-stage (Entering e) alone = absurd (let no = alone.0 in cc)
 
@@ -148,7 +152,8 @@ shut-unbarred : (j : Option Job) → bars_groups j ≡ false → gate_by j ≡ S
 shut-unbarred None unbarred = refl
 shut-unbarred (Some job) unbarred = by-stage job.stage unbarred
   where
-    by-stage : (k : JobStage) → bars_at k ≡ false → gate_on k ≡ Shut
+    by-stage : (k : JobStage) → bars_at k ≡ false → gate_on job.work k ≡ Shut
+    by-stage (stages.Writing writer) unbarred = refl
     by-stage (Ready waited) unbarred = refl
     by-stage (Entering e) barred = absurd (let no : true ≡ false = barred in cc)
 
@@ -363,33 +368,55 @@ has-writer old begun none some b = record {
 
 -- ---- what a step of a group leaves of a job
 
--- neither the job that runs nor the floors
+-- neither the job that runs, nor the floors and the marks
 pub record LeavesJob (old new : LogStoreValue) : Type 0 where
   pub job : new.job ≡ old.job
   pub floors : new.commits.floors ≡ old.commits.floors
+  pub reclaimed : new.commits.reclaimed ≡ old.commits.reclaimed
+  pub named : new.named ≡ old.named
+
+same-leaves : (old new : LogStoreValue) → new ≡ old → LeavesJob old new
+same-leaves old new is = record {
+  job = ap (λ (v : LogStoreValue). v.job) is;
+  floors = ap (λ (v : LogStoreValue). v.commits.floors) is;
+  reclaimed = ap (λ (v : LogStoreValue). v.commits.reclaimed) is;
+  named = ap (λ (v : LogStoreValue). v.named) is;
+}
+
+leaves-on : (old mid new : LogStoreValue) → LeavesJob old mid → LeavesJob mid new → LeavesJob old new
+leaves-on old mid new first next = record {
+  job = next.job ∙ first.job;
+  floors = next.floors ∙ first.floors;
+  reclaimed = next.reclaimed ∙ first.reclaimed;
+  named = next.named ∙ first.named;
+}
 
 advance-leaves : (tells : Bool) (w : WriterState) (old new : LogStoreValue) (answer : Result Did PumpFault) → Advances tells w old answer new
     → LeavesJob old new
 advance-leaves tells w old new answer advances = by-answer answer advances.answer
   where
-    by-stage : (k : Stage) → new ≡ record (after_call old w k) { disk = new.disk } → LeavesJob old new
-    by-stage (Writing done rest) is = record { job = ap (λ (v : LogStoreValue). v.job) is; floors = ap (λ (v : LogStoreValue). v.commits.floors) is }
-    by-stage Syncing is = record { job = ap (λ (v : LogStoreValue). v.job) is; floors = ap (λ (v : LogStoreValue). v.commits.floors) is }
-    by-stage Opening is = record { job = ap (λ (v : LogStoreValue). v.job) is; floors = ap (λ (v : LogStoreValue). v.commits.floors) is }
-    by-stage Settling is = record { job = ap (λ (v : LogStoreValue). v.job) is; floors = ap (λ (v : LogStoreValue). v.commits.floors) is }
-    by-stage Done is = record { job = ap (λ (v : LogStoreValue). v.job) is; floors = ap (λ (v : LogStoreValue). v.commits.floors) is }
+    call-leaves : (k : Stage) → LeavesJob old (record (after_call old w k) { disk = new.disk })
+    call-leaves (Writing done rest) = record { job = refl; floors = refl; reclaimed = refl; named = refl }
+    call-leaves Syncing = record { job = refl; floors = refl; reclaimed = refl; named = refl }
+    call-leaves Opening = record { job = refl; floors = refl; reclaimed = refl; named = refl }
+    call-leaves Settling = record { job = refl; floors = refl; reclaimed = refl; named = refl }
+    call-leaves Done = record { job = refl; floors = refl; reclaimed = refl; named = refl }
 
     by-answer : (a : Result Did PumpFault)
         → MatchResult a (λ what. (what ≡ did_of (writers.did w.stage) old.commits.group) × (new ≡ record (after_call old w w.stage) { disk = new.disk }))
         (λ why. (why ≡ pump.Failed) × (new ≡ record (with_failure old) { disk = new.disk })) → LeavesJob old new
-    by-answer (Ok what) is = by-stage w.stage is.1
-    by-answer (Err why) is = record { job = ap (λ (v : LogStoreValue). v.job) is.1; floors = ap (λ (v : LogStoreValue). v.commits.floors) is.1 }
+    by-answer (Ok what) is =
+        let called : LogStoreValue = record (after_call old w w.stage) { disk = new.disk } in
+        leaves-on old called new (call-leaves w.stage) (same-leaves called new is.1)
+    by-answer (Err why) is =
+        let failed : LogStoreValue = record (with_failure old) { disk = new.disk } in
+        leaves-on old failed new (record { job = refl; floors = refl; reclaimed = refl; named = refl }) (same-leaves failed new is.1)
 
 pub step-leaves : (tells : Bool) (old new : LogStoreValue) (answer : Result Did PumpFault) → TakesStep tells old old.turn answer new → LeavesJob old new
 step-leaves tells old new answer takes = by-turn old.turn takes
   where
     same : new ≡ old → LeavesJob old new
-    same is = record { job = ap (λ (v : LogStoreValue). v.job) is; floors = ap (λ (v : LogStoreValue). v.commits.floors) is }
+    same is = same-leaves old new is
 
     grouped-floors : (v : CommitsValue) → (commit_steps.grouped 1024 v).floors ≡ v.floors
     grouped-floors v = by-test ((v.group == 0) && nat_lt 0 (length v.queue))
@@ -398,14 +425,22 @@ step-leaves tells old new answer takes = by-turn old.turn takes
         by-test true = refl
         by-test false = refl
 
+    grouped-mark : (v : CommitsValue) → (commit_steps.grouped 1024 v).reclaimed ≡ v.reclaimed
+    grouped-mark v = by-test ((v.group == 0) && nat_lt 0 (length v.queue))
+      where
+        by-test : (b : Bool) → (cond b (record v { group = min 1024 (length v.queue) }) v).reclaimed ≡ v.reclaimed
+        by-test true = refl
+        by-test false = refl
+
     by-group : (begun : LogStoreValue) (t : Option WriterState) → Begins old begun → AdvancesGroup tells begun t answer new → LeavesJob old new
     by-group begun None b advances = absurd advances
     by-group begun (Some w) b advances =
-        let on = advance-leaves tells w begun new answer advances in
-        record {
-          job = on.job ∙ ap (λ (v : LogStoreValue). v.job) b.new_is;
-          floors = on.floors ∙ ap (λ (v : LogStoreValue). v.commits.floors) b.new_is ∙ grouped-floors old.commits;
-        }
+        leaves-on old begun new (record {
+          job = ap (λ (v : LogStoreValue). v.job) b.new_is;
+          floors = ap (λ (v : LogStoreValue). v.commits.floors) b.new_is ∙ grouped-floors old.commits;
+          reclaimed = ap (λ (v : LogStoreValue). v.commits.reclaimed) b.new_is ∙ grouped-mark old.commits;
+          named = ap (λ (v : LogStoreValue). v.named) b.new_is;
+        }) (advance-leaves tells w begun new answer advances)
 
     begins : BeginsGroup tells old answer new → LeavesJob old new
     begins (inl none) = same none.1
@@ -508,6 +543,19 @@ module _ (tells : Bool) (old new : LogStoreValue) (answer : Result Did PumpFault
         subst (λ (f : FloorsValue). HasAllMade f new.job) (sym (step-leaves tells old new answer takes).floors)
         (subst (λ (j : Option Job). HasAllMade old.commits.floors j) (sym same-job) is.writing.made)
 
+    marks-on : HasMarks new
+    marks-on =
+        let left = step-leaves tells old new answer takes in record {
+          reclaimed = (
+              let low = is.marks.reclaimed in
+              let same = left.reclaimed in
+              let upto = ap (λ (n : NamedValue). n.upto) left.named in
+              omega (arith, low, same, upto)
+          );
+          job = subst (λ (n : NamedValue). JobReaches n.upto new.job) (sym left.named)
+              (subst (λ (j : Option Job). JobReaches old.named.upto j) (sym same-job) is.marks.job);
+        }
+
     by-answer : (a : Result Did PumpFault) → StepBy a old new m → (IsTrue tells → StepsTo a old new m.published m.queue m.floors)
         → Runs tells m (events_in m a) new
     by-answer (Ok what) by steps-to =
@@ -530,6 +578,7 @@ module _ (tells : Bool) (old new : LogStoreValue) (answer : Result Did PumpFault
               left = λ fails. absurd (let no : false ≡ true = sym works-here ∙ fails in cc);
             };
             fresh = memory.fresh;
+            marks = marks-on;
             disk = λ told. subst (λ (b : Bool). MatchBool b (StopsOnHeap new (m.published ++ take (count_in what) m.queue) (drop
                 (count_in what) m.queue) m.floors)
                 (StandsOnHeap new (m.published ++ take (count_in what) m.queue) (drop (count_in what) m.queue) m.floors)) (sym works-on) (steps-to told);
@@ -556,9 +605,10 @@ module _ (tells : Bool) (old new : LogStoreValue) (answer : Result Did PumpFault
               raising = is.writing.raising ∙ ap raising_of (sym same-job);
               made = made-on;
               gate = λ on. absurd (let no : true ≡ false = on in cc);
-              left = λ on. fails.gate_is;
+              left = λ on. inl fails.gate_is;
             };
             fresh = memory.fresh;
+            marks = marks-on;
             disk = λ told. subst (λ (b : Bool). MatchBool b (StopsOnHeap new m.published m.queue m.floors) (StandsOnHeap new m.published m.queue m.floors))
                 (sym (steps-to told).failed) (steps-to told).stops;
           };

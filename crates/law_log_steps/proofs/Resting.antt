@@ -23,6 +23,7 @@ use Rattle.log_store.specs.declared.job.JobWork.{JobWork}
 use Rattle.log_store.specs.declared.job.Job.{Job}
 use Rattle.log_store.specs.declared.job.JobStage.{JobStage}
 use Rattle.log_store.specs.declared.job.JobStage.TheVariants.{Ready, Entering}
+use Rattle.log_store.specs.declared.job.JobStage.TheVariants as stages
 use Rattle.law_commits.specs.Standing.{StandsInMemory}
 use Rattle.law_log_store.specs.Standing.{StandsOnHeap, IsImageOf, MayStand, MayStandAt, MayStandOn, MayStandBy, StopsOnHeap, floors_with}
 use Rattle.law_log_store.specs.Calls.{HasEntered, IsFront}
@@ -30,7 +31,7 @@ use Rattle.law_log_store.specs.Opened.{IsOpenedOn}
 use Rattle.law_log_store.proofs.Going.{standing-stops}
 use Rattle.law_log_store.proofs.Pumping.{either-old, either-new, grouped-stays}
 use Rattle.law_log_store.proofs.Opened as rooms
-use Rattle.law_log_steps.specs.Store.{HaveMark, gate_of, raising_of, HasAllMade, IsWriting, IsStoreOf}
+use Rattle.law_log_steps.specs.Store.{HaveMark, gate_of, raising_of, HasAllMade, JobReaches, HasMarks, IsWriting, IsStoreOf}
 
 module _ (tells : Bool) (v : LogStoreValue) (m : Machine Value) (image : Image) (told : IsTrue tells) (step : IsInStep v) (is : IsStoreOf tells v m) where
   abbrev Old : Type 0
@@ -68,6 +69,7 @@ module _ (tells : Bool) (v : LogStoreValue) (m : Machine Value) (image : Image) 
       by-entry work w false may = or-entered work (either-old w.stage Old (Entered work) may)
 
       by-stage : (work : JobWork) (k : JobStage) → MayStandOn v.commits.failed k Old (Entered work) → Old ⊎ New (grouped 1024 v.commits).group ⊎ Entered work
+      by-stage work (stages.Writing writer) may = inl may
       by-stage work (Ready waited) may = inl may
       by-stage work (Entering w) may = by-entry work w v.commits.failed may
 
@@ -90,10 +92,11 @@ module _ (tells : Bool) (v : LogStoreValue) (m : Machine Value) (image : Image) 
 -- a store that stands for a history, with nothing behind it, stands for a machine that is opened on it
 pub stands-opened : (tells : Bool) (v : LogStoreValue) (h : History Value) (floors : ℕ → ℕ) (reading : Reading) → StandsFor reading h floors
     → StandsOnHeap v h [] floors
-    → v.commits.failed ≡ false → v.commits.queue ≡ [] → IsWriting v (opened_by 1024 h floors) → StandsInMemory v.commits (opened_by 1024 h floors)
-    → IsStoreOf tells v (opened_by 1024 h floors)
-stands-opened tells v h floors reading stands on works none writing memory = record {
+    → v.commits.failed ≡ false → v.commits.queue ≡ [] → IsWriting tells v (opened_by 1024 h floors) → HasMarks v
+    → StandsInMemory v.commits (opened_by 1024 h floors) → IsStoreOf tells v (opened_by 1024 h floors)
+stands-opened tells v h floors reading stands on works none writing marks memory = record {
   memory = memory;
+  marks = marks;
   machine = opened_by-machine IsValue 1024 h floors stands.opens.history (floor-range reading h floors stands);
   writing = writing;
   fresh = subst (λ (ws : List WaitingValue). HaveMark v.commits.reclaimed ws) (sym none) tt;
@@ -114,4 +117,4 @@ opened-stands tells v image l reading h floors same sound reads is held stands o
       gate = λ works. λ i. gate_of (sym on.turn i) (sym on.job i);
       left = λ fails. absurd (let no : false ≡ true = fails in cc);
     })
-    memory
+    (record { reclaimed = on.marks; job = subst (λ (j : Option Job). JobReaches v.named.upto j) (sym on.job) tt }) memory

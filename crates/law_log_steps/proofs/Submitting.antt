@@ -31,11 +31,11 @@ use Rattle.law_commits.specs.Standing.{StandsInMemory}
 use Rattle.law_commits.specs.Laws as memory
 use Rattle.law_commits.proofs.Names.{assigned-is}
 use Rattle.law_commits.proofs.Submitting.{submit-step}
-use Rattle.law_log_store.specs.Standing.{StandsOnHeap, StopsOnHeap}
+use Rattle.law_log_store.specs.Standing.{StandsOnHeap, StopsBy, StopsOnHeap}
 use Rattle.law_log_store.specs.Calls.{queued_by}
 use Rattle.law_log_store.proofs.Calls.{submit-steps, failed-queues-none}
 use Rattle.law_log_steps.specs.Store.{OnDisk, AreFresh, IsStoreOf}
-use Rattle.law_log_steps.proofs.Keeping.{HasSameGroup, WritesSame, writes-all-same, writes-on}
+use Rattle.law_log_steps.proofs.Keeping.{HasSameGroup, WritesSame, writes-all-same, marks-on, writes-on}
 use Rattle.law_log_steps.specs.Laws.{Goes}
 use Rattle.law_log_steps.proofs.Pumping.{marks-after}
 
@@ -208,6 +208,8 @@ same-writes v new txn label now (Ok (submitted.ReadOnly snapshot)) is = writes-a
 same-writes v new txn label now (Ok (submitted.Queued ticket)) is = record {
   group = ap (λ (x : LogStoreValue). x.commits.group) is.2;
   floors = ap (λ (x : LogStoreValue). x.commits.floors) is.2;
+  reclaimed = ap (λ (x : LogStoreValue). x.commits.reclaimed) is.2;
+  named = ap (λ (x : LogStoreValue). x.named) is.2;
   turn = ap (λ (x : LogStoreValue). x.turn) is.2;
   job = ap (λ (x : LogStoreValue). x.job) is.2;
 }
@@ -231,7 +233,9 @@ module _ (tells : Bool) (old new : LogStoreValue) (txn : TxnValue) (label now : 
       by-failed true failed stops =
           let none = failed-queues-none old new txn label now answer failed submits in
           subst (λ (queue : History Value). StopsOnHeap new m.published queue m.floors)
-          (sym (ap (λ (more : History Value). m.queue ++ more) none.0 ∙ append-nil m.queue)) ((none.1).stops m.published m.queue m.floors stops)
+          (sym (ap (λ (more : History Value). m.queue ++ more) none.0 ∙ append-nil m.queue))
+          (subst (λ (b : Bool). StopsBy b new m.published m.queue m.floors) (sym same)
+          ((none.1).stops old.commits.failed m.published m.queue m.floors stops))
       by-failed false works stands = submit-steps old new txn label now answer m.published m.queue m.floors step stands may submits
 
   -- an own transaction
@@ -256,8 +260,15 @@ module _ (tells : Bool) (old new : LogStoreValue) (txn : TxnValue) (label now : 
         record {
           memory = to.2;
           machine = machine;
-          writing = writes-on old new m n is.writing writes left.group;
+          writing = writes-on tells old new m n is.writing writes left.group (λ fails stops.
+              let none = failed-queues-none old new txn label now answer (is.memory.failed ∙ fails) submits in
+              subst (λ (h : History Value). StopsBy false new h n.queue n.floors) (sym left.published)
+              (subst (λ (q : History Value). StopsBy false new m.published q n.floors)
+              (sym (queue ∙ ap (λ (more : History Value). m.queue ++ more) none.0 ∙ append-nil m.queue))
+              (subst (λ (floors : ℕ → ℕ). StopsBy false new m.published m.queue floors) (sym left.floors)
+              ((none.1).stops false m.published m.queue m.floors stops))));
           fresh = works.fresh is.fresh;
+          marks = marks-on old new is.marks writes;
           disk = λ told. subst (λ (h : History Value). OnDisk new h n.queue n.floors) (sym left.published)
               (subst (λ (q : History Value). OnDisk new m.published q n.floors) (sym queue)
               (subst (λ (floors : ℕ → ℕ). OnDisk new m.published (m.queue ++ queued) floors) (sym left.floors) (disk-then told may works.failed)));
@@ -269,7 +280,14 @@ module _ (tells : Bool) (old new : LogStoreValue) (txn : TxnValue) (label now : 
   submit-stands are range = by-own (is_own old.commits txn) refl submits
     where
       writes-spent : WritesSame (spent old txn.number) new → WritesSame old new
-      writes-spent same = record { group = same.group; floors = same.floors; turn = same.turn; job = same.job }
+      writes-spent same = record {
+        group = same.group;
+        floors = same.floors;
+        reclaimed = same.reclaimed;
+        named = same.named;
+        turn = same.turn;
+        job = same.job;
+      }
 
       by-failed : is_own old.commits txn ≡ true → (b : Bool) → old.commits.failed ≡ b
           → MatchBool b ((answer ≡ Err refused.Failed) × (new ≡ spent old txn.number)) (AnswersSubmit (spent old txn.number) txn label now answer new)

@@ -3,7 +3,7 @@ use Rattle.std.specs.Prelude.{ℕ, ◌≡◌, ◌<◌, ◌^◌, Bool, true, fals
 use Rattle.std.specs.Prelude.{if◌then◌else◌}
 use Rattle.history.specs.Fronts.{OnFront}
 use Rattle.history.specs.Histories.{History}
-use Rattle.history.specs.Machine.{Machine, Gate, Shut, Due, MayBeOpen, OfGroup, OfFloor, opened_by}
+use Rattle.history.specs.Machine.{Machine, OfGroup, OfFloor, opened_by}
 use Rattle.history.specs.Answers as answers
 use Rattle.history.specs.Floors.{Raising}
 use Rattle.history.specs.FloorStarts as floors
@@ -30,6 +30,7 @@ use Rattle.log_store.specs.Values.{LogStoreValue, IsInStep}
 use Rattle.log_store.specs.Calls as calls
 use Rattle.log_store.specs.Submits.{Submits}
 use Rattle.log_store.specs.Pumps.{Pumps}
+use Rattle.log_store.specs.Archives.{StartsArchive}
 use Rattle.log_store.specs.Jobs.{StartsFloor, PumpsJob}
 use Rattle.log_store.specs.declared.job.JobDid.{JobDid}
 use Rattle.log_store.specs.declared.job.JobDid.TheVariants as job_did
@@ -156,9 +157,11 @@ pub record Runs (tells : Bool) (m : Machine Value) (events : List (Event Value))
 
 -- ---- jobs
 
--- the machine's events in a step of a job that raises this floor
+-- the machine's events in a step of a job that raises this floor: those of an archive are none of the machine's
 abbrev pub floor_events : JobDid → Raising → List (Event Value)
 floor_events job_did.Idle r = []
+floor_events job_did.WroteRun r = []
+floor_events job_did.RunSynced r = []
 floor_events job_did.WroteEntry r = []
 floor_events job_did.GateClosed r = []
 floor_events job_did.HeapSynced r = GateDue OfFloor ∷ []
@@ -193,6 +196,7 @@ StartsOn tells m r (Err start.Failed) new = (m.failed ≡ true) × IsStoreOf tel
 StartsOn tells m r (Err start.WrongProfile) new = (r.scope ≡ None) × IsStoreOf tells new m
 StartsOn tells m r (Err start.JobBusy) new = IsStoreOf tells new m
 StartsOn tells m r (Err start.HeapFull) new = IsStoreOf tells new m
+StartsOn tells m r (Err start.ArchiveFull) new = ⊥
 StartsOn tells m r (Err start.NoMemory) new = IsSome r.scope × IsStoreOf tells new m
 
 -- so it is of every start
@@ -200,6 +204,12 @@ abbrev pub FloorStartStands : Type 0
 FloorStartStands =
     (tells : Bool) (old new : LogStoreValue) (scope : Option ℕ) (floor : ℕ) (answer : Result (Unit {0}) StartFault) (m : Machine Value) → IsInStep old
     → IsStoreOf tells old m → StartsFloor old scope floor answer new → StartsOn tells m (raising_to scope floor) answer new
+
+-- an archive begins, or it is refused: nothing of the machine's happens
+abbrev pub ArchiveStartStands : Type 0
+ArchiveStartStands =
+    (tells : Bool) (old new : LogStoreValue) (upto : ℕ) (answer : Result (Unit {0}) StartFault) (m : Machine Value) → IsInStep old → IsStoreOf tells old m
+    → StartsArchive old upto answer new → IsStoreOf tells new m
 
 -- ---- steps of a group, as runs
 

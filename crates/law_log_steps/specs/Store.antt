@@ -1,5 +1,5 @@
 -- The state of the machine that a store whose log lies in the heap stands for.
-use Rattle.std.specs.Prelude.{ℕ, ◌≡◌, Bool, true, false, IsTrue, MatchBool, List, Option, None, Some}
+use Rattle.std.specs.Prelude.{ℕ, ◌≡◌, ◌⊎◌, ◌≤◌, Bool, true, false, IsTrue, MatchBool, List, Option, None, Some}
 use Rattle.std.specs.List.{AllByRecursion}
 use Rattle.history.specs.Histories.{History}
 use Rattle.history.specs.Floors.{Raising}
@@ -13,10 +13,11 @@ use Rattle.log_store.specs.Values.{LogStoreValue}
 use Rattle.log_store.specs.declared.job.Job.{Job}
 use Rattle.log_store.specs.declared.job.JobStage.{JobStage}
 use Rattle.log_store.specs.declared.job.JobStage.TheVariants.{Ready, Entering}
+use Rattle.log_store.specs.declared.job.JobStage.TheVariants as stages
 use Rattle.log_store.specs.declared.job.JobWork.{JobWork}
-use Rattle.log_store.specs.declared.job.JobWork.TheVariants.{Floor}
+use Rattle.log_store.specs.declared.job.JobWork.TheVariants.{Floor, Archive}
 use Rattle.law_commits.specs.Standing.{StandsInMemory}
-use Rattle.law_log_store.specs.Standing.{StandsOnHeap, StopsOnHeap}
+use Rattle.law_log_store.specs.Standing.{StandsOnHeap, StopsBy, StopsOnHeap}
 
 -- The disk of a store that works stands for a history with these floors, and its memory for the queue behind it. What a stop may leave of one that has failed
 -- stands for the history, or for that with the group.
@@ -39,14 +40,20 @@ gate_at change Opening = Due change
 gate_at change Settling = MayBeOpen change
 gate_at change Done = MayBeOpen change
 
+-- of the jobs a floor's alone changes what the machine has
+abbrev pub gate_for : JobWork → Stage → Gate
+gate_for (Floor floor kept) stage = gate_at OfFloor stage
+gate_for (Archive archive archives) stage = Shut
+
 -- by how far a job is: where its entry is not in the writing it is shut
-abbrev pub gate_on : JobStage → Gate
-gate_on (Ready waited) = Shut
-gate_on (Entering w) = gate_at OfFloor w.stage
+abbrev pub gate_on : JobWork → JobStage → Gate
+gate_on work (stages.Writing writer) = Shut
+gate_on work (Ready waited) = Shut
+gate_on work (Entering w) = gate_for work w.stage
 
 abbrev pub gate_by : Option Job → Gate
 gate_by None = Shut
-gate_by (Some job) = gate_on job.stage
+gate_by (Some job) = gate_on job.work job.stage
 
 -- by the group's chain, and where none is in the writing by the job's entry
 abbrev pub gate_of : Option WriterState → Option Job → Gate
@@ -61,50 +68,80 @@ gate_behind change Opening = MayBeOpen change
 gate_behind change Settling = MayBeOpen change
 gate_behind change Done = MayBeOpen change
 
-abbrev pub gate_left_on : JobStage → Gate
-gate_left_on (Ready waited) = Shut
-gate_left_on (Entering w) = gate_behind OfFloor w.stage
+abbrev pub gate_left_for : JobWork → Stage → Gate
+gate_left_for (Floor floor kept) stage = gate_behind OfFloor stage
+gate_left_for (Archive archive archives) stage = Shut
+
+abbrev pub gate_left_on : JobWork → JobStage → Gate
+gate_left_on work (stages.Writing writer) = Shut
+gate_left_on work (Ready waited) = Shut
+gate_left_on work (Entering w) = gate_left_for work w.stage
 
 abbrev pub gate_left_by : Option Job → Gate
 gate_left_by None = Shut
-gate_left_by (Some job) = gate_left_on job.stage
+gate_left_by (Some job) = gate_left_on job.work job.stage
 
 abbrev pub gate_left : Option WriterState → Option Job → Gate
 gate_left None job = gate_left_by job
 gate_left (Some w) job = gate_behind OfGroup w.stage
 
+-- where the refused call was none of the chain in the writing, the gate is where it was, and what a stop may leave is as it was
+pub record IsCalm (tells : Bool) (v : LogStoreValue) (m : Machine Value) : Type 0 where
+  pub gate : m.gate ≡ gate_of v.turn v.job
+  pub stops : IsTrue tells → StopsBy false v m.published m.queue m.floors
+
+abbrev pub IsLeft : Bool → LogStoreValue → Machine Value → Type 0
+IsLeft tells v m = (m.gate ≡ gate_left v.turn v.job) ⊎ IsCalm tells v m
+
 -- ---- jobs
 
--- the floor that a job is to raise
-abbrev pub raising_with : JobWork → Raising
-raising_with (Floor floor kept) = record { scope = Some floor.relation; floor = floor.floor }
+-- the floor that a job is to raise: an archive raises none
+abbrev pub raising_with : JobWork → Option Raising
+raising_with (Floor floor kept) = Some (record { scope = Some floor.relation; floor = floor.floor })
+raising_with (Archive archive archives) = None
 
 abbrev pub raising_of : Option Job → Option Raising
 raising_of None = None
-raising_of (Some job) = Some (raising_with job.work)
+raising_of (Some job) = raising_with job.work
 
 -- what a job has made for memory is what stands there once its entry is the log's
 abbrev pub HasMade : FloorsValue → JobWork → Type 0
 HasMade floors (Floor floor kept) = kept ≡ raised_in (Some floor.relation) floor.floor floors
+HasMade floors (Archive archive archives) = Unit {0}
 
 abbrev pub HasAllMade : FloorsValue → Option Job → Type 0
 HasAllMade floors None = Unit {0}
 HasAllMade floors (Some job) = HasMade floors job.work
 
+-- the archive in the making goes at least as far as this mark
+abbrev pub Reaches : ℕ → JobWork → Type 0
+Reaches upto (Floor floor kept) = Unit {0}
+Reaches upto (Archive archive archives) = upto ≤ archive.upto
+
+abbrev pub JobReaches : ℕ → Option Job → Type 0
+JobReaches upto None = Unit {0}
+JobReaches upto (Some job) = Reaches upto job.work
+
+-- What memory has forgotten is archived, and an archive in the making goes further.
+pub record HasMarks (v : LogStoreValue) : Type 0 where
+  pub reclaimed : v.commits.reclaimed ≤ v.named.upto
+  pub job : JobReaches v.named.upto v.job
+
 -- The machine's group is the store's, of at most 1,024 commits, and its floor in the making that of the job that runs. Its gate is where the chain is that is
 -- in the writing.
-pub record IsWriting (v : LogStoreValue) (m : Machine Value) : Type 0 where
+pub record IsWriting (tells : Bool) (v : LogStoreValue) (m : Machine Value) : Type 0 where
   pub most : m.most ≡ 1024
   pub group : m.group ≡ v.commits.group
   pub raising : m.raising ≡ raising_of v.job
   pub made : HasAllMade v.commits.floors v.job
   pub gate : m.failed ≡ false → m.gate ≡ gate_of v.turn v.job
-  pub left : m.failed ≡ true → m.gate ≡ gate_left v.turn v.job
+  pub left : m.failed ≡ true → IsLeft tells v m
 
 -- Memory and disk stand for one state of the machine. What is said of the disk is said where it tells its bytes.
 pub record IsStoreOf (tells : Bool) (v : LogStoreValue) (m : Machine Value) : Type 0 where
   pub memory : StandsInMemory v.commits m
   pub machine : IsMachine IsValue m
-  pub writing : IsWriting v m
+  pub writing : IsWriting tells v m
   pub fresh : AreFresh v.commits
+  pub marks : HasMarks v
   pub disk : IsTrue tells → OnDisk v m.published m.queue m.floors

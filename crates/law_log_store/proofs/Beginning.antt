@@ -1,7 +1,7 @@
 -- A group begins behind the log.
 use Rattle.std.proofs.Common.{◌≡◌, ℕ, zero, suc, ◌+◌, ◌-◌, ◌*◌, ◌/◌, ◌<◌, ◌≤◌, ◌↔◌, ◌==◌, ◌&&◌, Bool, true, false, cond, nat_lt, List, [], ◌∷◌, ◌++◌, length}
 use Rattle.std.proofs.Common.{map, take, drop}
-use Rattle.std.proofs.Common.{Option, None, Some, refl, arith, ap, sym, subst, ◌∙◌, length-append}
+use Rattle.std.proofs.Common.{Option, None, Some, ◌⊎◌, inl, inr, refl, arith, ap, sym, subst, ◌∙◌, length-append}
 use Rattle.std.specs.Prelude.{min, flat_map}
 use Rattle.std.specs.List.{AllByRecursion}
 use Rattle.std.proofs.lemmas.List.{append-nil}
@@ -14,7 +14,7 @@ use Rattle.history.proofs.Filters.{AllByRecursion-append}
 use Rattle.history.proofs.Histories.{may_follow-front}
 use Rattle.history.proofs.Orders.{is_lt}
 use Rattle.law_image.specs.Values.{Value, IsValue}
-use Rattle.law_image.specs.Reading.{Reading}
+use Rattle.law_image.specs.Reading.{ArchiveRecord, Reading}
 use Rattle.law_image.specs.Facts.{values_now}
 use Rattle.law_image.specs.Log.{archive_mark, told_time}
 use Rattle.law_image.specs.Plans.{stored_members, with_group}
@@ -45,9 +45,10 @@ use Rattle.log_store.specs.Pumps.{Begins, bars_at, bars_groups, group_size, grou
 use Rattle.log_store.specs.declared.job.Job.{Job}
 use Rattle.log_store.specs.declared.job.JobStage.{JobStage}
 use Rattle.log_store.specs.declared.job.JobStage.TheVariants.{Ready, Entering}
+use Rattle.log_store.specs.declared.job.JobStage.TheVariants as stages
 use Rattle.log_store.proofs.InStep.{beside_group}
 use Rattle.law_log_store.specs.Members.{AreTold, AreContents, members_over}
-use Rattle.law_log_store.specs.Standing.{StandsOnHeap, HasTurn, HasJob, HasStage, IsAtRest, IsOnWay, IsRoomOf, HasAnchors, counted}
+use Rattle.law_log_store.specs.Standing.{StandsOnHeap, HasTurn, HasJob, HasStage, IsAtRest, IsOnWay, IsRoomOf, LeavesOne, TakesLast, HasAnchors, counted}
 use Rattle.law_log_store.specs.Laws.{AreNext}
 use Rattle.law_log_store.proofs.Members.{members-told}
 use Rattle.law_log_store.proofs.Joining.{in-heap, group-joins}
@@ -116,11 +117,16 @@ module _ (most : ℕ) (l : HeapLog) (old room-then : RoomValue) (count promised 
     promised-is : room-then.promised ≡ old.promised - promised
     promised-is = ap (λ (r : RoomValue). r.promised) takes.new_is
 
-    pub spare-then : room-then.log + 1 ≤ most / 2
-    spare-then =
+    pub spare-then : LeavesOne most old → room-then.log + 1 ≤ most / 2
+    spare-then leaves =
         let some = taken.some in
-        let spare = is.spare (omega (arith, some, takes.many, few, enough)) in
+        let spare = leaves (omega (arith, some, takes.many, few, enough)) in
         omega (arith, spare, log-is, few, enough)
+
+    pub leaves-then : LeavesOne most old → LeavesOne most room-then
+    leaves-then leaves = λ more.
+        let spare = leaves (omega (arith, more, promised-is)) in
+        omega (arith, spare, log-is, promised-is, few, enough)
 
     pub room-is : IsRoomOf most (with_chain l c) room-then
     room-is = record {
@@ -130,9 +136,6 @@ module _ (most : ℕ) (l : HeapLog) (old room-then : RoomValue) (count promised 
           subst (λ (ns : List ℕ). IsFree room-then.used m ↔ (IsNumberOf most m × IsNew m ns))
           ((λ i. sym link-is i ∷ live_numbers l ++ sym numbers-are i) ∙ ap (λ (ns : List ℕ). c.link ∷ ns) (sym (live-more l c))) (taken.free m);
       log = let more = counted-more l c counts in let was = is.log in omega (arith, log-is, was, more, many-more);
-      spare = λ some.
-          let spare = is.spare (omega (arith, some, promised-is)) in
-          omega (arith, spare, log-is, promised-is, few, enough);
     }
 
 module _ (old : LogStoreValue) (h queue : History Value) (floors : ℕ → ℕ) (s : StandsOnHeap old h queue floors) (rest : IsAtRest old s.l)
@@ -162,6 +165,17 @@ module _ (old : LogStoreValue) (h queue : History Value) (floors : ℕ → ℕ) 
   all-contents =
       subst (λ (n : ℕ). AreContents (versions_after versions (take n old.commits.queue)) old.contents (drop n old.commits.queue) (drop n queue)) none
       s.commits.contents
+
+  -- commits wait, so one extent is left
+  leaves : LeavesOne old.roots.extents old.room
+  leaves = by-spare s.spare
+    where
+      by-spare : LeavesOne old.roots.extents old.room ⊎ TakesLast old.roots.extents old.room h queue old.job → LeavesOne old.roots.extents old.room
+      by-spare (inl one) = one
+      by-spare (inr last) =
+          let all = told-many versions old.commits.queue queue s.commits.told in
+          let none : length queue ≡ 0 = ap (λ (q : History Value). length q) last.none in
+          absurd (omega (arith, all, none, some))
 
   size-some : 0 < size
   size-some = omega (arith, some)
@@ -248,7 +262,7 @@ module _ (old : LogStoreValue) (h queue : History Value) (floors : ℕ → ℕ) 
           let one = one-or-none (nat_lt (archive_mark then.log) (told_time then.log)) in
           let log = is-room.log in
           let spare = spare-then old.roots.extents s.l old.room b.room (count_of (length (group_content old))) (extents_of contents) b.numbers b.link rest.room
-          s.is_log.next s.is_log.apart b.takes chain refl refl refl few enough in
+          s.is_log.next s.is_log.apart b.takes chain refl refl refl few enough leaves in
           omega (arith, one, log, spare);
       anchors =
           (bounds-same (reclaimed_upto then) then (standing-ordered then (h ++ next) floors stands-then) ((3 * old.roots.extents) / 16)).1 sizes-fit;
@@ -312,6 +326,7 @@ module _ (old : LogStoreValue) (h queue : History Value) (floors : ℕ → ℕ) 
     begun-stands = subst (λ (v : LogStoreValue). StandsOnHeap v h queue floors) (sym begun-is) (record {
       l = s.l;
       reading = s.reading;
+      made = s.made;
       is_log = s.is_log;
       stands = s.stands;
       archive = s.archive;
@@ -327,6 +342,11 @@ module _ (old : LogStoreValue) (h queue : History Value) (floors : ℕ → ℕ) 
       anchors = subst (HasAnchors old.roots.extents s.reading queue) (ap (λ (r : RoomValue). r.anchors) (sym (let t = b.takes in t.new_is))) s.anchors;
       turn = on-way;
       job = s.job;
+      written = s.written;
+      named = s.named;
+      reach = s.reach;
+      spare = inl (leaves-then old.roots.extents s.l old.room b.room (count_of (length (group_content old))) (extents_of contents) b.numbers b.link rest.room
+          s.is_log.next s.is_log.apart b.takes chain refl refl refl few enough leaves);
     })
 
 -- A group that has begun.
@@ -338,18 +358,21 @@ pub record HasBegun (old begun : LogStoreValue) (h queue : History Value) (floor
   pub commits : begun.commits ≡ record old.commits { group = group_size old }
 
 -- where no job bars groups its entry is not in the writing
-unbarred-rest : (v : LogStoreValue) (l : HeapLog) (reading : Reading) (j : Option Job) → bars_groups j ≡ false → HasJob v l reading j → IsAtRest v l
-unbarred-rest v l reading None unbarred rest = rest
-unbarred-rest v l reading (Some job) unbarred has = by-stage job.stage unbarred has
+unbarred-rest : (v : LogStoreValue) (l : HeapLog) (reading : Reading) (made : List ArchiveRecord) (j : Option Job) → bars_groups j ≡ false
+    → HasJob v l reading made j → IsAtRest v l
+unbarred-rest v l reading made None unbarred rest = rest
+unbarred-rest v l reading made (Some job) unbarred has = by-stage job.stage unbarred has
   where
-    by-stage : (k : JobStage) → bars_at k ≡ false → HasStage v l reading job.work k → IsAtRest v l
+    by-stage : (k : JobStage) → bars_at k ≡ false → HasStage v l reading made job.work k → IsAtRest v l
+    by-stage (stages.Writing writer) unbarred rest = rest
     by-stage (Ready waited) unbarred rest = rest
     by-stage (Entering w) barred has = absurd (let no : true ≡ false = barred in cc)
 
 pub has-begun : (old begun : LogStoreValue) (h queue : History Value) (floors : ℕ → ℕ) → IsInStep old → old.turn ≡ None → bars_groups old.job ≡ false
     → 0 < length old.commits.queue → StandsOnHeap old h queue floors → Begins old begun → HasBegun old begun h queue floors
 has-begun old begun h queue floors step at_rest unbarred some s b =
-    let rest = unbarred-rest old s.l s.reading old.job unbarred (subst (λ (t : Option WriterState). HasTurn old queue s.l s.reading h t) at_rest s.turn) in
+    let rest = unbarred-rest old s.l s.reading s.made old.job unbarred
+    (subst (λ (t : Option WriterState). HasTurn old queue s.l s.reading s.made h t) at_rest s.turn) in
     let none = subst (λ (t : Option WriterState). stores.HasTurn old.commits.group t) at_rest step.turn in
     record {
       stands = begun-stands old h queue floors s rest none step some unbarred begun b;

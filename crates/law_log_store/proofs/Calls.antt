@@ -30,7 +30,7 @@ use Rattle.log_store.specs.Values.{LogStoreValue, IsInStep}
 use Rattle.log_store.specs.declared.job.JobWork.{JobWork}
 use Rattle.log_store.specs.declared.job.Job.{Job}
 use Rattle.log_store.specs.declared.job.JobStage.{JobStage}
-use Rattle.log_store.specs.declared.job.JobStage.TheVariants.{Ready, Entering}
+use Rattle.log_store.specs.declared.job.JobStage.TheVariants.{Writing, Ready, Entering}
 use Rattle.log_store.specs.Calls as calls
 use Rattle.log_store.specs.Calls.{InMemory, with_commits}
 use Rattle.log_store.specs.Submits.{Submits, SubmitsOwn, AnswersSubmit, verdict, verdict_on_conflict, has_room, spent}
@@ -54,6 +54,7 @@ module _ (v : LogStoreValue) (opened : List (Option ℕ)) (heads : List CommitHe
   names-stand h queue floors s = record {
     l = s.l;
     reading = s.reading;
+    made = s.made;
     is_log = s.is_log;
     stands = s.stands;
     archive = s.archive;
@@ -69,17 +70,22 @@ module _ (v : LogStoreValue) (opened : List (Option ℕ)) (heads : List CommitHe
     anchors = s.anchors;
     turn = by-turn v.turn s.turn;
     job = s.job;
+    written = s.written;
+    named = s.named;
+    reach = s.reach;
+    spare = s.spare;
   }
     where
-      by-stage : (work : JobWork) (k : JobStage) → HasStage v s.l s.reading work k → HasStage named s.l s.reading work k
+      by-stage : (work : JobWork) (k : JobStage) → HasStage v s.l s.reading s.made work k → HasStage named s.l s.reading s.made work k
+      by-stage work (Writing writer) is = record { log = is.log; room = is.room }
       by-stage work (Ready waited) is = record { log = is.log; room = is.room }
       by-stage work (Entering w) is = record { content = is.content; joins = is.joins; shares = is.shares; at = is.at; room = is.room }
 
-      by-job : (j : Option Job) → HasJob v s.l s.reading j → HasJob named s.l s.reading j
+      by-job : (j : Option Job) → HasJob v s.l s.reading s.made j → HasJob named s.l s.reading s.made j
       by-job None is = record { log = is.log; room = is.room }
       by-job (Some job) is = by-stage job.work job.stage is
 
-      by-turn : (t : Option WriterState) → HasTurn v queue s.l s.reading h t → HasTurn named queue s.l s.reading h t
+      by-turn : (t : Option WriterState) → HasTurn v queue s.l s.reading s.made h t → HasTurn named queue s.l s.reading s.made h t
       by-turn None is = by-job v.job is
       by-turn (Some w) is = record {
         group = is.group;
@@ -94,7 +100,7 @@ module _ (v : LogStoreValue) (opened : List (Option ℕ)) (heads : List CommitHe
       }
 
   names-keep : KeepsDisk v named
-  names-keep = record { stands = λ h queue floors s. names-stand h queue floors s; stops = λ h queue floors stops. stops }
+  names-keep = record { stands = λ h queue floors s. names-stand h queue floors s; stops = λ failed h queue floors stops. stops }
 
 -- the disk is kept
 pub alone-keeps : (old : LogStoreValue) (commits : CommitsValue) → AreNamesAlone old.commits commits → KeepsDisk old (with_commits old commits)
@@ -218,6 +224,6 @@ failed-queues-none old new txn label now answer failed is = by-own (is_own old.c
       ap (queued_by txn label) is.0,
       subst (λ (x : LogStoreValue). KeepsDisk old x) (sym is.1) (record {
         stands = λ h queue floors s. s;
-        stops = λ h queue floors s. s;
+        stops = λ failed h queue floors s. s;
       }),
     )

@@ -1,23 +1,31 @@
 -- The way of a store's group to the disk, call by call.
-use Rattle.std.proofs.Common.{◌≡◌, ◌≤◌, ℕ, arith, Bool, true, false, List, [], ◌∷◌, ◌++◌, map, take, drop, Option, None, Some, Result, Ok, Err, refl, ap, sym}
-use Rattle.std.proofs.Common.{subst}
-use Rattle.std.proofs.Common.{⊎_elim, inl, inr}
+use Rattle.std.proofs.Common.{◌≡◌, ◌≤◌, ◌-◌, ℕ, zero, suc, arith, Bool, true, false, List, [], ◌∷◌, ◌++◌, length, map, take, drop, Option, None, Some}
+use Rattle.std.proofs.Common.{Result, Ok, Err, refl, ap, sym, subst, ◌∙◌, append-nil}
+use Rattle.std.proofs.Common.{◌⊎◌, ⊎_elim, inl, inr}
 use Rattle.std.specs.Prelude.{IsTrue, MatchBool, MatchResult}
 use Rattle.history.specs.Histories.{History, MayAllFollow, HasRisingTimes, last, last_after}
 use Rattle.history.proofs.Histories.{may_follow-behind, may_follow-front, last_after-append, rising-from_following}
-use Rattle.disk.specs.Areas.{Areas, Image, AreSound, LeavesImage, MayLeave}
+use Rattle.disk.specs.Areas.{AreaState, Areas, Image, AreSound, LeavesImage, MayLeave}
+use Rattle.disk.specs.Parts.{KeepsPart}
 use Rattle.disk.specs.declared.area.Area.TheVariants.{Heap}
 use Rattle.disk.specs.declared.area.DeviceFault.{DeviceFault}
 use Rattle.disk.proofs.Stops.{left_by_write, left_by_sync}
 use Rattle.law_image.specs.Values.{Value, IsValue}
-use Rattle.law_image.specs.Reading.{Reading}
+use Rattle.law_image.specs.Reading.{ArchiveRecord, Commits, Reading}
+use Rattle.law_image.specs.Reading as readings
+use Rattle.law_image.specs.HeapPlans.{IsMergePlan, with_merged}
 use Rattle.law_image.specs.Plans.{with_group}
-use Rattle.law_image.specs.StandsFor.{StandsFor}
-use Rattle.law_image.proofs.GroupStep.{group-stands_for}
+use Rattle.law_image.specs.StandsFor.{StandsFor, archived_upto}
+use Rattle.law_image.proofs.GroupStep.{group-stands_for, length-map}
+use Rattle.law_image.proofs.Logs.{archive_mark-append}
+use Rattle.law_layout.specs.Runs.{StoredRun, run_bytes}
+use Rattle.history.proofs.Filters.{AllByRecursion-append}
 use Rattle.deltas.specs.Extents.{extent_start}
 use Rattle.log_extents.specs.Chains.{first_or, chain_of}
+use Rattle.log_entries.specs.declared.entry.Archive.{Archive}
 use Rattle.log_entries.specs.declared.entry.Member.{Member}
 use Rattle.log_entries.specs.declared.entry.Entry.{Entry}
+use Rattle.log_entries.specs.Ranges.{run_of}
 use Rattle.log_entries.specs.declared.entry.Entry.TheVariants.{Group}
 use Rattle.log_entries.specs.Spelling.{entry_bytes}
 use Rattle.log_writer.specs.Turns.{open_gate, written_parts, Turn, Stage, Writing, Syncing, Opening, Settling, Done, IsCallOf, stage_after}
@@ -29,7 +37,7 @@ use Rattle.law_log_layout.specs.Laws.{KeepsArchive, IsEntryWay}
 use Rattle.law_log_layout.specs.Turns.{IsAt, MayBe, MayBecome}
 use Rattle.law_log_layout.proofs.Parts.{all-left, closed-left}
 use Rattle.law_log_layout.proofs.GroupJoins.{room, group-is_log}
-use Rattle.law_log_layout.proofs.EntryJoins.{floor-is_log}
+use Rattle.law_log_layout.proofs.EntryJoins.{floor-is_log, run-is_log}
 use Rattle.law_log_layout.proofs.GroupGoes.{group-goes, entry-goes, rolls-left, runs-left}
 use Rattle.group.specs.declared.answers.PumpFault.{PumpFault}
 use Rattle.group.specs.declared.answers.PumpFault.TheVariants as faults
@@ -40,15 +48,20 @@ use Rattle.log_store.specs.Jobs.{entry_of}
 use Rattle.log_store.specs.declared.job.Job.{Job}
 use Rattle.log_store.specs.declared.job.JobStage.{JobStage}
 use Rattle.log_store.specs.declared.job.JobStage.TheVariants.{Ready, Entering}
+use Rattle.log_store.specs.declared.job.JobStage.TheVariants as stages
 use Rattle.log_store.specs.declared.job.JobWork.{JobWork}
 use Rattle.log_store.specs.declared.job.JobWork.TheVariants.{Floor}
+use Rattle.log_store.specs.declared.job.JobWork.TheVariants as works
 use Rattle.log_store.specs.Pumps.{Advances, at_next, after_call, with_published, with_failure, did_of, disk_answer}
 use Rattle.log_store.specs.declared.pump.Did.{Did}
 use Rattle.law_log_store.specs.Standing.{StandsOnHeap, HasTurn, HasJob, HasStage, IsAtRest, IsEntering, IsOnWay, HasAnchors, KeepsRoots, IsImageOf}
 use Rattle.law_log_store.specs.Standing.{MayStand, MayStandAt, MayStandOn, MayStandBy, StopsOnHeap, MayEnter, MayAllEnter, placed_entry, floors_with}
-use Rattle.law_log_store.specs.Standing.{reading_with}
+use Rattle.law_log_store.specs.Standing.{reading_with, log_with, run_made, runs_after, HasWritten, HasAllWritten, IsAhead, LeavesOne, TakesLast}
 use Rattle.law_log_store.specs.Laws.{LeadsTo, GoesOn}
 use Rattle.law_log_store.proofs.Joining.{in-heap}
+use Rattle.law_log_store.proofs.Plans.{merge-plan-stays}
+use Rattle.law_log_store.proofs.Spans.{all-front, apart-with, behind-same, row-with}
+use Rattle.law_log_store.proofs.Naming.{archives-same, named-same}
 use Rattle.law_log_store.proofs.Queues.{taken-and-rest, told-front, told-ordered, told-rest, values-told}
 use Rattle.law_log_store.proofs.Anchors.{anchors-rest}
 
@@ -108,24 +121,27 @@ map-within Done A B C D f g is = g is
 
 -- ---- jobs
 
--- a floor that may be raised may be so later
-pub enters-later : (h next : History Value) (floors : ℕ → ℕ) (j : Option Job) → last h ≤ last (h ++ next) → MayAllEnter h floors j
-    → MayAllEnter (h ++ next) floors j
-enters-later h next floors None later may = tt
-enters-later h next floors (Some job) later may = by-work job.work may
-  where
-    by-work : (work : JobWork) → MayEnter h floors work → MayEnter (h ++ next) floors work
-    by-work (Floor floor kept) may = (may.0, omega (arith, later, may.1), may.2)
-
 -- where a group's chain is in the writing, and comes to its end, the log is at rest then
-pub at-rest : (v : LogStoreValue) (l : HeapLog) (reading : Reading) (w : WriterState) (j : Option Job) → IsBeside (Some w) j → IsAtRest v l
-    → HasJob v l reading j
-at-rest v l reading w None alone rest = rest
-at-rest v l reading w (Some job) alone rest = by-stage job.stage alone
+pub at-rest : (v : LogStoreValue) (l : HeapLog) (reading : Reading) (made : List ArchiveRecord) (w : WriterState) (j : Option Job)
+    → IsBeside (Some w) j → IsAtRest v l → HasJob v l reading made j
+at-rest v l reading made w None alone rest = rest
+at-rest v l reading made w (Some job) alone rest = by-stage job.stage alone
   where
-    by-stage : (k : JobStage) → IsStageBeside (Some w) k → HasStage v l reading job.work k
+    by-stage : (k : JobStage) → IsStageBeside (Some w) k → HasStage v l reading made job.work k
+    by-stage (stages.Writing writer) alone = rest
     by-stage (Ready waited) alone = rest
     by-stage (Entering e) alone = absurd (let no = alone.0 in cc)
+
+-- of no commits none are taken, and none are left
+none-taken : {X : Type 0} (n : ℕ) (xs : List X) → xs ≡ [] → take n xs ≡ []
+none-taken zero xs none = refl
+none-taken (suc n) [] none = refl
+none-taken (suc n) (x ∷ xs) none = absurd cc
+
+none-dropped : {X : Type 0} (n : ℕ) (xs : List X) → xs ≡ [] → drop n xs ≡ []
+none-dropped zero xs none = none
+none-dropped (suc n) [] none = refl
+none-dropped (suc n) (x ∷ xs) none = absurd cc
 
 rises-on : (t : ℕ) (h : History Value) → HasRisingTimes t h → t ≤ last_after t h
 rises-on t [] up = omega arith
@@ -178,19 +194,21 @@ module _ (v : LogStoreValue) (h queue : History Value) (floors : ℕ → ℕ) (s
   alone-at stage (Some job) alone = by-stage job.stage alone
     where
       by-stage : (k : JobStage) → IsStageBeside (Some w) k → IsStageBeside (Some (with_stage w stage)) k
+      by-stage (stages.Writing writer) alone = tt
       by-stage (Ready waited) alone = tt
       by-stage (Entering e) alone = absurd (let no = alone.0 in cc)
 
   -- one call further
-  pub next-stands : (u : LogStoreValue) → u ≡ record (at_next v w) { disk = u.disk } → AreSound u.disk.areas → KeepsArchive s.l u.disk.areas.archive
-      → KeepsRoots v.roots u.disk.areas.status
+  pub next-stands : (u : LogStoreValue) → u ≡ record (at_next v w) { disk = u.disk } → AreSound u.disk.areas
+      → u.disk.areas.archive ≡ v.disk.areas.archive → KeepsRoots v.roots u.disk.areas.status
       → IsAt (heap_parts s.l) (turn_of s.l.next chain) (stage_after w.stage) u.disk.areas.heap → StandsOnHeap u h queue floors
-  next-stands u is sound archive status at = subst (λ (x : LogStoreValue). StandsOnHeap x h queue floors) (sym is) (record {
+  next-stands u is sound same status at = subst (λ (x : LogStoreValue). StandsOnHeap x h queue floors) (sym is) (record {
     l = s.l;
     reading = s.reading;
+    made = s.made;
     is_log = s.is_log;
     stands = s.stands;
-    archive = archive;
+    archive = subst (KeepsArchive s.l) (sym same) s.archive;
     status = status;
     sound = sound;
     commits = record {
@@ -213,21 +231,72 @@ module _ (v : LogStoreValue) (h queue : History Value) (floors : ℕ → ℕ) (s
       alone = alone-at (stage_after w.stage) v.job o.alone;
     };
     job = s.job;
+    written = subst (HasAllWritten s.made v.job) (sym same) s.written;
+    named = s.named;
+    reach = subst (λ (a : AreaState). v.named.end ≤ a.firm) (sym same) s.reach;
+    spare = s.spare;
   })
 
   -- the group is published
   may-split : MayAllFollow IsValue h (next ++ drop v.commits.group queue)
   may-split = subst (λ (l : History Value). MayAllFollow IsValue h l) (sym (taken-and-rest v.commits.group queue)) s.commits.may
 
+  -- an archive whose run is in the making may come next still
+  mark-then : archived_upto then ≡ archived_upto s.reading
+  mark-then = archive_mark-append 0 s.reading.log (Commits (map (λ (m : readings.Member). m.head) (map member_told o.group)) ∷ [])
+
+  enters-later : last h ≤ last (h ++ next) → (j : Option Job) → MayAllEnter s.l s.reading h floors s.made j
+      → MayAllEnter (with_chain s.l chain) then (h ++ next) floors s.made j
+  enters-later later None may = tt
+  enters-later later (Some job) may = by-work job.work may
+    where
+      by-work : (work : JobWork) → MayEnter s.l s.reading h floors work s.made → MayEnter (with_chain s.l chain) then (h ++ next) floors work s.made
+      by-work (Floor floor kept) may = (may.0, omega (arith, later, may.1), may.2)
+      by-work (works.Archive a archives) may = record {
+        in_range = may.in_range;
+        few = may.few;
+        later = let was = may.later in omega (arith, mark-then, was);
+        by_last = let was = may.by_last in omega (arith, later, was);
+        plan =
+            merge-plan-stays s.reading h next floors (map member_told o.group) s.stands o.is_group
+            (room s.reading (in-heap v.roots.extents (root_of v.roots) s.l s.reading s.is_log)) (length s.reading.runs - a.runs) a.upto s.made may.by_last
+            may.plan;
+        stored = may.stored;
+        behind = behind-same a.start s.l chain refl may.behind;
+        named = may.named ∙ ap (λ (rest : List Archive). rest ++ a ∷ []) (sym (archives-same s.l chain refl));
+      }
+
+  -- and where it goes up to the last commit no group was published
+  last-later : queue ≡ [] → last h ≡ last (h ++ next)
+  last-later none =
+      let nothing : next ≡ [] = none-taken v.commits.group queue none in
+      ap (λ (x : History Value). last x) (sym (append-nil h) ∙ ap (λ (x : History Value). h ++ x) (sym nothing))
+
+  ahead-later : last h ≡ last (h ++ next) → IsAhead (last h) v.job → IsAhead (last (h ++ next)) v.job
+  ahead-later same ahead = subst (λ (n : ℕ). IsAhead n v.job) same ahead
+
+  spare-later : LeavesOne v.roots.extents v.room ⊎ TakesLast v.roots.extents v.room h queue v.job
+      → LeavesOne v.roots.extents v.room ⊎ TakesLast v.roots.extents v.room (h ++ next) (drop v.commits.group queue) v.job
+  spare-later (inl one) = inl one
+  spare-later (inr t) = inr (record {
+    none = none-dropped v.commits.group queue t.none;
+    entry = ahead-later (last-later t.none) t.entry;
+    one = t.one;
+    fits = t.fits;
+  })
+
   pub published-stands : (u : LogStoreValue) → u ≡ record (with_published v) { disk = u.disk } → AreSound u.disk.areas
-      → KeepsArchive s.l u.disk.areas.archive → KeepsRoots v.roots u.disk.areas.status → IsAt (heap_parts s.l) (turn_of s.l.next chain) Done u.disk.areas.heap
+      → u.disk.areas.archive ≡ v.disk.areas.archive → KeepsRoots v.roots u.disk.areas.status
+      → IsAt (heap_parts s.l) (turn_of s.l.next chain) Done u.disk.areas.heap
       → StandsOnHeap u (h ++ next) (drop v.commits.group queue) floors
-  published-stands u is sound archive status at =
+  published-stands u is sound same status at =
       let front = may_follow-front IsValue h next (drop v.commits.group queue) may-split in
+      let archive : KeepsArchive s.l u.disk.areas.archive = subst (KeepsArchive s.l) (sym same) s.archive in
       let done = way-at Done u.disk.areas sound archive at in
       subst (λ (x : LogStoreValue). StandsOnHeap x (h ++ next) (drop v.commits.group queue) floors) (sym is) (record {
         l = with_chain s.l chain;
         reading = then;
+        made = s.made;
         is_log = log-then;
         stands = stands-then;
         archive = record { rolls = archive.rolls; runs = archive.runs };
@@ -246,41 +315,78 @@ module _ (v : LogStoreValue) (h queue : History Value) (floors : ℕ → ℕ) (s
             (drop v.commits.group queue)
             (subst (λ (l : History Value). HasAnchors v.roots.extents s.reading l v.room.anchors) (sym (taken-and-rest v.commits.group queue)) s.anchors);
         turn =
-            at-rest (record (with_published v) { disk = u.disk }) (with_chain s.l chain) then w v.job o.alone
+            at-rest (record (with_published v) { disk = u.disk }) (with_chain s.l chain) then s.made w v.job o.alone
             (record { log = done.rests refl; room = o.room });
-        job = enters-later h next floors v.job (later h next front) s.job;
+        job = enters-later (later h next front) v.job s.job;
+        written = subst (HasAllWritten s.made v.job) (sym same) s.written;
+        named = named-same v.named s.l chain s.reading then refl refl mark-then s.named;
+        reach = subst (λ (a : AreaState). v.named.end ≤ a.firm) (sym same) s.reach;
+        spare = spare-later s.spare;
       })
 
 -- ---- an entry on its way
 
+-- the runs that the log names with it are kept
+pub runs-kept : (l : HeapLog) (work : JobWork) (made : List ArchiveRecord) (w : WriterState) (a : AreaState) → KeepsArchive l a
+    → HasWritten work made (Entering w) a → KeepsArchive (log_with work made l w) a
+runs-kept l (Floor floor kept) made w a archive written = record { rolls = archive.rolls; runs = archive.runs }
+runs-kept l (works.Archive made-as archives) made w a archive written = record {
+  rolls = archive.rolls;
+  runs = AllByRecursion-append (λ (r : StoredRun). KeepsPart r.entry.start (run_bytes r.records) a) (take (length l.runs - made-as.runs) l.runs)
+      (run_made made-as made ∷ []) (all-front (λ (r : StoredRun). KeepsPart r.entry.start (run_bytes r.records) a) (length l.runs - made-as.runs) l.runs
+      archive.runs) (written, tt);
+}
+
 module _ (v : LogStoreValue) (h queue : History Value) (floors : ℕ → ℕ) (s : StandsOnHeap v h queue floors) (work : JobWork) (w : WriterState)
-    (may : MayEnter h floors work) (o : IsEntering v s.l s.reading work w) where
+    (may : MayEnter s.l s.reading h floors work s.made) (written : HasWritten work s.made (Entering w) v.disk.areas.archive)
+    (o : IsEntering v s.l s.reading s.made work w) where
   abbrev entry-chain : PlacedChain
   entry-chain = placed_entry w work
 
+  abbrev log-after : HeapLog
+  log-after = log_with work s.made s.l w
+
+  abbrev reading-after : Reading
+  reading-after = reading_with work s.made s.reading
+
   -- what stands with it
-  pub entered : IsLogOf v.roots.extents (root_of v.roots) (with_chain s.l entry-chain) (reading_with work s.reading)
-      × StandsFor (reading_with work s.reading) h (floors_with work floors)
+  pub entered : IsLogOf v.roots.extents (root_of v.roots) log-after reading-after × StandsFor reading-after h (floors_with work floors)
   entered = by-work work may o.joins o.shares
     where
-      by-work : (k : JobWork) → MayEnter h floors k → MayJoin v.roots.extents s.l (placed_entry w k)
-          → KeepsShares v.roots.extents (with_chain s.l (placed_entry w k)) (reading_with k s.reading)
-          → IsLogOf v.roots.extents (root_of v.roots) (with_chain s.l (placed_entry w k)) (reading_with k s.reading)
-          × StandsFor (reading_with k s.reading) h (floors_with k floors)
+      runs-many : length s.reading.runs ≡ length s.l.runs
+      runs-many =
+          ap (λ (r : Reading). length r.runs) (s.is_log).reading_is ∙ length-map (λ (r : StoredRun). r.records) s.l.runs
+
+      by-work : (k : JobWork) → MayEnter s.l s.reading h floors k s.made → MayJoin v.roots.extents s.l (placed_entry w k)
+          → KeepsShares v.roots.extents (log_with k s.made s.l w) (reading_with k s.made s.reading)
+          → IsLogOf v.roots.extents (root_of v.roots) (log_with k s.made s.l w) (reading_with k s.made s.reading)
+          × StandsFor (reading_with k s.made s.reading) h (floors_with k floors)
       by-work (Floor floor kept) may joins shares =
           floor-is_log v.roots.extents (root_of v.roots) s.l s.reading h floors s.is_log s.stands w.numbers w.link floor joins
           (omega (arith, may.0, s.stands.opens.floors_given floor.relation)) may.1 shares
+      by-work (works.Archive a archives) may joins shares =
+          let l = s.l in
+          let run = run_made a s.made in
+          let log = log_with (works.Archive a archives) s.made l w in
+          subst (λ (n : ℕ). IsLogOf v.roots.extents (root_of v.roots) log (with_merged s.reading (n - a.runs) a.upto s.made)
+          × StandsFor (with_merged s.reading (n - a.runs) a.upto s.made) h floors) (sym runs-many)
+          (run-is_log v.roots.extents (root_of v.roots) l s.reading h floors s.is_log s.stands w.numbers w.link a run joins
+          (subst (λ (n : ℕ). a.runs ≤ n) runs-many may.few) refl may.stored
+          (apart-with a.start l a run (omega arith) (s.is_log).runs_named may.behind (s.is_log).archive_apart)
+          (row-with a.start l (placed_entry w (works.Archive a archives)) (run_of a) refl (omega arith) may.behind (s.is_log).archives_in_row)
+          (subst (λ (n : ℕ). IsMergePlan s.reading (n - a.runs) a.upto s.made) runs-many may.plan) may.later may.by_last
+          (subst (λ (n : ℕ). KeepsShares v.roots.extents log (with_merged s.reading (n - a.runs) a.upto s.made)) runs-many shares))
 
-  pub entry-way-at : (stage : Stage) (areas : Areas) → AreSound areas → KeepsArchive s.l areas.archive
+  pub entry-way-at : (stage : Stage) (areas : Areas) → AreSound areas → areas.archive ≡ v.disk.areas.archive
       → IsAt (heap_parts s.l) (turn_of s.l.next entry-chain) stage areas.heap
-      → IsEntryWay v.roots.extents (root_of v.roots) s.l (with_chain s.l entry-chain) entry-chain h h floors (floors_with work floors) stage areas
-  entry-way-at stage areas sound archive at =
-      entry-goes v.roots.extents (root_of v.roots) s.l entry-chain s.l.runs s.reading (reading_with work s.reading) h h floors (floors_with work floors) stage
-      areas s.is_log s.stands o.joins entered.0 entered.1 sound archive (record { rolls = archive.rolls; runs = archive.runs }) at
+      → IsEntryWay v.roots.extents (root_of v.roots) s.l log-after entry-chain h h floors (floors_with work floors) stage areas
+  entry-way-at stage areas sound same at =
+      entry-goes v.roots.extents (root_of v.roots) s.l entry-chain (runs_after work s.made s.l) s.reading reading-after h h floors (floors_with work floors)
+      stage areas s.is_log s.stands o.joins entered.0 entered.1 sound (subst (KeepsArchive s.l) (sym same) s.archive)
+      (subst (KeepsArchive log-after) (sym same) (runs-kept s.l work s.made w v.disk.areas.archive s.archive written)) at
 
-  pub entry-way : IsEntryWay v.roots.extents (root_of v.roots) s.l (with_chain s.l entry-chain) entry-chain h h floors (floors_with work floors) w.stage
-      v.disk.areas
-  entry-way = entry-way-at w.stage v.disk.areas s.sound s.archive o.at
+  pub entry-way : IsEntryWay v.roots.extents (root_of v.roots) s.l log-after entry-chain h h floors (floors_with work floors) w.stage v.disk.areas
+  entry-way = entry-way-at w.stage v.disk.areas s.sound refl o.at
 
   pub entry-turn : turn w ≡ turn_of s.l.next entry-chain
   entry-turn = turn-is s.l w (entry_of work) o.content (let j = o.joins in j.head)
@@ -311,11 +417,13 @@ standing-stops v h queue floors works s image left = by-turn v.turn s.turn
       };
     }
 
-    by-stage : (work : JobWork) (k : JobStage) → MayEnter h floors work → HasStage v s.l s.reading work k
+    by-stage : (work : JobWork) (k : JobStage) → MayEnter s.l s.reading h floors work s.made → HasWritten work s.made k v.disk.areas.archive
+        → HasStage v s.l s.reading s.made work k
         → MayStandOn v.commits.failed k (IsImageOf v.roots image h floors) (IsImageOf v.roots image h (floors_with work floors))
-    by-stage work (Ready waited) may rest = resting rest
-    by-stage work (Entering w) may o =
-        let on = entry-way v h queue floors s work w may o in
+    by-stage work (stages.Writing writer) may written rest = resting rest
+    by-stage work (Ready waited) may written rest = resting rest
+    by-stage work (Entering w) may written o =
+        let on = entry-way v h queue floors s work w may written o in
         let root = root_of v.roots in
         let then = floors_with work floors in
         at-work w.stage (IsImageOf v.roots image h floors) (IsImageOf v.roots image h then)
@@ -324,15 +432,15 @@ standing-stops v h queue floors works s image left = by-turn v.turn s.turn
         (λ heap. record { status = s.status image.status left.status; heap = heap })
         (λ heap. record { status = s.status image.status left.status; heap = heap }) (on.before image left))
 
-    by-job : (j : Option Job) → MayAllEnter h floors j → HasJob v s.l s.reading j
+    by-job : (j : Option Job) → MayAllEnter s.l s.reading h floors s.made j → HasAllWritten s.made j v.disk.areas.archive → HasJob v s.l s.reading s.made j
         → MayStandBy v.commits.failed j (IsImageOf v.roots image h floors) (λ work. IsImageOf v.roots image h (floors_with work floors))
-    by-job None may rest = resting rest
-    by-job (Some job) may has = by-stage job.work job.stage may has
+    by-job None may written rest = resting rest
+    by-job (Some job) may written has = by-stage job.work job.stage may written has
 
-    by-turn : (t : Option WriterState) → HasTurn v queue s.l s.reading h t
+    by-turn : (t : Option WriterState) → HasTurn v queue s.l s.reading s.made h t
         → MayStand v.commits.failed t v.job (IsImageOf v.roots image h floors) (IsImageOf v.roots image (h ++ take v.commits.group queue) floors)
         (λ work. IsImageOf v.roots image h (floors_with work floors))
-    by-turn None has = by-job v.job s.job has
+    by-turn None has = by-job v.job s.job s.written has
     by-turn (Some w) o =
         let on = way v h queue floors s w o in
         let root = root_of v.roots in
@@ -351,7 +459,7 @@ pub call-within : (w : WriterState) (old : LogStoreValue) (h queue : History Val
     → LeavesImage areas image
     → MayBecome w.stage (IsImageOf old.roots image h floors) (IsImageOf old.roots image (h ++ take old.commits.group queue) floors)
 call-within w old h queue floors standing s result areas image call left =
-    let o : IsOnWay old queue s.l s.reading h w = subst (λ (t : Option WriterState). HasTurn old queue s.l s.reading h t) standing s.turn in
+    let o : IsOnWay old queue s.l s.reading h w = subst (λ (t : Option WriterState). HasTurn old queue s.l s.reading s.made h t) standing s.turn in
     let on = way old h queue floors s w o in
     let root = root_of old.roots in
     let next = h ++ take old.commits.group queue in
@@ -369,7 +477,7 @@ call-goes tells w old new answer h queue floors tell works standing s advances s
     record { within = call-within w old h queue floors standing s; leads = by-answer answer (advances.call tell) advances.answer }
   where
     o : IsOnWay old queue s.l s.reading h w
-    o = subst (λ (t : Option WriterState). HasTurn old queue s.l s.reading h t) standing s.turn
+    o = subst (λ (t : Option WriterState). HasTurn old queue s.l s.reading s.made h t) standing s.turn
 
     chain-call : (result : Result (Unit {0}) DeviceFault) (areas : Areas) → IsCallOf (turn w) w.stage result old.disk.areas areas
         → IsCallOf (turn_of s.l.next (placed_group w.numbers w.link o.group)) w.stage result old.disk.areas areas
@@ -380,8 +488,8 @@ call-goes tells w old new answer h queue floors tell works standing s advances s
         → IsCallOf (turn w) w.stage (Ok tt) old.disk.areas new.disk.areas → LeadsTo stage old.commits.group new h queue floors
     by-stage stage e is call = by-case stage e is
       where
-        archive : KeepsArchive s.l new.disk.areas.archive
-        archive = subst (KeepsArchive s.l) (sym (same-archive (turn w) w.stage old.disk.areas new.disk.areas call)) s.archive
+        same-bytes : new.disk.areas.archive ≡ old.disk.areas.archive
+        same-bytes = same-archive (turn w) w.stage old.disk.areas new.disk.areas call
 
         status : KeepsRoots old.roots new.disk.areas.status
         status =
@@ -391,14 +499,14 @@ call-goes tells w old new answer h queue floors tell works standing s advances s
         at = let on = way old h queue floors s w o in on.leads new.disk.areas (chain-call (Ok tt) new.disk.areas call)
 
         further : new ≡ record (at_next old w) { disk = new.disk } → StandsOnHeap new h queue floors
-        further same = next-stands old h queue floors s w o new same sound archive status at
+        further same = next-stands old h queue floors s w o new same sound same-bytes status at
 
         by-case : (k : Stage) → w.stage ≡ k → new ≡ record (after_call old w k) { disk = new.disk } → LeadsTo k old.commits.group new h queue floors
         by-case (Writing done rest) e same = further same
         by-case Syncing e same = further same
         by-case Opening e same = further same
         by-case Settling e same =
-            published-stands old h queue floors s w o new same sound archive status
+            published-stands old h queue floors s w o new same sound same-bytes status
             (subst (λ (k : Stage). IsAt (heap_parts s.l) (turn_of s.l.next (placed_group w.numbers w.link o.group)) k new.disk.areas.heap)
             (ap stage_after e) at)
         by-case Done e same = subst (λ (k : Stage). IsCallOf (turn w) k (Ok tt) old.disk.areas new.disk.areas) e call

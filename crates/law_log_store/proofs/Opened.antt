@@ -1,47 +1,36 @@
 -- A store that is opened stands for what it is opened on.
-use Rattle.std.proofs.Common.{◌≡◌, ℕ, ◌+◌, ◌*◌, ◌/◌, ◌<◌, ◌≤◌, ◌-◌, Bool, true, false, List, [], ◌∷◌, ◌++◌, length, map, take, drop, replicate, ◌≢◌}
-use Rattle.std.proofs.Common.{Option, refl, arith, ap, sym, subst, ◌∙◌, length-append}
+use Rattle.std.proofs.Common.{◌≡◌, ℕ, ◌+◌, ◌*◌, ◌/◌, ◌≤◌, ◌-◌, Bool, true, false, List, [], ◌∷◌, ◌++◌, length, take, drop, replicate, ◌≢◌}
+use Rattle.std.proofs.Common.{Option, inl, refl, arith, ap, sym, subst, ◌∙◌, length-append}
 use Rattle.std.specs.Prelude.{flat_map}
 use Rattle.std.specs.List.{AllByRecursion}
 use Rattle.std.proofs.lemmas.List.{length-replicate}
-use Rattle.std.proofs.lemmas.List.Concat.{flat_map-cons}
-use Rattle.history.specs.declared.key.Key.{Key}
 use Rattle.history.specs.Histories.{History}
-use Rattle.history.specs.Queries.{values_after}
 use Rattle.history.proofs.Filters.{AllByRecursion-append}
 use Rattle.disk.specs.Areas.{Areas, Image, AreSound, settled_on, settled_area}
 use Rattle.disk.specs.Parts.{HoldsPart, KeepsPart}
 use Rattle.disk.proofs.Parts.{synced_part}
 use Rattle.law_image.specs.Values.{Value}
-use Rattle.law_image.specs.Reading.{Member, Reading, Slot, Archived}
-use Rattle.law_image.specs.Reading as slots
-use Rattle.law_image.specs.HeapPlans.{marks_of, first_runs}
-use Rattle.law_image.specs.Facts.{commit_read, values_at_mark}
-use Rattle.law_image.specs.Log.{last_time_after, is_in_heap}
+use Rattle.law_image.specs.Reading.{Reading}
+use Rattle.law_image.specs.Facts.{values_at_mark}
+use Rattle.law_image.specs.Log.{is_in_heap}
 use Rattle.law_image.specs.StandsFor.{StandsFor, IsHeapLog, reclaimed_upto}
 use Rattle.law_image.proofs.Forms.{in-heap}
 use Rattle.law_image.proofs.Recent.{latest-is}
-use Rattle.law_log.specs.Chains.{LogChain, OfBase, OfGroup, OfRun, OfFloor, IsNoBase, MayFollow, MayAllFollow, told_behind, base_slots, commits_in}
-use Rattle.law_log.specs.Chains as logs
 use Rattle.law_layout.specs.Runs.{StoredRun, HoldsRun, run_bytes}
 use Rattle.deltas.specs.Extents.{extent_start}
 use Rattle.log_extents.specs.Chains.{count_of, IsNumberOf, IsNew}
-use Rattle.log_entries.specs.declared.entry.Entry.{Entry}
-use Rattle.log_entries.specs.declared.entry.Entry.TheVariants.{Group, Archived as ArchivedEntry, Floor}
-use Rattle.log_entries.specs.declared.entry.Entry.TheVariants as entries
-use Rattle.log_entries.specs.Spelling.{entry_bytes}
 use Rattle.log_space.specs.Uses.{IsFree, with_use, all_used, used_count}
 use Rattle.log_space.proofs.Uses.{others_are_free, used_are_counted, used_in_turn}
 use Rattle.log_writer.specs.Writer.{WriterState}
 use Rattle.log_recovery.specs.Opening.{ReadsRoots}
 use Rattle.log_roots.specs.Roots.{root_of}
-use Rattle.law_log_layout.specs.HeapLog.{PlacedChain, PlacedRoll, HeapLog, heap_parts, name_bytes, HoldsRoll, IsPlaced, chain_told, chains_told}
-use Rattle.law_log_layout.specs.HeapLog.{counted_of, IsBaseSmall, IsLogOf, HoldsLog}
+use Rattle.law_log_layout.specs.HeapLog.{PlacedRoll, HeapLog, heap_parts, name_bytes, HoldsRoll}
+use Rattle.law_log_layout.specs.HeapLog.{IsLogOf, HoldsLog}
 use Rattle.law_log_layout.specs.Laws.{KeepsArchive, KeepsLog}
 use Rattle.law_log_layout.specs.Turns.{IsClosed, KeepsClosed}
 use Rattle.law_log_layout.proofs.Parts.{all-synced}
 use Rattle.law_log_layout.proofs.Places.{AreNew, ArePart, new-front, new-back, distinct-parts}
-use Rattle.law_log_sizes.specs.Sizes.{anchors_len, len_after, len_from, lens_behind, sizes, size_now}
+use Rattle.law_log_sizes.specs.Sizes.{anchors_len, sizes, size_now}
 use Rattle.law_log_sizes.proofs.Orders.{standing-ordered}
 use Rattle.law_log_sizes.proofs.Told.{bounds-same}
 use Rattle.log_room.specs.Rooms.{RoomValue}
@@ -49,7 +38,7 @@ use Rattle.commits.specs.Values.{WaitingValue, versions_after}
 use Rattle.log_store.specs.Values.{LogStoreValue}
 use Rattle.log_store.proofs.Rooms.{numbers, numbers-count, numbers-in_range, last-keeps}
 use Rattle.law_log_store.specs.Members.{AreTold, AreContents}
-use Rattle.law_log_store.specs.Standing.{StandsOnHeap, HasTurn, HasJob, MayAllEnter, IsRoomOf, KeepsRoots}
+use Rattle.law_log_store.specs.Standing.{StandsOnHeap, HasTurn, HasJob, MayAllEnter, HasAllWritten, IsRoomOf, KeepsRoots}
 use Rattle.log_store.specs.declared.job.Job.{Job}
 use Rattle.law_log_store.specs.Opened.{live_uses, LeavesRoom, IsOpenedOn}
 use Rattle.law_log_store.proofs.Flags.{all-used-length, distinct-join}
@@ -169,7 +158,6 @@ module _ (most root : ℕ) (l : HeapLog) (reading : Reading) (h : History Value)
                 )),
           );
       log = refl;
-      spare = λ some. absurd (omega (arith, some));
     };
   }
 
@@ -197,6 +185,7 @@ pub opened-stands : (v : LogStoreValue) (image : Image) (l : HeapLog) (reading :
 opened-stands v image l reading h floors same sound reads is held stands opened = record {
   l = l;
   reading = reading;
+  made = [];
   is_log = is;
   stands = stands;
   archive = subst (λ (areas : Areas). KeepsArchive l areas.archive) (sym same) (record {
@@ -218,8 +207,8 @@ opened-stands v image l reading h floors same sound reads is held stands opened 
     may = tt;
   };
   anchors = record { len = ap (λ (r : RoomValue). r.anchors) opened.room; fit = tt };
-  turn = subst (λ (t : Option WriterState). HasTurn v [] l reading h t) (sym opened.turn)
-      (subst (λ (j : Option Job). HasJob v l reading j) (sym opened.job) (record {
+  turn = subst (λ (t : Option WriterState). HasTurn v [] l reading [] h t) (sym opened.turn)
+      (subst (λ (j : Option Job). HasJob v l reading [] j) (sym opened.job) (record {
         log = subst (λ (areas : Areas). KeepsLog l areas.heap) (sym same) (record {
           parts = all-synced (heap_parts l) (settled_area image.heap) held.parts;
           ends = settled-closed (extent_start l.next) image.heap held.ends;
@@ -227,5 +216,9 @@ opened-stands v image l reading h floors same sound reads is held stands opened 
         room = subst (IsRoomOf v.roots.extents l) (sym opened.room)
             ((leaves-room v.roots.extents (root_of v.roots) l reading h floors is stands).room);
       }));
-  job = subst (λ (j : Option Job). MayAllEnter h floors j) (sym opened.job) tt;
+  job = subst (λ (j : Option Job). MayAllEnter l reading h floors [] j) (sym opened.job) tt;
+  written = subst (λ (j : Option Job). HasAllWritten [] j v.disk.areas.archive) (sym opened.job) tt;
+  named = opened.named;
+  reach = opened.reach;
+  spare = inl (λ some. let none : v.room.promised ≡ 0 = ap (λ (r : RoomValue). r.promised) opened.room in absurd (omega (arith, some, none)));
 }

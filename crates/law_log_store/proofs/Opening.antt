@@ -1,17 +1,20 @@
 -- A store that was opened on an image which stands for a history stands for it.
-use Rattle.std.proofs.Common.{◌≡◌, ℕ, ◌+◌, ◌^◌, ◌<◌, Bool, true, false, List, [], ◌++◌, length, take, refl, arith, ap, sym, subst, ◌∙◌, replicate}
-use Rattle.std.specs.Prelude.{IsTrue, flat_map}
+use Rattle.std.proofs.Common.{◌≡◌, ℕ, ◌+◌, ◌^◌, ◌<◌, ◌≤◌, max, Bool, true, List, [], ◌++◌, length, take, refl, arith, ap, sym, subst, ◌∙◌}
+use Rattle.std.specs.Prelude.{IsTrue}
 use Rattle.history.specs.declared.key.Key.{Key}
 use Rattle.history.specs.declared.time.TimedWrite.{TimedWrite}
 use Rattle.history.specs.Histories.{History, writes_of}
-use Rattle.disk.specs.Areas.{Areas, Image, AreSound, image_of, settled_on}
+use Rattle.disk.specs.Areas.{Areas, AreSound, image_of, settled_on}
 use Rattle.disk.specs.Calls.{DiskState}
 use Rattle.disk.specs.declared.area.Area.TheVariants.{Status, Heap, Archive}
 use Rattle.law_image.specs.Values.{Value}
 use Rattle.law_image.specs.Reading.{Member, OldRecord, Reading}
 use Rattle.law_image.specs.Facts.{commits_from, heap_facts, latest, old_writes}
+use Rattle.law_image.specs.Log.{archive_mark}
+use Rattle.law_image.specs.StandsFor.{archived_upto}
+use Rattle.law_log.specs.Chains.{told_from, reclaimed_by}
 use Rattle.chains.specs.KeyWrites as chains
-use Rattle.law_log_layout.specs.HeapLog.{PlacedChain, HeapLog}
+use Rattle.law_log_layout.specs.HeapLog.{PlacedChain, HeapLog, chains_told}
 use Rattle.law_log_sizes.specs.Sizes.{anchors_len, len_from, size_now}
 use Rattle.recovery.specs.declared.fault.OpenFault.{OpenFault}
 use Rattle.log_roots.specs.declared.roots.Roots.{Roots}
@@ -20,25 +23,28 @@ use Rattle.log_roots.proofs.Headers.{one_reading}
 use Rattle.log_space.specs.Uses.{with_use, all_used}
 use Rattle.log_recovery.specs.declared.image.LogRecovered.{LogRecovered}
 use Rattle.log_recovery.specs.Chains.{uses_of}
-use Rattle.log_recovery.specs.Rules.{mark_of}
+use Rattle.log_recovery.specs.Rules.{LogState, mark_of, no_log, state_from}
+use Rattle.log_recovery.specs.Following.{IsEndOf}
 use Rattle.log_recovery.specs.Ends.{counted_in}
 use Rattle.log_recovery.specs.Members.{values_of, members_of_all}
 use Rattle.log_recovery.specs.Opening as images
 use Rattle.log_recovery.specs.Image.{IsReadFrom}
-use Rattle.log_recovery.specs.Read.{IsHeapRead}
+use Rattle.log_recovery.specs.Read.{IsHeapRead, all_archives}
 use Rattle.law_log_opening.specs.Laws.{SaysNothing}
 use Rattle.law_log_opening.proofs.Members.{members-are}
+use Rattle.law_log_opening.proofs.Named.{alike-from, alike-mark, alike-none, mark-same}
 use Rattle.law_log_opening.proofs.Once.{anchors-once}
 use Rattle.law_log_opening.proofs.Opens.{stands-opens}
 use Rattle.law_log_opening.proofs.Sound.{sound}
-use Rattle.log_room.specs.Rooms.{RoomValue}
 use Rattle.log_store.specs.Values.{LogStoreValue}
-use Rattle.log_store.specs.Opens.{Opens, OpenRefuses, opened_on, room_on}
+use Rattle.log_store.specs.Named.{NamedValue}
+use Rattle.log_store.specs.Opens.{Opens, OpenRefuses, named_on}
 use Rattle.log_store.proofs.Places.{len-is}
 use Rattle.log_sizes.specs.Counted.{values_in}
-use Rattle.law_log_store.specs.Standing.{StandsOnHeap, IsImageOf, counted}
+use Rattle.law_log_store.specs.Standing.{StandsOnHeap, IsBehind, IsImageOf, IsNamedBy, counted}
 use Rattle.law_log_store.specs.Opened.{live_uses, opened_room, IsOpenedOn}
 use Rattle.law_log_store.proofs.Opened.{opened-stands}
+use Rattle.law_log_store.proofs.Reaching.{said-behind, said-within}
 
 -- a disk that is synced is sound where it was before
 settled-sound : (areas : Areas) → AreSound areas → AreSound (settled_on (image_of areas))
@@ -123,6 +129,62 @@ module _ (tells : Bool) (old : DiskState) (mark : ℕ) (v : LogStoreValue) (root
       ∙ (λ i. record { used = with_use (space-is i) ((same.0).1 i) true; next = (same.0).1 i; log = log-is i; promised = 0; anchors = anchors-is i })
       ∙ sym (ap (λ (x : Roots). opened_room x.extents l reading) roots-are)
 
+  -- ---- the archive
+
+  -- what is read of the end of the log
+  end-is : IsEndOf (mark_of l.chains) l.chains r.heap.end
+  end-is = subst (λ (cs : List PlacedChain). IsEndOf (mark_of cs) cs r.heap.end) same.0.0 read.end_is
+
+  abbrev state : LogState
+  state = state_from (mark_of l.chains) no_log l.chains
+
+  archived-is : r.heap.end.archived ≡ archived_upto reading
+  archived-is =
+      let names = image.heap.is_log.names in
+      let alike = alike-from (mark_of l.chains) names [] no_log l.chains alike-none in
+      let marked : reclaimed_by (chains_told names l.chains) ≡ mark_of l.chains = mark-same names l.chains in
+      (end-is).says.archived_is
+      ∙ alike-mark (told_from (mark_of l.chains) [] (chains_told names l.chains)) (state).told alike
+      ∙ ap (λ (m : ℕ). archive_mark (told_from m [] (chains_told names l.chains))) (sym marked)
+      ∙ ap (λ (x : Reading). archive_mark x.log) (sym image.heap.is_log.reading_is)
+
+  named-is : v.named ≡ named_on r.heap
+  named-is = ap (λ (x : LogStoreValue). x.named) opens.new_is
+
+  end-named : v.named.end ≡ max (state).runs_end (state).rolls_end
+  end-named =
+      ap (λ (n : NamedValue). n.end) named-is ∙ (λ i. max ((end-is).says.runs_end_is i) ((end-is).says.rolls_end_is i))
+
+  pub named : IsNamedBy v.named l reading
+  named =
+      let log = image.heap.is_log in
+      record {
+        archives = ap (λ (n : NamedValue). n.archives) named-is ∙ read.archives_are ∙ ap all_archives same.0.0;
+        rolls = ap (λ (n : NamedValue). n.rolls) named-is ∙ (end-is).rolls_are ∙ sym log.rolls_named;
+        upto = ap (λ (n : NamedValue). n.upto) named-is ∙ archived-is;
+        end = subst (λ (place : ℕ). IsBehind place l) (sym end-named)
+            (said-behind (mark_of l.chains) no_log l (refl, refl) log.runs_named log.rolls_named log.archives_in_row log.rolls_in_row);
+      }
+
+  reach : v.named.end ≤ v.disk.areas.archive.firm
+  reach =
+      let log = image.heap.is_log in
+      let held = image.heap.held in
+      let within =
+      said-within (mark_of l.chains) no_log l (refl, refl) log.runs_named log.rolls_named log.archives_in_row log.rolls_in_row
+      (image_of old.areas).archive log.each_run log.each_roll held.runs held.rolls in
+      let firm : v.disk.areas.archive.firm ≡ length (image_of old.areas).archive = ap (λ (a : Areas). a.archive.firm) (opens.settled told) in
+      omega (arith, within, firm, end-named)
+
+  marks : v.commits.reclaimed ≤ v.named.upto
+  marks =
+      let low = read.holds.ends.archived in
+      let mark = read.end_is.says.mark_is in
+      let archived = read.end_is.says.archived_is in
+      let reclaimed : v.commits.reclaimed ≡ r.heap.end.mark = ap (λ (x : LogStoreValue). x.commits.reclaimed) opens.new_is in
+      let upto : v.named.upto ≡ r.heap.end.archived = ap (λ (n : NamedValue). n.upto) named-is in
+      omega (arith, low, mark, archived, reclaimed, upto)
+
   -- ---- the store
 
   opened : IsOpenedOn v l reading
@@ -135,6 +197,9 @@ module _ (tells : Bool) (old : DiskState) (mark : ℕ) (v : LogStoreValue) (root
     room = room-is;
     turn = ap (λ (x : LogStoreValue). x.turn) opens.new_is;
     job = ap (λ (x : LogStoreValue). x.job) opens.new_is;
+    named = named;
+    reach = reach;
+    marks = marks;
   }
 
   pub open-stands : (v.roots ≡ roots) × StandsOnHeap v h [] floors

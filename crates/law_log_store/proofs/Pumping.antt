@@ -20,6 +20,7 @@ use Rattle.log_store.specs.declared.job.JobWork.{JobWork}
 use Rattle.log_store.specs.declared.job.Job.{Job}
 use Rattle.log_store.specs.declared.job.JobStage.{JobStage}
 use Rattle.log_store.specs.declared.job.JobStage.TheVariants.{Ready, Entering}
+use Rattle.log_store.specs.declared.job.JobStage.TheVariants as stages
 use Rattle.log_store.specs.Pumps.{Pumps, TakesStep, bars_groups, BeginsOrWaits, BeginsGroup, AdvancesGroup, Advances, after_call, with_failure, did_of}
 use Rattle.log_store.specs.Pumps.{disk_answer}
 use Rattle.log_store.specs.declared.pump.Did.{Did}
@@ -149,6 +150,7 @@ module _ (v : LogStoreValue) (h queue : History Value) (floors : ℕ → ℕ) (w
           → MayStandOn v.commits.failed k (IsImageOf v.roots image h floors) (IsImageOf v.roots image h (floors_with work floors))
           → IsImageOf v.roots image h floors ⊎ IsImageOf v.roots image (h ++ take v.commits.group queue) floors
           ⊎ IsImageOf v.roots image h (floors_with work floors)
+      by-stage work (stages.Writing writer) is = inl is
       by-stage work (Ready waited) is = inl is
       by-stage work (Entering w) is =
           or-entered (IsImageOf v.roots image h floors) (IsImageOf v.roots image h (floors_with work floors))

@@ -1,6 +1,6 @@
 -- A commit is queued.
 use Rattle.std.proofs.Common.{◌≡◌, ℕ, ◌+◌, ◌-◌, ◌*◌, ◌/◌, ◌<◌, ◌≤◌, ◌^◌, ◌&&◌, nat_le, Bool, true, false, cond, List, [], ◌∷◌, ◌++◌, length, map, take, drop}
-use Rattle.std.proofs.Common.{Option, None, Some, refl, arith, ap, sym, subst, ◌∙◌}
+use Rattle.std.proofs.Common.{Option, None, Some, inl, refl, arith, ap, sym, subst, ◌∙◌}
 use Rattle.std.specs.Prelude.{IsTrue, unwrap_or, option_map, option_to_list}
 use Rattle.std.specs.List.Sorted.{IsStrictlySortedBy}
 use Rattle.std.proofs.lemmas.Bool.Decides.{nat_tests}
@@ -32,14 +32,15 @@ use Rattle.log_store.specs.Values.{LogStoreValue, IsInStep}
 use Rattle.log_store.specs.declared.job.JobWork.{JobWork}
 use Rattle.log_store.specs.declared.job.Job.{Job}
 use Rattle.log_store.specs.declared.job.JobStage.{JobStage}
-use Rattle.log_store.specs.declared.job.JobStage.TheVariants.{Ready, Entering}
+use Rattle.log_store.specs.declared.job.JobStage.TheVariants.{Writing, Ready, Entering}
 use Rattle.log_store.specs.Submits.{anchors_behind, has_room, with_queued}
 use Rattle.law_log_store.specs.Members.{IsTold, AreContents}
-use Rattle.law_log_store.specs.Standing.{StandsOnHeap, HasTurn, HasJob, HasStage, IsRoomOf, placed_entry}
+use Rattle.law_log_store.specs.Standing.{StandsOnHeap, HasTurn, HasJob, HasStage, IsRoomOf, LeavesOne, log_with}
 use Rattle.law_log_store.proofs.Queues.{taken-and-rest, told-many, told-more, contents-more, may-more, told-ordered, take-more, drop-more, versions-split}
 use Rattle.law_log_store.proofs.Queues.{values-told}
 use Rattle.law_log_store.proofs.Queues.{applied-told}
 use Rattle.law_log_store.proofs.Anchors.{now-is, len-more, fit-more}
+use Rattle.law_log_store.proofs.Used.{used-are}
 
 -- ---- versions
 
@@ -139,39 +140,30 @@ module _ (v : LogStoreValue) (label time : ℕ) (writes : List (KeyWrite Value))
     next = is.next;
     free = is.free;
     log = is.log;
-    spare = λ some.
-        let heap : length v.room.used / 2 ≡ v.roots.extents / 2 = ap (λ (n : ℕ). n / 2) is.many in
-        let log = is.log in
-        omega (arith, room-fits, heap, log);
   }
 
-  used-at : (work : JobWork) (k : JobStage) → HasStage v s.l s.reading work k → length v.room.used ≡ v.roots.extents
-  used-at work (Ready waited) is = (is.room).many
-  used-at work (Entering w) is = (is.room).many
+  -- some extents are left by commits
+  leaves-more : LeavesOne v.roots.extents (more).room
+  leaves-more = λ some.
+      let heap : length v.room.used / 2 ≡ v.roots.extents / 2 = ap (λ (n : ℕ). n / 2) (used-are v h queue floors s) in
+      omega (arith, room-fits, heap, some)
 
-  used-by : (j : Option Job) → HasJob v s.l s.reading j → length v.room.used ≡ v.roots.extents
-  used-by None is = (is.room).many
-  used-by (Some job) is = used-at job.work job.stage is
-
-  used-are : (t : Option WriterState) → HasTurn v queue s.l s.reading h t → length v.room.used ≡ v.roots.extents
-  used-are None is = used-by v.job is
-  used-are (Some w) is = (is.room).many
-
-  stage-more : (work : JobWork) (k : JobStage) → HasStage v s.l s.reading work k → HasStage more s.l s.reading work k
+  stage-more : (work : JobWork) (k : JobStage) → HasStage v s.l s.reading s.made work k → HasStage more s.l s.reading s.made work k
+  stage-more work (Writing writer) is = record { log = is.log; room = room-more s.l is.room }
   stage-more work (Ready waited) is = record { log = is.log; room = room-more s.l is.room }
   stage-more work (Entering w) is = record {
     content = is.content;
     joins = is.joins;
     shares = is.shares;
     at = is.at;
-    room = room-more (with_chain s.l (placed_entry w work)) is.room;
+    room = room-more (log_with work s.made s.l w) is.room;
   }
 
-  job-more : (j : Option Job) → HasJob v s.l s.reading j → HasJob more s.l s.reading j
+  job-more : (j : Option Job) → HasJob v s.l s.reading s.made j → HasJob more s.l s.reading s.made j
   job-more None is = record { log = is.log; room = room-more s.l is.room }
   job-more (Some job) is = stage-more job.work job.stage is
 
-  turn-more : (t : Option WriterState) → HasTurn v queue s.l s.reading h t → HasTurn more (queue ++ commit ∷ []) s.l s.reading h t
+  turn-more : (t : Option WriterState) → HasTurn v queue s.l s.reading s.made h t → HasTurn more (queue ++ commit ∷ []) s.l s.reading s.made h t
   turn-more None is = job-more v.job is
   turn-more (Some w) is =
       let same : take v.commits.group queue ≡ take v.commits.group (queue ++ commit ∷ []) =
@@ -208,6 +200,7 @@ module _ (v : LogStoreValue) (label time : ℕ) (writes : List (KeyWrite Value))
   queued-stands = record {
     l = s.l;
     reading = s.reading;
+    made = s.made;
     is_log = s.is_log;
     stands = s.stands;
     archive = s.archive;
@@ -224,8 +217,12 @@ module _ (v : LogStoreValue) (label time : ℕ) (writes : List (KeyWrite Value))
       len = len-is ∙ sym (len-more v.roots.extents (size_now s.reading) (values_now s.reading) queue commit);
       fit = fit-more v.roots.extents (size_now s.reading) (values_now s.reading) queue commit s.anchors.fit
           (subst (λ (n : ℕ). count_of n ≤ (3 * v.roots.extents) / 16) len-is
-          (subst (λ (n : ℕ). count_of (anchors_behind v writes) ≤ (3 * n) / 16) (used-are v.turn s.turn) anchors-fit));
+          (subst (λ (n : ℕ). count_of (anchors_behind v writes) ≤ (3 * n) / 16) (used-are v h queue floors s) anchors-fit));
     };
     turn = turn-more v.turn s.turn;
     job = s.job;
+    written = s.written;
+    named = s.named;
+    reach = s.reach;
+    spare = inl leaves-more;
   }

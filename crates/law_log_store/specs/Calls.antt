@@ -1,6 +1,9 @@
 -- The calls of a store whose log lies in the heap, as its disk has them.
-use Rattle.std.specs.Prelude.{ℕ, ◌≡◌, ◌⊎◌, ◌<◌, ◌≤◌, ◌^◌, Option, None, Some, Bool, true, false, IsTrue, [], ◌∷◌, ◌++◌, take, drop, Result, Ok, Err}
-use Rattle.history.specs.Histories.{History, MayAllFollow, last}
+use Rattle.std.specs.Prelude.{ℕ, ◌≡◌, ◌⊎◌, ◌<◌, ◌≤◌, ◌^◌, max, Option, None, Some, Bool, true, false, IsTrue, [], ◌∷◌, ◌++◌, take, drop, filter}
+use Rattle.std.specs.Prelude.{Result, Ok, Err}
+use Rattle.history.specs.declared.key.Key.{Key}
+use Rattle.history.specs.Versions.{versions, ends_after}
+use Rattle.history.specs.Histories.{History, MayAllFollow, last, versions_of}
 use Rattle.disk.specs.Areas.{Image, AreSound, LeavesImage}
 use Rattle.commits.specs.Steps.{grouped}
 use Rattle.law_image.specs.Values.{Value, IsValue}
@@ -22,10 +25,15 @@ use Rattle.log_store.specs.declared.job.Job.{Job}
 use Rattle.log_store.specs.declared.job.JobDid.{JobDid}
 use Rattle.log_store.specs.declared.job.JobWork.{JobWork}
 use Rattle.log_store.specs.declared.job.JobDid.TheVariants as job_did
-use Rattle.log_room.specs.Rooms.{has_entry_room}
+use Rattle.log_room.specs.Rooms.{has_entry_room, has_last_room}
+use Rattle.chains.specs.KeyWrites.{writes_of}
+use Rattle.floors.specs.Floors.{floor_at}
+use Rattle.vacuum.specs.Archives.{AreInMemory, unwritten}
+use Rattle.wire.specs.Spelling.{IsRun}
+use Rattle.log_store.specs.Archives.{BeginsArchive, records_to, run_to}
 use Rattle.log_store.specs.declared.pump.Did.{Did}
 use Rattle.log_store.specs.declared.pump.Did.TheVariants as did
-use Rattle.law_log_store.specs.Standing.{StandsOnHeap, IsImageOf, StopsOnHeap, floors_with}
+use Rattle.law_log_store.specs.Standing.{StandsOnHeap, IsImageOf, StopsBy, StopsOnHeap, floors_with}
 
 -- ---- steps of a group
 
@@ -86,6 +94,8 @@ FailedRests =
 -- the floors behind a step of a job with this work: its last one puts the work into the log
 abbrev pub floors_by : JobWork → JobDid → (ℕ → ℕ) → ℕ → ℕ
 floors_by work job_did.Idle floors = floors
+floors_by work job_did.WroteRun floors = floors
+floors_by work job_did.RunSynced floors = floors
 floors_by work job_did.WroteEntry floors = floors
 floors_by work job_did.GateClosed floors = floors
 floors_by work job_did.HeapSynced floors = floors
@@ -123,12 +133,31 @@ FloorBegins =
     (v : LogStoreValue) (relation time : ℕ) (h queue : History Value) (floors : ℕ → ℕ) → v.job ≡ None → IsTrue (has_entry_room v.room)
     → floors relation < time → time ≤ last h → relation < 2 ^ 16 → StandsOnHeap v h queue floors → StandsOnHeap (with_floor v relation time) h queue floors
 
+-- What an archive needs of memory: it is in order, and of the versions that end after the archive mark and the floor of their relation it has those of the
+-- history. Its floors are those of the history.
+pub record HoldsUnarchived (v : LogStoreValue) (h : History Value) (floors : ℕ → ℕ) : Type 0 where
+  pub in_memory : AreInMemory v.commits.versions
+  pub same : (key : Key) → filter (ends_after (max v.named.upto (floors key.relation))) (versions (writes_of v.commits.versions key))
+      ≡ filter (ends_after (max v.named.upto (floors key.relation))) (versions_of h key)
+  pub floors_are : (relation : ℕ) → floor_at v.commits.floors relation ≡ floors relation
+
+-- Its entry has room: two extents of the log's half are left for others, or it goes up to the last commit, and none waits.
+abbrev pub HasRoomFor : LogStoreValue → ℕ → History Value → History Value → Type 0
+HasRoomFor v upto h queue = IsTrue (has_entry_room v.room) ⊎ (IsTrue (has_last_room v.room) × (queue ≡ []) × (upto ≡ last h))
+
+-- an archive that begins where it may, and there is room, keeps what the disk stands for
+abbrev pub ArchiveBegins : Type 0
+ArchiveBegins =
+    (v new : LogStoreValue) (upto : ℕ) (h queue : History Value) (floors : ℕ → ℕ) → IsInStep v → v.job ≡ None → HasRoomFor v upto h queue
+    → v.named.upto < upto → upto ≤ last h → IsRun (run_to v upto) → HoldsUnarchived v h floors → StandsOnHeap v h queue floors
+    → BeginsArchive v (run_to v upto) (unwritten v.named.end (records_to v upto)) new → StandsOnHeap new h queue floors
+
 -- ---- calls in memory
 
 -- the disk stands for what it did, and what a stop may leave of it does
 pub record KeepsDisk (old new : LogStoreValue) : Type 0 where
   pub stands : (h queue : History Value) (floors : ℕ → ℕ) → StandsOnHeap old h queue floors → StandsOnHeap new h queue floors
-  pub stops : (h queue : History Value) (floors : ℕ → ℕ) → StopsOnHeap old h queue floors → StopsOnHeap new h queue floors
+  pub stops : (failed : Bool) (h queue : History Value) (floors : ℕ → ℕ) → StopsBy failed old h queue floors → StopsBy failed new h queue floors
 
 -- a begin keeps it
 abbrev pub BeginKeeps : Type 0

@@ -1,5 +1,5 @@
 -- A store as it is opened on what stands in its heap.
-use Rattle.std.specs.Prelude.{ℕ, ◌≡◌, Bool, true, false, IsTrue, List, [], replicate, flat_map, None}
+use Rattle.std.specs.Prelude.{ℕ, ◌≡◌, ◌≤◌, Bool, true, false, IsTrue, List, [], replicate, flat_map, None}
 use Rattle.history.specs.declared.key.Key.{Key}
 use Rattle.history.specs.Histories.{History}
 use Rattle.disk.specs.Areas.{Image, AreSound, image_of, settled_on}
@@ -21,7 +21,7 @@ use Rattle.log_space.specs.Uses.{with_use, all_used}
 use Rattle.log_room.specs.Rooms.{RoomValue, MayOpen}
 use Rattle.log_store.specs.Values.{LogStoreValue}
 use Rattle.log_store.specs.Opens.{Opens, OpenRefuses}
-use Rattle.law_log_store.specs.Standing.{StandsOnHeap, IsRoomOf, IsImageOf, counted}
+use Rattle.law_log_store.specs.Standing.{StandsOnHeap, IsNamedBy, IsRoomOf, IsImageOf, counted}
 
 -- the flags of a heap of so many extents where those of the log's chains are in use, and then those of the anchors
 abbrev pub live_uses : ℕ → HeapLog → List Bool
@@ -42,7 +42,7 @@ RoomOpens =
     (most root : ℕ) (l : HeapLog) (reading : Reading) (h : History Value) (floors : ℕ → ℕ) → IsLogOf most root l reading → StandsFor reading h floors
     → LeavesRoom most l reading
 
--- the store has the last values of what is read in its memory, and nothing waits
+-- the store has the last values of what is read in its memory, and what the log names in the archive; nothing waits
 pub record IsOpenedOn (v : LogStoreValue) (l : HeapLog) (reading : Reading) : Type 0 where
   pub ordered : IsOrdered v.commits.versions
   pub values : (key : Key) → values_in v.commits.versions key ≡ values_now reading key
@@ -52,6 +52,10 @@ pub record IsOpenedOn (v : LogStoreValue) (l : HeapLog) (reading : Reading) : Ty
   pub room : v.room ≡ opened_room v.roots.extents l reading
   pub turn : v.turn ≡ None
   pub job : v.job ≡ None
+  pub named : IsNamedBy v.named l reading
+  pub reach : v.named.end ≤ v.disk.areas.archive.firm
+  -- what memory has forgotten is archived
+  pub marks : v.commits.reclaimed ≤ v.named.upto
 
 -- a store that is opened on an image all of which is synced stands for what the image does
 abbrev pub OpenedStands : Type 0

@@ -1,30 +1,39 @@
 -- What the disk of a store whose log lies in the heap stands for, and what a stop may leave of it.
-use Rattle.std.specs.Prelude.{ℕ, ◌≡◌, ◌+◌, ◌*◌, ◌/◌, ◌^◌, ◌<◌, ◌≤◌, ◌↔◌, Bool, MatchBool, List, ◌∷◌, ◌++◌, length, map, flat_map, take, drop, Option, None}
-use Rattle.std.specs.Prelude.{Some}
+use Rattle.std.specs.Prelude.{ℕ, ◌≡◌, ◌⊎◌, ◌+◌, ◌-◌, ◌*◌, ◌/◌, ◌^◌, ◌<◌, ◌≤◌, ◌↔◌, Bool, false, MatchBool, List, [], ◌∷◌, ◌++◌, length, map, flat_map}
+use Rattle.std.specs.Prelude.{take, drop, Option, None, Some}
 use Rattle.std.specs.List.{AllByRecursion}
 use Rattle.history.specs.declared.key.Key.{Key}
 use Rattle.history.specs.Floors.{raised}
 use Rattle.history.specs.Histories.{History, MayAllFollow, last}
 use Rattle.disk.specs.Areas.{AreaState, Image, AreSound, LeavesImage, MayLeave}
+use Rattle.disk.specs.Parts.{HoldsPart, KeepsPart}
+use Rattle.wire.specs.declared.slot.Run.{Run}
+use Rattle.archive.specs.Pieces.{InWriting}
 use Rattle.law_image.specs.Values.{Value, IsValue}
-use Rattle.law_image.specs.Reading.{Reading}
+use Rattle.law_image.specs.Reading.{ArchiveRecord, Reading}
 use Rattle.law_image.specs.Facts.{values_now}
 use Rattle.law_image.specs.Plans.{IsGroupOf, stored_members, with_group, with_floor}
-use Rattle.law_image.specs.StandsFor.{StandsFor}
+use Rattle.law_image.specs.HeapPlans.{IsMergePlan, with_merged}
+use Rattle.law_image.specs.StandsFor.{StandsFor, archived_upto}
+use Rattle.law_layout.specs.Runs.{StoredRun, IsStoredRun, run_bytes}
 use Rattle.chains.specs.KeyWrites.{IsOrdered}
 use Rattle.law_refinement.specs.OnDisk as histories
 use Rattle.log_extents.specs.Chains.{count_of, IsNumberOf, IsNew}
+use Rattle.log_entries.specs.declared.entry.Archive.{Archive}
 use Rattle.log_entries.specs.declared.entry.Member.{Member}
 use Rattle.log_entries.specs.declared.entry.Entry.TheVariants.{Group}
+use Rattle.log_entries.specs.Ranges.{IsArchive, run_of}
 use Rattle.log_entries.specs.Spelling.{entry_bytes}
 use Rattle.log_writer.specs.Turns.{Stage}
 use Rattle.log_writer.specs.Writer.{WriterState}
 use Rattle.law_log_layout.specs.HeapLog.{PlacedChain, HeapLog, heap_parts, live_numbers, counted_of, IsLogOf, HeapStandsFor, KeepsShares, member_told}
-use Rattle.law_log_layout.specs.HeapLog.{MayJoin, placed_group, turn_of, with_chain}
+use Rattle.law_log_layout.specs.HeapLog.{PlacedRoll, MayJoin, archives_in, placed_group, turn_of, with_chain, with_runs}
+use Rattle.law_log_layout.specs.Entries.{runs_with}
 use Rattle.law_log_layout.specs.Laws.{KeepsArchive, KeepsLog}
 use Rattle.law_log_layout.specs.Turns.{IsAt, MayBe, MayBecome}
 use Rattle.law_log_sizes.specs.Sizes.{len_from, lens_behind, size_now}
 use Rattle.log_recovery.specs.Opening.{ReadsRoots}
+use Rattle.log_recovery.specs.Read.{all_archives}
 use Rattle.log_roots.specs.declared.roots.Roots.{Roots}
 use Rattle.log_roots.specs.Roots.{root_of}
 use Rattle.log_sizes.specs.Counted.{values_in}
@@ -32,13 +41,15 @@ use Rattle.log_space.specs.Uses.{IsFree}
 use Rattle.log_room.specs.Rooms.{RoomValue}
 use Rattle.commits.specs.Values.{versions_after}
 use Rattle.commits.specs.Steps.{members}
-use Rattle.log_store.specs.Jobs.{entry_of}
+use Rattle.log_store.specs.Jobs.{entry_of, is_entering}
+use Rattle.log_store.specs.Named.{NamedValue}
 use Rattle.log_store.specs.Values.{LogStoreValue, IsBeside}
 use Rattle.log_store.specs.declared.job.Job.{Job}
 use Rattle.log_store.specs.declared.job.JobStage.{JobStage}
-use Rattle.log_store.specs.declared.job.JobStage.TheVariants.{Ready, Entering}
+use Rattle.log_store.specs.declared.job.JobStage.TheVariants.{Writing, Ready, Entering}
 use Rattle.log_store.specs.declared.job.JobWork.{JobWork}
 use Rattle.log_store.specs.declared.job.JobWork.TheVariants.{Floor}
+use Rattle.log_store.specs.declared.job.JobWork.TheVariants as works
 use Rattle.law_log_store.specs.Members.{AreTold, AreContents}
 
 -- ---- memory
@@ -59,13 +70,33 @@ pub record HasCommits (v : LogStoreValue) (h queue : History Value) : Type 0 whe
 abbrev pub counted : HeapLog → ℕ
 counted l = length (flat_map (λ (c : PlacedChain). counted_of c.numbers c.entry) l.chains) + 1
 
--- The room is that of this log. Its live extents and the one where it ends are in use, and no others. Where commits are promised extents, one more is left.
+-- The room is that of this log. Its live extents and the one where it ends are in use, and no others.
 pub record IsRoomOf (most : ℕ) (l : HeapLog) (room : RoomValue) : Type 0 where
   pub many : length room.used ≡ most
   pub next : room.next ≡ l.next
   pub free : (number : ℕ) → IsFree room.used number ↔ (IsNumberOf most number × IsNew number (l.next ∷ live_numbers l))
   pub log : room.log ≡ counted l
-  pub spare : 0 < room.promised → room.log + room.promised < most / 2
+
+-- where the commits that wait and the entry of a job are promised extents, one more is left
+abbrev pub LeavesOne : ℕ → RoomValue → Type 0
+LeavesOne most room = 0 < room.promised → room.log + room.promised < most / 2
+
+-- an archive up to this time
+abbrev pub IsUpTo : ℕ → JobWork → Type 0
+IsUpTo time (Floor floor kept) = ⊥
+IsUpTo time (works.Archive a archives) = a.upto ≡ time
+
+-- its entry is not begun
+abbrev pub IsAhead : ℕ → Option Job → Type 0
+IsAhead time None = ⊥
+IsAhead time (Some job) = (is_entering job.stage ≡ false) × IsUpTo time job.work
+
+-- The entry of an archive up to the last commit may take the last extent of the log's half: no commit waits, and nothing is left to be archived behind it.
+pub record TakesLast (most : ℕ) (room : RoomValue) (h queue : History Value) (job : Option Job) : Type 0 where
+  pub none : queue ≡ []
+  pub entry : IsAhead (last h) job
+  pub one : room.promised ≡ 1
+  pub fits : room.log + 1 ≤ most / 2
 
 -- The anchors of the state behind the whole queue have so many bytes, and those behind each commit of it have room in the heap.
 pub record HasAnchors (most : ℕ) (reading : Reading) (queue : History Value) (anchors : ℕ) : Type 0 where
@@ -83,22 +114,86 @@ KeepsRoots roots a = (content : List ℕ) → MayLeave a content → ReadsRoots 
 -- the floors with what a job puts into the log
 abbrev pub floors_with : JobWork → (ℕ → ℕ) → ℕ → ℕ
 floors_with (Floor floor kept) floors = raised (Some floor.relation) floor.floor floors
+floors_with (works.Archive a archives) floors = floors
 
--- what the log tells with it
-abbrev pub reading_with : JobWork → Reading → Reading
-reading_with (Floor floor kept) reading = with_floor reading (Some floor.relation) floor.floor
+-- what the log tells with it, where the run of an archive has these records
+abbrev pub reading_with : JobWork → List ArchiveRecord → Reading → Reading
+reading_with (Floor floor kept) made reading = with_floor reading (Some floor.relation) floor.floor
+reading_with (works.Archive a archives) made reading = with_merged reading (length reading.runs - a.runs) a.upto made
 
--- The work of a job may come behind what is published: its floor is above that of its relation, and no later than the last commit.
-abbrev pub MayEnter : History Value → (ℕ → ℕ) → JobWork → Type 0
-MayEnter h floors (Floor floor kept) = (floors floor.relation < floor.floor) × (floor.floor ≤ last h) × (floor.relation < 2 ^ 16)
+-- that run
+abbrev pub run_made : Archive → List ArchiveRecord → StoredRun
+run_made a made = record { entry = run_of a; records = made }
 
-abbrev pub MayAllEnter : History Value → (ℕ → ℕ) → Option Job → Type 0
-MayAllEnter h floors None = Unit {0}
-MayAllEnter h floors (Some job) = MayEnter h floors job.work
+-- the runs that the log then names
+abbrev pub runs_after : JobWork → List ArchiveRecord → HeapLog → List StoredRun
+runs_after (Floor floor kept) made l = l.runs
+runs_after (works.Archive a archives) made l = runs_with l a (run_made a made)
+
+-- This place of the archive is behind all that the log names there, also behind a run that another took the place of.
+pub record IsBehind (place : ℕ) (l : HeapLog) : Type 0 where
+  pub runs : AllByRecursion (λ (run : Run). run.start + run.len ≤ place) (flat_map (λ (c : PlacedChain). archives_in c.entry) l.chains)
+  pub rolls : AllByRecursion (λ (r : PlacedRoll). r.roll.start + r.roll.len ≤ place) l.rolls
+
+-- The archive may come next: its run is the plan of one that goes further than the archive mark, and no further than the last commit, and has its place behind
+-- all that the log names. Memory has the archives that are then named.
+pub record IsNextArchive (l : HeapLog) (reading : Reading) (h : History Value) (a : Archive) (archives : List Archive) (made : List ArchiveRecord)
+    : Type 0 where
+  pub in_range : IsArchive a
+  pub few : a.runs ≤ length reading.runs
+  pub later : archived_upto reading < a.upto
+  pub by_last : a.upto ≤ last h
+  pub plan : IsMergePlan reading (length reading.runs - a.runs) a.upto made
+  pub stored : IsStoredRun (run_made a made)
+  pub behind : IsBehind a.start l
+  pub named : archives ≡ all_archives l.chains ++ a ∷ []
+
+-- The work of a job may come behind what is published: its floor is above that of its relation, and no later than the last commit; or its archive may come
+-- next.
+abbrev pub MayEnter : HeapLog → Reading → History Value → (ℕ → ℕ) → JobWork → List ArchiveRecord → Type 0
+MayEnter l reading h floors (Floor floor kept) made = (floors floor.relation < floor.floor) × (floor.floor ≤ last h) × (floor.relation < 2 ^ 16)
+MayEnter l reading h floors (works.Archive a archives) made = IsNextArchive l reading h a archives made
+
+abbrev pub MayAllEnter : HeapLog → Reading → History Value → (ℕ → ℕ) → List ArchiveRecord → Option Job → Type 0
+MayAllEnter l reading h floors made None = Unit {0}
+MayAllEnter l reading h floors made (Some job) = MayEnter l reading h floors job.work made
 
 -- the job's entry with its extent
 abbrev pub placed_entry : WriterState → JobWork → PlacedChain
 placed_entry w work = record { numbers = w.numbers; link = w.link; entry = entry_of work }
+
+-- the log with it
+abbrev pub log_with : JobWork → List ArchiveRecord → HeapLog → WriterState → HeapLog
+log_with work made l w = with_runs l (placed_entry w work) (runs_after work made l)
+
+-- ---- what a job makes before its entry
+
+-- the front of the run is written, and this is left of it
+pub record IsWritten (a : Archive) (made : List ArchiveRecord) (writer : InWriting) (archive : AreaState) : Type 0 where
+  pub front : List ℕ
+  pub whole : front ++ writer.left ≡ run_bytes made
+  pub place : writer.at ≡ a.start + length front
+  pub held : HoldsPart a.start front archive.bytes
+
+-- so much of it is written at a stage, and before its entry begins whatever a stop may leave holds all of it
+abbrev pub HasWritten : JobWork → List ArchiveRecord → JobStage → AreaState → Type 0
+HasWritten (Floor floor kept) made (Writing writer) archive = ⊥
+HasWritten (Floor floor kept) made (Ready waited) archive = Unit {0}
+HasWritten (Floor floor kept) made (Entering w) archive = Unit {0}
+HasWritten (works.Archive a archives) made (Writing writer) archive = IsWritten a made writer archive
+HasWritten (works.Archive a archives) made (Ready waited) archive = KeepsPart a.start (run_bytes made) archive
+HasWritten (works.Archive a archives) made (Entering w) archive = KeepsPart a.start (run_bytes made) archive
+
+abbrev pub HasAllWritten : List ArchiveRecord → Option Job → AreaState → Type 0
+HasAllWritten made None archive = Unit {0}
+HasAllWritten made (Some job) archive = HasWritten job.work made job.stage archive
+
+-- Memory has what the log names in the archive.
+pub record IsNamedBy (named : NamedValue) (l : HeapLog) (reading : Reading) : Type 0 where
+  pub archives : named.archives ≡ all_archives l.chains
+  pub rolls : named.rolls ≡ map (λ (r : PlacedRoll). r.roll) l.rolls
+  pub upto : named.upto ≡ archived_upto reading
+  pub end : IsBehind named.end l
 
 -- ---- the log, and the chain on its way behind it
 
@@ -121,31 +216,34 @@ pub record IsOnWay (v : LogStoreValue) (queue : History Value) (l : HeapLog) (re
   pub alone : IsBeside (Some w) v.job
 
 -- A job's entry is on its way behind the log. The room is that of the log with it.
-pub record IsEntering (v : LogStoreValue) (l : HeapLog) (reading : Reading) (work : JobWork) (w : WriterState) : Type 0 where
+pub record IsEntering (v : LogStoreValue) (l : HeapLog) (reading : Reading) (made : List ArchiveRecord) (work : JobWork) (w : WriterState) : Type 0 where
   pub content : w.content ≡ entry_bytes (entry_of work)
   pub joins : MayJoin v.roots.extents l (placed_entry w work)
-  pub shares : KeepsShares v.roots.extents (with_chain l (placed_entry w work)) (reading_with work reading)
+  pub shares : KeepsShares v.roots.extents (log_with work made l w) (reading_with work made reading)
   pub at : IsAt (heap_parts l) (turn_of l.next (placed_entry w work)) w.stage v.disk.areas.heap
-  pub room : IsRoomOf v.roots.extents (with_chain l (placed_entry w work)) v.room
+  pub room : IsRoomOf v.roots.extents (log_with work made l w) v.room
 
 -- where no group stands, the log is at rest or a job's entry is on its way
-abbrev pub HasStage : LogStoreValue → HeapLog → Reading → JobWork → JobStage → Type 0
-HasStage v l reading work (Ready waited) = IsAtRest v l
-HasStage v l reading work (Entering w) = IsEntering v l reading work w
+abbrev pub HasStage : LogStoreValue → HeapLog → Reading → List ArchiveRecord → JobWork → JobStage → Type 0
+HasStage v l reading made work (Writing writer) = IsAtRest v l
+HasStage v l reading made work (Ready waited) = IsAtRest v l
+HasStage v l reading made work (Entering w) = IsEntering v l reading made work w
 
-abbrev pub HasJob : LogStoreValue → HeapLog → Reading → Option Job → Type 0
-HasJob v l reading None = IsAtRest v l
-HasJob v l reading (Some job) = HasStage v l reading job.work job.stage
+abbrev pub HasJob : LogStoreValue → HeapLog → Reading → List ArchiveRecord → Option Job → Type 0
+HasJob v l reading made None = IsAtRest v l
+HasJob v l reading made (Some job) = HasStage v l reading made job.work job.stage
 
 -- the one or the other
-abbrev pub HasTurn : LogStoreValue → History Value → HeapLog → Reading → History Value → Option WriterState → Type 0
-HasTurn v queue l reading h None = HasJob v l reading v.job
-HasTurn v queue l reading h (Some w) = IsOnWay v queue l reading h w
+abbrev pub HasTurn : LogStoreValue → History Value → HeapLog → Reading → List ArchiveRecord → History Value → Option WriterState → Type 0
+HasTurn v queue l reading made h None = HasJob v l reading made v.job
+HasTurn v queue l reading made h (Some w) = IsOnWay v queue l reading h w
 
 -- The disk of a store that works stands for the published history with its floors, and its memory for the queue behind it.
 pub record StandsOnHeap (v : LogStoreValue) (h queue : History Value) (floors : ℕ → ℕ) : Type 0 where
   pub l : HeapLog
   pub reading : Reading
+  -- the records of the run that an archive makes; of any other store they are any
+  pub made : List ArchiveRecord
   pub is_log : IsLogOf v.roots.extents (root_of v.roots) l reading
   pub stands : StandsFor reading h floors
   pub archive : KeepsArchive l v.disk.areas.archive
@@ -153,8 +251,13 @@ pub record StandsOnHeap (v : LogStoreValue) (h queue : History Value) (floors : 
   pub sound : AreSound v.disk.areas
   pub commits : HasCommits v h queue
   pub anchors : HasAnchors v.roots.extents reading queue v.room.anchors
-  pub turn : HasTurn v queue l reading h v.turn
-  pub job : MayAllEnter h floors v.job
+  pub turn : HasTurn v queue l reading made h v.turn
+  pub job : MayAllEnter l reading h floors made v.job
+  pub written : HasAllWritten made v.job v.disk.areas.archive
+  pub named : IsNamedBy v.named l reading
+  -- the archive reaches as far as where the next run would begin
+  pub reach : v.named.end ≤ v.disk.areas.archive.firm
+  pub spare : LeavesOne v.roots.extents v.room ⊎ TakesLast v.roots.extents v.room h queue v.job
 
 -- ---- stops
 
@@ -169,6 +272,7 @@ MayStandAt failed stage Old New = MatchBool failed (MayBecome stage Old New) (Ma
 
 -- where a job's entry is in the writing, by its stage; else the first claim
 abbrev pub MayStandOn : Bool → JobStage → Type 0 → Type 0 → Type 0
+MayStandOn failed (Writing writer) Old Entered = Old
 MayStandOn failed (Ready waited) Old Entered = Old
 MayStandOn failed (Entering w) Old Entered = MayStandAt failed w.stage Old Entered
 
@@ -183,8 +287,12 @@ MayStand failed (Some w) job Old Grouped Entered = MayStandAt failed w.stage Old
 
 -- Whatever a stop may leave stands for what is published, or, once the write of the gate of a group or an entry has begun, for that or for what is published
 -- with the group, or with what the entry says.
-abbrev pub StopsOnHeap : LogStoreValue → History Value → History Value → (ℕ → ℕ) → Type 0
-StopsOnHeap v h queue floors =
+abbrev pub StopsBy : Bool → LogStoreValue → History Value → History Value → (ℕ → ℕ) → Type 0
+StopsBy failed v h queue floors =
     (image : Image) → LeavesImage v.disk.areas image
-    → MayStand v.commits.failed v.turn v.job (IsImageOf v.roots image h floors) (IsImageOf v.roots image (h ++ take v.commits.group queue) floors)
+    → MayStand failed v.turn v.job (IsImageOf v.roots image h floors) (IsImageOf v.roots image (h ++ take v.commits.group queue) floors)
     (λ work. IsImageOf v.roots image h (floors_with work floors))
+
+-- where the store has failed, by the stage whose call was refused
+abbrev pub StopsOnHeap : LogStoreValue → History Value → History Value → (ℕ → ℕ) → Type 0
+StopsOnHeap v h queue floors = StopsBy v.commits.failed v h queue floors

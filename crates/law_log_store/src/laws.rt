@@ -1,6 +1,6 @@
 //! Laws of the disk of a store whose log lies in the heap.
-ghost use Rattle.law_log_store.specs.Calls.{AbortKeeps, BeginKeeps, FailedQueuesNone, FailedRests, FloorBegins, JobLeaves, JobSteps, PumpLeaves};
-ghost use Rattle.law_log_store.specs.Calls.{PumpSteps, RedeemKeeps, SubmitSteps};
+ghost use Rattle.law_log_store.specs.Calls.{AbortKeeps, ArchiveBegins, BeginKeeps, FailedQueuesNone, FailedRests, FloorBegins, JobLeaves, JobSteps};
+ghost use Rattle.law_log_store.specs.Calls.{PumpLeaves, PumpSteps, RedeemKeeps, SubmitSteps};
 ghost use Rattle.law_log_store.specs.Opened.{OpenedStands, OpensAny, OpenStands, RoomOpens};
 ghost use Rattle.law_log_store.specs.Laws.{GroupBegins, GroupGoesOn, GroupJoins, StandingStops, SubmitKeeps};
 
@@ -54,9 +54,10 @@ pub fn pump_steps()
     ensures failed { FailedRests }
 {}
 
-/// A step of a job of a store that works: its entry goes its way to the disk as a group does, and behind its last call the disk
-/// stands for what it says; or the job waits for a group, or nothing has changed for want of memory, or the store has failed.
-/// What a crash leaves before the step and after it stands for what is published, with what the entry says or without.
+/// A step of a job of a store that works: the run of an archive is written behind all that the log names, and is synced; its entry
+/// goes its way to the disk as a group does, and behind its last call the disk stands for what it says; or the job waits for a
+/// group, or nothing has changed for want of memory, or the store has failed. What a crash leaves before the step and after it
+/// stands for what is published, with what the entry says or without. An archive's says nothing else: it loses no version.
 pub fn job_steps()
     ensures steps { JobSteps }
     ensures leaves { JobLeaves }
@@ -65,6 +66,12 @@ pub fn job_steps()
 /// A floor that begins changes nothing of what the disk stands for.
 pub fn floor_begins()
     ensures { FloorBegins }
+{}
+
+/// Nor does an archive that begins: its run will have, of the versions that end after the archive mark and the floor of their
+/// relation, those that end by its time.
+pub fn archive_begins()
+    ensures { ArchiveBegins }
 {}
 
 /// Transactions that begin or are given up, and tickets that are shown, change nothing of that.

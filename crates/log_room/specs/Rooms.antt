@@ -41,6 +41,10 @@ promised_to v count anchors = record v { promised = v.promised + count; anchors 
 abbrev pub has_entry_room : RoomValue → Bool
 has_entry_room v = nat_le (v.log + v.promised + 1) (length v.used / 2 - 2)
 
+-- the entry of an archive up to the last time has its room: it may take the last extent of the log's half
+abbrev pub has_last_room : RoomValue → Bool
+has_last_room v = nat_le (v.log + v.promised + 1) (length v.used / 2)
+
 -- an entry is promised its extent
 abbrev pub promised_entry : RoomValue → RoomValue
 promised_entry v = record v { promised = v.promised + 1 }

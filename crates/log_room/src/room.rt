@@ -6,7 +6,7 @@ ghost use Rattle.log_space.specs.Uses.{with_use};
 ghost use Rattle.law_log_sizes.specs.Sizes.{len_behind};
 ghost use Rattle.log_sizes.specs.Counted.{values_in};
 ghost use Rattle.log_room.specs.Bases.{has_base_room, has_floor_room};
-ghost use Rattle.log_room.specs.Rooms.{fits, promised_to, has_entry_room, promised_entry, TakesChain, MayOpen};
+ghost use Rattle.log_room.specs.Rooms.{fits, promised_to, has_entry_room, has_last_room, promised_entry, TakesChain, MayOpen};
 
 use crate::base_share::BaseParts;
 use crate::taking::take_least;
@@ -153,6 +153,13 @@ impl HeapRoom {
         ensures { result ≡ has_entry_room self.now }
     {
         self.log + self.promised + 1 <= self.space.len() / 2 - LEFT_BY_ENTRIES
+    }
+
+    /// Whether the entry of an archive has room that leaves nothing to be archived.
+    pub fn has_last_room(&self) -> bool
+        ensures { result ≡ has_last_room self.now }
+    {
+        self.log + self.promised + 1 <= self.space.len() / 2
     }
 
     /// Whether a base that names these parts, and two rolls and two archives more, keeps its share of the heap.

@@ -1,31 +1,27 @@
 -- The entry of a job begins.
-use Rattle.std.proofs.Common.{◌≡◌, ℕ, List, length, Option, None, Some, refl, sym, ap, subst, ◌∙◌, MatchOption}
+use Rattle.std.proofs.Common.{◌≡◌, ℕ, List, Option, Some, refl, sym, ap, subst, ◌∙◌, MatchOption}
 use Rattle.floors.specs.Floors.{FloorsValue}
+use Rattle.log_entries.specs.declared.entry.Archive.{Archive}
 use Rattle.log_entries.specs.declared.entry.RelationFloor.{RelationFloor}
-use Rattle.log_entries.specs.Spelling.{entry_bytes, floor_bytes}
-use Rattle.log_extents.specs.Chains.{count_of}
+use Rattle.log_entries.specs.Spelling.{entry_bytes, archive_bytes, floor_bytes}
 use Rattle.log_room.specs.Rooms.{RoomValue, TakesChain}
 use Rattle.log_writer.specs.Writer.{WriterState}
 use Rattle.log_store.specs.Values.{LogStoreValue}
 use Rattle.log_store.specs.Jobs.{BeginsEntry, entry_of, entering}
 use Rattle.log_store.specs.declared.job.Job.{Job}
 use Rattle.log_store.specs.declared.job.JobStage.TheVariants.{Entering}
-use Rattle.log_store.specs.declared.job.JobWork.{JobWork}
 use Rattle.log_store.specs.declared.job.JobWork.TheVariants.{Floor}
+use Rattle.log_store.specs.declared.job.JobWork.TheVariants as works
 use Rattle.log_store.proofs.InStep.{begun_writer}
 
--- the work of a job is a floor
-pub is-floor : (work : JobWork) → (floor : RelationFloor) × (floors : FloorsValue) × (work ≡ Floor floor floors)
-is-floor (Floor floor floors) = (floor, floors, refl)
-
--- whose entry is its one record
+-- the entry of a job is one record
 pub floor-entry : (floor : RelationFloor) (floors : FloorsValue) → floor_bytes floor ≡ entry_bytes (entry_of (Floor floor floors))
 unfolding entry_bytes
 floor-entry floor floors = refl
 
--- eleven bytes have room in one extent
-pub one-extent : (len : ℕ) → len ≡ 11 → count_of len ≡ 1
-one-extent len is = ap count_of is
+pub archive-entry : (made : Archive) (archives : List Archive) → archive_bytes made ≡ entry_bytes (entry_of (works.Archive made archives))
+unfolding entry_bytes
+archive-entry made archives = refl
 
 -- what an entry begins with
 pub begins-entry : (old : LogStoreValue) (job : Job) (bytes numbers : List ℕ) (link : ℕ) (room : RoomValue) (w : WriterState) (after : Option Job)

@@ -25,6 +25,7 @@ use Rattle.log_store.specs.Pumps.{group_size, group_content, bars_at, bars_group
 use Rattle.log_store.specs.declared.job.Job.{Job}
 use Rattle.log_store.specs.declared.job.JobStage.{JobStage}
 use Rattle.log_store.specs.declared.job.JobStage.TheVariants.{Ready, Entering}
+use Rattle.log_store.specs.declared.job.JobStage.TheVariants as stages
 
 -- ---- bytes
 
@@ -83,6 +84,7 @@ queued_in_step old label time count anchors writes content commits contents room
   many = subst (λ (r : RoomValue). length r.used ≤ 2 ^ 20) (sym room_is) is.many;
   turn = subst (λ (n : ℕ). HasTurn n old.turn) (sym (ap (λ (c : CommitsValue). c.group) commits_are)) is.turn;
   beside = is.beside;
+  place = is.place;
 }
   where
     len : length content ≡ commit_len (map (λ (r : Record). length (spelling r)) (records_over (ordered old.commits) writes))
@@ -116,6 +118,7 @@ size_within n = grind (arith, nat_tests)
 
 -- a job that does not bar groups is not in the writing
 unbarred_beside : (w : WriterState) (stage : JobStage) → bars_at stage ≡ false → IsStageBeside (Some w) stage
+unbarred_beside w (stages.Writing writer) unbarred = tt
 unbarred_beside w (Ready waited) unbarred = tt
 unbarred_beside w (Entering e) barred = absurd (let no : true ≡ false = barred in cc)
 
@@ -136,6 +139,7 @@ begun_in_step old new is none unbarred some begins =
           (sym (ap (λ (r : RoomValue). length r.used) begins.takes.new_is ∙ used_len old.room.used (begins.takes.others ++ begins.link ∷ []))) is.many;
       turn = (subst (λ (n : ℕ). 0 < n) (sym group) (size_some (length old.commits.queue) some), tt);
       beside = beside_group _ old.job unbarred;
+      place = is.place;
     })
   where
     waits : (old.commits.group ≡ 0) × (length old.contents ≡ length old.commits.queue)

@@ -6,3 +6,4 @@ pub mod Places
 pub mod Heads
 pub mod Entries
 mod Entering
+mod Archives

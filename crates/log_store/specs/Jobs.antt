@@ -1,8 +1,8 @@
 -- The beginning of a job, and its steps to the disk.
-use Rattle.std.specs.Prelude.{ℕ, ◌≡◌, ◌⊎◌, ◌+◌, ◌-◌, ◌/◌, ◌<◌, ◌^◌, nat_le, nat_lt, ◌&&◌, ◌||◌, Bool, true, false, IsTrue, [], is_some, Option, Some, None}
+use Rattle.std.specs.Prelude.{ℕ, ◌≡◌, ◌⊎◌, ◌<◌, ◌^◌, nat_le, nat_lt, ◌&&◌, ◌||◌, Bool, true, false, IsTrue, [], is_some, Option, Some, None}
 use Rattle.std.specs.Prelude.{Result, Ok, Err, MatchBool, MatchOption, MatchResult, List, length, if◌then◌else◌}
 use Rattle.disk.specs.Areas.{Areas}
-use Rattle.disk.specs.Calls.{Counts, refused_answer}
+use Rattle.disk.specs.Calls.{Counts}
 use Rattle.disk.specs.declared.area.DeviceFault.{DeviceFault}
 use Rattle.floors.specs.Floors.{floor_at, raised_in}
 use Rattle.group.specs.declared.answers.PumpFault.{PumpFault}
@@ -27,8 +27,12 @@ use Rattle.log_store.specs.declared.job.JobDid.{JobDid}
 use Rattle.log_store.specs.declared.job.JobDid.TheVariants as did
 use Rattle.log_store.specs.declared.job.JobStage.{JobStage}
 use Rattle.log_store.specs.declared.job.JobStage.TheVariants.{Ready, Entering}
+use Rattle.log_store.specs.declared.job.JobStage.TheVariants as stages
 use Rattle.log_store.specs.declared.job.JobWork.{JobWork}
-use Rattle.log_store.specs.declared.job.JobWork.TheVariants.{Floor}
+use Rattle.log_store.specs.declared.job.JobWork.TheVariants.{Floor, Archive}
+use Rattle.log_store.specs.Runs.{disk_answer, WritesRun}
+use Rattle.log_store.specs.Named.{NamedValue, with_archives}
+use Rattle.timequery.specs.Archives.{ArchiveValue, with_next_run}
 use Rattle.log_store.specs.declared.job.StartFault.{StartFault}
 use Rattle.log_store.specs.declared.job.StartFault.TheVariants as fault
 
@@ -83,21 +87,38 @@ StartsFloor v scope time result new = MatchOption (floor_refusal v scope time) (
 
 -- ---- the steps of a job
 
+-- its run is in the writing
+abbrev pub is_writing : JobStage → Bool
+is_writing (stages.Writing writer) = true
+is_writing (Ready waited) = false
+is_writing (Entering w) = false
+
+-- its entry is to begin
+abbrev pub is_ready : JobStage → Bool
+is_ready (stages.Writing writer) = false
+is_ready (Ready waited) = true
+is_ready (Entering w) = false
+
 -- its entry is in the writing
 abbrev pub is_entering : JobStage → Bool
+is_entering (stages.Writing writer) = false
 is_entering (Ready waited) = false
 is_entering (Entering w) = true
 
--- a job runs whose entry is in the writing, or is not begun
-abbrev pub IsEntering : Option Job → Type 0
-IsEntering job = MatchOption job ⊥ (λ j. is_entering j.stage ≡ true)
+-- a job runs, and is so far
+abbrev pub IsWriting : Option Job → Type 0
+IsWriting job = MatchOption job ⊥ (λ j. is_writing j.stage ≡ true)
 
 abbrev pub IsReady : Option Job → Type 0
-IsReady job = MatchOption job ⊥ (λ j. is_entering j.stage ≡ false)
+IsReady job = MatchOption job ⊥ (λ j. is_ready j.stage ≡ true)
+
+abbrev pub IsEntering : Option Job → Type 0
+IsEntering job = MatchOption job ⊥ (λ j. is_entering j.stage ≡ true)
 
 -- what its entry says
 abbrev pub entry_of : JobWork → Entry
 entry_of (Floor floor floors) = entries.Floor floor
+entry_of (Archive archive archives) = entries.Archived archive
 
 -- the store with another stage of its job
 abbrev pub at_stage : LogStoreValue → Job → JobStage → LogStoreValue
@@ -105,16 +126,19 @@ at_stage v job stage = record v { job = Some (record job { stage = stage }) }
 
 -- an entry that is in the writing has a call still to be made
 abbrev pub IsStageOnItsWay : JobStage → Type 0
+IsStageOnItsWay (stages.Writing writer) = ⊥
 IsStageOnItsWay (Ready waited) = ⊥
 IsStageOnItsWay (Entering w) = writers.IsOnItsWay w.stage
 
 -- the device call of an entry, with its answer
 abbrev pub IsEntryCallOf : JobStage → Result (Unit {0}) DeviceFault → Areas → Areas → Type 0
+IsEntryCallOf (stages.Writing writer) result old new = ⊥
 IsEntryCallOf (Ready waited) result old new = ⊥
 IsEntryCallOf (Entering w) result old new = IsCallOf (turn w) w.stage result old new
 
 -- the entry is one call further, which did so much
 abbrev pub IsNextAt : Job → JobStage → Wrote → Job → Type 0
+IsNextAt old (stages.Writing writer) what new = ⊥
 IsNextAt old (Ready waited) what new = ⊥
 IsNextAt old (Entering w) what new = (what ≡ writers.did w.stage) × (new ≡ record old { stage = Entering (with_stage w (stage_after w.stage)) })
 
@@ -147,17 +171,38 @@ did_of wrote.Synced = did.HeapSynced
 did_of wrote.Gate = did.GateWritten
 did_of wrote.Settled = did.JobDone
 
--- what stands in memory once the entry is the log's
-abbrev pub with_work : JobWork → CommitsValue → CommitsValue
-with_work (Floor floor floors) v = with_floors v floors
+-- what stands in memory once the entry is the log's: the floors with it, or what the log names, and the run among the others
+abbrev pub commits_with : JobWork → CommitsValue → CommitsValue
+commits_with (Floor floor floors) v = with_floors v floors
+commits_with (Archive archive archives) v = v
 
-abbrev pub with_job : Option Job → CommitsValue → CommitsValue
-with_job None v = v
-with_job (Some job) v = with_work job.work v
+abbrev pub named_with : JobWork → NamedValue → NamedValue
+named_with (Floor floor floors) named = named
+named_with (Archive archive archives) named = with_archives archives archive named
+
+abbrev pub archive_with : JobWork → ArchiveValue → ArchiveValue
+archive_with (Floor floor floors) archive = archive
+archive_with (Archive made archives) archive = with_next_run archive
+
+-- so of the job that runs, if one does
+abbrev pub commits_by : Option Job → CommitsValue → CommitsValue
+commits_by None v = v
+commits_by (Some job) v = commits_with job.work v
+
+abbrev pub named_by : Option Job → NamedValue → NamedValue
+named_by None named = named
+named_by (Some job) named = named_with job.work named
+
+abbrev pub archive_by : Option Job → ArchiveValue → ArchiveValue
+archive_by None archive = archive
+archive_by (Some job) archive = archive_with job.work archive
+
+abbrev pub with_work : JobWork → LogStoreValue → LogStoreValue
+with_work work v = record v { commits = commits_with work v.commits; named = named_with work v.named; archive = archive_with work v.archive }
 
 -- the entry is the log's, and no job runs
 abbrev pub with_entry : LogStoreValue → Job → LogStoreValue
-with_entry v job = record v { commits = with_work job.work v.commits; job = None }
+with_entry v job = record (with_work job.work v) { job = None }
 
 -- the store behind the entry's call: the last one ends the job
 abbrev pub after_call : LogStoreValue → Job → WriterState → Stage → LogStoreValue
@@ -166,11 +211,6 @@ after_call v job w Syncing = at_stage v job (Entering (with_stage w (stage_after
 after_call v job w Opening = at_stage v job (Entering (with_stage w (stage_after w.stage)))
 after_call v job w Settling = with_entry v job
 after_call v job w Done = v
-
--- the answer of a device call by that of its step
-abbrev pub disk_answer : Result JobDid PumpFault → Result (Unit {0}) DeviceFault
-disk_answer (Ok what) = Ok tt
-disk_answer (Err why) = refused_answer
 
 -- The entry's next device call is made, or it is refused and the store has failed.
 pub record Advances (tells : Bool) (job : Job) (w : WriterState) (old : LogStoreValue) (result : Result JobDid PumpFault) (new : LogStoreValue) : Type 0 where
@@ -181,6 +221,7 @@ pub record Advances (tells : Bool) (job : Job) (w : WriterState) (old : LogStore
 
 -- of a job whose entry is in the writing
 abbrev pub AdvancesAt : Bool → Job → JobStage → LogStoreValue → Result JobDid PumpFault → LogStoreValue → Type 0
+AdvancesAt tells job (stages.Writing writer) old result new = ⊥
 AdvancesAt tells job (Ready waited) old result new = ⊥
 AdvancesAt tells job (Entering w) old result new = Advances tells job w old result new
 
@@ -201,6 +242,7 @@ StepsReady tells job (Some w) old result new = (result ≡ Err pump.Busy) × (ne
 
 -- a step of the job that runs
 abbrev pub StepsAt : Bool → Job → JobStage → LogStoreValue → Result JobDid PumpFault → LogStoreValue → Type 0
+StepsAt tells job (stages.Writing writer) old result new = WritesRun tells job old result new
 StepsAt tells job (Ready waited) old result new = StepsReady tells job old.turn old result new
 StepsAt tells job (Entering w) old result new = Advances tells job w old result new
 

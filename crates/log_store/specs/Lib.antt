@@ -2,7 +2,9 @@ pub mod Named
 pub mod Values
 pub mod Submits
 pub mod Pumps
+pub mod Runs
 pub mod Jobs
+pub mod Archives
 pub mod Calls
 pub mod Queries
 pub mod Formats

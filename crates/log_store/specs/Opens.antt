@@ -2,7 +2,6 @@
 use Rattle.std.specs.Prelude.{ℕ, ◌≡◌, ◌≤◌, Bool, true, false, IsTrue, List, [], ◌∷◌, length, map, max, None, Err}
 use Rattle.disk.specs.Areas.{image_of, settled_on, LeavesNoMore}
 use Rattle.disk.specs.Calls.{DiskState}
-use Rattle.disk.specs.declared.area.Area.TheVariants.{Heap}
 use Rattle.chains.specs.KeyWrites.{IsOrdered}
 use Rattle.floors.specs.Floors.{FloorsValue, no_floors}
 use Rattle.wire.specs.declared.slot.Run.{Run}
@@ -17,7 +16,6 @@ use Rattle.recovery.specs.Refusals.{refusals_at_opening}
 use Rattle.recovery.specs.Settling.{Settles, CountsMore, CountsAtMost}
 use Rattle.recovery.specs.declared.fault.OpenFault.{OpenFault}
 use Rattle.recovery.specs.declared.fault.OpenFault.TheVariants.{NotAStore, Damaged, Device, NoMemory}
-use Rattle.log_roots.specs.Roots.{root_of}
 use Rattle.log_recovery.specs.declared.members_read.CommitName.{CommitName}
 use Rattle.log_recovery.specs.declared.members_read.MembersRead.{MembersRead}
 use Rattle.log_recovery.specs.declared.opening.LogHeap.{LogHeap}
@@ -74,9 +72,14 @@ commits_on mark members floors reclaimed = record {
 abbrev pub room_on : LogHeap → RoomValue
 room_on heap = record { used = with_use heap.space heap.next true; next = heap.next; log = heap.log; promised = 0; anchors = heap.members.sizes.len }
 
--- the archives and rolls that the log names
+-- what the log names in the archive
 abbrev pub named_on : LogHeap → NamedValue
-named_on heap = record { archives = heap.archives.items; rolls = heap.end.rolls.items }
+named_on heap = record {
+  archives = heap.archives.items;
+  rolls = heap.end.rolls.items;
+  upto = heap.end.archived;
+  end = max heap.end.runs_end heap.end.rolls_end;
+}
 
 -- what the store has in memory
 pub record ArePartsOf (mark : ℕ) (read : LogRecovered) (parts : MemoryParts) : Type 0 where

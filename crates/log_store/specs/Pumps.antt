@@ -17,6 +17,7 @@ use Rattle.commits.specs.Steps.{grouped, published, broken}
 use Rattle.log_store.specs.declared.job.Job.{Job}
 use Rattle.log_store.specs.declared.job.JobStage.{JobStage}
 use Rattle.log_store.specs.declared.job.JobStage.TheVariants.{Ready, Entering}
+use Rattle.log_store.specs.declared.job.JobStage.TheVariants as stages
 use Rattle.log_store.specs.Values.{LogStoreValue}
 use Rattle.log_store.specs.declared.pump.Did.{Did}
 use Rattle.log_store.specs.declared.pump.Did.TheVariants as did
@@ -100,6 +101,7 @@ BeginsGroup tells old result new =
 
 -- a job bars groups: it has waited for one, or its entry is in the writing
 abbrev pub bars_at : JobStage → Bool
+bars_at (stages.Writing writer) = false
 bars_at (Ready waited) = waited
 bars_at (Entering w) = true
 

@@ -11,7 +11,9 @@ use Rattle.commits.specs.Values.{CommitsValue}
 use Rattle.log_store.specs.Named.{NamedValue}
 use Rattle.log_store.specs.declared.job.Job.{Job}
 use Rattle.log_store.specs.declared.job.JobStage.{JobStage}
-use Rattle.log_store.specs.declared.job.JobStage.TheVariants.{Ready, Entering}
+use Rattle.log_store.specs.declared.job.JobStage.TheVariants.{Writing, Ready, Entering}
+use Rattle.log_store.specs.declared.job.JobWork.{JobWork}
+use Rattle.log_store.specs.declared.job.JobWork.TheVariants.{Floor, Archive}
 
 -- a store: its commits and transactions, the room in the heap, the chain in the writing, its archive, and its disk
 pub record LogStoreValue : Type 0 where
@@ -42,6 +44,7 @@ HasTurn group (Some w) = (0 < group) × IsOnItsWay w.stage
 
 -- how many extents a job is promised: one for its entry, until that is begun
 abbrev pub promised_at : JobStage → ℕ
+promised_at (Writing writer) = 1
 promised_at (Ready waited) = 1
 promised_at (Entering w) = 0
 
@@ -51,12 +54,22 @@ promised_to (Some job) = promised_at job.stage
 
 -- a job's entry is in the writing only while no group is, and then it is on its way
 abbrev pub IsStageBeside : Option WriterState → JobStage → Type 0
+IsStageBeside turn (Writing writer) = Unit {0}
 IsStageBeside turn (Ready waited) = Unit {0}
 IsStageBeside turn (Entering w) = (turn ≡ None) × IsOnItsWay w.stage
 
 abbrev pub IsBeside : Option WriterState → Option Job → Type 0
 IsBeside turn None = Unit {0}
 IsBeside turn (Some job) = IsStageBeside turn job.stage
+
+-- the run of an archive ends at a place that a disk has
+abbrev pub IsInPlace : JobWork → Type 0
+IsInPlace (Floor floor floors) = Unit {0}
+IsInPlace (Archive archive archives) = archive.start + archive.len < 2 ^ 63
+
+abbrev pub IsJobInPlace : Option Job → Type 0
+IsJobInPlace None = Unit {0}
+IsJobInPlace (Some job) = IsInPlace job.work
 
 -- What holds of a store by itself.
 pub record IsInStep (v : LogStoreValue) : Type 0 where
@@ -69,3 +82,4 @@ pub record IsInStep (v : LogStoreValue) : Type 0 where
   pub many : length v.room.used ≤ 2 ^ 20
   pub turn : HasTurn v.commits.group v.turn
   pub beside : IsBeside v.turn v.job
+  pub place : IsJobInPlace v.job

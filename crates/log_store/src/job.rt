@@ -1,9 +1,11 @@
 //! What a job is.
 ghost use Rattle.std.specs.Prelude.{◌≡◌};
 
+use archive::RunWriter;
 use floors::Floors;
-use log_entries::RelationFloor;
+use log_entries::{Archive, Listed, RelationFloor};
 use log_writer::ChainWriter;
+use vacuum::ArchiveWalk;
 
 /// What a job puts into the log by its entry.
 #[derive(Drop)]
@@ -13,11 +15,18 @@ pub enum JobWork {
         floor: RelationFloor,
         floors: Floors,
     },
+    /// A run of the archive, and all archives that the log names once its entry is the log's.
+    Archive {
+        archive: Archive,
+        archives: Listed<Archive>,
+    },
 }
 
 /// How far a job is.
 #[derive(Drop)]
 pub enum JobStage {
+    /// The run that its entry will name is in the writing.
+    Writing(RunWriter<ArchiveWalk>),
     /// Its entry is not begun. Where the job has waited for a group, no other group begins before its entry.
     Ready { waited: bool },
     /// Its entry is in the writing.
@@ -36,6 +45,9 @@ pub struct Job {
 pub enum JobDid {
     /// No job runs.
     Idle,
+    /// The next piece of the run is written.
+    WroteRun,
+    RunSynced,
     /// Its entry is written, but for its gate.
     WroteEntry,
     /// The gate where the log will end is closed.
@@ -56,7 +68,7 @@ pub enum StartFault {
     WrongProfile,
     /// A job runs.
     JobBusy,
-    /// The floor of the relation is as late.
+    /// The floor of the relation is as late, or all versions that ended by then are archived.
     NothingToDo,
     /// The last commit that is published has this earlier time, in microseconds since 1970.
     NotYet(u64),
@@ -64,5 +76,7 @@ pub enum StartFault {
     InUse(u64),
     /// The log's half of the heap has no extent for its entry, or a base none for the floor.
     HeapFull,
+    /// The run would end past byte 2^63 - 1 of the archive.
+    ArchiveFull,
     NoMemory,
 }

@@ -6,17 +6,22 @@ ghost use Rattle.status.specs.SlotCalls.{answer_of};
 ghost use Rattle.log_entries.specs.Spelling.{entry_bytes};
 ghost use Rattle.log_extents.specs.Chains.{count_of};
 ghost use Rattle.log_store.specs.declared.job.JobStage.TheVariants.{Ready};
-ghost use Rattle.log_store.specs.Jobs.{PumpsJob, BeginsEntry, AdvancesEntry, IsReady, IsEntering, is_entering, at_stage, entry_of, with_work, with_job, did_of};
+ghost use Rattle.log_store.specs.Jobs.{PumpsJob, BeginsEntry, AdvancesEntry, IsWriting, IsReady, IsEntering, is_writing, is_ready, at_stage};
+ghost use Rattle.log_store.specs.Jobs.{entry_of, commits_with, named_with, archive_with, commits_by, named_by, archive_by, did_of};
 ghost use Rattle.log_store.specs.Jobs.{IsStageOnItsWay, IsEntryCallOf, IsNextOf, entering};
+ghost use Rattle.log_store.specs.Runs.{CallsAt, WritesRun, did_at, behind};
+ghost use Rattle.log_store.specs.Values.{IsInPlace, IsJobInPlace};
 
 use crate::job::{Job, JobDid, JobStage, JobWork};
+use crate::named::Named;
 use crate::store::LogStore;
 use commits::Commits;
-use disk::{DeviceFault, Disk};
+use disk::{Area, DeviceFault, Disk};
 use group::PumpFault;
-use log_entries::push_floor;
+use log_entries::{push_archive, push_floor};
 use log_writer::{ChainWriter, Wrote};
 use std::alloc::{AllocError, Global};
+use timequery::StoreArchive;
 
 /// An entry takes one extent.
 const ENTRY_EXTENTS: usize = 1;
@@ -42,32 +47,70 @@ impl JobWork {
     {
         let mut bytes = Vec::new(alloc);
         match self {
-            JobWork::Floor { floor, .. } => push_floor(&mut bytes, floor)?,
+            JobWork::Floor { floor, .. } => {
+                push_floor(&mut bytes, floor)?;
+                Ok(bytes)
+            }
+            JobWork::Archive { archive, .. } => {
+                push_archive(&mut bytes, archive)?;
+                Ok(bytes)
+            }
         }
-        Ok(bytes)
     }
 
     // Its entry is the log's.
-    fn ends(self, commits: &mut Commits)
-        ensures { commits.new ≡ with_work self commits.old }
+    fn ends(self, commits: &mut Commits, named: &mut Named, archived: &mut StoreArchive)
+        requires { IsInPlace self }
+        ensures commits { commits.new ≡ commits_with self commits.old }
+        ensures named { named.new ≡ named_with self named.old }
+        ensures archived { archived.new ≡ archive_with self archived.old }
     {
         match self {
             JobWork::Floor { floors, .. } => commits.put_floors(floors),
+            JobWork::Archive { archive, archives } => {
+                named.put_archives(archives, archive);
+                archived.put_run();
+            }
         }
     }
 }
 
-// Whether its entry is in the writing.
-fn is_entering(job: &Job) -> bool
-    ensures { result ≡ is_entering job.now.stage }
+// Whether the run that its entry will name is in the writing.
+fn is_writing(job: &Job) -> bool
+    ensures { result ≡ is_writing job.now.stage }
 {
-    match &job.stage {
-        JobStage::Ready { .. } => false,
-        JobStage::Entering(_) => true,
-    }
+    matches!(&job.stage, JobStage::Writing(_))
+}
+
+// Whether its entry is to begin.
+fn is_ready(job: &Job) -> bool
+    ensures { result ≡ is_ready job.now.stage }
+{
+    matches!(&job.stage, JobStage::Ready { .. })
 }
 
 impl Job {
+    // The next device call of its run: a piece of it, or its sync where all is written. After a refused write the writer stands behind the
+    // piece too.
+    fn write_next<D: Disk>(&mut self, disk: &mut D) -> Result<JobDid, DeviceFault>
+        requires { is_writing self.old.stage ≡ true }
+        ensures call { IsTrue D.tells → CallsAt self.old.stage (answer_of result) (D.state disk.old).areas (D.state disk.new).areas }
+        ensures counts { Counts result (D.state disk.old) (D.state disk.new) }
+        ensures ok { IfOk result (λ what. (what ≡ did_at self.old.stage) × (self.new ≡ behind self.old true)) }
+        ensures err { IfErr result (λ why. self.new ≡ behind self.old false) }
+    {
+        let JobStage::Writing(writer) = &mut self.stage else {
+            unreachable!()
+        };
+        if writer.left() > 0 {
+            writer.write_piece(disk)?;
+            return Ok(JobDid::WroteRun);
+        }
+        disk.sync(Area::Archive)?;
+        self.stage = JobStage::Ready { waited: false };
+        Ok(JobDid::RunSynced)
+    }
+
     // The next device call of its entry. A refused one changes nothing here.
     fn advance<D: Disk>(&mut self, disk: &mut D) -> Result<Wrote, DeviceFault>
         requires { IsStageOnItsWay self.old.stage }
@@ -77,7 +120,7 @@ impl Job {
         ensures err { IfErr result (λ why. self.new ≡ self.old) }
     {
         match &mut self.stage {
-            JobStage::Ready { .. } => unreachable!(),
+            JobStage::Writing(_) | JobStage::Ready { .. } => unreachable!(),
             JobStage::Entering(entry) => entry.advance(disk),
         }
     }
@@ -93,13 +136,21 @@ fn enter(job: &mut Option<Job>, entry: ChainWriter)
 }
 
 // The entry of the job is the log's, and no job runs.
-fn end_job(job: &mut Option<Job>, commits: &mut Commits)
+fn end_job(
+    job: &mut Option<Job>,
+    commits: &mut Commits,
+    named: &mut Named,
+    archived: &mut StoreArchive,
+)
+    requires { IsJobInPlace job.old }
     ensures none { job.new ≡ None }
-    ensures work { commits.new ≡ with_job job.old commits.old }
+    ensures commits { commits.new ≡ commits_by job.old commits.old }
+    ensures named { named.new ≡ named_by job.old named.old }
+    ensures archived { archived.new ≡ archive_by job.old archived.old }
 {
     if let Some(job) = job.take() {
         let Job { work, stage: _ } = job;
-        work.ends(commits);
+        work.ends(commits, named, archived);
     }
 }
 
@@ -120,7 +171,10 @@ impl<D: Disk> LogStore<D> {
         let Some(job) = &self.job else {
             return Ok(JobDid::Idle);
         };
-        if !is_entering(job) {
+        if is_writing(job) {
+            return self.write_run();
+        }
+        if is_ready(job) {
             if self.turn.is_some() {
                 self.wait_for_group();
                 return Err(PumpFault::Busy);
@@ -130,6 +184,25 @@ impl<D: Disk> LogStore<D> {
             }
         }
         self.advance_entry()
+    }
+
+    // The next device call of the run of the job.
+    fn write_run(&mut self) -> Result<JobDid, PumpFault>
+        requires works { self.old.commits.failed ≡ false }
+        requires writing { IsWriting self.old.job }
+        ensures is { MatchOption self.old.job ⊥ (λ job. WritesRun D.tells job self.old result self.new) }
+        ensures sound { IsTrue D.tells → AreSound self.new.disk.areas }
+    {
+        let Some(job) = &mut self.job else {
+            unreachable!()
+        };
+        match job.write_next(&mut self.disk) {
+            Err(DeviceFault) => {
+                self.commits.fail();
+                Err(PumpFault::Failed)
+            }
+            Ok(did) => Ok(did),
+        }
     }
 
     // No other group begins before the entry of the job, which is not begun.
@@ -175,7 +248,12 @@ impl<D: Disk> LogStore<D> {
                 Err(PumpFault::Failed)
             }
             Ok(Wrote::Settled) => {
-                end_job(&mut self.job, &mut self.commits);
+                end_job(
+                    &mut self.job,
+                    &mut self.commits,
+                    &mut self.named,
+                    &mut self.archive,
+                );
                 Ok(JobDid::JobDone)
             }
             Ok(what) => Ok(did_of(what)),

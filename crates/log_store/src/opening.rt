@@ -127,9 +127,12 @@ fn parts_of(alloc: Global, mark: u64, read: LogRecovered) -> Result<MemoryParts,
     } = heap;
     let LogEnd {
         mark: reclaimed,
+        archived,
         floors,
         runs,
         rolls,
+        runs_end,
+        rolls_end,
         ..
     } = end;
     // The versions are in the order of their keys.
@@ -144,7 +147,7 @@ fn parts_of(alloc: Global, mark: u64, read: LogRecovered) -> Result<MemoryParts,
             roots,
             commits,
             room,
-            named: Named::new(archives, rolls),
+            named: Named::new(archives, rolls, archived, runs_end.max(rolls_end)),
             archive,
         }),
         None => Err(damaged),

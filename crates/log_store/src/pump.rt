@@ -78,6 +78,7 @@ impl<D: Disk> LogStore<D> {
         match &self.job {
             None => false,
             Some(job) => match &job.stage {
+                JobStage::Writing(_) => false,
                 JobStage::Ready { waited } => *waited,
                 JobStage::Entering(_) => true,
             },

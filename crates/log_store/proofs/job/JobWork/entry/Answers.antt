@@ -1,16 +1,11 @@
-use Rattle.std.proofs.Common.{◌≡◌, refl, arith, ℕ, length}
-use Rattle.log_store.proofs.Entering.{is-floor, floor-entry, one-extent}
+use Rattle.log_store.proofs.Entering.{floor-entry, archive-entry}
 use Rattle.log_store.proofs.job.JobWork.entry.Goals as goal
 
-pub returns-clause-is : goal.returns-clause-is
-returns-clause-is c =
-    let items = c.in_ok-push_floor.ensures.items in
-    let none = c.new-bytes.ensures.items in
-    let floor = is-floor c.args.self.now in
-    rw items (rw none (rw floor.2 (floor-entry floor.0 floor.1)))
+pub returns-in_ok-push_floor-in-Floor-clause-is : goal.returns-in_ok-push_floor-in-Floor-clause-is
+returns-in_ok-push_floor-in-Floor-clause-is c =
+    rw c.in_ok-push_floor-in-Floor.ensures.items (rw c.new-bytes.ensures.items (rw c.in-Floor.is (floor-entry c.in-Floor.floor c.in-Floor.floors)))
 
-pub returns-clause-one : goal.returns-clause-one
-returns-clause-one c =
-    let len = c.in_ok-push_floor.ensures.len in
-    let none : length c.new-bytes.result.items ≡ 0 = rw c.new-bytes.ensures.items refl in
-    one-extent (length c.push_floor.new.out.items) (omega (arith, len, none))
+pub returns-in_ok-push_archive-in-Archive-clause-is : goal.returns-in_ok-push_archive-in-Archive-clause-is
+returns-in_ok-push_archive-in-Archive-clause-is c =
+    rw c.in_ok-push_archive-in-Archive.ensures.items
+    (rw c.new-bytes.ensures.items (rw c.in-Archive.is (archive-entry c.in-Archive.archive c.in-Archive.archives)))
