@@ -7,6 +7,7 @@ use Rattle.store.specs.Growths as growths
 use Rattle.store.specs.Reclaims as reclaims
 use Rattle.store.specs.declared.job.StartFault.{StartFault}
 use Rattle.store.specs.declared.job.StartFault.TheVariants as fault
+use Rattle.log_store.specs.Archives as log_archives
 use Rattle.log_store.specs.Jobs as log_jobs
 use Rattle.log_store.specs.Values.{LogStoreValue}
 use Rattle.log_store.specs.declared.job.StartFault as log_starts
@@ -23,14 +24,6 @@ none_of failed why = if failed then fault.Failed else why
 abbrev pub BeginsNone : StartFault → Result (Unit {0}) StartFault → LogStoreValue → LogStoreValue → Type 0
 BeginsNone why answer old new = (answer ≡ Err (none_of old.commits.failed why)) × (new ≡ old)
 
--- an archive begins, where the log is slots
-abbrev pub StartsArchive : StoreValue → ℕ → Result (Unit {0}) StartFault → StoreValue → Type 0
-StartsArchive old upto answer new = ByEngine (λ s s'. archives.StartsArchive s upto answer s') (BeginsNone fault.WrongProfile answer) old new
-
--- so does a reclaim
-abbrev pub StartsReclaim : StoreValue → Result (Unit {0}) StartFault → StoreValue → Type 0
-StartsReclaim old answer new = ByEngine (λ s s'. reclaims.StartsReclaim s answer s') (BeginsNone fault.WrongProfile answer) old new
-
 -- why none begins where the log lies in the heap
 abbrev pub told_fault : log_starts.StartFault → StartFault
 told_fault log_fault.Failed = fault.Failed
@@ -46,6 +39,18 @@ told_fault log_fault.NoMemory = fault.NoMemory
 abbrev pub told_start : Result (Unit {0}) log_starts.StartFault → Result (Unit {0}) StartFault
 told_start (Ok done) = Ok tt
 told_start (Err why) = Err (told_fault why)
+
+-- an archive begins in either layout
+abbrev pub StartsLogArchive : ℕ → Result (Unit {0}) StartFault → LogStoreValue → LogStoreValue → Type 0
+StartsLogArchive upto answer old new =
+    (said : Result (Unit {0}) log_starts.StartFault) × log_archives.StartsArchive old upto said new × (answer ≡ told_start said)
+
+abbrev pub StartsArchive : StoreValue → ℕ → Result (Unit {0}) StartFault → StoreValue → Type 0
+StartsArchive old upto answer new = ByEngine (λ s s'. archives.StartsArchive s upto answer s') (StartsLogArchive upto answer) old new
+
+-- a reclaim begins, where the log is slots
+abbrev pub StartsReclaim : StoreValue → Result (Unit {0}) StartFault → StoreValue → Type 0
+StartsReclaim old answer new = ByEngine (λ s s'. reclaims.StartsReclaim s answer s') (BeginsNone fault.WrongProfile answer) old new
 
 -- a floor begins in either layout; where the log lies in the heap it is one of one relation
 abbrev pub StartsLogFloor : Option ℕ → ℕ → Result (Unit {0}) StartFault → LogStoreValue → LogStoreValue → Type 0

@@ -3,7 +3,7 @@ ghost use Rattle.std.specs.Prelude.{◌≡◌, IsTrue, None, Some};
 ghost use Rattle.disk.specs.Areas.{AreSound};
 ghost use Rattle.any_store.specs.Values.{disk_of};
 ghost use Rattle.any_store.specs.Jobs.{none_of, StartsArchive, StartsReclaim, StartsFloor, StartsGrowth, PumpsJob};
-ghost use Rattle.any_store.specs.Jobs.{told_fault, told_start, StartsLogFloor};
+ghost use Rattle.any_store.specs.Jobs.{told_fault, told_start, StartsLogArchive, StartsLogFloor};
 
 use crate::any::Store;
 use crate::engine::Engine;
@@ -20,7 +20,7 @@ impl<D: Disk> Store<D> {
     {
         match &mut self.engine {
             Engine::Slots(store) => store.archive_start(upto),
-            Engine::Log(store) => Err(none_of(store.has_failed(), StartFault::WrongProfile)),
+            Engine::Log(store) => start_log_archive(store, upto),
         }
     }
 
@@ -113,6 +113,12 @@ fn told_start(said: Result<(), LogStartFault>) -> Result<(), StartFault>
         Ok(()) => Ok(()),
         Err(why) => Err(told_fault(why)),
     }
+}
+
+fn start_log_archive<D: Disk>(store: &mut LogStore<D>, upto: u64) -> Result<(), StartFault>
+    ensures { StartsLogArchive upto result store.old store.new }
+{
+    told_start(store.archive_start(upto))
 }
 
 fn start_log_floor<D: Disk>(
