@@ -280,9 +280,9 @@ pump-goes tells (Log l) (Log l') answer m is pumps = leaves-goes tells l l' (log
 -- a run goes behind those that stand
 run-past : (tells : Bool) (l : LogStoreValue) (m : Machine Value) → logs.Stands tells l m → (writer : InWriting) (job : log_job.Job)
     → l.commits.failed ≡ false → l.job ≡ Some job → job.stage ≡ log_stage.Writing writer → IsTrue tells → logs.end_of l.archive.runs ≤ writer.at
-run-past tells l m stands writer job works is-job e told =
+run-past tells l m stands writer job works-on is-job e told =
     let heap : StandsOnHeap l m.published m.queue m.floors =
-    subst (λ (b : Bool). MatchBool b (StopsOnHeap l m.published m.queue m.floors) (StandsOnHeap l m.published m.queue m.floors)) works
+    subst (λ (b : Bool). MatchBool b (StopsOnHeap l m.published m.queue m.floors) (StandsOnHeap l m.published m.queue m.floors)) works-on
     (stands.store.disk told) in
     by-work heap.made job.work (subst (λ (j : Option log_job.Job). logs.JobHasPlace l.named l.archive.runs l.archive.next j) is-job stands.place)
     (subst (λ (k : log_stages.JobStage). HasWritten job.work heap.made k l.disk.areas.archive) e
