@@ -187,13 +187,15 @@ def forms(program, folder):
 
 
 def shown(program, store):
-    """The log of a store of profile 4 that has commits at 100 and at 200: what is shown of it, and up to a damaged chain."""
+    """The log of a store of profile 4 that has commits at 100 and at 200, and an archive and a floor between: what is shown of it, and up to a
+    damaged chain."""
     front = "header extents 64 root 1\nchain 1 commits extents 1\nmember 5 100 1 1970-01-01T00:00:00Z\n"
-    log = front + "chain 2 commits extents 1\nmember 6 200 2 1970-01-01T00:00:00Z\nnext 3\nused 2 of 64\n"
-    facts = {"profile": 4, "heap": 64, "extents": 2, "log": 3, "free": 29, "commits": 2, "last": 200, "archived": 0, "archive": 0, "reclaimed": 0}
+    log = front + "chain 2 archived 100 0 0 0 0\nchain 3 floor 100 relation 2\nchain 4 commits extents 1\nmember 6 200 2 1970-01-01T00:00:00Z\n"
+    log += "next 5\nused 4 of 64\n"
+    facts = {"profile": 4, "heap": 64, "extents": 4, "log": 5, "free": 27, "commits": 2, "last": 200, "archived": 100, "archive": 0, "reclaimed": 0}
     assert run(program, ["dump", store]) == (0, log, "")
-    assert run(program, ["info", store]) == (0, "".join(f"{name} {number}\n" for name, number in facts.items()), "")
-    assert json.loads(run(program, ["info", store, "--json"])[1]) == {**facts, "floors": []}
+    assert run(program, ["info", store]) == (0, "".join(f"{name} {number}\n" for name, number in facts.items()) + "floor 2 100\n", "")
+    assert json.loads(run(program, ["info", store, "--json"])[1]) == {**facts, "floors": [{"relation": 2, "floor": 100}]}
     with open(os.path.join(store, "heap"), "r+b") as heap:
         heap.seek(8192 + 12)
         used = heap.read(1)
@@ -206,7 +208,7 @@ def shown(program, store):
 
 
 def endless(program, folder):
-    """A store of profile 4, which is still being built: format says so, what is done stays and is shown, and jobs but floors are refused."""
+    """A store of profile 4, which is still being built: format says so, what is done stays and is shown, and jobs but archives and floors are refused."""
     store = os.path.join(folder, "endless")
     os.mkdir(store)
     for words in (["--profile", "4", "--slots", "64"], ["--extents", "64"], ["--profile", "3", "--extents", "64"]):
@@ -218,10 +220,10 @@ def endless(program, folder):
     assert (status, said, told.count("\n")) == (0, "formatted 64\n", 1) and "profile 4" in told, (status, said, told)
     for words in ([], ["--profile", "4"]):
         assert run(program, ["format", store, *words])[:2] == (1, "refused: occupied\n"), words
-    script = "begin t\nput t 1 7 61\nsubmit t 5 100\nflush\nredeem t\nreopen\nat 1 7 100\narchive 100\nreclaim\nfloor 100\ngrow\nfinish\n"
-    script += "floorof 2 100\nfinish\n"
-    answers = "snapshot 0\nok\nqueued\nidle\ndone 100\nlast 100 floors 0\nvalue 61\n" + "refused: wrong profile\n" * 3
-    answers += "refused: not growable\nidle\nstarted\nidle\n"
+    script = "begin t\nput t 1 7 61\nsubmit t 5 100\nflush\nredeem t\nreopen\nat 1 7 100\nreclaim\nfloor 100\ngrow\nfinish\n"
+    script += "archive 100\nfinish\nfloorof 2 100\nfinish\n"
+    answers = "snapshot 0\nok\nqueued\nidle\ndone 100\nlast 100 floors 0\nvalue 61\n" + "refused: wrong profile\n" * 2
+    answers += "refused: not growable\nidle\nstarted\nidle\nstarted\nidle\n"
     assert run(program, ["run", store], script) == (0, answers, "")
     assert run(program, ["run", store], "begin t\ndel t 1 7\nput t 1 8 62 -\nsubmit t 6 200\nflush\nredeem t\n")[:2] == (
         0, "snapshot 100\nok\nok\nqueued\nidle\ndone 200\n")
@@ -234,7 +236,10 @@ def endless(program, folder):
     assert (status, told) == (0, "") and said.startswith("done "), (status, said, told)
     assert run(program, ["get", store, "1", "7", "--json"])[1].endswith('"value":["Ada"]}\n')
     assert run(program, ["del", store, "1", "7"])[0] == 0 and run(program, ["get", store, "1", "7"]) == (0, "none\n", "")
-    assert run(program, ["vacuum", store, "200"])[:2] == (1, "refused: wrong profile\n")
+    assert run(program, ["vacuum", store, "200"])[:2] == (1, "archived 1\nrefused: wrong profile\n")
+    assert run(program, ["vacuum", store, "200"])[:2] == (1, "refused: nothing to do\n")
+    assert run(program, ["at", store, "1", "7", "100"]) == (0, "value 61\n", "")
+    assert "archived 200\narchive 37\n" in run(program, ["info", store])[1]
     assert run(program, ["grow", store])[:2] == (1, "refused: not growable\n")
     assert run(program, ["floor", store, "1", "200"]) == (0, "floor 200\n", "")
     assert run(program, ["floor", store, "1", "200"])[:2] == (1, "refused: nothing to do\n")

@@ -46,7 +46,8 @@ groups, and its heap as many extents of 8 KiB; one that is full answers
 
 Profile 4 has no slots: its log lies in the heap, and does not end. It is still
 being built. Its bytes may change, and nothing gives extents back yet: `vacuum`
-answers it by `wrong profile`. So is a size refused that is of the other profile.";
+archives, and answers `wrong profile` then. So is a size refused that is of the
+other profile.";
 
 /// Of `run`.
 pub const RUN: &str = "A line has one command, words parted by one space:
@@ -131,7 +132,8 @@ It stops at the first refusal, after the line of what was done before it:
   nothing to do   the archive already reaches the time
   not yet T       the time is after the last commit, that of T
   status full     no slot is left
-  heap full       no extents are left for what is written anew";
+  heap full       no extents are left for what is written anew
+  wrong profile   the store is of profile 4, which archives alone";
 
 /// Of `grow`.
 pub const GROW: &str =

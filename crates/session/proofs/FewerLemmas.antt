@@ -63,6 +63,7 @@ log-fewer tells false old new what pumps some = step-fewer tells old.turn old ne
 
 entry-fewer : (tells : Bool) (k : log_stages.JobStage) (job : log_job.Job) (old new : LogStoreValue) (done : log_steps.JobDid)
     → log_jobs.AdvancesAt tells job k old (Ok done) new → IsFewer old.disk new.disk
+entry-fewer tells (log_stage.Writing writer) job old new done takes = absurd takes
 entry-fewer tells (log_stage.Ready waited) job old new done takes = absurd takes
 entry-fewer tells (log_stage.Entering w) job old new done takes = counted-fewer old.disk new.disk takes.counts
 
@@ -80,6 +81,7 @@ ready-fewer tells (Some w) job old new done busy = absurd (let is = busy.0 in cc
 
 job-step-fewer : (tells : Bool) (k : log_stages.JobStage) (job : log_job.Job) (old new : LogStoreValue) (done : log_steps.JobDid)
     → log_jobs.StepsAt tells job k old (Ok done) new → IsFewer old.disk new.disk
+job-step-fewer tells (log_stage.Writing writer) job old new done takes = counted-fewer old.disk new.disk takes.counts
 job-step-fewer tells (log_stage.Ready waited) job old new done takes = ready-fewer tells old.turn job old new done takes
 job-step-fewer tells (log_stage.Entering w) job old new done takes = counted-fewer old.disk new.disk takes.counts
 

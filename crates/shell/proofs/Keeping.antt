@@ -4,7 +4,7 @@ use Rattle.std.proofs.Common.{Option, Some, None, Result, Ok, Err, Vec, ap, refl
 use Rattle.std.specs.declared.alloc.Global.{Global}
 use Rattle.std.specs.Prelude.{MatchBool, MatchOption}
 use Rattle.disk.specs.Areas.{AreSound, image_of}
-use Rattle.disk.specs.Calls.{DiskState}
+use Rattle.disk.specs.Calls.{DiskState, looked, refused_answer}
 use Rattle.history.specs.Answers as answers
 use Rattle.history.specs.Answers.{QueryRefusal, at_answer, between_answer, times_of}
 use Rattle.history.specs.declared.key.Key.{Key}
@@ -77,7 +77,8 @@ use Rattle.shell.specs.Keeps.{LineLeads, LinesKeep, RunKeeps, NewRunKeeps, Keeps
 use Rattle.shell.specs.Keeps.{GrowingKeeps, MakingKeeps, IsValueReply, IsRowsReply, OrGaveOut, AskingKeeps}
 use Rattle.shell.specs.Keeps.{FloorKeeps, RaisingKeeps}
 use Rattle.shell.specs.Keeps.{IsRecordsReply, IsReplyTo, IsTimesReply, WriteKeeps, WritingKeeps}
-use Rattle.shell.specs.Vacuums.{DoesAll, DoesJob, DoesPart, DoesVacuum, is_refusal}
+use Rattle.shell.specs.Vacuums.{DoesAll, DoesJob, DoesPart, DoesVacuum, LogNames, LogNamesNone, is_refusal}
+use Rattle.shell.specs.declared.job_records.JobRecords.{JobRecords}
 use Rattle.script.specs.Lines.{said}
 use Rattle.shell.specs.Writing.{AnswersInTurn, IsNotAnswered, write_lines}
 use Rattle.shell.specs.declared.vacuuming.Vacuumed.{Vacuumed}
@@ -304,12 +305,31 @@ read-holds (log.Damaged n) old = refl
 read-holds log.Device old = refl
 read-holds log.NoMemory old = refl
 
+-- a refused read is counted, and nothing else has changed
+fault-holds : (why : OpenFault) (old : DiskState) → (after_fault why old).areas ≡ old.areas
+fault-holds opening.NotAStore old = refl
+fault-holds (opening.Damaged part n) old = refl
+fault-holds opening.Device old = refl
+fault-holds opening.NoMemory old = refl
+
+areas-of : (new old : DiskState) → new ≡ old → new.areas ≡ old.areas
+areas-of new old is = ap (λ (s : DiskState). s.areas) is
+
+names-hold : (tells : Bool) (upto : ℕ) (given new : DiskState) (counts : JobRecords) → LogNames tells upto given counts new → new.areas ≡ given.areas
+names-hold tells upto given new counts (inl slots) = areas-of new given slots.1.1.3
+names-hold tells upto given new counts (inr heap) = areas-of new given (heap.1).same
+
+none-holds : (tells : Bool) (given new : DiskState) (why : OpenFault) → LogNamesNone tells given why new → new.areas ≡ given.areas
+none-holds tells given new why (inl lacks) = areas-of new (refused_by lacks.1.0 given) lacks.1.1.1 ∙ read-holds lacks.1.0 given
+none-holds tells given new why (inr (inl lacks)) = areas-of new (after_fault why given) lacks.1.1 ∙ fault-holds why given
+none-holds tells given new why (inr (inr lacks)) = areas-of new (looked refused_answer given) lacks.1
+
 said-holds : (tells : Bool) (upto : ℕ) (given new : DiskState) (done : Vacuumed) (o : Output) → SaysVacuum tells upto given done o new → new.areas ≡ given.areas
-said-holds tells upto given new (vacuumed.Nothing refusal) o said = ap (λ (s : DiskState). s.areas) said.0
-said-holds tells upto given new (vacuumed.Archived refusal) o (inl said) = ap (λ (s : DiskState). s.areas) said.1.3
-said-holds tells upto given new (vacuumed.Archived refusal) o (inr lacks) = ap (λ (s : DiskState). s.areas) lacks.1.1 ∙ read-holds lacks.0 given
-said-holds tells upto given new vacuumed.Both o (inl said) = ap (λ (s : DiskState). s.areas) said.1.3
-said-holds tells upto given new vacuumed.Both o (inr lacks) = ap (λ (s : DiskState). s.areas) lacks.1.1 ∙ read-holds lacks.0 given
+said-holds tells upto given new (vacuumed.Nothing refusal) o said = areas-of new given said.0
+said-holds tells upto given new (vacuumed.Archived refusal) o (inl said) = names-hold tells upto given new said.0 said.1
+said-holds tells upto given new (vacuumed.Archived refusal) o (inr lacks) = none-holds tells given new lacks.0 lacks.1
+said-holds tells upto given new vacuumed.Both o (inl said) = names-hold tells upto given new said.0 said.1
+said-holds tells upto given new vacuumed.Both o (inr lacks) = none-holds tells given new lacks.0 lacks.1
 
 store-vacuum-keeps : (tells : Bool) (old new : DiskState) (upto : ℕ) (output : Output) (header : AnyHeader) (h : History Value) (floors : ℕ → ℕ) → IsTrue tells
     → AreSound old.areas → IsImageOf header (image_of old.areas) h floors
@@ -711,13 +731,6 @@ dump-holds tells old new output (inl (inl none)) = ap (λ (s : DiskState). s.are
 dump-holds tells old new output (inl (inr none)) = ap (λ (s : DiskState). s.areas) none.same ∙ read-holds none.why old
 dump-holds tells old new output (inr (inl dumped)) = ap (λ (s : DiskState). s.areas) dumped.same
 dump-holds tells old new output (inr (inr lacks)) = ap (λ (s : DiskState). s.areas) lacks.0
-
--- a refused read is counted, and nothing else has changed
-fault-holds : (why : OpenFault) (old : DiskState) → (after_fault why old).areas ≡ old.areas
-fault-holds opening.NotAStore old = refl
-fault-holds (opening.Damaged area place) old = refl
-fault-holds opening.Device old = refl
-fault-holds opening.NoMemory old = refl
 
 -- of a log in the heap
 dump_of_heap-holds : (tells : Bool) (old new : DiskState) (output : Output) → DumpsHeap tells old output new ⊎ HasNoDump tells old output new

@@ -4,7 +4,6 @@ use Rattle.std.specs.Fmt.{decimal}
 use Rattle.std.specs.Io.KnownBytes.{Appends, Keeps}
 use Rattle.disk.specs.Areas.{AreSound}
 use Rattle.disk.specs.Calls.{DiskState, looked, refused_answer}
-use Rattle.disk.specs.declared.area.Area.TheVariants as area
 use Rattle.recovery.specs.declared.fault.FormatFault.{FormatFault}
 use Rattle.recovery.specs.declared.fault.OpenFault.{OpenFault}
 use Rattle.recovery.specs.declared.fault.OpenFault.TheVariants as opening
@@ -15,7 +14,6 @@ use Rattle.log_dump.specs.declared.dump.Dump.{Dump}
 use Rattle.log_facts.specs.HeapTexts.{IsInfoFault, IsInfoOf}
 use Rattle.status.specs.Reading.{AnswersHeader, HoldsLog, IsHeaderFault, IsLogFault, ReadsHeader, refused_by}
 use Rattle.status.specs.declared.fault.LogFault.{LogFault}
-use Rattle.status.specs.declared.fault.LogFault.TheVariants as log
 use Rattle.status.specs.declared.header.Header.{Header}
 use Rattle.status.specs.Header.{total}
 use Rattle.wire.specs.declared.slot.Slot.{Slot}
@@ -48,7 +46,8 @@ use Rattle.shell.specs.Asking.{line_asked}
 use Rattle.shell.specs.Layouts.{formatted_line, size_of, store_layout}
 use Rattle.shell.specs.Styled.{IsTextOf}
 use Rattle.shell.specs.Dump.{IsDump}
-use Rattle.shell.specs.Vacuums.{DoesJob, DoesVacuum, HasLog, HasNoHeaderFor, LacksLog, archived_line, is_refusal, reclaimed_line}
+use Rattle.shell.specs.Vacuums.{DoesJob, DoesVacuum, HasNoHeaderFor, LogNames, LogNamesNone, archived_line, is_refusal, open_fault_of, reclaimed_line}
+use Rattle.shell.specs.declared.job_records.JobRecords.{JobRecords}
 use Rattle.shell.specs.Writing.{AnswersInTurn, write_lines}
 use Rattle.shell.specs.declared.vacuuming.Vacuumed.{Vacuumed}
 use Rattle.shell.specs.declared.vacuuming.Vacuumed.TheVariants as vacuumed
@@ -233,13 +232,6 @@ Writes tells old write output new = LacksLines old output new
 
 -- ---- dump
 
--- what a fault of the log is called where a store is opened
-abbrev pub open_fault_of : LogFault → OpenFault
-open_fault_of log.NotAStore = opening.NotAStore
-open_fault_of (log.Damaged slot) = opening.Damaged area.Status slot
-open_fault_of log.Device = opening.Device
-open_fault_of log.NoMemory = opening.NoMemory
-
 -- no header stands there
 pub record HasNoHeader (tells : Bool) (old : DiskState) (output : Output) (new : DiskState) : Type 0 where
   pub why : LogFault
@@ -281,14 +273,14 @@ Dumps tells old output new = (HasNoHeader tells old output new ⊎ HasNoLog tell
 -- the archive is done, and its records are said; then the reclaim is refused so, which alone is said where the log is not read
 abbrev pub SaysArchived : Bool → ℕ → DiskState → Reply → Output → DiskState → Type 0
 SaysArchived tells upto given refusal output new =
-    ((slots : List Slot) × HasLog tells given slots new × IsRefused output (archived_line upto slots ++ text_of refusal))
-    ⊎ ((why : LogFault) × LacksLog tells given why new × IsRefused output (text_of refusal))
+    ((counts : JobRecords) × LogNames tells upto given counts new × IsRefused output (archived_line counts ++ text_of refusal))
+    ⊎ ((why : OpenFault) × LogNamesNone tells given why new × IsRefused output (text_of refusal))
 
 -- both are done, and the records of each are said, or why the log is not read
 abbrev pub SaysBoth : Bool → ℕ → DiskState → Output → DiskState → Type 0
 SaysBoth tells upto given output new =
-    ((slots : List Slot) × HasLog tells given slots new × IsSaid output (archived_line upto slots ++ reclaimed_line upto slots))
-    ⊎ ((why : LogFault) × LacksLog tells given why new × IsRefused output (open_line (open_fault_of why)))
+    ((counts : JobRecords) × LogNames tells upto given counts new × IsSaid output (archived_line counts ++ reclaimed_line counts))
+    ⊎ ((why : OpenFault) × LogNamesNone tells given why new × IsRefused output (open_line why))
 
 -- of a vacuum that got so far, by the log that stands on the disk once the store is closed
 abbrev pub SaysVacuum : Bool → ℕ → DiskState → Vacuumed → Output → DiskState → Type 0

@@ -5,22 +5,23 @@ ghost use Rattle.session.specs.Streams.{Says, is_output_refused, text_said};
 ghost use Rattle.session.specs.Texts.{Text, open_line, refusal_line, text_of};
 ghost use Rattle.session.specs.declared.ending.Ending.TheVariants.{Whole};
 ghost use Rattle.shell.specs.Acts.{Acts, Asks, GivesOut, Grows, IsRefused, IsTold, Makes, RefusesTime, RunsNew, RunsScript, SaysArchived};
-ghost use Rattle.shell.specs.Acts.{SaysBoth, SaysGrown, SaysSlots, SaysVacuum, Vacuums, given, open_fault_of, told};
+ghost use Rattle.shell.specs.Acts.{SaysBoth, SaysGrown, SaysSlots, SaysVacuum, Vacuums, given, told};
 ghost use Rattle.forms.specs.Styles.{plain};
 ghost use Rattle.shell.specs.Acts.{IsSaid, IsToldAs, IsToldIn, Raises, RefusesProfile, SaysRaised, Writes};
 ghost use Rattle.shell.specs.Asking.{line_asked};
 ghost use Rattle.shell.specs.Keeps.{KeepsPromise};
 ghost use Rattle.shell.specs.Layouts.{formatted_line, size_of, store_layout};
-ghost use Rattle.shell.specs.Vacuums.{archived_line, reclaimed_line};
+ghost use Rattle.shell.specs.Vacuums.{archived_line, open_fault_of, reclaimed_line};
 
 use crate::asking::line_asked;
+use crate::job_records::{JobRecords, job_records, open_fault};
 use crate::showing::{dump_by_layout, info_by_layout};
 use crate::styled::{found_lines, record_lines, row_lines, time_lines};
-use crate::vacuuming::{Job, Vacuumed, answer, do_job, do_jobs, is_refusal, log_of, records_in};
+use crate::vacuuming::{Vacuumed, answer, do_job, do_jobs, is_refusal};
 use crate::writing::{answer_write, lines_of};
 use any_store::{OpenFault, StartFault, Store, format};
 use command_line::{Action, Layout, Question, RecordWrite, Style, When};
-use disk::{Area, Disk};
+use disk::Disk;
 use history::Key;
 use script::Line;
 use session::{
@@ -30,7 +31,6 @@ use session::{
 use status::{LogFault, read_header};
 use std::alloc::{AllocError, Global};
 use std::io::Write;
-use wire::Slot;
 
 /// The status of what was done and said in full.
 const DONE: u8 = 0;
@@ -327,23 +327,19 @@ fn ask_between<D: Disk, W: Write>(
 }
 
 /// Says the records that were archived.
-fn say_archived<W: Write>(output: &mut Answers<W>, upto: u64, slots: &[Slot]) -> Result<(), Refused>
-    ensures { Says (text_said W.contents output.old) (archived_line upto slots.now) result (text_said W.contents output.new) (is_output_refused output.new) }
+fn say_archived<W: Write>(output: &mut Answers<W>, counts: JobRecords) -> Result<(), Refused>
+    ensures { Says (text_said W.contents output.old) (archived_line counts) result (text_said W.contents output.new) (is_output_refused output.new) }
 {
-    let records = records_in(Job::Archive, upto, slots);
-    write_numbered(output, "archived ", records)
+    write_numbered(output, "archived ", counts.archived)
 }
 
 /// Says the records that were archived, and those that were written anew.
-fn say_both<W: Write>(output: &mut Answers<W>, upto: u64, slots: &[Slot]) -> Result<(), Refused>
-    ensures { Says (text_said W.contents output.old) (archived_line upto slots.now ++ reclaimed_line upto slots.now) result (text_said W.contents output.new)
+fn say_both<W: Write>(output: &mut Answers<W>, counts: JobRecords) -> Result<(), Refused>
+    ensures { Says (text_said W.contents output.old) (archived_line counts ++ reclaimed_line counts) result (text_said W.contents output.new)
         (is_output_refused output.new) }
 {
-    match say_archived(output, upto, slots) {
-        Ok(()) => {
-            let records = records_in(Job::Reclaim, upto, slots);
-            write_numbered(output, "reclaimed ", records)
-        }
+    match say_archived(output, counts) {
+        Ok(()) => write_numbered(output, "reclaimed ", counts.reclaimed),
         Err(refused) => Err(refused),
     }
 }
@@ -351,24 +347,23 @@ fn say_both<W: Write>(output: &mut Answers<W>, upto: u64, slots: &[Slot]) -> Res
 /// Says the records that were archived, and what was refused then.
 fn say_refused_after<W: Write>(
     output: &mut Answers<W>,
-    upto: u64,
-    slots: &[Slot],
+    counts: JobRecords,
     refusal: &Reply,
 ) -> Result<(), Refused>
-    ensures { Says (text_said W.contents output.old) (archived_line upto slots.now ++ text_of refusal.now) result (text_said W.contents output.new)
+    ensures { Says (text_said W.contents output.old) (archived_line counts ++ text_of refusal.now) result (text_said W.contents output.new)
         (is_output_refused output.new) }
 {
-    match say_archived(output, upto, slots) {
+    match say_archived(output, counts) {
         Ok(()) => write_reply(output, refusal),
         Err(refused) => Err(refused),
     }
 }
 
 /// As much of it as the output takes. The program's status is 1.
-fn refuse_after<W: Write>(output: &mut Answers<W>, upto: u64, slots: &[Slot], refusal: &Reply) -> u8
-    ensures { IsRefused (told W.contents result output.old output.new) (archived_line upto slots.now ++ text_of refusal.now) }
+fn refuse_after<W: Write>(output: &mut Answers<W>, counts: JobRecords, refusal: &Reply) -> u8
+    ensures { IsRefused (told W.contents result output.old output.new) (archived_line counts ++ text_of refusal.now) }
 {
-    let _ = say_refused_after(output, upto, slots, refusal);
+    let _ = say_refused_after(output, counts, refusal);
     REFUSED
 }
 
@@ -391,8 +386,8 @@ fn tell_archived<D: Disk, W: Write>(
 ) -> u8
     ensures { SaysArchived D.tells upto (D.state disk.old) refusal.now (told W.contents result output.old output.new) (D.state disk.new) }
 {
-    match log_of(alloc, disk) {
-        Ok(slots) => refuse_after(output, upto, slots.as_slice(), refusal),
+    match job_records(alloc, disk, upto) {
+        Ok(counts) => refuse_after(output, counts, refusal),
         Err(_) => refuse_reply(output, refusal),
     }
 }
@@ -406,9 +401,9 @@ fn tell_both<D: Disk, W: Write>(
 ) -> u8
     ensures { SaysBoth D.tells upto (D.state disk.old) (told W.contents result output.old output.new) (D.state disk.new) }
 {
-    match log_of(alloc, disk) {
-        Ok(slots) => status_of(say_both(output, upto, slots.as_slice())),
-        Err(fault) => refuse_log(output, fault),
+    match job_records(alloc, disk, upto) {
+        Ok(counts) => status_of(say_both(output, counts)),
+        Err(fault) => refuse(output, Fault::Open(fault)),
     }
 }
 
@@ -461,18 +456,6 @@ fn vacuum_upto<D: Disk, W: Write>(
     match time {
         Some(upto) => vacuum(alloc, disk, upto, output),
         None => (refuse(output, Fault::Time), disk),
-    }
-}
-
-/// What a fault of the log is called where a store is opened.
-fn open_fault(fault: LogFault) -> OpenFault
-    ensures { result ≡ open_fault_of fault }
-{
-    match fault {
-        LogFault::NotAStore => OpenFault::NotAStore,
-        LogFault::Damaged(slot) => OpenFault::Damaged(Area::Status, u64::from(slot)),
-        LogFault::Device => OpenFault::Device,
-        LogFault::NoMemory => OpenFault::NoMemory,
     }
 }
 

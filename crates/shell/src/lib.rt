@@ -5,6 +5,7 @@ mod actions;
 mod advising;
 mod asking;
 mod dump;
+mod job_records;
 mod needs;
 mod showing;
 mod stress_answer;

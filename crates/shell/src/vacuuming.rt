@@ -1,4 +1,4 @@
-//! The jobs of a vacuum, and what the log says of them.
+//! The jobs of a vacuum, and what slots say of them.
 ghost use Rattle.std.specs.Prelude.{◌≡◌, ◌≢◌, IfOk, IfErr, Some, None, if◌then◌else◌};
 ghost use Rattle.script.specs.declared.line.Line.TheVariants.{Reopen};
 ghost use Rattle.session.specs.Session.{Step};
@@ -70,7 +70,7 @@ pub fn do_jobs<D: Disk>(session: &mut Session<D>, alloc: Global, upto: u64) -> V
     }
 }
 
-/// The log of a store that is closed. It changes nothing.
+/// The slots of a store that is closed. It changes nothing.
 pub fn log_of<D: Disk>(alloc: Global, disk: &mut D) -> Result<Vec<Slot>, LogFault>
     ensures log { IfOk result (λ slots. HasLog D.tells (D.state disk.old) slots.items (D.state disk.new)) }
     ensures fault { IfErr result (λ why. LacksLog D.tells (D.state disk.old) why (D.state disk.new)) }
@@ -92,7 +92,7 @@ pub enum Job {
     Reclaim,
 }
 
-fn records_if(is_of_job: bool, records: u64) -> Option<u64>
+pub(crate) fn records_if(is_of_job: bool, records: u64) -> Option<u64>
     ensures { result ≡ (if is_of_job then Some records else None) }
 {
     if is_of_job { Some(records) } else { None }

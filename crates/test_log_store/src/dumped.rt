@@ -70,6 +70,17 @@ const CASES: &[Case] = &[
         None,
     ),
     Case(
+        "an archive of four groups",
+        Left::Archived,
+        &[],
+        b"header extents 64 root 1\nchain 1 commits extents 1\nmember 1 100 1 1970-01-01T00:00:00Z\n\
+          chain 2 commits extents 1\nmember 2 110 1 1970-01-01T00:00:00Z\n\
+          chain 3 commits extents 1\nmember 3 120 1 1970-01-01T00:00:00Z\n\
+          chain 4 commits extents 1\nmember 4 130 1 1970-01-01T00:00:00Z\n\
+          chain 5 archived 120 0 74 2 0\nnext 6\nused 5 of 64\n",
+        None,
+    ),
+    Case(
         "a base with a roll",
         Left::Reclaimed,
         &[],
@@ -208,6 +219,17 @@ fn tells<D: Disk>(rt: &impl Abort, alloc: Global, disk: &mut D, json: bool, text
 
 #[test]
 fn facts_are_told_of_a_heap(rt: HostRuntime) -> Result<(), Fail> {
+    let mut disk: MemDisk = disk_of(rt.alloc(), Left::Archived, &[])?;
+    assert!(rt;
+        tells(
+            &rt,
+            rt.alloc(),
+            &mut disk,
+            false,
+            b"profile 4\nheap 64\nextents 5\nlog 6\nfree 26\ncommits 4\nlast 130\narchived 120\narchive 74\n\
+              reclaimed 0\n",
+        )
+    );
     let mut disk: MemDisk = disk_of(rt.alloc(), Left::Reclaimed, &[])?;
     assert!(rt;
         tells(

@@ -106,6 +106,21 @@ const FOUR_GROUPS: Image = Image {
     ],
 };
 
+/// The same, archived up to 120.
+const ARCHIVED_ONCE: Image = Image {
+    heap: 40_961,
+    archive: 74,
+    parts: &[
+        Change::Put(Area::Status, 0, HEADER_A),
+        Change::Put(Area::Heap, AT_1, EXTENT_1),
+        Change::Put(Area::Heap, AT_2, EXTENT_2),
+        Change::Put(Area::Heap, AT_3, EXTENT_3),
+        Change::Put(Area::Heap, AT_4, EXTENT_4),
+        Change::Put(Area::Heap, AT_5, ARCHIVED),
+        Change::Put(Area::Archive, 0, RUN),
+    ],
+};
+
 /// The same, archived and reclaimed up to 120.
 const RECLAIMED: Image = Image {
     heap: 57_344,
@@ -117,6 +132,25 @@ const RECLAIMED: Image = Image {
         Change::Put(Area::Heap, AT_3, EXTENT_3),
         Change::Put(Area::Heap, AT_4, EXTENT_4),
         Change::Put(Area::Heap, AT_5, ARCHIVED),
+        Change::Put(Area::Heap, AT_7, BASE),
+        Change::Put(Area::Archive, 0, RUN),
+        Change::Put(Area::Archive, 74, ROLL),
+    ],
+};
+
+/// The same, archived up to 130: nothing ended behind 120. The log goes on in extent 1, whose gate is closed.
+const ARCHIVED_AGAIN: Image = Image {
+    heap: 57_344,
+    archive: 122,
+    parts: &[
+        Change::Put(Area::Status, 0, HEADER_B),
+        Change::Put(Area::Heap, AT_1, EXTENT_1),
+        Change::Put(Area::Heap, AT_1, b"\0"),
+        Change::Put(Area::Heap, AT_2, EXTENT_2),
+        Change::Put(Area::Heap, AT_3, EXTENT_3),
+        Change::Put(Area::Heap, AT_4, EXTENT_4),
+        Change::Put(Area::Heap, AT_5, ARCHIVED),
+        Change::Put(Area::Heap, AT_6, SECOND_ARCHIVED),
         Change::Put(Area::Heap, AT_7, BASE),
         Change::Put(Area::Archive, 0, RUN),
         Change::Put(Area::Archive, 74, ROLL),
@@ -169,7 +203,13 @@ pub enum Left {
     /// No group is there yet, but the room for one in the first extent.
     OneGroup,
     FourGroups,
+    /// These, archived up to 120.
+    Archived,
+    /// And reclaimed.
     Reclaimed,
+    /// And archived up to 130.
+    ArchivedAgain,
+    /// And reclaimed.
     ReclaimedAgain,
     Floored,
 }
@@ -178,7 +218,9 @@ fn image_of(left: Left) -> Image {
     match left {
         Left::OneGroup => ONE_GROUP,
         Left::FourGroups => FOUR_GROUPS,
+        Left::Archived => ARCHIVED_ONCE,
         Left::Reclaimed => RECLAIMED,
+        Left::ArchivedAgain => ARCHIVED_AGAIN,
         Left::ReclaimedAgain => RECLAIMED_AGAIN,
         Left::Floored => FLOORED,
     }

@@ -131,26 +131,46 @@ const ONE_FLOOR: &[JobDid] = &[
     JobDid::JobDone,
 ];
 
+/// And of an archive of nothing.
+const ONE_ARCHIVE: &[JobDid] = &[
+    JobDid::RunSynced,
+    JobDid::WroteEntry,
+    JobDid::GateClosed,
+    JobDid::HeapSynced,
+    JobDid::GateWritten,
+    JobDid::JobDone,
+];
+
+// The steps of the job that runs, and that none runs behind them.
+fn ends(rt: &impl Abort, store: &mut Store<MemDisk>, steps: &[JobDid]) {
+    for did in steps {
+        assert!(rt; store.job_pump() == Ok(*did));
+    }
+    assert!(rt; store.job_pump() == Ok(JobDid::Idle));
+}
+
 #[test]
-fn floors_alone_begin_where_the_log_lies_in_the_heap(rt: HostRuntime) -> Result<(), Fail> {
+fn archives_and_floors_begin_where_the_log_lies_in_the_heap(rt: HostRuntime) -> Result<(), Fail> {
     let mut disk = MemDisk::new(rt.alloc());
     log_store::format(&mut disk, 64)?;
     let mut store = opened(&rt, rt.alloc(), disk);
     commit_red(&rt, rt.alloc(), &mut store, ONE_CHAIN);
-    assert!(rt; store.archive_start(100) == Err(StartFault::WrongProfile));
     assert!(rt; store.reclaim_start() == Err(StartFault::WrongProfile));
     assert!(rt; store.floor_start(100) == Err(StartFault::WrongProfile));
     assert!(rt; store.grow_start() == Err(StartFault::NotGrowable));
     assert!(rt; store.job_pump() == Ok(JobDid::Idle));
     assert!(rt; store.floor_of_start(1, 101) == Err(StartFault::NotYet(100)));
     assert!(rt; store.floor_of_start(1, 100) == Ok(()));
+    assert!(rt; store.archive_start(100) == Err(StartFault::JobBusy));
+    ends(&rt, &mut store, ONE_FLOOR);
+    assert!(rt; store.archive_start(101) == Err(StartFault::NotYet(100)));
+    assert!(rt; store.archive_start(100) == Ok(()));
     assert!(rt; store.floor_of_start(2, 100) == Err(StartFault::JobBusy));
-    for did in ONE_FLOOR {
-        assert!(rt; store.job_pump() == Ok(*did));
-    }
-    assert!(rt; store.job_pump() == Ok(JobDid::Idle));
+    ends(&rt, &mut store, ONE_ARCHIVE);
+    assert!(rt; store.archive_start(100) == Err(StartFault::NothingToDo));
     assert!(rt; store.floor_of_start(1, 100) == Err(StartFault::NothingToDo));
-    let store = opened(&rt, rt.alloc(), store.close());
+    let mut store = opened(&rt, rt.alloc(), store.close());
+    assert!(rt; store.archive_start(100) == Err(StartFault::NothingToDo));
     assert!(rt; store.floors().at(1) == 100 && store.floors().at(2) == 0);
     let _disk = store.close();
     Ok(())

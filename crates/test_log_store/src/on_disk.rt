@@ -23,6 +23,14 @@ pub fn new_store(rt: &impl Abort, alloc: Global) -> LogStore<MemDisk> {
     }
 }
 
+/// The store that a disk holds.
+pub fn opened<D: Disk>(rt: &impl Abort, alloc: Global, disk: D) -> LogStore<D> {
+    match LogStore::open(alloc, disk, 2) {
+        Ok(store) => store,
+        Err((fault, _)) => panic!(rt; "{fault:?}"),
+    }
+}
+
 /// A value of these fields is put to these records of relation 1, and the commit is queued with this label, at the time 100.
 pub fn queue<D: Disk>(
     rt: &impl Abort,
@@ -79,4 +87,29 @@ pub fn has_run(disk: &mut MemDisk, from: u64, to: u64, byte: u8) -> bool {
         }
     }
     true
+}
+
+// All bytes of an area.
+fn bytes_in(alloc: Global, disk: &mut MemDisk, area: Area) -> Option<Vec<u8>> {
+    let len = disk.len(area).ok()?;
+    let mut bytes = vec![in alloc; 0; len as usize].ok()?;
+    match disk.read(area, 0, &mut bytes) {
+        Ok(()) => Some(bytes),
+        Err(_) => None,
+    }
+}
+
+// Whether both have the same bytes in an area.
+fn is_same(alloc: Global, one: &mut MemDisk, other: &mut MemDisk, area: Area) -> bool {
+    match (bytes_in(alloc, one, area), bytes_in(alloc, other, area)) {
+        (Some(these), Some(those)) => these.as_slice() == those.as_slice(),
+        _ => false,
+    }
+}
+
+/// Whether two disks have the same bytes.
+pub fn are_alike(alloc: Global, one: &mut MemDisk, other: &mut MemDisk) -> bool {
+    is_same(alloc, one, other, Area::Status)
+        && is_same(alloc, one, other, Area::Heap)
+        && is_same(alloc, one, other, Area::Archive)
 }

@@ -22,7 +22,9 @@ struct Case(&'static str, Left, &'static [Change], Option<OpenFault>);
 
 const CASES: &[Case] = &[
     Case("nothing", Left::FourGroups, &[], None),
+    Case("nothing", Left::Archived, &[], None),
     Case("nothing", Left::Reclaimed, &[], None),
+    Case("nothing", Left::ArchivedAgain, &[], None),
     Case("nothing", Left::ReclaimedAgain, &[], None),
     Case("nothing", Left::Floored, &[], None),
     Case(

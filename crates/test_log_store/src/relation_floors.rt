@@ -144,7 +144,7 @@ fn an_entry_and_a_group_wait_for_each_other(rt: HostRuntime) -> Result<(), Fail>
     assert!(rt; store.pump() == Ok(Did::WroteExtent));
     assert!(rt; store.start_floor(Some(1), 100) == Ok(()));
     assert!(rt; store.job_pump() == Err(PumpFault::Busy));
-    queue(&rt, rt.alloc(), &mut store, &[7], &[b"c"], 3).give_up();
+    queue(&rt, rt.alloc(), &mut store, &[8], &[b"c"], 3).give_up();
     assert!(rt; store.pump() == Ok(Did::GateClosed));
     assert!(rt; store.pump() == Ok(Did::HeapSynced));
     assert!(rt; store.pump() == Ok(Did::GateWritten));

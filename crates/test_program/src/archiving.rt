@@ -130,7 +130,7 @@ at 1 7 110 | value 62
 ];
 
 /// Two values of 16 long fields, and a short one, of which an archive up to the last begins.
-const LONG_VALUES: &str = "begin a | snapshot 0
+pub const LONG_VALUES: &str = "begin a | snapshot 0
 put a 1 7A | ok
 submit a 1 100 | queued
 flush | idle
@@ -157,7 +157,7 @@ job | job done
 
 /// The run: two records of 4,123 bytes, and the index of their places. Each value has 16 fields of 255
 /// bytes 61.
-const TWO_LONG_RECORDS: Step = SpellsParts(
+pub const TWO_LONG_RECORDS: Step = SpellsParts(
     Area::Archive,
     &[
         (

@@ -15,7 +15,7 @@ use std::test::Fail;
 const NEW: &[Step] = &[New(0)];
 
 /// A commit, step by step.
-const ONE_COMMIT: &str = "begin t | snapshot 0
+pub const ONE_COMMIT: &str = "begin t | snapshot 0
 put t 1 7 61 | ok
 submit t 9 100 | queued
 pump | wrote extent
@@ -92,13 +92,12 @@ const SWEEPS: &[Sweep] = &[
     },
 ];
 
-/// No archive, reclaim or growth begins, and what was committed stays.
+/// No reclaim or growth begins, and what was committed stays.
 const NO_JOBS: &[Step] = &[
     New(0),
     Says(ONE_COMMIT),
     Says(
-        "archive 100 | refused: wrong profile
-reclaim | refused: wrong profile
+        "reclaim | refused: wrong profile
 floor 100 | refused: wrong profile
 grow | refused: not growable
 job | idle
@@ -108,13 +107,13 @@ at 1 7 100 | value 61
 times 9 | times 100
 ",
     ),
-    Step::Vacuums("100", "refused: wrong profile\n", 1),
+    Step::Vacuums("100", "archived 0\nrefused: wrong profile\n", 1),
     Does(Action::Grow { dir: "" }, "", "refused: not growable\n", 1),
     At("100", "value 61"),
 ];
 
 /// The floor of the commit's relation, step by step.
-const ONE_FLOOR: &str = "floorof 1 100 | started
+pub const ONE_FLOOR: &str = "floorof 1 100 | started
 job | wrote entry
 job | gate closed
 job | heap synced

@@ -25,6 +25,8 @@ mod dumps;
 #[cfg(test)]
 mod endless;
 #[cfg(test)]
+mod endless_archives;
+#[cfg(test)]
 mod examples;
 #[cfg(test)]
 mod files;

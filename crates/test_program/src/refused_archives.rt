@@ -13,7 +13,7 @@ use disk::Area;
 use std::test::Fail;
 
 /// What the four commits answer, whatever stands of the archive.
-const ALIKE: Step = Parts(&[
+pub const ALIKE: Step = Parts(&[
     (ROWS, 1),
     ("at 1 7 10# | value 61\n", 10),
     ("at 1 7 11# | value 62\n", 10),
@@ -22,7 +22,7 @@ const ALIKE: Step = Parts(&[
 ]);
 
 /// Whatever stands of the archive, the four commits answer alike, and the archive can be made.
-const ANSWERS_ALIKE: &[Step] = &[
+pub const ANSWERS_ALIKE: &[Step] = &[
     ALIKE,
     Ends("archive 120\nfinish\n"),
     Says("archive 120 | refused: nothing to do\n"),
@@ -44,7 +44,7 @@ job | job done
 ";
 
 /// An archive of which a step is refused, and what is asked for behind it.
-const REFUSED_JOB: &str = "archive 120 | started
+pub const REFUSED_JOB: &str = "archive 120 | started
 finish | idle
 job | idle
 pump | idle
@@ -58,7 +58,7 @@ between 1 7 100 131 | 100 110 61
 ";
 
 /// What is said from the refused step on: reading goes on.
-const FAILED: &str = "refused: failed
+pub const FAILED: &str = "refused: failed
 refused: failed
 refused: failed
 refused: failed

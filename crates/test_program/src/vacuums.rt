@@ -128,7 +128,7 @@ const REFUSED: &[Step] = &[
 ];
 
 /// Each commit replaces the value of the one before, one microsecond later.
-const REPLACED: &str = "begin t | snapshot #
+pub const REPLACED: &str = "begin t | snapshot #
 put t 1 7 61 | ok
 submit t # 0 | queued
 flush | idle
