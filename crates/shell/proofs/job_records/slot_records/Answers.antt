@@ -1,5 +1,3 @@
-use Rattle.std.proofs.Common.{◌≡◌, List, subst}
-use Rattle.wire.specs.declared.slot.Slot.{Slot}
 use Rattle.shell.proofs.job_records.slot_records.Goals as goal
 
 pub returns-in-Ok-clause-names : goal.returns-in-Ok-clause-names
