@@ -81,7 +81,8 @@ module _ (tells : Bool) (old : DiskState) (mark : ℕ) (l : LogStoreValue) (root
       by-failed true works on = absurd cc
       by-failed false works on = on
 
-      by-job : (j : Option Job) → j ≡ None → (heap : StandsOnHeap l h [] floors) → HasJob l heap.l heap.reading heap.made j → length l.room.used ≡ l.roots.extents
+      by-job : (j : Option Job) → j ≡ None → (heap : StandsOnHeap l h [] floors) → HasJob l heap.l heap.reading heap.made j
+          → length l.room.used ≡ l.roots.extents
       by-job None none heap rests = rests.room.many
       by-job (Some job) none heap way = absurd cc
 

@@ -18,8 +18,7 @@ returns-in-Right-clause-names g c = record {
 
 pub returns-clause-fault : goal.returns-clause-fault
 returns-clause-fault g c =
-    let areas = (g.D.Disk.state c.args.disk.now).areas in
-    (
+    let areas = (g.D.Disk.state c.args.disk.now).areas in (
       λ told. damage_told areas.status.bytes areas.heap.bytes c.in-Ok.shown c.in-Damaged.place (c.in-Ok.ensures.shown told) c.in-Damaged.is,
       c.in-Ok.ensures.reads,
     )

@@ -9,9 +9,9 @@ use Rattle.shell.proofs.job_records.job_records.Goals as goal
 pub returns-in-Ok-false-clause-names : goal.returns-in-Ok-false-clause-names
 returns-in-Ok-false-clause-names g c =
     let none : IsTrue g.D.Disk.tells → ¬ HasLogHeader (g.D.Disk.state c.args.disk.now).areas.status.bytes =
-        (λ tells has.
-            let is = (c.in-Ok-false.ensures.has tells).1 has in
-            let no : true ≡ false = sym is ∙ c.in-Ok-false.field-0-test in cc) in
+    (λ tells has.
+    let is = (c.in-Ok-false.ensures.has tells).1 has in
+    let no : true ≡ false = sym is ∙ c.in-Ok-false.field-0-test in cc) in
     IfOk-weaker c.slot_records.result _ _ (λ counts names. inl (none, names))
     (subst (λ (d : DiskState). IfOk c.slot_records.result (λ counts. SlotsName g.D.Disk.tells c.args.upto d counts
     (g.D.Disk.state c.slot_records.new.disk))) c.in-Ok-false.ensures.same c.slot_records.ensures.names)
@@ -19,9 +19,9 @@ returns-in-Ok-false-clause-names g c =
 pub returns-in-Ok-false-clause-fault : goal.returns-in-Ok-false-clause-fault
 returns-in-Ok-false-clause-fault g c =
     let none : IsTrue g.D.Disk.tells → ¬ HasLogHeader (g.D.Disk.state c.args.disk.now).areas.status.bytes =
-        (λ tells has.
-            let is = (c.in-Ok-false.ensures.has tells).1 has in
-            let no : true ≡ false = sym is ∙ c.in-Ok-false.field-0-test in cc) in
+    (λ tells has.
+    let is = (c.in-Ok-false.ensures.has tells).1 has in
+    let no : true ≡ false = sym is ∙ c.in-Ok-false.field-0-test in cc) in
     IfErr-weaker c.slot_records.result _ _ (λ why lacks. inl (none, lacks))
     (subst (λ (d : DiskState). IfErr c.slot_records.result (λ why. LacksSlots g.D.Disk.tells d why (g.D.Disk.state c.slot_records.new.disk)))
     c.in-Ok-false.ensures.same c.slot_records.ensures.fault)
