@@ -13,6 +13,26 @@ def ask(program: str, *words: object, script: str = "") -> str:
     return answer.stdout
 
 
+SCRIPT = "".join(
+    f"begin t\nput t 1 7 {number:02x}\nput t 1 {number + 10} - {b'two'.hex()}\nsubmit t 9 {100 * number}\nflush\nredeem t\n"
+    for number in (1, 2, 3)
+)
+
+
+def commit_three(store: timestore.Store) -> None:
+    """The commits of that script."""
+    for number in (1, 2, 3):
+        txn = store.begin()
+        txn.put(1, 7, bytes([number]))
+        txn.put(1, number + 10, b"", b"two")
+        txn.commit(9, 100 * number)
+
+
+def compare(ours: Path, theirs: Path) -> None:
+    for name in ("status", "heap", "archive"):
+        assert (ours / name).read_bytes() == (theirs / name).read_bytes(), name
+
+
 def same_bytes(program: str, folder: Path) -> None:
     """The same commits, archive, reclaim, floor and growth by each, from the same empty files, leave the same files."""
     ours, theirs = folder / "ours", folder / "theirs"
@@ -21,23 +41,34 @@ def same_bytes(program: str, folder: Path) -> None:
     timestore.make(ours, 64)
     ask(program, "format", theirs, "--slots", 64)
     with timestore.Store(ours) as store:
-        for number in (1, 2, 3):
-            txn = store.begin()
-            txn.put(1, 7, bytes([number]))
-            txn.put(1, number + 10, b"", b"two")
-            txn.commit(9, 100 * number)
+        commit_three(store)
         store.archive(200)
         store.reclaim()
         store.floor_of(1, 150)
         store.grow()
-    script = "".join(
-        f"begin t\nput t 1 7 {number:02x}\nput t 1 {number + 10} - {b'two'.hex()}\nsubmit t 9 {100 * number}\nflush\nredeem t\n"
-        for number in (1, 2, 3)
-    )
-    said = ask(program, "run", theirs, script=script + "archive 200\nfinish\nreclaim\nfinish\nfloorof 1 150\nfinish\ngrow\nfinish\n")
+    said = ask(program, "run", theirs, script=SCRIPT + "archive 200\nfinish\nreclaim\nfinish\nfloorof 1 150\nfinish\ngrow\nfinish\n")
     assert "refused" not in said, said
-    for name in ("status", "heap", "archive"):
-        assert (ours / name).read_bytes() == (theirs / name).read_bytes(), name
+    compare(ours, theirs)
+
+
+def same_in_the_heap(program: str, folder: Path) -> None:
+    """The same where the log lies in the heap, in stores that the program made: commits, two archives and a floor between."""
+    ours, theirs = folder / "ours-in-the-heap", folder / "theirs-in-the-heap"
+    for place in (ours, theirs):
+        place.mkdir()
+        ask(program, "format", place, "--profile", 4, "--extents", 64)
+    with timestore.Store(ours) as store:
+        commit_three(store)
+        store.archive(200)
+        store.floor_of(1, 150)
+        store.archive(300)
+        assert store.at(1, 7, 250) == (b"\2",)
+    said = ask(program, "run", theirs, script=SCRIPT + "archive 200\nfinish\nfloorof 1 150\nfinish\narchive 300\nfinish\n")
+    assert "refused" not in said, said
+    compare(ours, theirs)
+    assert ask(program, "between", ours, 1, 7, 150, 301) == "150 200 01\n200 300 02\n300 301 03\nrows 3\n"
+    with timestore.Store(theirs) as store:
+        assert [store.at(1, 7, time) for time in (160, 250, 300)] == [(b"\1",), (b"\2",), (b"\3",)]
 
 
 def to_and_fro(program: str, folder: Path) -> None:
@@ -64,6 +95,7 @@ def main() -> None:
     program, folder = sys.argv[1], Path(sys.argv[2])
     folder.mkdir()
     same_bytes(program, folder)
+    same_in_the_heap(program, folder)
     to_and_fro(program, folder)
 
 
