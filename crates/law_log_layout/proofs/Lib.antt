@@ -11,3 +11,6 @@ pub mod EntryJoins
 pub mod BaseGoes
 pub mod OneLog
 pub mod OneReading
+pub mod BasedShares
+pub mod StaysBehind
+pub mod SameHistory
