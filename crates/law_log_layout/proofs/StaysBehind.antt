@@ -10,9 +10,9 @@ use Rattle.history.proofs.Orders.{not_le}
 use Rattle.history.specs.Histories.{History}
 use Rattle.law_image.specs.Values.{Value}
 use Rattle.law_image.specs.Reading.{Head, Slot, Commits, Member, OldRecord, Reading}
-use Rattle.law_image.specs.Log.{heads_of, last_time_after, last_time, archive_mark, reclaim_mark, AreRisingAfter, is_in_heap}
+use Rattle.law_image.specs.Log.{heads_of, last_time_after, last_time, archive_mark, AreRisingAfter, is_in_heap}
 use Rattle.law_image.specs.StandsFor.{StandsFor, archived_upto}
-use Rattle.law_image.specs.Plans.{IsGroupOf, IsReclaimPlan, most_members, with_group}
+use Rattle.law_image.specs.Plans.{IsGroupOf, IsReclaimPlan, with_group}
 use Rattle.law_image.specs.HeapPlans.{marks_of, with_base, IsBased}
 use Rattle.law_image.specs.Log.{floor_of}
 use Rattle.law_image.proofs.GroupStep.{length-map, group-rise}
@@ -21,9 +21,9 @@ use Rattle.law_image.proofs.Logs.{heads_of-append, archive_mark-append, marked-h
 use Rattle.law_image.proofs.PlansStay.{reclaim-plan-stays}
 use Rattle.law_image.proofs.Standing.{marked}
 use Rattle.law_log.specs.Chains.{LogChain, OfBase, OfGroup, OfRun, OfFloor, Base, told, told_from, reclaimed_by, heads_in, KeepsChainRules, IsWithGroup}
-use Rattle.law_log.specs.Chains.{BeginsLater, IsNoBase, TakesPlace, base_slots}
+use Rattle.law_log.specs.Chains.{BeginsLater, IsNoBase, TakesPlace}
 use Rattle.law_log.proofs.Telling.{told-keeps}
-use Rattle.law_log.proofs.Based.{last-above, rising-lower}
+use Rattle.law_log.proofs.Based.{last-above}
 use Rattle.law_log.proofs.Behind.{comes-behind}
 use Rattle.law_layout.proofs.Lists.{both, weaker}
 use Rattle.log_extents.specs.Chains.{IsNew, AreDistinct}
@@ -31,7 +31,7 @@ use Rattle.log_entries.specs.declared.entry.Member as stored
 use Rattle.wire.specs.declared.slot.Run.{Run}
 use Rattle.law_log_layout.specs.HeapLog.{PlacedChain, HeapLog, live_numbers, member_told, base_told, chain_told, chains_told, AreNamesOf, run_span, archives_in}
 use Rattle.law_log_layout.specs.HeapLog.{AreSpansInRow, IsLogOf, with_chain, MayJoin, placed_group}
-use Rattle.law_log_layout.specs.Reclaims.{NewBase, placed_base, with_new_base, MayTakePlace, based_reading, AreFree}
+use Rattle.law_log_layout.specs.Reclaims.{NewBase, placed_base, with_new_base, MayTakePlace, AreFree}
 use Rattle.law_log_layout.specs.Behind.{IsBesideBase, IsSameBehind}
 use Rattle.law_log_layout.proofs.GroupJoins.{chained-more, none-more, live-more, room, most-is}
 use Rattle.law_log_layout.proofs.Places.{AreNew, ArePart, new-front, new-back, distinct-parts}
@@ -56,9 +56,6 @@ all-join ns xs ys a b =
 all-back : (ns xs ys : List ℕ) → AreNew ns (xs ++ ys) → AreNew ns ys
 all-back ns xs ys all = weaker (λ (m : ℕ). IsNew m (xs ++ ys)) (λ (m : ℕ). IsNew m ys) ns (λ m is. new-back m xs ys is) all
 
-all-front : (ns xs ys : List ℕ) → AreNew ns (xs ++ ys) → AreNew ns xs
-all-front ns xs ys all = weaker (λ (m : ℕ). IsNew m (xs ++ ys)) (λ (m : ℕ). IsNew m xs) ns (λ m is. new-front m xs ys is) all
-
 distinct-join : (xs ys : List ℕ) → AreDistinct xs → AreDistinct ys → AreNew xs ys → AreDistinct (xs ++ ys)
 distinct-join [] ys a b new = b
 distinct-join (x ∷ xs) ys a b new = (new-join x xs ys a.0 new.0, distinct-join xs ys a.1 b new.1)
@@ -66,7 +63,7 @@ distinct-join (x ∷ xs) ys a b new = (new-join x xs ys a.0 new.0, distinct-join
 -- ---- the extents of the chain
 
 module _ (most : ℕ) (l : HeapLog) (c : PlacedChain) (n : NewBase) (joins : MayJoin most l c) (beside : IsBesideBase c n) where
-  new_ones : List ℕ
+  abbrev new_ones : List ℕ
   new_ones = (n.anchors).numbers ++ n.numbers
 
   -- the chain is apart from the log
@@ -87,9 +84,9 @@ module _ (most : ℕ) (l : HeapLog) (c : PlacedChain) (n : NewBase) (joins : May
   free-stays free =
       let live = live_numbers l in
       let parts : ArePart live new_ones = distinct-parts live new_ones (free.apart).1 in
-      let chain : AreNew new_ones (c.link ∷ c.numbers) = new-turned (c.link ∷ c.numbers) new_ones (apart).new in
+      let chain : AreNew new_ones (c.link ∷ c.numbers) = new-turned new_ones (c.link ∷ c.numbers) (apart).new in
       let others : AreNew (live ++ c.numbers) new_ones =
-      new-turned new_ones (live ++ c.numbers) (all-join new_ones live c.numbers parts.new (all-back new_ones (c.link ∷ []) c.numbers chain)) in
+      new-turned (live ++ c.numbers) new_ones (all-join new_ones live c.numbers parts.new (all-back new_ones (c.link ∷ []) c.numbers chain)) in
       let all : AreDistinct (c.link ∷ (live ++ c.numbers) ++ new_ones) =
       distinct-join (c.link ∷ live ++ c.numbers) new_ones joins.apart parts.back (((apart).new).0, others) in
       let placed = joins.placed in
@@ -198,13 +195,13 @@ module _ (most root : ℕ) (l : HeapLog) (reading : Reading) (h next : History V
     (is : IsLogOf most root l reading) (stands : StandsFor reading h floors) (group : IsGroupOf reading h next (map member_told members))
     (joins : MayJoin most l (placed_group numbers link members)) (beside : IsBesideBase (placed_group numbers link members) n)
     (are : AreNamesOf l.rolls names) (may : MayTakePlace most l names front back n) where
-  c : PlacedChain
+  abbrev pub c : PlacedChain
   c = placed_group numbers link members
 
-  group_told : List Member
+  abbrev group_told : List Member
   group_told = map member_told members
 
-  b : Base
+  abbrev b : Base
   b = base_told n.names n.base
 
   tells : TellsBy l reading names

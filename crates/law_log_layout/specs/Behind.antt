@@ -29,7 +29,7 @@ SharesOfBase = (most root : ℕ) (l : HeapLog) (reading : Reading) (h : History 
     → IsReclaimPlan reading (n.anchors).records → IsBaseSmall most (entries.Base n.base)
     → KeepsShares most (with_new_base l n back) (based_reading reading names n back)
 
--- so the log that it begins stands for the same history, whatever else the log says of its shares
+-- so the log that it begins stands for the same history, and nothing else need be known of its shares
 abbrev pub SmallBaseIsLog : Type 0
 SmallBaseIsLog = (most root : ℕ) (l : HeapLog) (reading : Reading) (h : History Value) (floors : ℕ → ℕ) (names : List Head) (front back : List PlacedChain)
     (n : NewBase)
@@ -38,7 +38,7 @@ SmallBaseIsLog = (most root : ℕ) (l : HeapLog) (reading : Reading) (h : Histor
     → IsLogOf most (first_or 0 n.numbers) (with_new_base l n back) (based_reading reading names n back)
     × StandsFor (based_reading reading names n back) h floors
 
--- ---- a group beside it
+-- ---- what stays right with a group behind the log
 
 -- no extent of the chain, nor the one that it links to, is one of the base and its anchors, nor are two of them one
 abbrev pub IsBesideBase : PlacedChain → NewBase → Type 0
@@ -65,7 +65,7 @@ PlanStaysByGroup = (most root : ℕ) (l : HeapLog) (reading : Reading) (h next :
     → IsLogOf most root l reading → StandsFor reading h floors → IsGroupOf reading h next group → IsReclaimPlan reading olds
     → IsReclaimPlan (with_group reading group) olds
 
--- ---- a group behind it
+-- ---- the base first, or the group
 
 -- Whether the base or the group comes first, the log is the same, and so is what it tells. The group may come behind the log that the base begins.
 pub record IsSameBehind (most : ℕ) (l : HeapLog) (reading : Reading) (numbers : List ℕ) (link : ℕ) (members : List Member) (names : List Head)
