@@ -1,6 +1,8 @@
 pub mod Parts
 pub mod Goes
 pub mod RootGoes
+pub mod Beside
+pub mod RootBeside
 pub mod Places
 pub mod Joining
 pub mod GroupJoins

@@ -5,3 +5,4 @@ pub mod Laws
 pub mod Reclaims
 pub mod Entries
 pub mod OneLog
+pub mod Beside
