@@ -12,7 +12,7 @@ use Rattle.disk.proofs.Parts.{held_again, kept_by_sync, kept_by_write, written_p
 use Rattle.disk.proofs.Stops.{IsTorn-same, MayLeave-loosened, MayLeave-torn}
 use Rattle.law_layout.proofs.Lists.{both, weaker, all_of_front}
 use Rattle.law_log_layout.specs.Turns.{HoldsAll, KeepsAll, gate_part, KeepsClosed, ArePartsApart, AreApartFrom, IsAt}
-use Rattle.law_log_layout.specs.Beside.{IsBesideTurn, IsBeside, AreBesideTurn, IsStageOf, AreOthersSame, LeavesParts}
+use Rattle.law_log_layout.specs.Beside.{LiesBesideTurn, LiesBeside, LieBesideTurn, IsStageOf, AreOthersSame, LeavesParts}
 use Rattle.law_log_layout.proofs.Parts.{all-synced, one-of}
 use Rattle.log_writer.specs.Turns.{open_gate, Done, IsCallOf, Opening, Part, Settling, Stage, Syncing, Turn, Writing}
 
@@ -207,7 +207,7 @@ module _ (log : List Part) (t : Turn) (old new : AreaState) (leaves : LeavesTurn
   }
 
 pub write-leaves-chain : (live : List Part) (t : Turn) (stage : Stage) (p : Part) (result : Result (Unit {0}) DeviceFault) (areas next : Areas)
-    → AreSound areas → IsBeside live t p → IsAt live t stage areas.heap → Writes Heap p.place p.bytes result areas next → IsAt live t stage next.heap
+    → AreSound areas → LiesBeside live t p → IsAt live t stage areas.heap → Writes Heap p.place p.bytes result areas next → IsAt live t stage next.heap
 write-leaves-chain live t stage p result areas next sound beside at writes =
     let turn = beside.turn in
     let loose = in-part-loosened p.place (length p.bytes) areas next (sound Heap) writes.in_part in
@@ -256,25 +256,25 @@ chain-is-among live t Done a at = (at.live, tt)
 -- ---- the calls of a chain
 
 -- a part of the chain lies apart from all that lie beside it
-apart-of-turn : (t : Turn) (done : List Part) (q : Part) (rest parts : List Part) → done ++ q ∷ rest ≡ t.parts → AreBesideTurn t parts → AreApartFrom q parts
+apart-of-turn : (t : Turn) (done : List Part) (q : Part) (rest parts : List Part) → done ++ q ∷ rest ≡ t.parts → LieBesideTurn t parts → AreApartFrom q parts
 apart-of-turn t done q rest parts are beside =
-    weaker (IsBesideTurn t) (λ (p : Part). ArePartsApart p q) parts
+    weaker (LiesBesideTurn t) (λ (p : Part). ArePartsApart p q) parts
     (λ p b. apart-turned q p
     (one-of (λ (w : Part). ArePartsApart w p) done q rest (subst (AreApartFrom p) (sym are) b.parts))) beside
 
 chain-all : (t : Turn) (stage : Stage) (parts : List Part) (result : Result (Unit {0}) DeviceFault) (areas next : Areas) → AreSound areas
-    → IsStageOf t stage → AreBesideTurn t parts → IsCallOf t stage result areas next → AllByRecursion (LeavesPart areas.heap next.heap) parts
+    → IsStageOf t stage → LieBesideTurn t parts → IsCallOf t stage result areas next → AllByRecursion (LeavesPart areas.heap next.heap) parts
 chain-all t (Writing done (q ∷ rest)) parts result areas next sound are beside call =
     all-by-write q parts result areas next sound call (apart-of-turn t done q rest parts are beside)
 chain-all t (Writing done []) parts result areas next sound are beside call =
     let q = gate_part t.closes 0 in
     all-by-write q parts result areas next sound call
-    (weaker (IsBesideTurn t) (λ (p : Part). ArePartsApart p q) parts (λ p b. apart-turned q p b.closes) beside)
+    (weaker (LiesBesideTurn t) (λ (p : Part). ArePartsApart p q) parts (λ p b. apart-turned q p b.closes) beside)
 chain-all t Syncing parts result areas next sound are beside call = all-by-sync parts result areas next sound call
 chain-all t Opening parts result areas next sound are beside call =
     let q = gate_part t.gate open_gate in
     all-by-write q parts result areas next sound call
-    (weaker (IsBesideTurn t) (λ (p : Part). ArePartsApart p q) parts (λ p b. apart-turned q p b.gate) beside)
+    (weaker (LiesBesideTurn t) (λ (p : Part). ArePartsApart p q) parts (λ p b. apart-turned q p b.gate) beside)
 chain-all t Settling parts result areas next sound are beside call = all-by-sync parts result areas next sound call
 chain-all t Done parts result areas next sound are beside call = absurd call
 
@@ -288,7 +288,7 @@ chain-others t Settling result areas next call = sync-leaves-others Heap result 
 chain-others t Done result areas next call = absurd call
 
 pub chain-leaves-parts : (t : Turn) (stage : Stage) (parts : List Part) (result : Result (Unit {0}) DeviceFault) (areas next : Areas) → AreSound areas
-    → IsStageOf t stage → AreBesideTurn t parts → IsCallOf t stage result areas next
+    → IsStageOf t stage → LieBesideTurn t parts → IsCallOf t stage result areas next
     → LeavesParts parts areas.heap next.heap × AreOthersSame Heap areas next
 chain-leaves-parts t stage parts result areas next sound are beside call = (
   leaves-all parts areas.heap next.heap (chain-all t stage parts result areas next sound are beside call),

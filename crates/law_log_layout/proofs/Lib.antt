@@ -11,5 +11,6 @@ pub mod ReclaimGoes
 pub mod BaseJoins
 pub mod EntryJoins
 pub mod BaseGoes
+pub mod BaseBeside
 pub mod OneLog
 pub mod OneReading

@@ -6,25 +6,28 @@ use Rattle.disk.specs.Calls.{Writes, Syncs}
 use Rattle.disk.specs.declared.area.Area.{Area}
 use Rattle.disk.specs.declared.area.Area.TheVariants.{Status, Heap, Archive}
 use Rattle.disk.specs.declared.area.DeviceFault.{DeviceFault}
+use Rattle.law_image.specs.Reading.{Reading}
+use Rattle.law_log_layout.specs.HeapLog.{PlacedChain, HeapLog, heap_parts, IsLogOf, MayJoin, with_chain, turn_of}
+use Rattle.law_log_layout.specs.Reclaims.{NewBase, new_parts, AreFree}
 use Rattle.law_log_layout.specs.Roots.{NamesRoot, other, IsHeaderApart}
 use Rattle.law_log_layout.specs.Roots as roots
 use Rattle.law_log_layout.specs.Turns.{HoldsAll, KeepsAll, gate_part, ArePartsApart, AreApartFrom, IsAt}
 use Rattle.log_writer.specs.Turns.{Done, IsCallOf, Opening, Part, Settling, Stage, Syncing, Turn, Writing}
 
 -- The part has no place in common with what is written of the chain, nor with either of its gates.
-pub record IsBesideTurn (t : Turn) (p : Part) : Type 0 where
+pub record LiesBesideTurn (t : Turn) (p : Part) : Type 0 where
   pub parts : AreApartFrom p t.parts
   pub gate : ArePartsApart (gate_part t.gate 0) p
   pub closes : ArePartsApart (gate_part t.closes 0) p
 
 -- nor with these parts of the heap
-pub record IsBeside (log : List Part) (t : Turn) (p : Part) : Type 0 where
+pub record LiesBeside (log : List Part) (t : Turn) (p : Part) : Type 0 where
   pub live : AreApartFrom p log
-  pub turn : IsBesideTurn t p
+  pub turn : LiesBesideTurn t p
 
 -- all of these lie beside the chain
-abbrev pub AreBesideTurn : Turn → List Part → Type 0
-AreBesideTurn t parts = AllByRecursion (IsBesideTurn t) parts
+abbrev pub LieBesideTurn : Turn → List Part → Type 0
+LieBesideTurn t parts = AllByRecursion (LiesBesideTurn t) parts
 
 -- the stage is one of this chain: what is written, and then what is not, are its parts
 abbrev pub IsStageOf : Turn → Stage → Type 0
@@ -50,7 +53,7 @@ pub record LeavesParts (parts : List Part) (old new : AreaState) : Type 0 where
 -- by the write of a part beside it, made, refused, or made in part
 abbrev pub WriteLeavesChain : Type 0
 WriteLeavesChain = (live : List Part) (t : Turn) (stage : Stage) (p : Part) (result : Result (Unit {0}) DeviceFault) (areas next : Areas)
-    → AreSound areas → IsBeside live t p → IsAt live t stage areas.heap → Writes Heap p.place p.bytes result areas next → IsAt live t stage next.heap
+    → AreSound areas → LiesBeside live t p → IsAt live t stage areas.heap → Writes Heap p.place p.bytes result areas next → IsAt live t stage next.heap
 
 -- by a sync, made or refused
 abbrev pub SyncLeavesChain : Type 0
@@ -65,12 +68,17 @@ ChainAmongOthers = (live others : List Part) (t : Turn) (stage : Stage) (a : Are
 abbrev pub ChainIsAmong : Type 0
 ChainIsAmong = (live : List Part) (t : Turn) (stage : Stage) (a : AreaState) → IsAt live t stage a → KeepsAll live a × IsStageOf t stage
 
+-- a base and its anchors, whose extents are free of the log with a chain, lie beside that chain
+abbrev pub BaseLiesBeside : Type 0
+BaseLiesBeside = (most root : ℕ) (l : HeapLog) (reading : Reading) (c : PlacedChain) (n : NewBase) → IsLogOf most root l reading → MayJoin most l c
+    → AreFree most (with_chain l c) n → AllByRecursion (LiesBeside (heap_parts l) (turn_of l.next c)) (new_parts n)
+
 -- ---- parts of the heap are left as they were
 
 -- by each call of a chain that they lie beside, made or refused
 abbrev pub ChainLeavesParts : Type 0
 ChainLeavesParts = (t : Turn) (stage : Stage) (parts : List Part) (result : Result (Unit {0}) DeviceFault) (areas next : Areas)
-    → AreSound areas → IsStageOf t stage → AreBesideTurn t parts → IsCallOf t stage result areas next
+    → AreSound areas → IsStageOf t stage → LieBesideTurn t parts → IsCallOf t stage result areas next
     → LeavesParts parts areas.heap next.heap × AreOthersSame Heap areas next
 
 -- by a write apart from them, made, refused, or made in part

@@ -3,8 +3,8 @@ ghost use Rattle.law_log_layout.specs.Laws.{ChainGoes, EntryGoes, GroupEnds, Gro
 ghost use Rattle.law_log_layout.specs.Reclaims.{BaseGoes, BaseIsLog, BaseRests};
 ghost use Rattle.law_log_layout.specs.Entries.{FloorIsLog, RunIsLog};
 ghost use Rattle.law_log_layout.specs.OneLog.{OneLogInHeap, OneReading};
-ghost use Rattle.law_log_layout.specs.Beside.{ChainAmongOthers, ChainIsAmong, ChainLeavesParts, RootBeside, SyncKeepsParts, SyncLeavesChain};
-ghost use Rattle.law_log_layout.specs.Beside.{SyncLeavesOthers, SyncLeavesParts, WriteAddsPart, WriteLeavesChain, WriteLeavesOthers};
+ghost use Rattle.law_log_layout.specs.Beside.{BaseLiesBeside, ChainAmongOthers, ChainIsAmong, ChainLeavesParts, RootBeside, SyncKeepsParts};
+ghost use Rattle.law_log_layout.specs.Beside.{SyncLeavesChain, SyncLeavesOthers, SyncLeavesParts, WriteAddsPart, WriteLeavesChain, WriteLeavesOthers};
 ghost use Rattle.law_log_layout.specs.Beside.{WriteLeavesParts};
 
 /// A chain's way behind the log, at every moment: a stop leaves the log without it, or, from the write
@@ -73,6 +73,7 @@ pub fn chains_beside()
     ensures chain_by_sync { SyncLeavesChain }
     ensures chain_among { ChainAmongOthers }
     ensures among { ChainIsAmong }
+    ensures base { BaseLiesBeside }
     // Parts of the heap are left as they were, and after a sync what was read outlasts a stop.
     ensures parts_by_chain { ChainLeavesParts }
     ensures parts_by_write { WriteLeavesParts }

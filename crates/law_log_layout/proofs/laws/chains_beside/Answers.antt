@@ -1,3 +1,4 @@
+use Rattle.law_log_layout.proofs.BaseBeside.{base-lies-beside}
 use Rattle.law_log_layout.proofs.Beside.{chain-among-others, chain-is-among, chain-leaves-parts, sync-keeps-parts, sync-leaves-chain, sync-leaves-others}
 use Rattle.law_log_layout.proofs.Beside.{sync-leaves-parts, write-adds-part, write-leaves-chain, write-leaves-others, write-leaves-parts}
 use Rattle.law_log_layout.proofs.laws.chains_beside.Goals as goal
@@ -13,6 +14,9 @@ returns-clause-chain_among c = chain-among-others
 
 pub returns-clause-among : goal.returns-clause-among
 returns-clause-among c = chain-is-among
+
+pub returns-clause-base : goal.returns-clause-base
+returns-clause-base c = base-lies-beside
 
 pub returns-clause-parts_by_chain : goal.returns-clause-parts_by_chain
 returns-clause-parts_by_chain c = chain-leaves-parts
