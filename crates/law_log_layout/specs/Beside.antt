@@ -29,7 +29,7 @@ pub record LiesBeside (log : List Part) (t : Turn) (p : Part) : Type 0 where
 abbrev pub LieBesideTurn : Turn → List Part → Type 0
 LieBesideTurn t parts = AllByRecursion (LiesBesideTurn t) parts
 
--- the stage is one of this chain: what is written, and then what is not, are its parts
+-- the stage is one of this chain: what is written of it and what is not are its parts
 abbrev pub IsStageOf : Turn → Stage → Type 0
 IsStageOf t (Writing done rest) = done ++ rest ≡ t.parts
 IsStageOf t Syncing = Unit {0}
@@ -64,7 +64,7 @@ SyncLeavesChain = (live : List Part) (t : Turn) (stage : Stage) (result : Result
 abbrev pub ChainAmongOthers : Type 0
 ChainAmongOthers = (live others : List Part) (t : Turn) (stage : Stage) (a : AreaState) → KeepsAll others a → IsAt live t stage a → IsAt others t stage a
 
--- and at each stage whatever a stop may leave has the parts that it is among, and the stage is one of it
+-- and at each stage whatever a stop may leave has the parts that it is among, and the stage is one of its own
 abbrev pub ChainIsAmong : Type 0
 ChainIsAmong = (live : List Part) (t : Turn) (stage : Stage) (a : AreaState) → IsAt live t stage a → KeepsAll live a × IsStageOf t stage
 
@@ -119,8 +119,8 @@ LeavesOnly Claim areas = (heap archive : List ℕ) → MayLeave areas.heap heap 
 abbrev pub NamesRootOf : List Part → Bool → List ℕ → (List ℕ → List ℕ → Type 0) → Image → Type 0
 NamesRootOf header turned root Claim image = NamesRoot header turned root image.status × Claim image.heap image.archive
 
--- What holds of the way from one root to the other at a stage, where heap and archive meet what each of the roots claims of them: what a stop may leave names
--- the old root and meets its claim, or from the write of the turn gate on so or likewise the new one, or at the end the new one.
+-- What holds of the way from one root to the other at a stage, where heap and archive meet what each root claims of them: what a stop may leave names the old
+-- root and meets its claim, or from the write of the turn gate on does so for either, and at the end for the new one.
 pub record IsRootWayWith (Old New : List ℕ → List ℕ → Type 0) (header : List Part) (turned : Bool) (old new : List ℕ) (stage : roots.Stage) (areas : Areas)
     : Type 0 where
   pub before : (image : Image) → LeavesImage areas image
