@@ -1,6 +1,8 @@
 pub mod Parts
 pub mod Goes
 pub mod RootGoes
+pub mod Beside
+pub mod RootBeside
 pub mod Places
 pub mod Joining
 pub mod GroupJoins
@@ -9,6 +11,7 @@ pub mod ReclaimGoes
 pub mod BaseJoins
 pub mod EntryJoins
 pub mod BaseGoes
+pub mod BaseBeside
 pub mod OneLog
 pub mod OneReading
 pub mod BasedShares

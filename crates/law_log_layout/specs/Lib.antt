@@ -6,3 +6,4 @@ pub mod Reclaims
 pub mod Entries
 pub mod OneLog
 pub mod Behind
+pub mod Beside
