@@ -16,10 +16,12 @@ use Rattle.log_writer.specs.Writer as writers
 use Rattle.log_writer.specs.declared.writer.Wrote.{Wrote}
 use Rattle.log_writer.specs.declared.writer.Wrote.TheVariants as wrote
 use Rattle.log_room.specs.Rooms.{RoomValue, TakesChain, promised_entry, has_entry_room}
+use Rattle.log_recovery.specs.Live.{part_of}
 use Rattle.log_room.specs.Bases as bases
 use Rattle.log_room.specs.declared.base_share.BaseParts.{BaseParts}
 use Rattle.commits.specs.Values.{CommitsValue, last, with_floors}
 use Rattle.commits.specs.Calls.{oldest}
+use Rattle.log_store.specs.Live.{with_live}
 use Rattle.log_store.specs.Values.{LogStoreValue}
 use Rattle.log_store.specs.Pumps.{with_failure}
 use Rattle.log_store.specs.declared.job.Job.{Job}
@@ -150,7 +152,8 @@ abbrev pub entering : Option Job → WriterState → Option Job
 entering None w = None
 entering (Some job) w = Some (record job { stage = Entering w })
 
--- the entry begins: it begins where the log ends, and the log goes on in the least free extent; nothing of it is written yet
+-- the entry begins: it begins where the log ends, and the log goes on in the least free extent; nothing of it is written yet, and its chain is the last of those
+-- in memory
 pub record BeginsEntry (old : LogStoreValue) (job : Job) (new : LogStoreValue) : Type 0 where
   pub numbers : List ℕ
   pub link : ℕ
@@ -161,7 +164,7 @@ pub record BeginsEntry (old : LogStoreValue) (job : Job) (new : LogStoreValue) :
     link = link;
     content = entry_bytes (entry_of job.work);
     stage = Writing [] (chain_turn numbers link (entry_bytes (entry_of job.work))).parts;
-  }))) { room = room }
+  }))) { room = room; live = with_live old.live numbers (part_of (entry_of job.work)) }
 
 -- what a call of the entry's chain did
 abbrev pub did_of : Wrote → JobDid

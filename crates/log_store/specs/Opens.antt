@@ -22,6 +22,7 @@ use Rattle.log_recovery.specs.declared.opening.LogHeap.{LogHeap}
 use Rattle.log_recovery.specs.declared.image.LogRecovered.{LogRecovered}
 use Rattle.log_recovery.specs.Image.{IsReadFrom}
 use Rattle.log_recovery.specs.Opening.{IsImageFault}
+use Rattle.log_store.specs.Live.{LiveValue, live_value}
 use Rattle.log_store.specs.Named.{NamedValue}
 use Rattle.log_store.specs.Values.{LogStoreValue}
 use Rattle.log_store.specs.declared.opening.MemoryParts.{MemoryParts}
@@ -72,6 +73,10 @@ commits_on mark members floors reclaimed = record {
 abbrev pub room_on : LogHeap → RoomValue
 room_on heap = record { used = with_use heap.space heap.next true; next = heap.next; log = heap.log; promised = 0; anchors = heap.members.sizes.len }
 
+-- the chains of the log, and the extents of the anchors
+abbrev pub live_on : LogHeap → LiveValue
+live_on heap = record { chains = heap.live.items; anchors = heap.anchors.items }
+
 -- what the log names in the archive
 abbrev pub named_on : LogHeap → NamedValue
 named_on heap = record {
@@ -86,6 +91,7 @@ pub record ArePartsOf (mark : ℕ) (read : LogRecovered) (parts : MemoryParts) :
   pub roots : parts.roots ≡ read.roots
   pub commits : parts.commits ≡ commits_on mark read.heap.members read.heap.end.floors read.heap.end.mark
   pub room : parts.room ≡ room_on read.heap
+  pub live : live_value parts.live ≡ live_on read.heap
   pub named : parts.named ≡ named_on read.heap
   pub archive : HasRuns read.heap.end.runs.items parts.archive
   pub ordered : IsOrdered read.heap.members.versions
@@ -104,6 +110,7 @@ opened_on mark read archive disk = record {
   commits = commits_on mark read.heap.members read.heap.end.floors read.heap.end.mark;
   contents = [];
   room = room_on read.heap;
+  live = live_on read.heap;
   turn = None;
   job = None;
   named = named_on read.heap;

@@ -13,11 +13,13 @@ use Rattle.log_writer.specs.declared.writer.Wrote.TheVariants as wrote
 use Rattle.log_extents.specs.Chains.{count_of}
 use Rattle.log_room.specs.Rooms.{RoomValue, TakesChain}
 use Rattle.log_room.specs.Contents.{joined, extents_of}
-use Rattle.commits.specs.Steps.{grouped, published, broken}
+use Rattle.commits.specs.Steps.{group_last, grouped, published, broken}
+use Rattle.log_recovery.specs.declared.live.LivePart.TheVariants.{Commits}
 use Rattle.log_store.specs.declared.job.Job.{Job}
 use Rattle.log_store.specs.declared.job.JobStage.{JobStage}
 use Rattle.log_store.specs.declared.job.JobStage.TheVariants.{Ready, Entering}
 use Rattle.log_store.specs.declared.job.JobStage.TheVariants as stages
+use Rattle.log_store.specs.Live.{with_live}
 use Rattle.log_store.specs.Values.{LogStoreValue}
 use Rattle.log_store.specs.declared.pump.Did.{Did}
 use Rattle.log_store.specs.declared.pump.Did.TheVariants as did
@@ -30,7 +32,8 @@ group_size v = min 1024 (length v.commits.queue)
 abbrev pub group_content : LogStoreValue → List ℕ
 group_content v = joined (take (group_size v) v.contents)
 
--- A group begins: its chain begins where the log ends and takes as many extents as its bytes need, of which nothing is written yet.
+-- A group begins: its chain begins where the log ends and takes as many extents as its bytes need, of which nothing is written yet. It is the last of the
+-- chains in memory.
 pub record Begins (old new : LogStoreValue) : Type 0 where
   pub numbers : List ℕ
   pub link : ℕ
@@ -40,6 +43,7 @@ pub record Begins (old new : LogStoreValue) : Type 0 where
     commits = grouped 1024 old.commits;
     contents = drop (group_size old) old.contents;
     room = room;
+    live = with_live old.live numbers (Commits (group_last (grouped 1024 old.commits)));
     turn = Some (record {
       numbers = numbers;
       link = link;

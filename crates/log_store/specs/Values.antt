@@ -8,6 +8,8 @@ use Rattle.log_writer.specs.Writer.{WriterState, IsOnItsWay}
 use Rattle.log_room.specs.Rooms.{RoomValue}
 use Rattle.log_room.specs.Contents.{extents_of}
 use Rattle.commits.specs.Values.{CommitsValue}
+use Rattle.log_recovery.specs.Live.{live_count}
+use Rattle.log_store.specs.Live.{LiveValue}
 use Rattle.log_store.specs.Named.{NamedValue}
 use Rattle.log_store.specs.declared.job.Job.{Job}
 use Rattle.log_store.specs.declared.job.JobStage.{JobStage}
@@ -15,13 +17,15 @@ use Rattle.log_store.specs.declared.job.JobStage.TheVariants.{Writing, Ready, En
 use Rattle.log_store.specs.declared.job.JobWork.{JobWork}
 use Rattle.log_store.specs.declared.job.JobWork.TheVariants.{Floor, Archive}
 
--- a store: its commits and transactions, the room in the heap, the chain in the writing, its archive, and its disk
+-- a store: its commits and transactions, the room in the heap, the chains of the log, the chain in the writing, its archive, and its disk
 pub record LogStoreValue : Type 0 where
   pub roots : Roots
   pub commits : CommitsValue
   -- the bytes of the commits that wait in no begun group, in their order
   pub contents : List (List ℕ)
   pub room : RoomValue
+  -- the chains of the log, also the one in the writing
+  pub live : LiveValue
   -- the group's chain while it is in the writing
   pub turn : Option WriterState
   -- the job that runs
@@ -80,6 +84,8 @@ pub record IsInStep (v : LogStoreValue) : Type 0 where
   pub promised : v.room.promised ≡ extents_of v.contents + promised_to v.job
   pub few : v.room.promised ≤ 2 ^ 20
   pub many : length v.room.used ≤ 2 ^ 20
+  -- of the log's share are the extents of its chains but the base's, and the one where it ends
+  pub counted : v.room.log ≡ live_count v.live.chains + 1
   pub turn : HasTurn v.commits.group v.turn
   pub beside : IsBeside v.turn v.job
   pub place : IsJobInPlace v.job

@@ -3,6 +3,7 @@ ghost use Rattle.std.specs.Prelude.{IfOk, IfErr};
 ghost use Rattle.log_store.specs.Formats.{Creates, CreateRefuses};
 
 use crate::formatting::{format, new_roots};
+use crate::live::Live;
 use crate::named::Named;
 use crate::store::LogStore;
 use chains::Frozen;
@@ -58,6 +59,7 @@ impl<D: Disk> LogStore<D> {
                 ),
                 contents: VecDeque::new(alloc),
                 room: HeapRoom::of_opened(space, 1, 1, 0),
+                live: Live::none(alloc),
                 turn: None,
                 job: None,
                 named: Named::none(alloc),

@@ -5,6 +5,7 @@ ghost use Rattle.disk.specs.Calls.{Counts};
 ghost use Rattle.status.specs.SlotCalls.{answer_of};
 ghost use Rattle.log_entries.specs.Spelling.{entry_bytes};
 ghost use Rattle.log_extents.specs.Chains.{count_of};
+ghost use Rattle.log_recovery.specs.Live.{part_of};
 ghost use Rattle.log_store.specs.declared.job.JobStage.TheVariants.{Ready};
 ghost use Rattle.log_store.specs.Jobs.{PumpsJob, BeginsEntry, AdvancesEntry, IsWriting, IsReady, IsEntering, is_writing, is_ready, at_stage};
 ghost use Rattle.log_store.specs.Jobs.{entry_of, commits_with, named_with, archive_with, commits_by, named_by, archive_by, did_of};
@@ -19,6 +20,7 @@ use commits::Commits;
 use disk::{Area, DeviceFault, Disk};
 use group::PumpFault;
 use log_entries::{push_archive, push_floor};
+use log_recovery::LivePart;
 use log_writer::{ChainWriter, Wrote};
 use std::alloc::{AllocError, Global};
 use timequery::StoreArchive;
@@ -55,6 +57,16 @@ impl JobWork {
                 push_archive(&mut bytes, archive)?;
                 Ok(bytes)
             }
+        }
+    }
+
+    // What memory keeps of its entry.
+    fn part(&self) -> LivePart
+        ensures { result ≡ part_of (entry_of self.now) }
+    {
+        match self {
+            JobWork::Floor { floor, .. } => LivePart::Floor(*floor),
+            JobWork::Archive { archive, .. } => LivePart::Archived(*archive),
         }
     }
 
@@ -224,9 +236,12 @@ impl<D: Disk> LogStore<D> {
     {
         let Some(job) = &self.job else { unreachable!() };
         let bytes = job.work.entry(self.alloc)?;
+        let part = job.work.part();
+        let place = self.live.make_place(self.alloc, ENTRY_EXTENTS)?;
         let chain = self
             .room
             .take_chain(self.alloc, ENTRY_EXTENTS, ENTRY_EXTENTS)?;
+        self.live.put(place, &chain.numbers, part);
         let entry = ChainWriter::new(chain.numbers, chain.link, bytes);
         enter(&mut self.job, entry);
         Ok(())

@@ -5,6 +5,7 @@ mod creating;
 mod formatting;
 mod job;
 mod jobs;
+mod live;
 mod named;
 mod opening;
 mod over;

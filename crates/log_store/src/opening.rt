@@ -5,6 +5,7 @@ ghost use Rattle.wire.specs.Spelling.{IsRun};
 ghost use Rattle.group.specs.CommitOrder.{IsRisingAfter, last_time};
 ghost use Rattle.log_store.specs.Opens.{head_as, AreEntriesFrom, AreInOrder, commits_on, IsPartsFault, ArePartsOf, Opens, OpenRefuses};
 
+use crate::live::Live;
 use crate::named::Named;
 use crate::store::LogStore;
 use archive::RunEntry;
@@ -104,6 +105,7 @@ struct MemoryParts {
     roots: Roots,
     commits: Commits,
     room: HeapRoom,
+    live: Live,
     named: Named,
     archive: StoreArchive,
 }
@@ -120,7 +122,9 @@ fn parts_of(alloc: Global, mark: u64, read: LogRecovered) -> Result<MemoryParts,
         next,
         space,
         log,
+        anchors,
         end,
+        live,
         archives,
         members,
         ..
@@ -147,6 +151,7 @@ fn parts_of(alloc: Global, mark: u64, read: LogRecovered) -> Result<MemoryParts,
             roots,
             commits,
             room,
+            live: Live::new(live, anchors),
             named: Named::new(archives, rolls, archived, runs_end.max(rolls_end)),
             archive,
         }),
@@ -178,6 +183,7 @@ impl<D: Disk> LogStore<D> {
                 commits: parts.commits,
                 contents: VecDeque::new(alloc),
                 room: parts.room,
+                live: parts.live,
                 turn: None,
                 job: None,
                 named: parts.named,

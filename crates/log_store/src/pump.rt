@@ -9,6 +9,7 @@ use commits::MOST_IN_GROUP;
 use disk::{DeviceFault, Disk};
 use group::PumpFault;
 use log_extents::count_extents;
+use log_recovery::LivePart;
 use log_room::{drop_first, join};
 use log_writer::{ChainWriter, Wrote};
 use std::alloc::AllocError;
@@ -96,9 +97,12 @@ impl<D: Disk> LogStore<D> {
         let size = MOST_IN_GROUP.min(self.commits.waiting());
         let group = join(self.alloc, &self.contents, size)?;
         let count = count_extents(group.bytes.len());
+        let place = self.live.make_place(self.alloc, count)?;
         let chain = self.room.take_chain(self.alloc, count, group.count)?;
         self.commits.begin_group(MOST_IN_GROUP);
         drop_first(&mut self.contents, size);
+        let last = self.commits.group_last();
+        self.live.put(place, &chain.numbers, LivePart::Commits(last));
         self.turn = Some(ChainWriter::new(chain.numbers, chain.link, group.bytes));
         Ok(())
     }

@@ -5,6 +5,7 @@ ghost use Rattle.commits.specs.Values.{last, order_of};
 ghost use Rattle.log_store.specs.Calls.{Begins, Aborts, Redeems};
 
 use crate::job::Job;
+use crate::live::Live;
 use crate::named::Named;
 use commits::Commits;
 use disk::Disk;
@@ -28,6 +29,7 @@ pub struct LogStore<D: Disk> {
     // The bytes of the commits that wait in no begun group, in their order.
     pub(crate) contents: VecDeque<Content>,
     pub(crate) room: HeapRoom,
+    pub(crate) live: Live,
     // The group's chain while it is in the writing.
     pub(crate) turn: Option<ChainWriter>,
     pub(crate) job: Option<Job>,
@@ -38,6 +40,7 @@ pub struct LogStore<D: Disk> {
 }
 
 impl<D: Disk> Model for LogStore<D> {
+    ghost use Rattle.log_store.specs.Live.{live_value};
     ghost use Rattle.log_store.specs.Values.{LogStoreValue, IsInStep};
 
     ghost Value = { LogStoreValue };
@@ -47,6 +50,7 @@ impl<D: Disk> Model for LogStore<D> {
       commits = s.commits;
       contents = s.contents.items;
       room = s.room;
+      live = live_value s.live;
       turn = s.turn;
       job = s.job;
       named = s.named;
@@ -59,6 +63,7 @@ impl<D: Disk> Model for LogStore<D> {
       commits = s.commits;
       contents = s.contents.items;
       room = s.room;
+      live = live_value s.live;
       turn = s.turn;
       job = s.job;
       named = s.named;
@@ -78,6 +83,7 @@ impl<D: Disk> LogStore<D> {
             commits: _,
             contents: _,
             room: _,
+            live: _,
             turn: _,
             job: _,
             named: _,

@@ -30,6 +30,7 @@ returns-in-Ok-parts_of-clause-ok g c =
         commits = parts.commits i;
         contents = c.new.ensures.items i;
         room = parts.room i;
+        live = parts.live i;
         turn = None;
         job = None;
         named = parts.named i;

@@ -2,7 +2,7 @@ use Rattle.std.proofs.Common.{◌≡◌, length, map}
 use Rattle.law_image.specs.Log.{last_time_after}
 use Rattle.law_log_layout.specs.HeapLog.{member_told}
 use Rattle.log_recovery.specs.Members.{heads_told}
-use Rattle.log_recovery.proofs.members.last_of.Given as goal
+use Rattle.log_recovery.proofs.live.last_of.Given as goal
 
 abbrev pub invariant-loop-member : goal.invariant-loop-member
 invariant-loop-member l =
