@@ -15,7 +15,23 @@ use Rattle.log_store.specs.declared.job.Job.{Job}
 use Rattle.log_store.specs.declared.job.JobStage.{JobStage}
 use Rattle.log_store.specs.declared.job.JobStage.TheVariants.{Writing, Ready, Entering}
 use Rattle.log_store.specs.declared.job.JobWork.{JobWork}
+use Rattle.log_entries.specs.declared.entry.Base.{Base}
+use Rattle.log_base.specs.Rolls.{InRoll}
+use Rattle.log_roots.specs.Turning as turning
+use Rattle.log_store.specs.declared.reclaim.ReclaimStage.{ReclaimStage}
 use Rattle.log_store.specs.declared.job.JobWork.TheVariants.{Floor, Archive}
+
+-- A reclaim that runs: how many chains of the log its base takes the place of, what that says and its extents, the extents of the anchors that it names and
+-- whether it makes them, what the log then names in the archive, the roll that it adds until that is in the writing, and how far it is.
+pub record ReclaimValue : Type 0 where
+  pub front : ℕ
+  pub base : Base
+  pub numbers : List ℕ
+  pub anchors : List ℕ
+  pub makes : Bool
+  pub named : NamedValue
+  pub roll : Option InRoll
+  pub stage : ReclaimStage
 
 -- a store: its commits and transactions, the room in the heap, the chains of the log, the chain in the writing, its archive, and its disk
 pub record LogStoreValue : Type 0 where
@@ -30,6 +46,8 @@ pub record LogStoreValue : Type 0 where
   pub turn : Option WriterState
   -- the job that runs
   pub job : Option Job
+  -- the reclaim that runs, where no other job does
+  pub reclaim : Option ReclaimValue
   -- what a base would name
   pub named : NamedValue
   pub archive : ArchiveValue
@@ -75,6 +93,21 @@ abbrev pub IsJobInPlace : Option Job → Type 0
 IsJobInPlace None = Unit {0}
 IsJobInPlace (Some job) = IsInPlace job.work
 
+-- A reclaim runs where no other job does. Its base and the anchors that it names keep their shares of the heap, and what it makes of them is taken.
+pub record IsReclaiming (v : LogStoreValue) (r : ReclaimValue) : Type 0 where
+  pub alone : v.job ≡ None
+  pub front : r.front ≤ length v.live.chains
+  pub reserved : v.room.reserved ≡ length (if r.makes then r.anchors ++ r.numbers else r.numbers)
+  pub share : length r.anchors + length r.numbers ≤ length v.room.used / 4
+  pub some : 0 < length r.numbers
+  pub numbers : AllByRecursion (IsNumberOf (2 ^ 20)) r.numbers
+  pub anchors : AllByRecursion (IsNumberOf (2 ^ 20)) r.anchors
+  pub on_its_way : IsStageOnWay r.stage
+
+-- and where none runs nothing is taken for one
+abbrev pub IsReclaimBeside : LogStoreValue → Type 0
+IsReclaimBeside v = MatchOption v.reclaim (v.room.reserved ≡ 0) (IsReclaiming v)
+
 -- What holds of a store by itself.
 pub record IsInStep (v : LogStoreValue) : Type 0 where
   -- the contents are those of the commits that wait behind the group
@@ -89,3 +122,4 @@ pub record IsInStep (v : LogStoreValue) : Type 0 where
   pub turn : HasTurn v.commits.group v.turn
   pub beside : IsBeside v.turn v.job
   pub place : IsJobInPlace v.job
+  pub reclaim : IsReclaimBeside v
