@@ -124,4 +124,63 @@ impl<D: Disk> LogStore<D> {
         let mut source = AnchorSource::new(versions, self.named.upto());
         spell_all(self.alloc, &mut source)
     }
+
+    // What a reclaim would make, if its base and anchors keep their shares of the heap.
+    fn count_base(&self) -> Result<Counted, StartFault>
+        ensures ok { IfOk result (IsCounted self.now) }
+        ensures err { IfErr result (IsCountRefusal self.now) }
+    {
+        let chains = self.live.chains();
+        let mark = self.named.upto();
+        let reclaimed = mark_of(chains);
+        let makes = reclaimed < mark;
+        let Ok(names) = names_of(self.alloc, self.commits.heads(), reclaimed, mark) else {
+            return Err(StartFault::NoMemory);
+        };
+        let roll = roll_at(self.named.end(), names.len())?;
+        let Ok(anchors) = self.made_anchors(makes) else {
+            return Err(StartFault::NoMemory);
+        };
+        let front = front_len(chains, mark);
+        let Ok(base) = base_of(self.alloc, &chains[..front], mark, anchors_of(chains), roll) else {
+            return Err(StartFault::NoMemory);
+        };
+        if !self.keeps_shares(&base, &anchors, makes) {
+            return Err(StartFault::HeapFull);
+        }
+        self.with_named(Counted { front, makes, names, anchors, base })
+    }
+
+    // Whether the base and its anchors keep their shares of the heap: with room for one roll more a sixteenth, and three.
+    fn keeps_shares(&self, base: &Base, anchors: &MadeAnchors, makes: bool) -> bool
+    {
+        let len = self.room.len() as usize;
+        let made = count_extents(anchors.bytes.len());
+        let standing = if makes { made } else { self.live.anchors().len() };
+        let small = base.len();
+        count_extents(small + ROLL_LEN) <= len / 16 && made <= len * 3 / 16 && standing + count_extents(small) <= len / 4
+    }
+
+    // The reclaim that makes this begins.
+    fn begin_reclaim(&mut self, counted: Counted) -> Result<(), AllocError>
+        requires { IsCounted self.old counted }
+    {
+        let Counted { front, makes, names, anchors, mut base, archives } = counted;
+        let made = count_extents(anchors.bytes.len());
+        if makes {
+            base.anchors = AnchorName {
+                first: if made == 0 { 0 } else { self.room.least_free() },
+                extents: made as u32,
+                records: anchors.records as u32,
+            };
+        }
+        let mut bytes = Vec::new(self.alloc);
+        push_base(&mut bytes, &base)?;
+        let standing = ...
+        let link = self.head_behind(front);
+        self.live.make_spare(self.alloc)?;
+        let mut taken = self.room.reserve(self.alloc, made + count_extents(bytes.len()))?;
+        let numbers = taken.split_off(made)?;
+        ...
+    }
 }
