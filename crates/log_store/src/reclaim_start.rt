@@ -148,39 +148,71 @@ impl<D: Disk> LogStore<D> {
         if !self.keeps_shares(&base, &anchors, makes) {
             return Err(StartFault::HeapFull);
         }
-        self.with_named(Counted { front, makes, names, anchors, base })
+        let Ok(named) = self.named_then(&base, &chains[front..], names.len()) else {
+            return Err(StartFault::NoMemory);
+        };
+        Ok(Counted {
+            front,
+            makes,
+            names,
+            anchors,
+            base,
+            named,
+        })
     }
 
-    // Whether the base and its anchors keep their shares of the heap: with room for one roll more a sixteenth, and three.
-    fn keeps_shares(&self, base: &Base, anchors: &MadeAnchors, makes: bool) -> bool
+    // Whether the base and its anchors keep their shares of the heap: with room for one roll more a sixteenth of it, and three.
+    fn keeps_shares(&self, base: &Base, made: &MadeAnchors, makes: bool) -> bool
+        ensures { IsTrue result ↔ KeepsShares self.now (length (base_bytes base.now)) (length made.now.bytes.items) makes }
     {
         let len = self.room.len() as usize;
-        let made = count_extents(anchors.bytes.len());
-        let standing = if makes { made } else { self.live.anchors().len() };
-        let small = base.len();
-        count_extents(small + ROLL_LEN) <= len / 16 && made <= len * 3 / 16 && standing + count_extents(small) <= len / 4
+        let anchors = count_extents(made.bytes.len());
+        let standing = if makes {
+            anchors
+        } else {
+            self.live.anchors().len()
+        };
+        count_extents(base.len() + ROLL_LEN) <= len / 16
+            && anchors <= len * 3 / 16
+            && standing + count_extents(base.len()) <= len / 4
+    }
+
+    // What the log names in the archive once the base stands before these chains, with a roll of so many bytes.
+    fn named_then(
+        &self,
+        base: &Base,
+        back: &[LiveChain],
+        len: usize,
+    ) -> Result<Named, AllocError>
+        requires { self.now.named.end + len < 2 ^ 63 }
+        ensures { IfOk result (λ named. named ≡ named_behind self.now.named base.now back.now len) }
+    {
+        let mut archives = Vec::from_slice(self.alloc, base.archives.as_slice())?;
+        push_archives(&mut archives, back)?;
+        let rolls = Vec::from_slice(self.alloc, base.rolls.as_slice())?;
+        Ok(Named::new(
+            archives,
+            rolls,
+            self.named.upto(),
+            self.named.end() + len as u64,
+        ))
     }
 
     // The reclaim that makes this begins.
     fn begin_reclaim(&mut self, counted: Counted) -> Result<(), AllocError>
-        requires { IsCounted self.old counted }
+        requires none { (self.old.reclaim ≡ None) × (self.old.job ≡ None) }
+        requires counted { IsCounted self.old counted }
+        ensures ok { OnOk result (IsReclaimBegun self.old self.new) }
+        ensures err { OnErr result (self.new ≡ self.old) }
     {
-        let Counted { front, makes, names, anchors, mut base, archives } = counted;
-        let made = count_extents(anchors.bytes.len());
-        if makes {
-            base.anchors = AnchorName {
-                first: if made == 0 { 0 } else { self.room.least_free() },
-                extents: made as u32,
-                records: anchors.records as u32,
-            };
-        }
+        let made = count_extents(counted.anchors.bytes.len());
+        let base = self.with_anchors(counted.base, counted.makes, made, counted.anchors.records);
         let mut bytes = Vec::new(self.alloc);
         push_base(&mut bytes, &base)?;
-        let standing = ...
-        let link = self.head_behind(front);
-        self.live.make_spare(self.alloc)?;
-        let mut taken = self.room.reserve(self.alloc, made + count_extents(bytes.len()))?;
-        let numbers = taken.split_off(made)?;
-        ...
+        let standing = self.standing(made)?;
+        let taken = self
+            .room
+            .reserve(self.alloc, made + count_extents(bytes.len()))?;
+        todo
     }
 }
