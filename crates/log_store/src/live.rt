@@ -50,7 +50,10 @@ impl Live {
         let mut copy = place;
         match copy.extend_from_slice(numbers) {
             Err(AllocError) => unreachable!(),
-            Ok(()) => self.chains.push_reserved(LiveChain { numbers: copy, part }),
+            Ok(()) => self.chains.push_reserved(LiveChain {
+                numbers: copy,
+                part,
+            }),
         }
     }
 }

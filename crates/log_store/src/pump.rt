@@ -102,7 +102,8 @@ impl<D: Disk> LogStore<D> {
         self.commits.begin_group(MOST_IN_GROUP);
         drop_first(&mut self.contents, size);
         let last = self.commits.group_last();
-        self.live.put(place, &chain.numbers, LivePart::Commits(last));
+        self.live
+            .put(place, &chain.numbers, LivePart::Commits(last));
         self.turn = Some(ChainWriter::new(chain.numbers, chain.link, group.bytes));
         Ok(())
     }

@@ -37,8 +37,8 @@ pub with_group-requires-clause-rising : goal.with_group-requires-clause-rising
 with_group-requires-clause-rising c =
     let mark = c.args.mark in
     let last = c.loop-chain.read.last in
-    let later_is : later_of mark c.take_apart.result.members.items ≡ later_in mark c.in-Some.chain.entry =
-    c.take_apart.ensures.members mark ∙ ap (later_in mark) (ap (λ (x : PlacedChain). x.entry) c.chain.view_is) in
+    let later_is : later_of mark c.take_apart-members.result.members.items ≡ later_in mark c.in-Some.chain.entry =
+    c.take_apart-members.ensures.members mark ∙ ap (later_in mark) (ap (λ (x : PlacedChain). x.entry) c.chain.view_is) in
     let rising = subst (λ (l : List PlacedChain). AreRisingAfter last (heads_told (members_of_all mark l))) c.in-Some.ensures.steps.0
     c.loop-chain.invariant.1 in
     subst (λ (l : List Member). AreRisingAfter last (heads_told l)) (sym later_is)
@@ -49,8 +49,8 @@ returns-in_default-clause-fault c = λ olds writes.
     let mark = c.args.mark in
     let all = c.args.chains.items in
     let left = c.next.new.self.rest.items in
-    let later_is : later_of mark c.take_apart.result.members.items ≡ later_in mark c.in-Some.chain.entry =
-    c.take_apart.ensures.members mark ∙ ap (later_in mark) (ap (λ (x : PlacedChain). x.entry) c.chain.view_is) in
+    let later_is : later_of mark c.take_apart-members.result.members.items ≡ later_in mark c.in-Some.chain.entry =
+    c.take_apart-members.ensures.members mark ∙ ap (later_in mark) (ap (λ (x : PlacedChain). x.entry) c.chain.view_is) in
     let numbers_are : c.in-Some.chain.numbers ≡ c.chain.inside.numbers.items = sym (ap (λ (x : PlacedChain). x.numbers) c.chain.view_is) in
     let w = subst (λ (l : List PlacedChain). AreUnderWay mark olds all l c.loop-chain.read) c.in-Some.ensures.steps.0 (c.loop-chain.invariant.3 olds writes) in
     let none = rw c.in_default.is at c.in_ok-next.ensures.read olds w.done w.facts in
@@ -66,19 +66,19 @@ loop-chain-preserved c =
     let left = c.next.new.self.rest.items in
     let last = c.loop-chain.read.last in
     let first = c.in-Some.ensures.steps.0 in
-    let later : List Member = later_of mark c.take_apart.result.members.items in
+    let later : List Member = later_of mark c.take_apart-members.result.members.items in
     let later_is : later ≡ later_in mark c.in-Some.chain.entry =
-    c.take_apart.ensures.members mark ∙ ap (later_in mark) (ap (λ (x : PlacedChain). x.entry) c.chain.view_is) in
+    c.take_apart-members.ensures.members mark ∙ ap (later_in mark) (ap (λ (x : PlacedChain). x.entry) c.chain.view_is) in
     let placed = subst (AllByRecursion (λ (d : PlacedChain). IsEntry c.loop-chain.invariant.0.0 d.entry)) first c.loop-chain.invariant.0.1 in
     let rising = subst (λ (l : List PlacedChain). AreRisingAfter last (heads_told (members_of_all mark l))) first c.loop-chain.invariant.1 in
     let turn = rise_in_turn mark last c.in-Some.chain left rising in
     let next_last : c.in-Some-2.next.last ≡ last_time_after last (heads_told later) = rw c.in-Some-2.is at c.in_ok-next.ensures.last in
     let last_is : c.in-Some-2.next.last ≡ last_time_after last (heads_told (later_in mark c.in-Some.chain.entry)) =
     next_last ∙ ap (λ (l : List Member). last_time_after last (heads_told l)) later_is in
-    let part_is : c.take_apart.result.part ≡ part_of c.in-Some.chain.entry =
-    c.take_apart.ensures.part ∙ ap part_of (ap (λ (x : PlacedChain). x.entry) c.chain.view_is) in
+    let part_is : c.take_apart-members.result.part ≡ part_of c.in-Some.chain.entry =
+    c.take_apart-members.ensures.part ∙ ap part_of (ap (λ (x : PlacedChain). x.entry) c.chain.view_is) in
     let numbers_are : c.chain.inside.numbers.items ≡ c.in-Some.chain.numbers = ap (λ (x : PlacedChain). x.numbers) c.chain.view_is in
-    let one : Path LiveChainValue (record { numbers = c.chain.inside.numbers.items; part = c.take_apart.result.part }) (live_of c.in-Some.chain) =
+    let one : Path LiveChainValue (record { numbers = c.chain.inside.numbers.items; part = c.take_apart-members.result.part }) (live_of c.in-Some.chain) =
     λ i. record { numbers = numbers_are i; part = part_is i } in (
       (c.loop-chain.invariant.0.0, placed.1),
       subst (λ (n : ℕ). AreRisingAfter n (heads_told (members_of_all mark left))) (sym last_is) turn.others,
@@ -118,7 +118,7 @@ returns-clause-sizes c = λ olds writes len_is.
     count_ends mark olds [] (members_of_all mark c.args.chains.items) (members_of_all mark c.loop-chain.chain-iterator.rest.items) c.loop-chain.read
     (c.loop-chain.invariant.4 olds writes len_is) (ap (members_of_all mark) nothing)
 
-pub take_apart-requires : goal.take_apart-requires
-take_apart-requires c =
+pub take_apart-members-requires : goal.take_apart-members-requires
+take_apart-members-requires c =
     let each = subst (AllByRecursion (λ (d : PlacedChain). IsEntry c.loop-chain.invariant.0.0 d.entry)) c.in-Some.ensures.steps.0 c.loop-chain.invariant.0.1 in
     (c.loop-chain.invariant.0.0, subst (IsEntry c.loop-chain.invariant.0.0) (sym (ap (λ (x : PlacedChain). x.entry) c.chain.view_is)) each.0)

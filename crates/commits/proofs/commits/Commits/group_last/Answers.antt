@@ -4,8 +4,8 @@ use Rattle.commits.specs.Steps.{group_last, time_behind}
 use Rattle.commits.proofs.Kept.{time-last}
 use Rattle.commits.proofs.commits.Commits.group_last.Goals as goal
 
-pub returns-in-Some : goal.returns-in-Some
-returns-in-Some c =
+pub returns : goal.returns
+returns c =
     let i = c.self.inside in
     let some = subst (λ (v : CommitsValue). 0 < v.group) (sym c.self.view_is) c.requires in
     let within = c.self.invariant.group_within in
