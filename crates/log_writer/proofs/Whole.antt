@@ -48,19 +48,19 @@ left-count gate link numbers content index within =
     omega (arith, many, rest, within)
 
 -- what is written of an extent, and where
-pub next-is : (gate link : ℕ) (numbers content : List ℕ) (index n next : ℕ) (body image : List ℕ) (place : ℕ) → index < length numbers
-    → n ≡ get_or numbers index n → next ≡ first_or 0 (drop (index + 1) numbers) → body ≡ take 8168 (drop (8168 * index) content)
-    → image ≡ linked_bytes (record { gate = at_head gate index; number = n; next = next; link = at_head link index; body = body })
-    → place ≡ extent_start n → (p : Part) (rest : List Part) → parts_left gate link numbers content index ≡ p ∷ rest → IsPart place image p
-next-is gate link numbers content index n next body image place within here behind part whole at p rest is =
+pub next-is : (gate link : ℕ) (numbers content : List ℕ) (index g l n next : ℕ) (body image : List ℕ) (place : ℕ) → index < length numbers
+    → g ≡ at_head gate index → l ≡ at_head link index → n ≡ get_or numbers index n → next ≡ first_or 0 (drop (index + 1) numbers)
+    → body ≡ take 8168 (drop (8168 * index) content)
+    → image ≡ linked_bytes (record { gate = g; number = n; next = next; link = l; body = body }) → place ≡ extent_start n
+    → (p : Part) (rest : List Part) → parts_left gate link numbers content index ≡ p ∷ rest → IsPart place image p
+next-is gate link numbers content index g l n next body image place within gate_is link_is here behind part whole at p rest is =
     let e = extent_at gate link numbers content index n in
     let same : extent_part e ≡ p =
     first-is (extent_part e) p (parts_left gate link numbers content (index + 1)) rest
     (sym (split-left gate link numbers content index n within here) ∙ is) in
     record {
       place_is = at ∙ ap (λ (q : Part). q.place) same;
-      bytes_are = whole
-          ∙ (λ i. linked_bytes (record { gate = at_head gate index; number = n; next = behind i; link = at_head link index; body = part i }))
+      bytes_are = whole ∙ (λ i. linked_bytes (record { gate = gate_is i; number = n; next = behind i; link = link_is i; body = part i }))
           ∙ ap (λ (q : Part). q.bytes) same;
     }
 
