@@ -5,7 +5,7 @@ ghost use Rattle.disk.specs.Calls.{Counts, Writes};
 ghost use Rattle.disk.specs.declared.area.Area.TheVariants.{Heap};
 ghost use Rattle.log_extents.specs.Chains.{count_of, first_or, IsNumberOf};
 ghost use Rattle.log_writer.specs.Turns.{Part};
-ghost use Rattle.log_writer.specs.Whole.{whole_parts};
+ghost use Rattle.log_writer.specs.Whole.{whole_parts, at_head};
 ghost use Rattle.log_extents.specs.Extents.{linked_bytes};
 
 use crate::place::extent_place;
@@ -65,17 +65,30 @@ impl ExtentsWriter {
     {
         self.numbers.len() <= self.written
     }
+}
 
-    // The number of the extent behind this one, or 0 behind the last.
-    fn number_behind(&self, index: usize) -> u32
-        requires { index < length self.now.numbers }
-        ensures { result ≡ first_or 0 (drop (index + 1) self.now.numbers) }
-    {
-        match self.numbers.get(index + 1) {
-            Some(number) => *number,
-            None => 0,
-        }
+// The number of the extent behind this one, or 0 behind the last.
+fn number_behind(numbers: &[u32], index: usize) -> u32
+    requires { index < length numbers.now }
+    ensures { result ≡ first_or 0 (drop (index + 1) numbers.now) }
+{
+    match numbers.get(index + 1) {
+        Some(number) => *number,
+        None => 0,
     }
+}
+
+// Gate and link stand in the head alone.
+fn gate_at(gate: u8, index: usize) -> u8
+    ensures { result ≡ at_head gate index }
+{
+    if index == 0 { gate } else { 0 }
+}
+
+fn link_at(link: u32, index: usize) -> u32
+    ensures { result ≡ at_head link index }
+{
+    if index == 0 { link } else { 0 }
 }
 
 // The extent's part of a content.
@@ -110,10 +123,11 @@ impl ExtentsWriter {
     {
         let index = self.written;
         let number = self.numbers[index];
-        let gate = if index == 0 { self.gate } else { 0 };
-        let link = if index == 0 { self.link } else { 0 };
+        let gate = gate_at(self.gate, index);
+        let link = link_at(self.link, index);
+        let next = number_behind(self.numbers.as_slice(), index);
         let body = body_of(self.content.as_slice(), index);
-        let image = image_of(gate, link, number, self.number_behind(index), body);
+        let image = image_of(gate, link, number, next, body);
         disk.write_at(Area::Heap, extent_place(number), &image)?;
         self.written = index + 1;
         Ok(())

@@ -1,4 +1,4 @@
-use Rattle.std.proofs.Common.{ap, ◌∙◌, ℕ, List, slice_set, refl}
+use Rattle.std.proofs.Common.{ap, ◌∙◌, ℕ, List, slice_set}
 use Rattle.log_writer.proofs.Whole.{with_gate}
 use Rattle.log_writer.proofs.extents_writer.image_of.Goals as goal
 
