@@ -1,8 +1,7 @@
 -- The base that takes the place of the front of a log.
 use Rattle.std.specs.Prelude.{ℕ, ◌-◌, zero, suc, nat_lt, Bool, false, List, [], ◌∷◌, ◌++◌, length, map, take, option_to_list, Option, if◌then◌else◌}
-use Rattle.floors.specs.Floors.{FloorsValue, no_floors, raised_in}
+use Rattle.floors.specs.Floors.{with_own}
 use Rattle.floors.specs.declared.floors.OwnFloor.{OwnFloor}
-use Rattle.std.specs.Prelude.{Some}
 use Rattle.log_entries.specs.declared.entry.AnchorName.{AnchorName}
 use Rattle.log_entries.specs.declared.entry.Archive.{Archive}
 use Rattle.log_entries.specs.declared.entry.Base.{Base}
@@ -27,77 +26,94 @@ abbrev pub front_len : ℕ → List LiveChainValue → ℕ
 front_len mark [] = zero
 front_len mark (c ∷ cs) = if is_later mark c.part then zero else suc (front_len mark cs)
 
--- ---- what the front leaves
+-- ---- the runs that the front leaves
 
 -- a run as a base names it: it takes the place of no other
 abbrev pub in_base : Archive → Archive
 in_base archive = record archive { runs = 0 }
 
--- the runs that stand behind one chain more: a run takes the place of so many of the last ones
+-- the runs with this one, which takes the place of so many of the last ones
+abbrev pub with_run : List Archive → Archive → List Archive
+with_run before archive = take (length before - archive.runs) before ++ in_base archive ∷ []
+
+-- the runs that stand behind one chain more
 abbrev pub runs_behind : List Archive → LivePart → List Archive
 runs_behind before (Commits last) = before
-runs_behind before (Archived archive) = take (length before - archive.runs) before ++ in_base archive ∷ []
+runs_behind before (Archived archive) = with_run before archive
 runs_behind before (Floor floor) = before
 runs_behind before (parts.Base base) = before ++ base.archives
 
+-- and behind all of these
 abbrev pub runs_from : List Archive → List LiveChainValue → List Archive
 runs_from before [] = before
 runs_from before (c ∷ cs) = runs_from (runs_behind before c.part) cs
 
--- the floors of a base, in the order of their relations
-abbrev pub own_floor : RelationFloor → OwnFloor
-own_floor f = record { relation = f.relation; floor = f.floor }
+-- ---- its floors, by rising relation
 
+-- these floors raised, one after the other
+abbrev pub raised_by : List OwnFloor → List RelationFloor → List OwnFloor
+raised_by before [] = before
+raised_by before (f ∷ fs) = raised_by (with_own before f.relation f.floor) fs
+
+-- the floors behind one chain more
+abbrev pub own_behind : List OwnFloor → LivePart → List OwnFloor
+own_behind before (Commits last) = before
+own_behind before (Archived archive) = before
+own_behind before (Floor floor) = with_own before floor.relation floor.floor
+own_behind before (parts.Base base) = raised_by before base.floors
+
+-- and behind all of these
+abbrev pub own_from : List OwnFloor → List LiveChainValue → List OwnFloor
+own_from before [] = before
+own_from before (c ∷ cs) = own_from (own_behind before c.part) cs
+
+-- a floor as a base has it
 abbrev pub relation_floor : OwnFloor → RelationFloor
 relation_floor f = record { relation = f.relation; floor = f.floor }
 
--- the floors behind one chain more
-abbrev pub floors_behind : FloorsValue → LivePart → FloorsValue
-floors_behind before (Commits last) = before
-floors_behind before (Archived archive) = before
-floors_behind before (Floor floor) = raised_in (Some floor.relation) floor.floor before
-floors_behind before (parts.Base base) = floors_of_base before base.floors
-  where
-    floors_of_base : FloorsValue → List RelationFloor → FloorsValue
-    floors_of_base before [] = before
-    floors_of_base before (f ∷ fs) = floors_of_base (raised_in (Some f.relation) f.floor before) fs
+-- ---- what the log's base says
 
-abbrev pub floors_from : FloorsValue → List LiveChainValue → FloorsValue
-floors_from before [] = before
-floors_from before (c ∷ cs) = floors_from (floors_behind before c.part) cs
+-- its rolls
+abbrev pub rolls_at : LivePart → List Roll
+rolls_at (Commits last) = []
+rolls_at (Archived archive) = []
+rolls_at (Floor floor) = []
+rolls_at (parts.Base base) = base.rolls
 
--- the rolls and the anchors that the log's base names, and its mark: none where the log has no base
+-- no anchors
+abbrev pub no_anchors : AnchorName
+no_anchors = record { first = 0; extents = 0; records = 0 }
+
+-- its anchors
+abbrev pub anchors_at : LivePart → AnchorName
+anchors_at (Commits last) = no_anchors
+anchors_at (Archived archive) = no_anchors
+anchors_at (Floor floor) = no_anchors
+anchors_at (parts.Base base) = base.anchors
+
+-- its mark
+abbrev pub mark_at : LivePart → ℕ
+mark_at (Commits last) = 0
+mark_at (Archived archive) = 0
+mark_at (Floor floor) = 0
+mark_at (parts.Base base) = base.upto
+
+-- the rolls that the base of a log names, none where it has no base
 abbrev pub rolls_of : List LiveChainValue → List Roll
 rolls_of [] = []
 rolls_of (c ∷ cs) = rolls_at c.part
-  where
-    rolls_at : LivePart → List Roll
-    rolls_at (Commits last) = []
-    rolls_at (Archived archive) = []
-    rolls_at (Floor floor) = []
-    rolls_at (parts.Base base) = base.rolls
 
+-- where the anchors are that it names
 abbrev pub anchors_of : List LiveChainValue → AnchorName
-anchors_of [] = record { first = 0; extents = 0; «records» = 0 }
+anchors_of [] = no_anchors
 anchors_of (c ∷ cs) = anchors_at c.part
-  where
-    anchors_at : LivePart → AnchorName
-    anchors_at (Commits last) = record { first = 0; extents = 0; «records» = 0 }
-    anchors_at (Archived archive) = record { first = 0; extents = 0; «records» = 0 }
-    anchors_at (Floor floor) = record { first = 0; extents = 0; «records» = 0 }
-    anchors_at (parts.Base base) = base.anchors
 
+-- the reclaim mark
 abbrev pub mark_of : List LiveChainValue → ℕ
 mark_of [] = 0
 mark_of (c ∷ cs) = mark_at c.part
-  where
-    mark_at : LivePart → ℕ
-    mark_at (Commits last) = 0
-    mark_at (Archived archive) = 0
-    mark_at (Floor floor) = 0
-    mark_at (parts.Base base) = base.upto
 
--- ---- the base
+-- ---- the new base
 
 -- the base in the place of this front, with its mark, its anchors and the roll that it adds, if it adds one
 abbrev pub base_on : List LiveChainValue → ℕ → AnchorName → Option Roll → Base
@@ -106,5 +122,5 @@ base_on front upto anchors roll = record {
   anchors = anchors;
   rolls = rolls_of front ++ option_to_list roll;
   archives = runs_from [] front;
-  floors = map relation_floor (floors_from no_floors front).own;
+  floors = map relation_floor (own_from [] front);
 }

@@ -1,16 +1,25 @@
 -- The names of commits that a roll has.
-use Rattle.std.specs.Prelude.{ℕ, ◌≡◌, ◌*◌, ◌&&◌, nat_lt, nat_le, List, length, filter, map, flat_map, Contains, ◌↔◌}
+use Rattle.std.specs.Prelude.{ℕ, ◌≡◌, ◌&&◌, nat_lt, nat_le, Bool, List, length, filter, map, flat_map, Contains, ◌↔◌}
 use Rattle.law_image.specs.Reading.{Head}
 use Rattle.group.specs.declared.commit_order.CommitHead.{CommitHead}
 use Rattle.law_log_layout.specs.HeapLog.{AreNamedInOrder, name_bytes}
+use Rattle.log_base.specs.declared.names.Name.{Name}
 
 -- the name of a commit
 abbrev pub name_of : CommitHead → Head
 name_of h = record { time = h.time; label = h.label }
 
--- the commits later than one time, and no later than another
+-- and as it is sorted
+abbrev pub head_of : Name → Head
+head_of n = record { time = n.time; label = n.label }
+
+-- a commit later than one time, and no later than another
+abbrev pub is_between : ℕ → ℕ → CommitHead → Bool
+is_between after upto h = nat_lt after h.time && nat_le h.time upto
+
+-- all of these
 abbrev pub named_between : ℕ → ℕ → List CommitHead → List CommitHead
-named_between after upto heads = filter (λ (h : CommitHead). nat_lt after h.time && nat_le h.time upto) heads
+named_between after upto heads = filter (is_between after upto) heads
 
 -- These are their names, each once, by rising label and then by rising time.
 pub record AreNamesBetween (after upto : ℕ) (heads : List CommitHead) (names : List Head) : Type 0 where

@@ -1,0 +1,3 @@
+pub mod OwnFloors
+pub mod Naming
+pub mod Pieces
