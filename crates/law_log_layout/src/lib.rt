@@ -2,5 +2,4 @@
 //! with nothing to do.
 #![tactic(auto)]
 
-pub mod behind;
 pub mod laws;

@@ -90,7 +90,6 @@ room_taken old count promised numbers link new room some within had takes =
       high = let high = room.high in omega (arith, high, len);
       next = subst (λ (n : ℕ). IsNumberOf n link) (sym len) (last_in_range old.used takes.others link takes.least);
       few = let few = room.few in omega (arith, few, more, taken_many, len_quarter);
-      share = let share = room.share in omega (arith, share, len_quarter);
       half = let half = room.half in omega (arith, half, within, had, len_half);
       anchors = subst (λ (n : ℕ). count_of old.anchors ≤ (3 * n) / 16) (sym len) room.anchors;
     })

@@ -1,4 +1,3 @@
-pub mod Reserves
 pub mod Rooms
 pub mod Contents
 pub mod Bases

@@ -1,5 +1,5 @@
 //! The room in a heap: which extents the log has, and which it will take.
-ghost use Rattle.std.specs.Prelude.{ℕ, ◌≡◌, ◌≤◌, ◌<◌, ◌+◌, ◌*◌, ◌/◌, ◌^◌, ◌∷◌, ◌↔◌, true, IsTrue, IfOk, OnErr, MatchOption, length};
+ghost use Rattle.std.specs.Prelude.{◌≡◌, ◌≤◌, ◌<◌, ◌+◌, ◌*◌, ◌/◌, ◌^◌, ◌∷◌, ◌↔◌, true, IsTrue, IfOk, OnErr, MatchOption, length};
 ghost use Rattle.std.specs.List.{AllByRecursion};
 ghost use Rattle.log_extents.specs.Chains.{count_of, IsNumberOf};
 ghost use Rattle.log_space.specs.Uses.{with_use};
@@ -7,10 +7,9 @@ ghost use Rattle.law_log_sizes.specs.Sizes.{len_behind};
 ghost use Rattle.log_sizes.specs.Counted.{values_in};
 ghost use Rattle.log_room.specs.Bases.{has_base_room, has_floor_room};
 ghost use Rattle.log_room.specs.Rooms.{fits, promised_to, has_entry_room, has_last_room, promised_entry, TakesChain, MayOpen};
-ghost use Rattle.log_room.specs.Reserves.{Reserves, based_on, with_kept};
 
 use crate::base_share::BaseParts;
-use crate::taking::{take_free, take_least};
+use crate::taking::take_least;
 use chains::{Frozen, SharedValue};
 use history::KeyWrite;
 use log_sizes::AnchorSizes;
@@ -27,8 +26,7 @@ const LEFT_BY_ENTRIES: u32 = 2;
 /// One extent in so many is the base's.
 const BASE_SHARE: u32 = 16;
 
-/// The extents of a heap: which are in use, where the log ends, how many it has, how many it will take for the commits that wait, and how
-/// many are taken for a base in the making.
+/// The extents of a heap: which are in use, where the log ends, how many it has, and how many it will take for the commits that wait.
 #[derive(Drop)]
 pub struct HeapRoom {
     space: Space,
@@ -36,8 +34,6 @@ pub struct HeapRoom {
     log: u32,
     promised: u32,
     anchors: u64,
-    // How many extents are taken for the base that a reclaim makes, and for its anchors.
-    reserved: u32,
 }
 
 /// The fewest extents that a heap has, and the most.
@@ -71,9 +67,9 @@ impl Model for HeapRoom {
 
     ghost Value = { RoomValue };
 
-    ghost view = { λ r. record { used = r.space; next = r.next; log = r.log; promised = r.promised; anchors = r.anchors; reserved = r.reserved } };
+    ghost view = { λ r. record { used = r.space; next = r.next; log = r.log; promised = r.promised; anchors = r.anchors } };
 
-    ghost invariant = { λ r. IsRoom (record { used = r.space; next = r.next; log = r.log; promised = r.promised; anchors = r.anchors; reserved = r.reserved }) };
+    ghost invariant = { λ r. IsRoom (record { used = r.space; next = r.next; log = r.log; promised = r.promised; anchors = r.anchors }) };
 }
 
 impl HeapRoom {
@@ -81,7 +77,7 @@ impl HeapRoom {
     /// that one, and the anchors of its last state have so many bytes.
     pub fn of_opened(mut space: Space, next: u32, log: u32, anchors: u64) -> HeapRoom
         requires { MayOpen space next log anchors }
-        ensures { result ≡ record { used = with_use space next true; next = next; log = log; promised = 0; anchors = anchors; reserved = 0 } }
+        ensures { result ≡ record { used = with_use space next true; next = next; log = log; promised = 0; anchors = anchors } }
     {
         let _claimed = space.claim(next);
         HeapRoom {
@@ -90,7 +86,6 @@ impl HeapRoom {
             log,
             promised: 0,
             anchors,
-            reserved: 0,
         }
     }
 
@@ -98,7 +93,7 @@ impl HeapRoom {
     pub fn opened(space: Space, next: u32, log: u32, anchors: u64) -> Option<HeapRoom>
         ensures { MatchOption result (¬ MayOpen space next log anchors)
             (λ room. MayOpen space next log anchors × (room ≡ record
-            { used = with_use space next true; next = next; log = log; promised = 0; anchors = anchors; reserved = 0 })) }
+            { used = with_use space next true; next = next; log = log; promised = 0; anchors = anchors })) }
     {
         if !may_open(&space, next, log, anchors) {
             return None;
@@ -215,42 +210,5 @@ impl HeapRoom {
                 Ok(TakenChain { numbers, link })
             }
         }
-    }
-
-    /// Takes so many extents for a base and its anchors, each the least free one.
-    pub fn reserve(&mut self, alloc: Global, count: usize) -> Result<Vec<u32>, AllocError>
-        requires none { self.old.reserved ≡ 0 }
-        requires share { count ≤ length self.old.used / 4 }
-        ensures ok { IfOk result (λ numbers. Reserves self.old count numbers.items self.new) }
-        ensures err { OnErr result (self.new ≡ self.old) }
-    {
-        let numbers = take_free(alloc, &mut self.space, count)?;
-        self.reserved = count as u32;
-        Ok(numbers)
-    }
-
-    /// The anchors and the base that a reclaim has made stand, in these extents, and of the log nothing is counted: `keep` counts the chains
-    /// that stay, and the extent where the log ends.
-    pub fn put_base(&mut self, anchors: &[u32], base: &[u32])
-        requires anchors { AllByRecursion (λ (number : ℕ). 0 < number) anchors.now }
-        requires base { AllByRecursion (λ (number : ℕ). 0 < number) base.now }
-        requires share { length anchors.now + length base.now ≤ length self.old.used / 4 }
-        ensures { self.new ≡ based_on self.old anchors.now base.now }
-    {
-        self.space.clear();
-        self.space.claim_all(anchors);
-        self.space.claim_all(base);
-        self.log = 0;
-        self.reserved = 0;
-    }
-
-    /// These extents of the log stay.
-    pub fn keep(&mut self, numbers: &[u32])
-        requires numbers { AllByRecursion (λ (number : ℕ). 0 < number) numbers.now }
-        requires half { self.old.log + length numbers.now + self.old.promised ≤ length self.old.used / 2 }
-        ensures { self.new ≡ with_kept self.old numbers.now }
-    {
-        self.space.claim_all(numbers);
-        self.log += numbers.len() as u32;
     }
 }

@@ -28,24 +28,3 @@ pub(crate) fn take_least(
     }
     Ok(numbers)
 }
-
-/// So many of the free extents, which are in use now: each the least free one.
-pub(crate) fn take_free(
-    alloc: Global,
-    space: &mut Space,
-    count: usize,
-) -> Result<Vec<u32>, AllocError>
-    requires room { used_count space.old + count ≤ length space.old }
-    requires few { length space.old ≤ 1048576 }
-    ensures ok { IfOk result (λ numbers. TakesLeast space.old count numbers.items space.new) }
-    ensures err { OnErr result (space.new ≡ space.old) }
-{
-    let mut numbers = Vec::with_capacity(alloc, count)?;
-    for _ in 0..count {
-        match space.take() {
-            Some(number) => numbers.push_reserved(number),
-            None => unreachable!(),
-        }
-    }
-    Ok(numbers)
-}

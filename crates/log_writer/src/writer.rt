@@ -9,7 +9,6 @@ ghost use Rattle.log_extents.specs.Chains.{count_of, IsNumberOf};
 ghost use Rattle.log_writer.specs.Turns.{IsCallOf, stage_after, Part};
 ghost use Rattle.log_writer.specs.Writer.{turn, did};
 
-use crate::place::extent_place;
 use deltas::EXTENT_LEN;
 use disk::{Area, DeviceFault, Disk};
 use log_extents::{BODY_LEN, OPEN_GATE, fill_extent};
@@ -168,6 +167,14 @@ impl ChainWriter {
         );
         disk.write_at(Area::Heap, extent_place(number), &image)
     }
+}
+
+// The place of an extent in the heap, and so of its gate.
+fn extent_place(number: u32) -> u64
+    requires { 0 < number }
+    ensures { result ≡ extent_start number }
+{
+    EXTENT_LEN as u64 * u64::from(number - 1)
 }
 
 impl ChainWriter {
