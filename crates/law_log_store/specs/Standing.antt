@@ -1,11 +1,12 @@
 -- What the disk of a store whose log lies in the heap stands for, and what a stop may leave of it.
 use Rattle.std.specs.Prelude.{ℕ, ◌≡◌, ◌⊎◌, ◌+◌, ◌-◌, ◌*◌, ◌/◌, ◌^◌, ◌<◌, ◌≤◌, ◌↔◌, Bool, false, MatchBool, List, [], ◌∷◌, ◌++◌, length, map, flat_map}
-use Rattle.std.specs.Prelude.{take, drop, Option, None, Some}
+use Rattle.std.specs.Prelude.{take, drop, replicate, Option, None, Some}
 use Rattle.std.specs.List.{AllByRecursion}
+use Rattle.byteorder.specs.Endian.{little_bytes}
 use Rattle.history.specs.declared.key.Key.{Key}
 use Rattle.history.specs.Floors.{raised}
 use Rattle.history.specs.Histories.{History, MayAllFollow, last}
-use Rattle.disk.specs.Areas.{AreaState, Image, AreSound, LeavesImage, MayLeave}
+use Rattle.disk.specs.Areas.{AreaState, Image, AreSound, LeavesImage}
 use Rattle.disk.specs.Parts.{HoldsPart, KeepsPart}
 use Rattle.wire.specs.declared.slot.Run.{Run}
 use Rattle.archive.specs.Pieces.{InWriting}
@@ -17,6 +18,7 @@ use Rattle.law_image.specs.HeapPlans.{IsMergePlan, with_merged}
 use Rattle.law_image.specs.StandsFor.{StandsFor, archived_upto}
 use Rattle.law_layout.specs.Runs.{StoredRun, IsStoredRun, run_bytes}
 use Rattle.chains.specs.KeyWrites.{IsOrdered}
+use Rattle.status.specs.Header.{header_front}
 use Rattle.law_refinement.specs.OnDisk as histories
 use Rattle.log_extents.specs.Chains.{count_of, IsNumberOf, IsNew}
 use Rattle.log_entries.specs.declared.entry.Archive.{Archive}
@@ -24,18 +26,19 @@ use Rattle.log_entries.specs.declared.entry.Member.{Member}
 use Rattle.log_entries.specs.declared.entry.Entry.TheVariants.{Group}
 use Rattle.log_entries.specs.Ranges.{IsArchive, run_of}
 use Rattle.log_entries.specs.Spelling.{entry_bytes}
-use Rattle.log_writer.specs.Turns.{Stage}
+use Rattle.log_writer.specs.Turns.{Part, Stage}
 use Rattle.log_writer.specs.Writer.{WriterState}
 use Rattle.law_log_layout.specs.HeapLog.{PlacedChain, HeapLog, heap_parts, live_numbers, counted_of, IsLogOf, HeapStandsFor, KeepsShares, member_told}
 use Rattle.law_log_layout.specs.HeapLog.{PlacedRoll, MayJoin, archives_in, placed_group, turn_of, with_chain, with_runs}
 use Rattle.law_log_layout.specs.Entries.{runs_with}
 use Rattle.law_log_layout.specs.Laws.{KeepsArchive, KeepsLog}
+use Rattle.law_log_layout.specs.Roots.{Rests}
 use Rattle.law_log_layout.specs.Turns.{IsAt, MayBe, MayBecome}
 use Rattle.law_log_sizes.specs.Sizes.{len_from, lens_behind, size_now}
 use Rattle.log_recovery.specs.Opening.{ReadsRoots}
 use Rattle.log_recovery.specs.Read.{all_archives}
 use Rattle.log_roots.specs.declared.roots.Roots.{Roots}
-use Rattle.log_roots.specs.Roots.{root_of}
+use Rattle.log_roots.specs.Roots.{root_of, IsRoots}
 use Rattle.log_sizes.specs.Counted.{values_in}
 use Rattle.log_space.specs.Uses.{IsFree}
 use Rattle.log_room.specs.Rooms.{RoomValue}
@@ -105,9 +108,16 @@ pub record HasAnchors (most : ℕ) (reading : Reading) (queue : History Value) (
 
 -- ---- the status area
 
--- whatever a stop may leave of it begins with the header of these roots
-abbrev pub KeepsRoots : Roots → AreaState → Type 0
-KeepsRoots roots a = (content : List ℕ) → MayLeave a content → ReadsRoots content roots
+-- what the header of a heap of so many extents has besides its turn gate and its roots
+abbrev pub header_parts : ℕ → List Part
+header_parts extents =
+    record { place = 0; bytes = header_front 4 extents } ∷ record { place = 17; bytes = 0 ∷ 0 ∷ 0 ∷ [] }
+    ∷ record { place = 28; bytes = replicate 484 0 } ∷ []
+
+-- Whatever a stop may leave of it begins with a header of as many extents, where the same root counts. Of the other root nothing is said.
+pub record KeepsRoots (roots : Roots) (a : AreaState) : Type 0 where
+  pub in_range : IsRoots roots
+  pub rests : Rests (header_parts roots.extents) roots.turned (little_bytes 4 (root_of roots)) a
 
 -- ---- jobs
 
@@ -261,10 +271,14 @@ pub record StandsOnHeap (v : LogStoreValue) (h queue : History Value) (floors : 
 
 -- ---- stops
 
--- An image stands for a history with these floors: its status area has these roots, and heap and archive stand for it where that root counts.
+-- An image stands for a history with these floors: its status area begins with a header of as many extents as these roots have, whichever root counts there,
+-- and heap and archive stand for it from that root on.
 pub record IsImageOf (roots : Roots) (image : Image) (h : History Value) (floors : ℕ → ℕ) : Type 0 where
-  pub status : ReadsRoots image.status roots
-  pub heap : HeapStandsFor roots.extents (root_of roots) image.heap image.archive h floors
+  -- what the status area says
+  pub read : Roots
+  pub status : ReadsRoots image.status read
+  pub size : read.extents ≡ roots.extents
+  pub heap : HeapStandsFor roots.extents (root_of read) image.heap image.archive h floors
 
 -- Of two claims, which holds of what a stop may leave, by the stage of a chain. Of a store that has failed it is the stage whose call was refused.
 abbrev pub MayStandAt : Bool → Stage → Type 0 → Type 0 → Type 0
