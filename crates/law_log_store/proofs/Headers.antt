@@ -238,6 +238,10 @@ roots-left r a content keeps left =
     by-turn true keeps = keeps.left content left
     by-turn false keeps = closed-left turn_place a content keeps left
 
+-- an image is of a heap that may be
+pub image-size : (r : Roots) (image : Image) (h : History Value) (floors : ℕ → ℕ) → IsImageOf r image h floors → IsHeapSize r.extents
+image-size r image h floors is = subst IsHeapSize is.size is.status.has.in_range.size
+
 -- So an image whose status area is left of it stands for what heap and archive do from that root on.
 pub image-left : (r : Roots) (a : AreaState) (image : Image) (h : History Value) (floors : ℕ → ℕ) → KeepsRoots r a → MayLeave a image.status
     → HeapStandsFor r.extents (root_of r) image.heap image.archive h floors → IsImageOf r image h floors

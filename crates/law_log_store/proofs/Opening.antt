@@ -18,7 +18,7 @@ use Rattle.law_log_layout.specs.HeapLog.{PlacedChain, HeapLog, HeapStandsFor, Is
 use Rattle.law_log_sizes.specs.Sizes.{anchors_len, len_from, size_now}
 use Rattle.recovery.specs.declared.fault.OpenFault.{OpenFault}
 use Rattle.log_roots.specs.declared.roots.Roots.{Roots}
-use Rattle.log_roots.specs.Roots.{root_of, IsHeapSize}
+use Rattle.log_roots.specs.Roots.{root_of}
 use Rattle.log_roots.proofs.Headers.{one_reading}
 use Rattle.log_space.specs.Uses.{with_use, all_used}
 use Rattle.log_recovery.specs.declared.image.LogRecovered.{LogRecovered}
@@ -43,6 +43,7 @@ use Rattle.log_store.proofs.Places.{len-is}
 use Rattle.log_sizes.specs.Counted.{values_in}
 use Rattle.law_log_store.specs.Standing.{StandsOnHeap, IsBehind, IsImageOf, IsNamedBy, counted}
 use Rattle.law_log_store.specs.Opened.{live_uses, opened_room, IsOpenedOn}
+use Rattle.law_log_store.proofs.Headers.{image-size}
 use Rattle.law_log_store.proofs.Opened.{opened-stands}
 use Rattle.law_log_store.proofs.Reaching.{said-behind, said-within}
 
@@ -71,7 +72,7 @@ module _ (tells : Bool) (old : DiskState) (mark : ℕ) (v : LogStoreValue) (root
   reading = image.heap.reading
 
   few : roots.extents < 2 ^ 32
-  few = (let size = image.status.has.in_range.size in omega (arith, size.most, image.size))
+  few = (let size = image-size roots (image_of old.areas) h floors image in omega (arith, size.most))
 
   -- ---- what was read is the log by which the image stands
 
@@ -116,9 +117,6 @@ module _ (tells : Bool) (old : DiskState) (mark : ℕ) (v : LogStoreValue) (root
   pub size-is : v.roots.extents ≡ roots.extents
   size-is = ap (λ (x : Roots). x.extents) roots-are ∙ image.size
 
-  heap-size : IsHeapSize roots.extents
-  heap-size = subst IsHeapSize image.size image.status.has.in_range.size
-
   space-is : r.heap.space ≡ live_uses roots.extents l
   space-is = read.space_is ∙ (λ i. all_used (uses_of roots.extents (same.0.0 i)) ((same.1 i).numbers))
 
@@ -127,7 +125,7 @@ module _ (tells : Bool) (old : DiskState) (mark : ℕ) (v : LogStoreValue) (root
 
   anchors-is : r.heap.members.sizes.len ≡ size_now reading
   anchors-is =
-      len-is roots.extents (root_of image.read) heap r.heap heap-size read
+      len-is roots.extents (root_of image.read) heap r.heap (image-size roots (image_of old.areas) h floors image) read
       ∙ (λ i. len_from (anchors_len (olds-same i)) (values_of (olds-same i)) (members-same i))
 
   room-is : v.room ≡ opened_room v.roots.extents l reading
