@@ -27,7 +27,8 @@ use Rattle.law_log_layout.specs.HeapLog.{HeapStandsFor}
 use Rattle.law_log_layout.specs.Turns.{HoldsAll, AreApartFrom}
 use Rattle.law_log_layout.specs.Roots.{turn_place, root_place, IsTurned, KeepsTurned, NamesRoot, IsHeaderApart}
 use Rattle.law_log_layout.proofs.Parts.{all-left, closed-left, all-synced}
-use Rattle.law_log_store.specs.Standing.{header_parts, KeepsRoots, IsImageOf}
+use Rattle.law_log_store.specs.Headers.{header_parts}
+use Rattle.law_log_store.specs.Standing.{KeepsRoots, IsImageOf}
 
 -- ---- its parts
 

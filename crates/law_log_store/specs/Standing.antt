@@ -1,6 +1,6 @@
 -- What the disk of a store whose log lies in the heap stands for, and what a stop may leave of it.
 use Rattle.std.specs.Prelude.{ℕ, ◌≡◌, ◌⊎◌, ◌+◌, ◌-◌, ◌*◌, ◌/◌, ◌^◌, ◌<◌, ◌≤◌, ◌↔◌, Bool, false, MatchBool, List, [], ◌∷◌, ◌++◌, length, map, flat_map}
-use Rattle.std.specs.Prelude.{take, drop, replicate, Option, None, Some}
+use Rattle.std.specs.Prelude.{take, drop, Option, None, Some}
 use Rattle.std.specs.List.{AllByRecursion}
 use Rattle.byteorder.specs.Endian.{little_bytes}
 use Rattle.history.specs.declared.key.Key.{Key}
@@ -18,7 +18,6 @@ use Rattle.law_image.specs.HeapPlans.{IsMergePlan, with_merged}
 use Rattle.law_image.specs.StandsFor.{StandsFor, archived_upto}
 use Rattle.law_layout.specs.Runs.{StoredRun, IsStoredRun, run_bytes}
 use Rattle.chains.specs.KeyWrites.{IsOrdered}
-use Rattle.status.specs.Header.{header_front}
 use Rattle.law_refinement.specs.OnDisk as histories
 use Rattle.log_extents.specs.Chains.{count_of, IsNumberOf, IsNew}
 use Rattle.log_entries.specs.declared.entry.Archive.{Archive}
@@ -26,7 +25,7 @@ use Rattle.log_entries.specs.declared.entry.Member.{Member}
 use Rattle.log_entries.specs.declared.entry.Entry.TheVariants.{Group}
 use Rattle.log_entries.specs.Ranges.{IsArchive, run_of}
 use Rattle.log_entries.specs.Spelling.{entry_bytes}
-use Rattle.log_writer.specs.Turns.{Part, Stage}
+use Rattle.log_writer.specs.Turns.{Stage}
 use Rattle.log_writer.specs.Writer.{WriterState}
 use Rattle.law_log_layout.specs.HeapLog.{PlacedChain, HeapLog, heap_parts, live_numbers, counted_of, IsLogOf, HeapStandsFor, KeepsShares, member_told}
 use Rattle.law_log_layout.specs.HeapLog.{PlacedRoll, MayJoin, archives_in, placed_group, turn_of, with_chain, with_runs}
@@ -53,6 +52,7 @@ use Rattle.log_store.specs.declared.job.JobStage.TheVariants.{Writing, Ready, En
 use Rattle.log_store.specs.declared.job.JobWork.{JobWork}
 use Rattle.log_store.specs.declared.job.JobWork.TheVariants.{Floor}
 use Rattle.log_store.specs.declared.job.JobWork.TheVariants as works
+use Rattle.law_log_store.specs.Headers.{header_parts}
 use Rattle.law_log_store.specs.Members.{AreTold, AreContents}
 
 -- ---- memory
@@ -107,12 +107,6 @@ pub record HasAnchors (most : ℕ) (reading : Reading) (queue : History Value) (
   pub fit : AllByRecursion (λ n. count_of n ≤ (3 * most) / 16) (lens_behind (size_now reading) (values_now reading) (stored_members (values_now reading) queue))
 
 -- ---- the status area
-
--- what the header of a heap of so many extents has besides its turn gate and its roots
-abbrev pub header_parts : ℕ → List Part
-header_parts extents =
-    record { place = 0; bytes = header_front 4 extents } ∷ record { place = 17; bytes = 0 ∷ 0 ∷ 0 ∷ [] }
-    ∷ record { place = 28; bytes = replicate 484 0 } ∷ []
 
 -- Whatever a stop may leave of it begins with a header of as many extents, where the same root counts. Of the other root nothing is said.
 pub record KeepsRoots (roots : Roots) (a : AreaState) : Type 0 where
