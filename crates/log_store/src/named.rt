@@ -73,7 +73,11 @@ impl Named {
     }
 
     /// The archives with one more behind them.
-    pub fn archives_with(&self, alloc: Global, archive: Archive) -> Result<Listed<Archive>, AllocError>
+    pub fn archives_with(
+        &self,
+        alloc: Global,
+        archive: Archive,
+    ) -> Result<Listed<Archive>, AllocError>
         ensures { IfOk result (λ archives. archives ≡ self.now.archives ++ archive ∷ []) }
     {
         let mut archives = Vec::new(alloc);
