@@ -51,6 +51,7 @@ use Rattle.law_log_store.specs.Calls.{HasFailed, floors_after}
 use Rattle.law_log_store.proofs.Flags.{IsTaken}
 use Rattle.law_log_store.proofs.Beginning.{room-is, taken, spare-then, leaves-then, one-or-none}
 use Rattle.law_log_store.proofs.Going.{entered, entry-way-at, entry-way, entry-turn, runs-kept, same-archive, same-status, status-left, map-within}
+use Rattle.law_log_store.proofs.Headers.{image-left}
 use Rattle.law_log_store.proofs.Joining.{in-heap}
 use Rattle.law_log_store.proofs.Naming.{named-same, named-more}
 
@@ -374,10 +375,11 @@ module _ (v : LogStoreValue) (h queue : History Value) (floors : ℕ → ℕ) (s
       let on = entry-way v h queue floors s job.work w may written o in
       let root = root_of v.roots in
       let then = floors_with job.work floors in
-      let status = s.status image.status (status-left (turn w) w.stage result v.disk.areas areas image s.sound call left) in
+      let left-status = status-left (turn w) w.stage result v.disk.areas areas image s.sound call left in
       map-within w.stage (HeapStandsFor v.roots.extents root image.heap image.archive h floors)
       (HeapStandsFor v.roots.extents root image.heap image.archive h then) (IsImageOf v.roots image h floors) (IsImageOf v.roots image h then)
-      (λ heap. record { status = status; heap = heap }) (λ heap. record { status = status; heap = heap })
+      (λ heap. image-left v.roots v.disk.areas.status image h floors s.status left-status heap)
+      (λ heap. image-left v.roots v.disk.areas.status image h then s.status left-status heap)
       (on.within result areas image
       (subst (λ (t : Turn). IsCallOf t w.stage result v.disk.areas areas) (entry-turn v h queue floors s job.work w may written o) call) left)
 

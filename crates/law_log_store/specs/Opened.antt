@@ -70,7 +70,7 @@ OpenedStands =
 abbrev pub OpenStands : Type 0
 OpenStands =
     (tells : Bool) (old : DiskState) (mark : ℕ) (v : LogStoreValue) (roots : Roots) (h : History Value) (floors : ℕ → ℕ) → IsTrue tells → AreSound old.areas
-    → IsImageOf roots (image_of old.areas) h floors → Opens tells old mark v → (v.roots ≡ roots) × StandsOnHeap v h [] floors
+    → IsImageOf roots (image_of old.areas) h floors → Opens tells old mark v → (v.roots.extents ≡ roots.extents) × StandsOnHeap v h [] floors
 
 -- and no opening is refused for what such an image says
 abbrev pub OpensAny : Type 0

@@ -2,10 +2,11 @@
 use Rattle.std.specs.Prelude.{ℕ, ◌≡◌, ◌⊎◌, ◌+◌, ◌-◌, ◌*◌, ◌/◌, ◌^◌, ◌<◌, ◌≤◌, ◌↔◌, Bool, false, MatchBool, List, [], ◌∷◌, ◌++◌, length, map, flat_map}
 use Rattle.std.specs.Prelude.{take, drop, Option, None, Some}
 use Rattle.std.specs.List.{AllByRecursion}
+use Rattle.byteorder.specs.Endian.{little_bytes}
 use Rattle.history.specs.declared.key.Key.{Key}
 use Rattle.history.specs.Floors.{raised}
 use Rattle.history.specs.Histories.{History, MayAllFollow, last}
-use Rattle.disk.specs.Areas.{AreaState, Image, AreSound, LeavesImage, MayLeave}
+use Rattle.disk.specs.Areas.{AreaState, Image, AreSound, LeavesImage}
 use Rattle.disk.specs.Parts.{HoldsPart, KeepsPart}
 use Rattle.wire.specs.declared.slot.Run.{Run}
 use Rattle.archive.specs.Pieces.{InWriting}
@@ -30,12 +31,13 @@ use Rattle.law_log_layout.specs.HeapLog.{PlacedChain, HeapLog, heap_parts, live_
 use Rattle.law_log_layout.specs.HeapLog.{PlacedRoll, MayJoin, archives_in, placed_group, turn_of, with_chain, with_runs}
 use Rattle.law_log_layout.specs.Entries.{runs_with}
 use Rattle.law_log_layout.specs.Laws.{KeepsArchive, KeepsLog}
+use Rattle.law_log_layout.specs.Roots.{Rests}
 use Rattle.law_log_layout.specs.Turns.{IsAt, MayBe, MayBecome}
 use Rattle.law_log_sizes.specs.Sizes.{len_from, lens_behind, size_now}
 use Rattle.log_recovery.specs.Opening.{ReadsRoots}
 use Rattle.log_recovery.specs.Read.{all_archives}
 use Rattle.log_roots.specs.declared.roots.Roots.{Roots}
-use Rattle.log_roots.specs.Roots.{root_of}
+use Rattle.log_roots.specs.Roots.{root_of, IsRoots}
 use Rattle.log_sizes.specs.Counted.{values_in}
 use Rattle.log_space.specs.Uses.{IsFree}
 use Rattle.log_room.specs.Rooms.{RoomValue}
@@ -50,6 +52,7 @@ use Rattle.log_store.specs.declared.job.JobStage.TheVariants.{Writing, Ready, En
 use Rattle.log_store.specs.declared.job.JobWork.{JobWork}
 use Rattle.log_store.specs.declared.job.JobWork.TheVariants.{Floor}
 use Rattle.log_store.specs.declared.job.JobWork.TheVariants as works
+use Rattle.law_log_store.specs.Headers.{header_parts}
 use Rattle.law_log_store.specs.Members.{AreTold, AreContents}
 
 -- ---- memory
@@ -105,9 +108,10 @@ pub record HasAnchors (most : ℕ) (reading : Reading) (queue : History Value) (
 
 -- ---- the status area
 
--- whatever a stop may leave of it begins with the header of these roots
-abbrev pub KeepsRoots : Roots → AreaState → Type 0
-KeepsRoots roots a = (content : List ℕ) → MayLeave a content → ReadsRoots content roots
+-- Whatever a stop may leave of it begins with a header of as many extents, where the same root counts. Of the other root nothing is said.
+pub record KeepsRoots (roots : Roots) (a : AreaState) : Type 0 where
+  pub in_range : IsRoots roots
+  pub rests : Rests (header_parts roots.extents) roots.turned (little_bytes 4 (root_of roots)) a
 
 -- ---- jobs
 
@@ -261,10 +265,14 @@ pub record StandsOnHeap (v : LogStoreValue) (h queue : History Value) (floors : 
 
 -- ---- stops
 
--- An image stands for a history with these floors: its status area has these roots, and heap and archive stand for it where that root counts.
+-- An image stands for a history with these floors: its status area begins with a header of as many extents as these roots have, whichever root counts there,
+-- and heap and archive stand for it from that root on.
 pub record IsImageOf (roots : Roots) (image : Image) (h : History Value) (floors : ℕ → ℕ) : Type 0 where
-  pub status : ReadsRoots image.status roots
-  pub heap : HeapStandsFor roots.extents (root_of roots) image.heap image.archive h floors
+  -- what the status area says
+  pub read : Roots
+  pub status : ReadsRoots image.status read
+  pub size : read.extents ≡ roots.extents
+  pub heap : HeapStandsFor roots.extents (root_of read) image.heap image.archive h floors
 
 -- Of two claims, which holds of what a stop may leave, by the stage of a chain. Of a store that has failed it is the stage whose call was refused.
 abbrev pub MayStandAt : Bool → Stage → Type 0 → Type 0 → Type 0
