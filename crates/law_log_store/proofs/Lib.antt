@@ -6,6 +6,7 @@ pub mod Walked
 pub mod Plans
 pub mod Spans
 pub mod Naming
+pub mod Lives
 pub mod Going
 pub mod Flags
 pub mod Beginning
