@@ -18,6 +18,7 @@ use Rattle.log_store.specs.Formats.{HasLogHeader}
 use Rattle.log_store.specs.Opens as log_opens
 use Rattle.log_store.specs.Values.{LogStoreValue, IsInStep}
 use Rattle.log_store.specs.declared.job.Job.{Job}
+use Rattle.log_store.proofs.Places.{image-counts}
 use Rattle.any_store.specs.declared.engine.Engine.TheVariants.{Slots, Log}
 use Rattle.any_store.specs.Values.{StoreValue}
 use Rattle.any_store.specs.Opens.{Opens}
@@ -100,6 +101,7 @@ module _ (tells : Bool) (old : DiskState) (mark : ℕ) (l : LogStoreValue) (root
         promised = refl;
         few = omega arith;
         many = subst (λ (x : LogStoreValue). length x.room.used ≤ 2 ^ 20) opens.new_is log-few;
+        counted = image-counts (image_of old.areas) opens.recovered (opens.read told);
         turn = refl;
         beside = tt;
         place = tt;

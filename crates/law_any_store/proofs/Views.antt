@@ -162,6 +162,7 @@ log-asked tells l l' m view from Refuses Recent OfHistory Exact answer is says =
         promised = (is.0).promised;
         few = (is.0).few;
         many = (is.0).many;
+        counted = (is.0).counted;
         turn = (is.0).turn;
         beside = (is.0).beside;
         place = (is.0).place;

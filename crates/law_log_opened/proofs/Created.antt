@@ -60,7 +60,11 @@ module _ (mark extents : ℕ) (old : Areas) (disk : DiskState) (size : IsHeapSiz
         sound = sound;
         commits = record { ordered = tt; values = λ key. refl; told = tt; contents = tt; may = tt };
         anchors = record { len = refl; fit = tt };
-        turn = record { log = log; room = (leaves-room extents 1 (empty_log 1) (empty_heap extents) [] (λ relation. 0) is stands).room };
+        turn = record {
+          log = log;
+          room = (leaves-room extents 1 (empty_log 1) (empty_heap extents) [] (λ relation. 0) is stands).room;
+          live = record { chains = refl; anchors = refl };
+        };
         job = tt;
         written = tt;
         named = record { archives = refl; rolls = refl; upto = refl; end = record { runs = tt; rolls = tt } };

@@ -229,6 +229,7 @@ module _ (v : LogStoreValue) (h queue : History Value) (floors : ℕ → ℕ) (s
       shares = o.shares;
       at = at;
       room = o.room;
+      live = o.live;
       alone = alone-at (stage_after w.stage) v.job o.alone;
     };
     job = s.job;
@@ -317,7 +318,7 @@ module _ (v : LogStoreValue) (h queue : History Value) (floors : ℕ → ℕ) (s
             (subst (λ (l : History Value). HasAnchors v.roots.extents s.reading l v.room.anchors) (sym (taken-and-rest v.commits.group queue)) s.anchors);
         turn =
             at-rest (record (with_published v) { disk = u.disk }) (with_chain s.l chain) then s.made w v.job o.alone
-            (record { log = done.rests refl; room = o.room });
+            (record { log = done.rests refl; room = o.room; live = o.live });
         job = enters-later (later h next front) v.job s.job;
         written = subst (HasAllWritten s.made v.job) (sym same) s.written;
         named = named-same v.named s.l chain s.reading then refl refl mark-then s.named;

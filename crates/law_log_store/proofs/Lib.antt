@@ -7,6 +7,7 @@ pub mod Plans
 pub mod Spans
 pub mod Naming
 pub mod Headers
+pub mod Lives
 pub mod Going
 pub mod Flags
 pub mod Beginning

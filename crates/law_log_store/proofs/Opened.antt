@@ -215,6 +215,7 @@ opened-stands v image l reading h floors same sound reads is held stands opened 
         });
         room = subst (IsRoomOf v.roots.extents l) (sym opened.room)
             ((leaves-room v.roots.extents (root_of v.roots) l reading h floors is stands).room);
+        live = opened.live;
       }));
   job = subst (λ (j : Option Job). MayAllEnter l reading h floors [] j) (sym opened.job) tt;
   written = subst (λ (j : Option Job). HasAllWritten [] j v.disk.areas.archive) (sym opened.job) tt;

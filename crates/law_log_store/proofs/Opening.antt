@@ -1,5 +1,5 @@
 -- A store that was opened on an image which stands for a history stands for it.
-use Rattle.std.proofs.Common.{◌≡◌, ℕ, ◌+◌, ◌^◌, ◌<◌, ◌≤◌, max, Bool, true, List, [], ◌++◌, length, take, refl, arith, ap, sym, subst, ◌∙◌}
+use Rattle.std.proofs.Common.{◌≡◌, ℕ, ◌+◌, ◌^◌, ◌<◌, ◌≤◌, max, Bool, true, List, [], ◌++◌, length, map, take, refl, arith, ap, sym, subst, ◌∙◌}
 use Rattle.std.specs.Prelude.{IsTrue}
 use Rattle.history.specs.declared.key.Key.{Key}
 use Rattle.history.specs.declared.time.TimedWrite.{TimedWrite}
@@ -14,7 +14,7 @@ use Rattle.law_image.specs.Log.{archive_mark}
 use Rattle.law_image.specs.StandsFor.{archived_upto}
 use Rattle.law_log.specs.Chains.{told_from, reclaimed_by}
 use Rattle.chains.specs.KeyWrites as chains
-use Rattle.law_log_layout.specs.HeapLog.{PlacedChain, HeapLog, HeapStandsFor, IsLogOf, chains_told}
+use Rattle.law_log_layout.specs.HeapLog.{PlacedAnchors, PlacedChain, HeapLog, HeapStandsFor, IsLogOf, chains_told}
 use Rattle.law_log_sizes.specs.Sizes.{anchors_len, len_from, size_now}
 use Rattle.recovery.specs.declared.fault.OpenFault.{OpenFault}
 use Rattle.log_roots.specs.declared.roots.Roots.{Roots}
@@ -26,6 +26,7 @@ use Rattle.log_recovery.specs.Chains.{uses_of}
 use Rattle.log_recovery.specs.Rules.{LogState, mark_of, no_log, state_from}
 use Rattle.log_recovery.specs.Following.{IsEndOf}
 use Rattle.log_recovery.specs.Ends.{counted_in}
+use Rattle.log_recovery.specs.Live.{live_of}
 use Rattle.log_recovery.specs.Members.{values_of, members_of_all}
 use Rattle.log_recovery.specs.Opening as images
 use Rattle.log_recovery.specs.Image.{IsReadFrom}
@@ -41,7 +42,7 @@ use Rattle.log_store.specs.Named.{NamedValue}
 use Rattle.log_store.specs.Opens.{Opens, OpenRefuses, named_on}
 use Rattle.log_store.proofs.Places.{len-is}
 use Rattle.log_sizes.specs.Counted.{values_in}
-use Rattle.law_log_store.specs.Standing.{StandsOnHeap, IsBehind, IsImageOf, IsNamedBy, counted}
+use Rattle.law_log_store.specs.Standing.{StandsOnHeap, IsBehind, IsImageOf, IsLiveOf, IsNamedBy, counted}
 use Rattle.law_log_store.specs.Opened.{live_uses, opened_room, IsOpenedOn}
 use Rattle.law_log_store.proofs.Headers.{image-size}
 use Rattle.law_log_store.proofs.Opened.{opened-stands}
@@ -134,6 +135,14 @@ module _ (tells : Bool) (old : DiskState) (mark : ℕ) (v : LogStoreValue) (root
       ∙ (λ i. record { used = with_use (space-is i) ((same.0).1 i) true; next = (same.0).1 i; log = log-is i; promised = 0; anchors = anchors-is i })
       ∙ sym (ap (λ (most : ℕ). opened_room most l reading) size-is)
 
+  -- ---- the chains in memory
+
+  lives : IsLiveOf l v.live
+  lives = record {
+    chains = ap (λ (x : LogStoreValue). x.live.chains) opens.new_is ∙ read.live_are ∙ ap (λ (cs : List PlacedChain). map live_of cs) same.0.0;
+    anchors = ap (λ (x : LogStoreValue). x.live.anchors) opens.new_is ∙ read.anchors_are ∙ ap (λ (a : PlacedAnchors). a.numbers) same.1;
+  }
+
   -- ---- the archive
 
   -- what is read of the end of the log
@@ -200,6 +209,7 @@ module _ (tells : Bool) (old : DiskState) (mark : ℕ) (v : LogStoreValue) (root
     group = ap (λ (x : LogStoreValue). x.commits.group) opens.new_is;
     contents = ap (λ (x : LogStoreValue). x.contents) opens.new_is;
     room = room-is;
+    live = lives;
     turn = ap (λ (x : LogStoreValue). x.turn) opens.new_is;
     job = ap (λ (x : LogStoreValue). x.job) opens.new_is;
     named = named;

@@ -34,6 +34,7 @@ use Rattle.law_log_layout.specs.Laws.{KeepsArchive, KeepsLog}
 use Rattle.law_log_layout.specs.Roots.{Rests}
 use Rattle.law_log_layout.specs.Turns.{IsAt, MayBe, MayBecome}
 use Rattle.law_log_sizes.specs.Sizes.{len_from, lens_behind, size_now}
+use Rattle.log_recovery.specs.Live.{live_of}
 use Rattle.log_recovery.specs.Opening.{ReadsRoots}
 use Rattle.log_recovery.specs.Read.{all_archives}
 use Rattle.log_roots.specs.declared.roots.Roots.{Roots}
@@ -44,6 +45,7 @@ use Rattle.log_room.specs.Rooms.{RoomValue}
 use Rattle.commits.specs.Values.{versions_after}
 use Rattle.commits.specs.Steps.{members}
 use Rattle.log_store.specs.Jobs.{entry_of, is_entering}
+use Rattle.log_store.specs.Live.{LiveValue}
 use Rattle.log_store.specs.Named.{NamedValue}
 use Rattle.log_store.specs.Values.{LogStoreValue, IsBeside}
 use Rattle.log_store.specs.declared.job.Job.{Job}
@@ -199,14 +201,20 @@ pub record IsNamedBy (named : NamedValue) (l : HeapLog) (reading : Reading) : Ty
   pub upto : named.upto ≡ archived_upto reading
   pub end : IsBehind named.end l
 
+-- Memory has the chains of this log, and the extents of its anchors.
+pub record IsLiveOf (l : HeapLog) (live : LiveValue) : Type 0 where
+  pub chains : live.chains ≡ map live_of l.chains
+  pub anchors : live.anchors ≡ l.anchors.numbers
+
 -- ---- the log, and the chain on its way behind it
 
 -- no chain is in the writing, and the log is at rest
 pub record IsAtRest (v : LogStoreValue) (l : HeapLog) : Type 0 where
   pub log : KeepsLog l v.disk.areas.heap
   pub room : IsRoomOf v.roots.extents l v.room
+  pub live : IsLiveOf l v.live
 
--- The group of the queue's first commits is on its way behind the log. The room is that of the log with it.
+-- The group of the queue's first commits is on its way behind the log. The room is that of the log with it, and memory has the chains of that.
 pub record IsOnWay (v : LogStoreValue) (queue : History Value) (l : HeapLog) (reading : Reading) (h : History Value) (w : WriterState) : Type 0 where
   pub group : List Member
   pub told : map member_told group ≡ stored_members (values_now reading) (take v.commits.group queue)
@@ -216,16 +224,18 @@ pub record IsOnWay (v : LogStoreValue) (queue : History Value) (l : HeapLog) (re
   pub shares : KeepsShares v.roots.extents (with_chain l (placed_group w.numbers w.link group)) (with_group reading (map member_told group))
   pub at : IsAt (heap_parts l) (turn_of l.next (placed_group w.numbers w.link group)) w.stage v.disk.areas.heap
   pub room : IsRoomOf v.roots.extents (with_chain l (placed_group w.numbers w.link group)) v.room
+  pub live : IsLiveOf (with_chain l (placed_group w.numbers w.link group)) v.live
   -- no entry of a job is
   pub alone : IsBeside (Some w) v.job
 
--- A job's entry is on its way behind the log. The room is that of the log with it.
+-- A job's entry is on its way behind the log. The room is that of the log with it, and memory has the chains of that.
 pub record IsEntering (v : LogStoreValue) (l : HeapLog) (reading : Reading) (made : List ArchiveRecord) (work : JobWork) (w : WriterState) : Type 0 where
   pub content : w.content ≡ entry_bytes (entry_of work)
   pub joins : MayJoin v.roots.extents l (placed_entry w work)
   pub shares : KeepsShares v.roots.extents (log_with work made l w) (reading_with work made reading)
   pub at : IsAt (heap_parts l) (turn_of l.next (placed_entry w work)) w.stage v.disk.areas.heap
   pub room : IsRoomOf v.roots.extents (log_with work made l w) v.room
+  pub live : IsLiveOf (log_with work made l w) v.live
 
 -- where no group stands, the log is at rest or a job's entry is on its way
 abbrev pub HasStage : LogStoreValue → HeapLog → Reading → List ArchiveRecord → JobWork → JobStage → Type 0
