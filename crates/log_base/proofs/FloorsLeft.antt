@@ -144,21 +144,26 @@ floors-told f (o ∷ own) relation up =
 abbrev IsTo : ℕ → OwnFloor → Type 0
 IsTo end o = (0 < o.floor) × (o.floor ≤ end)
 
-behind-to : (end : ℕ) (own : List OwnFloor) (relation : ℕ) → AllByRecursion (IsTo end) own → AllByRecursion (IsTo end) (behind own relation)
-behind-to end [] relation all = tt
-behind-to end (o ∷ own) relation all = elim (o.relation == relation) as (λ b. AllByRecursion (IsTo end) (cond b own (o ∷ own))) [ true ↦ all.1 | false ↦ all ]
+behind-all : (P : OwnFloor → Type 0) (own : List OwnFloor) (relation : ℕ) → AllByRecursion P own → AllByRecursion P (behind own relation)
+behind-all P [] relation all = tt
+behind-all P (o ∷ own) relation all = elim (o.relation == relation) as (λ b. AllByRecursion P (cond b own (o ∷ own))) [ true ↦ all.1 | false ↦ all ]
+
+-- what holds of each floor holds with one more that is raised
+pub own-all : (P : OwnFloor → Type 0) (own : List OwnFloor) (relation floor : ℕ) → P (record { relation = relation; floor = floor }) → AllByRecursion P own
+    → AllByRecursion P (with_own own relation floor)
+own-all P [] relation floor one all = (one, tt)
+own-all P (o ∷ own) relation floor one all =
+    let rest = own-all P own relation floor one all.1 in
+    let others = behind-all P (o ∷ own) relation all in
+    elim (nat_lt o.relation relation) as (λ b. AllByRecursion P
+    (cond b (o ∷ with_own own relation floor) (record { relation = relation; floor = floor } ∷ behind (o ∷ own) relation))) [
+      | true ↦ (all.0, rest)
+      | false ↦ (one, others)
+    ]
 
 own-to : (end : ℕ) (own : List OwnFloor) (relation floor : ℕ) → 0 < floor → floor ≤ end → AllByRecursion (IsTo end) own
     → AllByRecursion (IsTo end) (with_own own relation floor)
-own-to end [] relation floor some le all = ((some, le), tt)
-own-to end (o ∷ own) relation floor some le all =
-    let rest = own-to end own relation floor some le all.1 in
-    let others = behind-to end (o ∷ own) relation all in
-    elim (nat_lt o.relation relation) as (λ b. AllByRecursion (IsTo end)
-    (cond b (o ∷ with_own own relation floor) (record { relation = relation; floor = floor } ∷ behind (o ∷ own) relation))) [
-      | true ↦ (all.0, rest)
-      | false ↦ ((some, le), others)
-    ]
+own-to end own relation floor some le all = own-all (IsTo end) own relation floor (some, le) all
 
 raised-to : (end from : ℕ) (own : List OwnFloor) (more : List RelationFloor) → AreFloorsTo end from (map floor_told more) → AllByRecursion (IsTo end) own
     → AllByRecursion (IsTo end) (raised_by own more)

@@ -6,3 +6,6 @@ pub mod RunsLeft
 pub mod FloorsLeft
 pub mod NamesTold
 pub mod TakesFront
+pub mod BaseEntries
+pub mod InRow
+pub mod RollNames

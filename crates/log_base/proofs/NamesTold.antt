@@ -155,7 +155,7 @@ up-rising : (mark t : ℕ) (heads : List Head) → AreRisingAfter t heads → la
 up-rising mark t [] up le = tt
 up-rising mark t (head ∷ heads) up le = (omega (arith, last-rises head.time heads up.2, le), up-rising mark head.time heads up.2 le)
 
-rolled-early : (chains : List LogChain) → MayAllFollow (reclaimed_by chains) 0 [] chains → AreUpTo (reclaimed_by chains) (rolled chains)
+pub rolled-early : (chains : List LogChain) → MayAllFollow (reclaimed_by chains) 0 [] chains → AreUpTo (reclaimed_by chains) (rolled chains)
 rolled-early [] may = tt
 rolled-early (OfBase b ∷ chains) may = up-rising b.upto 0 b.names may.0.3.rising may.0.3.named
 rolled-early (OfGroup members ∷ chains) may = tt
@@ -168,7 +168,7 @@ all-early mark upto (head ∷ heads) le all =
     let test : nat_le head.time upto ≡ true = is_le (omega (arith, le, all.0)) in
     rw test (ap (λ l. head ∷ l) (all-early mark upto heads le all.1))
 
-none-between : (mark upto : ℕ) (heads : List Head) → AreUpTo mark heads → filter (is_named_between mark upto) heads ≡ []
+pub none-between : (mark upto : ℕ) (heads : List Head) → AreUpTo mark heads → filter (is_named_between mark upto) heads ≡ []
 none-between mark upto [] all = refl
 none-between mark upto (head ∷ heads) all =
     let test : nat_lt mark head.time ≡ false = not_lt all.0 in

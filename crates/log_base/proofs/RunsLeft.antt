@@ -1,10 +1,10 @@
 -- The runs that a front leaves, and the rolls and anchors that the log's base names.
-use Rattle.std.proofs.Common.{◌≡◌, ℕ, ◌-◌, ◌<◌, ◌≤◌, max, zero, suc, true, false, cond, List, [], ◌∷◌, ◌++◌, length, map, take, refl, ap, sym, subst, ◌∙◌, arith}
+use Rattle.std.proofs.Common.{◌≡◌, ℕ, ◌-◌, ◌<◌, ◌≤◌, max, zero, suc, true, false, cond, List, [], ◌∷◌, ◌++◌, length, map, take, refl, ap, sym, subst, ◌∙◌, arith, inl}
 use Rattle.std.specs.Prelude.{flat_map}
 use Rattle.std.specs.List.{AllByRecursion}
 use Rattle.std.proofs.lemmas.List.{append-nil, length-map, map-append, take-map}
 use Rattle.wire.specs.declared.slot.Run.{Run}
-use Rattle.law_image.specs.Reading.{Head, Slot}
+use Rattle.law_image.specs.Reading.{Head, Slot, OldRecord}
 use Rattle.law_image.specs.Reading as slots
 use Rattle.law_image.specs.Log.{last_time_after, archive_mark}
 use Rattle.law_image.specs.HeapPlans.{marks_of, first_runs}
@@ -17,11 +17,14 @@ use Rattle.log_entries.specs.declared.entry.Roll.{Roll}
 use Rattle.log_entries.specs.declared.entry.Entry.{Entry}
 use Rattle.log_entries.specs.declared.entry.Entry.TheVariants.{Group, Archived, Floor}
 use Rattle.log_entries.specs.declared.entry.Entry.TheVariants as entries
-use Rattle.log_entries.specs.Ranges.{run_of}
-use Rattle.law_log_layout.specs.HeapLog.{PlacedChain, member_told, base_told, chain_told, chains_told, rolls_in}
+use Rattle.log_entries.specs.declared.entry.AnchorName.{AnchorName}
+use Rattle.log_entries.specs.Ranges.{IsEntry, run_of}
+use Rattle.log_extents.specs.Chains.{first_or}
+use Rattle.law_log_layout.specs.HeapLog.{PlacedChain, PlacedAnchors, IsPlaced, member_told, base_told, chain_told, chains_told, rolls_in, anchors_in, AreNamed}
 use Rattle.law_log_layout.specs.HeapLog as heap
 use Rattle.log_recovery.specs.Live.{LiveChainValue, part_of, live_of}
-use Rattle.log_base.specs.Bases.{is_later, front_len, in_base, with_run, runs_behind, runs_from, rolls_at, rolls_of, mark_of}
+use Rattle.log_base.specs.Bases.{is_later, front_len, in_base, with_run, runs_behind, runs_from, rolls_at, rolls_of, no_anchors, anchors_at, mark_of}
+use Rattle.log_base.specs.Laws.{MayBeAnchors, AnchorsStay}
 use Rattle.log_base.proofs.Fronts.{others-none}
 
 -- ---- the runs
@@ -96,6 +99,61 @@ rolls-left mark names (c ∷ chains) may =
       | true ↦ λ e. sym (rest ∙ late-none mark c.entry e)
       | false ↦ λ e. rolls-one c.entry ∙ sym rest
     ]) refl
+
+-- ---- its anchors
+
+one-no_anchors : (names : List Head) (e : Entry) → IsNoBase (chain_told names e) → anchors_in e ≡ []
+one-no_anchors names (Group members) none = refl
+one-no_anchors names (Archived archive) none = refl
+one-no_anchors names (Floor floor) none = refl
+one-no_anchors names (entries.Base base) none = absurd none
+
+no-anchors : (names : List Head) (chains : List PlacedChain) → AllByRecursion IsNoBase (chains_told names chains)
+    → flat_map (λ (c : PlacedChain). anchors_in c.entry) chains ≡ []
+no-anchors names [] none = refl
+no-anchors names (c ∷ chains) none =
+    let rest = no-anchors names chains none.1 in
+    ap (λ (l : List AnchorName). l ++ flat_map (λ (c : PlacedChain). anchors_in c.entry) chains) (one-no_anchors names c.entry none.0) ∙ rest
+
+-- where none are named there are none
+none-named : (a : PlacedAnchors) → AreNamed [] a → AreNamed (no_anchors ∷ []) a
+none-named a is = (ap (first_or 0) is.0, ap (λ (l : List ℕ). length l) is.0, ap (λ (l : List OldRecord). length l) is.1)
+
+anchors-one : (e : Entry) (a : PlacedAnchors) → AreNamed (anchors_in e) a → AreNamed (anchors_at (part_of e) ∷ []) a
+anchors-one (Group members) a is = none-named a is
+anchors-one (Archived archive) a is = none-named a is
+anchors-one (Floor floor) a is = none-named a is
+anchors-one (entries.Base base) a is = is
+
+none-may : (most : ℕ) → MayBeAnchors most no_anchors
+none-may most = record {
+  first = omega arith;
+  extents = omega arith;
+  records = omega arith;
+  place = inl (record { first = refl; extents = refl; records = refl });
+}
+
+anchors-may : (most : ℕ) (e : Entry) → IsEntry most e → MayBeAnchors most (anchors_at (part_of e))
+anchors-may most (Group members) is = none-may most
+anchors-may most (Archived archive) is = none-may most
+anchors-may most (Floor floor) is = none-may most
+anchors-may most (entries.Base base) is =
+    let parts = is.parts in
+    let whole = is.whole in
+    record { first = parts.first; extents = parts.extents; records = parts.records; place = whole.anchors }
+
+-- the anchors that the log names are those of its base
+pub anchors-stay : (most : ℕ) (names : List Head) (chains : List PlacedChain) (a : PlacedAnchors)
+    → MayAllFollow (reclaimed_by (chains_told names chains)) 0 [] (chains_told names chains) → AllByRecursion (IsPlaced most) chains
+    → AreNamed (flat_map (λ (c : PlacedChain). anchors_in c.entry) chains) a → AnchorsStay most chains a
+anchors-stay most names [] a may placed named = record { named = none-named a named; may = none-may most }
+anchors-stay most names (c ∷ chains) a may placed named =
+    let rest : anchors_in c.entry ++ flat_map (λ (c : PlacedChain). anchors_in c.entry) chains ≡ anchors_in c.entry =
+    ap (λ (l : List AnchorName). anchors_in c.entry ++ l) (no-anchors names chains (others-none chains names c may)) ∙ append-nil (anchors_in c.entry) in
+    record {
+      named = anchors-one c.entry a (subst (λ (l : List AnchorName). AreNamed l a) rest named);
+      may = anchors-may most c.entry (placed.0).entry;
+    }
 
 -- ---- the marks of the runs
 

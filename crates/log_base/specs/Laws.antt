@@ -1,5 +1,5 @@
 -- Laws of a base that takes the place of a log's front.
-use Rattle.std.specs.Prelude.{ℕ, ◌≡◌, ◌<◌, ◌≤◌, ◌&&◌, nat_lt, nat_le, Bool, List, [], ◌++◌, map, take, drop, filter, flat_map, Option}
+use Rattle.std.specs.Prelude.{ℕ, ◌≡◌, ◌⊎◌, ◌<◌, ◌≤◌, ◌+◌, ◌^◌, ◌&&◌, nat_lt, nat_le, Bool, List, [], ◌∷◌, ◌++◌, length, map, take, drop, filter, flat_map, Option, IfSome}
 use Rattle.std.specs.List.{AllByRecursion}
 use Rattle.law_image.specs.Reading.{Head}
 use Rattle.law_image.specs.Log.{heads_of, archive_mark}
@@ -7,11 +7,14 @@ use Rattle.law_log.specs.Chains.{told, reclaimed_by, KeepsChainRules, IsUpTo, Be
 use Rattle.group.specs.declared.commit_order.CommitHead.{CommitHead}
 use Rattle.log_entries.specs.declared.entry.AnchorName.{AnchorName}
 use Rattle.log_entries.specs.declared.entry.Roll.{Roll}
-use Rattle.log_entries.specs.Ranges.{run_of}
-use Rattle.law_log_layout.specs.HeapLog.{PlacedChain, PlacedRoll, base_told, chains_told, rolls_in, AreNamesOf}
+use Rattle.log_entries.specs.declared.entry.Entry.TheVariants as entries
+use Rattle.log_entries.specs.Ranges.{IsRoll, AreNone, AreSome, IsEntry, run_of}
+use Rattle.law_layout.specs.Runs.{StoredRun}
+use Rattle.law_log_layout.specs.HeapLog.{PlacedChain, PlacedAnchors, PlacedRoll, IsPlaced, base_told, chains_told, archives_in, rolls_in, anchors_in, name_bytes}
+use Rattle.law_log_layout.specs.HeapLog.{AreNamed, AreNamesOf, IsStoredRoll, Span, run_span, roll_span, spans_of, AreSpansApart, AreSpansInRow}
 use Rattle.law_log_layout.specs.HeapLog as heap
 use Rattle.log_recovery.specs.Live.{live_of}
-use Rattle.log_base.specs.Bases.{front_len, runs_from, rolls_of, mark_of, base_on}
+use Rattle.log_base.specs.Bases.{front_len, runs_from, rolls_of, anchors_of, mark_of, base_on}
 use Rattle.log_base.specs.Names.{name_of, named_between, AreNamesBetween}
 
 -- ---- what is read off the chains in memory
@@ -91,3 +94,64 @@ BaseTakesFront =
     → KeepsChainRules (chains_told names chains) → upto ≡ archive_mark (told (chains_told names chains)) → 0 < upto → new ≡ told_upto upto names chains
     → (let n = front_count upto chains in TakesPlace (chains_told names (take n chains)) (chains_told names (drop n chains))
     (base_told new (base_on (take n (map live_of chains)) upto anchors roll)))
+
+-- ---- its form
+
+-- so a base may name anchors: none, or a chain of the heap
+pub record MayBeAnchors (most : ℕ) (a : AnchorName) : Type 0 where
+  pub first : a.first < 2 ^ 32
+  pub extents : a.extents < 2 ^ 32
+  pub records : a.records < 2 ^ 32
+  pub place : AreNone a ⊎ AreSome most a
+
+-- a chain of the log may hold the base, where it may hold its mark, its anchors and its new roll
+abbrev pub BaseIsEntry : Type 0
+BaseIsEntry =
+    (most upto n : ℕ) (chains : List PlacedChain) (anchors : AnchorName) (roll : Option Roll) → AllByRecursion (IsPlaced most) chains → 0 < upto
+    → upto < 2 ^ 63 → MayBeAnchors most anchors → IfSome roll IsRoll
+    → IsEntry most (entries.Base (base_on (take n (map live_of chains)) upto anchors roll))
+
+-- the anchors that the log names are none where it has no base; a new base may name them
+pub record AnchorsStay (most : ℕ) (chains : List PlacedChain) (a : PlacedAnchors) : Type 0 where
+  pub named : AreNamed (anchors_of (map live_of chains) ∷ []) a
+  pub may : MayBeAnchors most (anchors_of (map live_of chains))
+
+abbrev pub AnchorsAre : Type 0
+AnchorsAre =
+    (most : ℕ) (names : List Head) (chains : List PlacedChain) (a : PlacedAnchors) → KeepsChainRules (chains_told names chains)
+    → AllByRecursion (IsPlaced most) chains → AreNamed (flat_map (λ (c : PlacedChain). anchors_in c.entry) chains) a → AnchorsStay most chains a
+
+-- ---- in the archive
+
+-- the runs that the base names, and those that the chains behind it name, are in a row, as those of the log are
+abbrev pub RunsStayInRow : Type 0
+RunsStayInRow =
+    (chains : List PlacedChain) (n : ℕ) → AreSpansInRow 0 (map run_span (flat_map (λ (c : PlacedChain). archives_in c.entry) chains))
+    → AreSpansInRow 0 (map run_span (map run_of (runs_from [] (take n (map live_of chains)))
+    ++ flat_map (λ (c : PlacedChain). archives_in c.entry) (drop n chains)))
+
+-- a roll that begins where all runs and rolls end, or behind, comes behind the rolls and is apart from all
+pub record ComesBehind (runs : List StoredRun) (rolls : List PlacedRoll) (r : PlacedRoll) : Type 0 where
+  pub in_row : AreSpansInRow 0 (map roll_span (rolls ++ r ∷ []))
+  pub apart : AreSpansApart (spans_of runs (rolls ++ r ∷ []))
+
+abbrev pub RollComesBehind : Type 0
+RollComesBehind =
+    (runs : List StoredRun) (rolls : List PlacedRoll) (r : PlacedRoll) → AreSpansInRow 0 (map roll_span rolls) → AreSpansApart (spans_of runs rolls)
+    → AllByRecursion (λ (s : Span). s.start + s.len ≤ r.roll.start) (spans_of runs rolls) → ComesBehind runs rolls r
+
+-- the roll with these bytes, from this place of the archive on
+abbrev pub new_roll : ℕ → List ℕ → List Head → PlacedRoll
+new_roll start bytes names = record { roll = record { start = start; len = length bytes }; names = names }
+
+-- the names of a new roll are in order and in their ranges, and its bytes are those of a roll
+pub record IsNewRoll (start : ℕ) (bytes : List ℕ) (names : List Head) : Type 0 where
+  pub stored : IsStoredRoll (new_roll start bytes names)
+  pub roll : 0 < length bytes → start + length bytes < 2 ^ 63 → IsRoll (new_roll start bytes names).roll
+
+abbrev pub NewRollIs : Type 0
+NewRollIs =
+    (most upto start : ℕ) (names new : List Head) (chains : List PlacedChain) (heads : List CommitHead) (bytes : List ℕ)
+    → KeepsChainRules (chains_told names chains) → AllByRecursion (IsPlaced most) chains → (let mark = reclaimed_by (chains_told names chains) in
+    map name_of (named_between mark upto heads) ≡ filter (is_named_between mark upto) (heads_of (told (chains_told names chains)))
+    → AreNamesBetween mark upto heads new → bytes ≡ flat_map name_bytes new → IsNewRoll start bytes new)

@@ -1,5 +1,6 @@
 //! What holds of a base that takes the place of a log's front.
-ghost use Rattle.log_base.specs.Laws.{FrontIs, MarkIs, RunsAre, RollsAre, NamesGoOn, HeadsAre, BaseTakesFront};
+ghost use Rattle.log_base.specs.Laws.{FrontIs, MarkIs, RunsAre, RollsAre, AnchorsAre, NamesGoOn, HeadsAre, BaseTakesFront, BaseIsEntry};
+ghost use Rattle.log_base.specs.Laws.{RunsStayInRow, RollComesBehind, NewRollIs};
 
 /// The front has no commit later than the mark, the first chain of the rest has one, and no base stands in the rest.
 pub fn front_is()
@@ -34,4 +35,29 @@ pub fn heads_are()
 /// The base takes the place of the front: the log tells the same, but for the reclaim mark.
 pub fn base_takes_front()
     ensures { BaseTakesFront }
+{}
+
+/// A chain of the log may hold the base.
+pub fn base_is_entry()
+    ensures { BaseIsEntry }
+{}
+
+/// The anchors that memory tells are those of the log, and a new base may name them.
+pub fn anchors_are()
+    ensures { AnchorsAre }
+{}
+
+/// The runs of the base and those of the chains behind it are in a row.
+pub fn runs_stay_in_row()
+    ensures { RunsStayInRow }
+{}
+
+/// A roll that begins where all else of the archive ends comes behind the rolls, and is apart from all.
+pub fn roll_comes_behind()
+    ensures { RollComesBehind }
+{}
+
+/// The names of a new roll are in order and in their ranges, and its bytes are those of a roll.
+pub fn new_roll_is()
+    ensures { NewRollIs }
 {}
