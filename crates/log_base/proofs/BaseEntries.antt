@@ -1,5 +1,5 @@
 -- The base that is computed is one that a chain of the log may hold.
-use Rattle.std.proofs.Common.{◌≡◌, ℕ, zero, suc, ◌-◌, ◌<◌, ◌≤◌, ◌^◌, List, [], ◌∷◌, ◌++◌, length, map, take, Option, None, Some, refl, subst, sym, arith, ◌⊎◌}
+use Rattle.std.proofs.Common.{ℕ, zero, suc, ◌-◌, ◌<◌, ◌^◌, List, [], ◌∷◌, length, map, take, Option, None, Some, refl, subst, sym, arith}
 use Rattle.std.specs.Prelude.{option_to_list, IfSome}
 use Rattle.std.specs.List.{AllByRecursion}
 use Rattle.std.proofs.lemmas.List.{take-map}
@@ -15,7 +15,7 @@ use Rattle.log_entries.specs.declared.entry.Roll.{Roll}
 use Rattle.log_entries.specs.declared.entry.Entry.{Entry}
 use Rattle.log_entries.specs.declared.entry.Entry.TheVariants.{Group, Archived, Floor}
 use Rattle.log_entries.specs.declared.entry.Entry.TheVariants as entries
-use Rattle.log_entries.specs.Ranges.{IsArchive, IsFloor, IsRoll, HasNoRuns, AreRising, AreParts, IsWhole, IsBase, IsEntry}
+use Rattle.log_entries.specs.Ranges.{IsArchive, IsFloor, IsRoll, HasNoRuns, AreRising, IsBase, IsEntry}
 use Rattle.law_log_layout.specs.HeapLog.{PlacedChain, IsPlaced}
 use Rattle.log_recovery.specs.Live.{LiveChainValue, part_of, live_of}
 use Rattle.log_base.specs.Bases.{in_base, runs_behind, runs_from, raised_by, own_behind, own_from, relation_floor, rolls_at, rolls_of, base_on}

@@ -1,5 +1,5 @@
 -- The names of the commits that a log tells.
-use Rattle.std.proofs.Common.{◌≡◌, ℕ, zero, suc, ◌+◌, ◌-◌, ◌<◌, ◌≤◌, nat_lt, nat_le, Bool, true, false, cond, List, [], ◌∷◌, ◌++◌, length, map, refl, ap, sym, subst, ◌∙◌}
+use Rattle.std.proofs.Common.{◌≡◌, ℕ, zero, suc, ◌-◌, ◌<◌, ◌≤◌, nat_lt, nat_le, Bool, true, false, cond, List, [], ◌∷◌, ◌++◌, length, map, refl, ap, sym, subst, ◌∙◌}
 use Rattle.std.proofs.Common.{arith, inl, inr, append_assoc, length-append}
 use Rattle.std.specs.Prelude.{◌&&◌, ◌⊎◌, filter, flat_map, Contains, ◌↔◌}
 use Rattle.std.specs.List.{AllByRecursion}
@@ -9,7 +9,7 @@ use Rattle.std.proofs.lemmas.Grind.{flat_map-append}
 use Rattle.std.proofs.lemmas.List.{append-nil}
 use Rattle.std.proofs.lemmas.List.Elements.{filter-append, Contains-append_left, Contains-append_right, Contains-append_cases}
 use Rattle.history.proofs.Filters.{filter-filter, filter-both, filter-map}
-use Rattle.history.proofs.Orders.{is_lt, not_lt, is_le, not_le}
+use Rattle.history.proofs.Orders.{not_lt, is_le, not_le}
 use Rattle.law_image.specs.Reading.{Head, Slot}
 use Rattle.law_image.specs.Reading as slots
 use Rattle.law_image.specs.Log.{heads_of, last_time_after, last_time, told_time, reclaim_mark, AreRisingAfter, AllCome, MayComeInHeap}

@@ -1,5 +1,5 @@
 -- The names of a new roll are in their ranges, and their bytes are those of a roll.
-use Rattle.std.proofs.Common.{◌≡◌, ℕ, ◌+◌, ◌*◌, ◌%◌, ◌<◌, ◌≤◌, ◌^◌, nat_lt, List, [], ◌∷◌, ◌++◌, length, map, refl, ap, sym, subst, ◌∙◌, arith, length-append}
+use Rattle.std.proofs.Common.{◌≡◌, ℕ, ◌+◌, ◌*◌, ◌<◌, ◌≤◌, ◌^◌, nat_lt, List, [], ◌∷◌, ◌++◌, length, map, refl, ap, sym, subst, ◌∙◌, arith}
 use Rattle.std.specs.Prelude.{filter, flat_map, slice_index_or}
 use Rattle.std.specs.List.{AllByRecursion}
 use Rattle.std.proofs.lemmas.List.Elements.{filter-append, All-contains, All-contains_itself, All-from_recursion, recursion_from_All}
@@ -7,10 +7,9 @@ use Rattle.history.proofs.Filters.{AllByRecursion-filter, AllByRecursion-append}
 use Rattle.wire.specs.Numbers.{u64_bytes}
 use Rattle.law_image.specs.Reading.{Head}
 use Rattle.law_image.specs.Log.{heads_of}
-use Rattle.law_log.specs.Chains.{told, reclaimed_by, commits_in, later_heads, heads_in, KeepsChainRules, MayAllFollow}
+use Rattle.law_log.specs.Chains.{told, reclaimed_by, commits_in, later_heads, heads_in, KeepsChainRules}
 use Rattle.group.specs.declared.commit_order.CommitHead.{CommitHead}
 use Rattle.log_entries.specs.declared.entry.Member.{Member}
-use Rattle.log_entries.specs.declared.entry.Roll.{Roll}
 use Rattle.log_entries.specs.declared.entry.Entry.{Entry}
 use Rattle.log_entries.specs.declared.entry.Entry.TheVariants.{Group, Archived, Floor}
 use Rattle.log_entries.specs.declared.entry.Entry.TheVariants as entries

@@ -1,5 +1,5 @@
 -- The runs that a front leaves, and the rolls and anchors that the log's base names.
-use Rattle.std.proofs.Common.{◌≡◌, ℕ, ◌-◌, ◌<◌, ◌≤◌, max, zero, suc, true, false, cond, List, [], ◌∷◌, ◌++◌, length, map, take, refl, ap, sym, subst, ◌∙◌, arith, inl}
+use Rattle.std.proofs.Common.{◌≡◌, ℕ, ◌-◌, ◌<◌, ◌≤◌, zero, suc, true, false, cond, List, [], ◌∷◌, ◌++◌, length, map, take, refl, ap, sym, subst, ◌∙◌, arith, inl}
 use Rattle.std.specs.Prelude.{flat_map}
 use Rattle.std.specs.List.{AllByRecursion}
 use Rattle.std.proofs.lemmas.List.{append-nil, length-map, map-append, take-map}
@@ -22,8 +22,8 @@ use Rattle.log_entries.specs.Ranges.{IsEntry, run_of}
 use Rattle.log_extents.specs.Chains.{first_or}
 use Rattle.law_log_layout.specs.HeapLog.{PlacedChain, PlacedAnchors, IsPlaced, member_told, base_told, chain_told, chains_told, rolls_in, anchors_in, AreNamed}
 use Rattle.law_log_layout.specs.HeapLog as heap
-use Rattle.log_recovery.specs.Live.{LiveChainValue, part_of, live_of}
-use Rattle.log_base.specs.Bases.{is_later, front_len, in_base, with_run, runs_behind, runs_from, rolls_at, rolls_of, no_anchors, anchors_at, mark_of}
+use Rattle.log_recovery.specs.Live.{part_of, live_of}
+use Rattle.log_base.specs.Bases.{is_later, front_len, in_base, runs_behind, runs_from, rolls_at, rolls_of, no_anchors, anchors_at, mark_of}
 use Rattle.log_base.specs.Laws.{MayBeAnchors, AnchorsStay}
 use Rattle.log_base.proofs.Fronts.{others-none}
 

@@ -1,4 +1,4 @@
-use Rattle.std.proofs.Common.{◌≡◌, ◌≢◌, ℕ, ◌<◌, ◌≤◌, nat_lt, List, ◌∷◌, ◌++◌, take, length, get_or, rules, of_calls, arith, ap, sym, subst, ◌∙◌}
+use Rattle.std.proofs.Common.{◌≢◌, ◌<◌, ◌≤◌, nat_lt, List, ◌∷◌, ◌++◌, take, length, get_or, rules, of_calls, arith, ap, sym, subst, ◌∙◌}
 use Rattle.std.proofs.lemmas.Fn.{always_returns_same}
 use Rattle.floors.specs.declared.floors.OwnFloor.{OwnFloor}
 use Rattle.floors.specs.Floors.{AreRising}

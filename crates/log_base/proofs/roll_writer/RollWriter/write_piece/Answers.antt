@@ -1,4 +1,4 @@
-use Rattle.std.proofs.Common.{◌≡◌, ◌∙◌, ◌+◌, ◌-◌, ℕ, List, Result, Ok, Err, min, length, take, drop, ap, sym, subst, arith, length-take, length-drop}
+use Rattle.std.proofs.Common.{◌≡◌, ◌∙◌, ◌+◌, ℕ, List, Result, Ok, Err, length, take, drop, ap, subst, arith, length-take, length-drop}
 use Rattle.std.specs.List.{slice_range}
 use Rattle.disk.specs.Calls.{Writes}
 use Rattle.disk.specs.declared.area.Area.TheVariants.{Archive}
