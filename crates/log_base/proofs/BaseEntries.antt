@@ -61,7 +61,8 @@ runs-all most before (c ∷ chains) placed all =
 abbrev IsOwn : OwnFloor → Type 0
 IsOwn o = IsFloor (relation_floor o)
 
-raised-one : (own : List OwnFloor) (more : List RelationFloor) → AllByRecursion IsFloor more → AllByRecursion IsOwn own → AllByRecursion IsOwn (raised_by own more)
+raised-one : (own : List OwnFloor) (more : List RelationFloor) → AllByRecursion IsFloor more → AllByRecursion IsOwn own
+    → AllByRecursion IsOwn (raised_by own more)
 raised-one own [] are all = all
 raised-one own (f ∷ more) are all = raised-one (with_own own f.relation f.floor) more are.1 (own-all IsOwn own f.relation f.floor are.0 all)
 

@@ -119,7 +119,8 @@ late-no_base mark names (Archived archive) late = tt
 late-no_base mark names (Floor floor) late = tt
 late-no_base mark names (entries.Base base) late = absurd cc
 
-pub rest-no_base : (mark : ℕ) (names : List Head) (chains : List PlacedChain) → MayAllFollow (reclaimed_by (chains_told names chains)) 0 [] (chains_told names chains)
+pub rest-no_base : (mark : ℕ) (names : List Head) (chains : List PlacedChain)
+    → MayAllFollow (reclaimed_by (chains_told names chains)) 0 [] (chains_told names chains)
     → AllByRecursion IsNoBase (chains_told names (drop (front_len mark (map live_of chains)) chains))
 rest-no_base mark names [] may = tt
 rest-no_base mark names (c ∷ chains) may =

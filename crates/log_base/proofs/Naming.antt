@@ -115,7 +115,8 @@ named (y ∷ z ∷ zs) up one =
     (up (suc k) d (omega (arith, low))))
     (λ time. let all = one time in let more = sum_by-cons (at_time time) (head_of y) (map head_of (z ∷ zs)) in omega (arith, all, more)) in
     let first = first-before y z (up 0 y (omega arith)) (two-apart y z zs (one y.time)) in
-    ((first, weaker (IsNamedBefore (head_of z)) (IsNamedBefore (head_of y)) (map head_of zs) (λ h is. before-trans (head_of y) (head_of z) h first is) rest.0), rest)
+    let later = λ (h : Head) (is : IsNamedBefore (head_of z) h). before-trans (head_of y) (head_of z) h first is in
+    ((first, weaker (IsNamedBefore (head_of z)) (IsNamedBefore (head_of y)) (map head_of zs) later rest.0), rest)
 
 -- ---- all of it
 

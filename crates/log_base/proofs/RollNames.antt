@@ -44,7 +44,8 @@ between-append mark upto xs ys all =
     let between = is_named_between mark upto in
     filter-append between xs ys ∙ ap (λ (l : List Head). l ++ filter between ys) (none-between mark upto xs all)
 
-told-named : (most upto : ℕ) (names : List Head) (chains : List PlacedChain) → KeepsChainRules (chains_told names chains) → AllByRecursion (IsPlaced most) chains
+told-named : (most upto : ℕ) (names : List Head) (chains : List PlacedChain) → KeepsChainRules (chains_told names chains)
+    → AllByRecursion (IsPlaced most) chains
     → AllByRecursion IsName (filter (is_named_between (reclaimed_by (chains_told names chains)) upto) (heads_of (told (chains_told names chains))))
 told-named most upto names chains rules placed =
     let all = chains_told names chains in

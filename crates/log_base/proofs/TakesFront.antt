@@ -10,8 +10,8 @@ use Rattle.law_image.specs.Reading.{Head, Slot}
 use Rattle.law_image.specs.Log.{heads_of, last_time_after, last_time, archive_mark, reclaim_mark, floor_of, AreRisingAfter, AllCome, MayComeInHeap}
 use Rattle.law_image.specs.HeapPlans.{marks_of}
 use Rattle.law_image.proofs.Logs.{AreTold, told-all}
-use Rattle.law_log.specs.Chains.{LogChain, Base, told, told_behind, told_from, reclaimed_by, commits_in, AreMarksTo, AreFloorsTo, KeepsChainRules, IsBase, IsUpTo}
-use Rattle.law_log.specs.Chains.{TakesPlace, MayAllFollow}
+use Rattle.law_log.specs.Chains.{LogChain, Base, told, told_behind, told_from, reclaimed_by, commits_in, AreMarksTo, AreFloorsTo, KeepsChainRules, IsBase}
+use Rattle.law_log.specs.Chains.{IsUpTo, TakesPlace, MayAllFollow}
 use Rattle.law_log.proofs.Telling.{tells-all}
 use Rattle.log_entries.specs.declared.entry.AnchorName.{AnchorName}
 use Rattle.log_entries.specs.declared.entry.Archive.{Archive}

@@ -1,5 +1,6 @@
 -- Laws of a base that takes the place of a log's front.
-use Rattle.std.specs.Prelude.{ℕ, ◌≡◌, ◌⊎◌, ◌<◌, ◌≤◌, ◌+◌, ◌^◌, ◌&&◌, nat_lt, nat_le, Bool, List, [], ◌∷◌, ◌++◌, length, map, take, drop, filter, flat_map, Option, IfSome}
+use Rattle.std.specs.Prelude.{ℕ, ◌≡◌, ◌⊎◌, ◌<◌, ◌≤◌, ◌+◌, ◌^◌, ◌&&◌, nat_lt, nat_le, Bool, List, [], ◌∷◌, ◌++◌, length, map, take, drop, filter}
+use Rattle.std.specs.Prelude.{flat_map, Option, IfSome}
 use Rattle.std.specs.List.{AllByRecursion}
 use Rattle.law_image.specs.Reading.{Head}
 use Rattle.law_image.specs.Log.{heads_of, archive_mark}
@@ -10,8 +11,8 @@ use Rattle.log_entries.specs.declared.entry.Roll.{Roll}
 use Rattle.log_entries.specs.declared.entry.Entry.TheVariants as entries
 use Rattle.log_entries.specs.Ranges.{IsRoll, AreNone, AreSome, IsEntry, run_of}
 use Rattle.law_layout.specs.Runs.{StoredRun}
-use Rattle.law_log_layout.specs.HeapLog.{PlacedChain, PlacedAnchors, PlacedRoll, IsPlaced, base_told, chains_told, archives_in, rolls_in, anchors_in, name_bytes}
-use Rattle.law_log_layout.specs.HeapLog.{AreNamed, AreNamesOf, IsStoredRoll, Span, run_span, roll_span, spans_of, AreSpansApart, AreSpansInRow}
+use Rattle.law_log_layout.specs.HeapLog.{PlacedChain, PlacedAnchors, PlacedRoll, IsPlaced, base_told, chains_told, archives_in, rolls_in, anchors_in}
+use Rattle.law_log_layout.specs.HeapLog.{name_bytes, AreNamed, AreNamesOf, IsStoredRoll, Span, run_span, roll_span, spans_of, AreSpansApart, AreSpansInRow}
 use Rattle.law_log_layout.specs.HeapLog as heap
 use Rattle.log_recovery.specs.Live.{live_of}
 use Rattle.log_base.specs.Bases.{front_len, runs_from, rolls_of, anchors_of, mark_of, base_on}

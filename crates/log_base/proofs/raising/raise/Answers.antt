@@ -18,7 +18,8 @@ there c =
     (c.partition_point-place.ensures.partitioned (λ (o : OwnFloor). nat_lt o.relation relation)
     (always_returns_same _ _ _ (λ a r f k. search (rules, of_calls))) (partitioned relation c.deref.result.now (subst AreRising (sym is) c.requires))) in
     let within : place < length own = omega (arith, c.if-place-len.true, c.len.ensures) in
-    let at = λ (d : OwnFloor). ap (λ (o : OwnFloor). o.relation) (any_default own place d c.index.result.now within ∙ sym c.index.ensures) ∙ c.if-index-relation.true in
+    let at = λ (d : OwnFloor).
+    ap (λ (o : OwnFloor). o.relation) (any_default own place d c.index.result.now within ∙ sym c.index.ensures) ∙ c.if-index-relation.true in
     set-behind own place relation raised within at ∙ raised-at own relation c.args.floor.now.floor place (omega (arith, within)) point
 
 inserted : goal.returns-in_ok-insert-clause-ok
