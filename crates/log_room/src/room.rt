@@ -6,7 +6,7 @@ ghost use Rattle.log_space.specs.Uses.{with_use};
 ghost use Rattle.law_log_sizes.specs.Sizes.{len_behind};
 ghost use Rattle.log_sizes.specs.Counted.{values_in};
 ghost use Rattle.log_room.specs.Bases.{has_base_room, has_floor_room};
-ghost use Rattle.log_room.specs.Rooms.{fits, promised_to, has_entry_room, has_last_room, promised_entry, TakesChain, MayOpen};
+ghost use Rattle.log_room.specs.Rooms.{fits, promised_to, has_entry_room, has_last_room, promised_entry, TakesChain, MayOpen, IsRoom};
 ghost use Rattle.log_room.specs.Reserves.{Reserves, based_on, with_kept};
 
 use crate::base_share::BaseParts;
@@ -106,9 +106,10 @@ impl HeapRoom {
         Some(HeapRoom::of_opened(space, next, log, anchors))
     }
 
-    /// How many extents the heap has.
+    /// How many extents the heap has. The shares of each are kept.
     pub fn len(&self) -> u32
-        ensures { result ≡ length self.now.used }
+        ensures is { result ≡ length self.now.used }
+        ensures room { IsRoom self.now }
     {
         self.space.len()
     }
@@ -222,6 +223,7 @@ impl HeapRoom {
         requires none { self.old.reserved ≡ 0 }
         requires share { count ≤ length self.old.used / 4 }
         ensures ok { IfOk result (λ numbers. Reserves self.old count numbers.items self.new) }
+        ensures in_range { IfOk result (λ numbers. AllByRecursion (IsNumberOf (2 ^ 20)) numbers.items) }
         ensures err { OnErr result (self.new ≡ self.old) }
     {
         let numbers = take_free(alloc, &mut self.space, count)?;

@@ -21,9 +21,9 @@ loop-preserved c =
     let len = ap (λ (u : List Bool). length u) c.in-Some.ensures.1 in
     record {
       taken = inv.taken ++ n ∷ [];
-      items = c.push_reserved-in-Some.ensures.items ∙ ap (λ (xs : List ℕ). xs ++ n ∷ []) inv.items;
+      items = c.push_reserved.ensures.items ∙ ap (λ (xs : List ℕ). xs ++ n ∷ []) inv.items;
       many = omega (arith, length-append inv.taken (n ∷ []), inv.many);
-      room = c.push_reserved-in-Some.ensures.capacity ∙ inv.room;
+      room = c.push_reserved.ensures.capacity ∙ inv.room;
       least = least-push start inv.taken n inv.least (subst (λ (u : List Bool). IsLeastFree u n) inv.new_is c.in-Some.ensures.0);
       new_is = c.in-Some.ensures.1 ∙ ap (λ (u : List Bool). with_use u n true) inv.new_is ∙ sym (used-push start inv.taken n);
       used = omega (arith, more.count, count, inv.used);
