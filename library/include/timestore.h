@@ -97,8 +97,8 @@ enum {
     TS_FAILED = -6,         /* a device call was refused */
     TS_STRANGER = -7,       /* a transaction, ticket or view of another store */
     TS_CONFLICT = -8,       /* a: relation, b: record of the least key that a later commit wrote too */
-    TS_HEAP_FULL = -9,      /* the records need more extents than are free; where the log lies in the heap, a floor's
-                               entry does */
+    TS_HEAP_FULL = -9,      /* the records need more extents than are free; where the log lies in the heap, the entry
+                               of an archive or of a floor does */
     TS_STATUS_FULL = -10,   /* too few slots of the status log are left */
     TS_CLOCK_END = -11,     /* no commit time is left */
     TS_MISSING = -12,       /* a delete of what is not there */
@@ -119,7 +119,7 @@ enum {
     TS_IN_USE = -25,        /* a: the least open snapshot */
     TS_NEEDS_ARCHIVE = -26, /* the answer needs the archive, and none was lent */
     TS_WRONG_PROFILE = -27, /* ts_floor: this store has a floor for each relation; ts_floor_of: one for all;
-                               ts_archive, ts_reclaim: its log lies in the heap */
+                               ts_reclaim: its log lies in the heap */
     TS_NOT_GROWABLE = -28   /* it would have more than 65,536 slots, or the first timestore made it */
 };
 
@@ -133,10 +133,10 @@ enum {
     TS_GATE_WRITTEN = 5,
     TS_PUBLISHED = 6, /* of a job: it is done */
     TS_KEPT_WRITTEN = 7, /* of a reclaim: an extent of what stands at its mark is written */
-    TS_KEPT_SYNCED = 8, /* of a floor where the log lies in the heap: its entry is synced, but for its gate */
+    TS_KEPT_SYNCED = 8, /* where the log lies in the heap: a job's entry is synced, but for its gate */
     TS_ZEROS_WRITTEN = 9, /* of a growth: zeros are written behind the slots */
     TS_ZEROS_SYNCED = 10,
-    TS_ENTRY_WRITTEN = 12, /* of a floor where the log lies in the heap: its entry is written, but for its gate */
+    TS_ENTRY_WRITTEN = 12, /* where the log lies in the heap: a job's entry is written, but for its gate */
     TS_GATE_CLOSED = 13 /* where the log lies in the heap: the gate where the log will end is closed */
 };
 /* What ts_pump and ts_job_pump tell in a, where it is not TS_IDLE: the device call of the step is to be made. */
@@ -226,11 +226,13 @@ int32_t ts_scan_between(ts *h, uint64_t view, uint16_t relation, uint64_t from, 
 /* The times of the commits with a label, rising; a: how many. */
 int32_t ts_times_of(ts *h, uint64_t label, uint64_t *times, size_t count, ts_info *info);
 
-/* Begins a copy of the versions that ended by a time into the archive. */
+/* Begins a copy of the versions that ended by a time into the archive. It takes a slot or, where the log lies in the
+   heap, an extent. */
 int32_t ts_archive(ts *h, uint64_t upto, ts_info *info);
 
 /* Begins a reclaim: once it is done the heap and memory have only what ended after the last archive. Open
-   views keep what they have. TS_IN_USE while an open transaction reads below that. */
+   views keep what they have. TS_IN_USE while an open transaction reads below that. A store whose log lies in the heap
+   has no reclaims: TS_WRONG_PROFILE. */
 int32_t ts_reclaim(ts *h, ts_info *info);
 
 /* Begins to raise the floor of a relation to a time: once it is done views that are taken answer TS_BEFORE_KEPT

@@ -5,6 +5,7 @@ import errno
 import gc
 import os
 import resource
+import struct
 import sys
 from collections.abc import Callable, Iterator
 from concurrent.futures import ThreadPoolExecutor
@@ -125,6 +126,36 @@ def test_refused_call(folder: Path) -> None:
     with timestore.Store(folder) as store:
         assert refuses(timestore.BeforeKept, store.at, 2, 5, 0).floor == before
         assert store.at(2, 5, before) == (b"first",)
+
+
+def has_all(store: timestore.Store) -> None:
+    assert [store.at(1, 7, time) for time in (99, 199, 200, 300)] == [None, (b"a",), (b"b",), (b"c",)]
+    assert [row[1:] for row in store.between(1, 7, 100, 301)] == [(100, 200, (b"a",)), (200, 300, (b"b",)), (300, 301, (b"c",))]
+
+
+def test_endless(folder: Path) -> None:
+    """A store whose log lies in the heap, of 64 extents: its archive, and what stood when, also where it is opened again."""
+    folder.mkdir()
+    (folder / "heap").write_bytes(bytes(8192))
+    (folder / "archive").write_bytes(b"")
+    (folder / "status").write_bytes((b"NOOVER01" + struct.pack("<IIIII", 4, 64, 0, 1, 0)).ljust(512, b"\0"))
+    step = timestore.Step
+    with timestore.Store(folder) as store:
+        for time, value in ((100, b"a"), (200, b"b"), (300, b"c")):
+            store.put(1, 7, value, now=time)
+        assert refuses(timestore.NotYet, store.archive, 301).last == 300
+        store.archive_start(200)
+        refuses(timestore.JobBusy, store.archive, 300)
+        steps = [step.WROTE, step.SYNCED, step.ENTRY_WRITTEN, step.GATE_CLOSED, step.KEPT_SYNCED, step.GATE_WRITTEN, step.PUBLISHED]
+        assert [store.job_pump() for _ in steps] == steps and store.job_pump() == step.IDLE
+        refuses(timestore.NothingToDo, store.archive, 200)
+        refuses(timestore.WrongProfile, store.reclaim)
+        has_all(store)
+    with timestore.Store(folder) as store:
+        refuses(timestore.NothingToDo, store.archive, 200)
+        has_all(store)
+        store.archive(300)
+        has_all(store)
 
 
 def test_damaged(folder: Path) -> None:
@@ -425,6 +456,7 @@ def main() -> None:
     test_transact(folder)
     test_rooms(folder)
     test_causes(folder)
+    test_endless(folder.parent / "endless")
     test_damaged(folder)
 
 

@@ -5,6 +5,7 @@
 #include <stdio.h>
 #include <stdlib.h>
 #include <string.h>
+#include <sys/stat.h>
 #include <timestore_file.h>
 
 /* Ends the test unless a call gives this code. */
@@ -26,6 +27,27 @@ static inline void holds_(int holds, const char *what, const char *file, int lin
 
 /* No archive is lent. */
 #define NONE (const uint8_t *)"", 0
+
+/* A file of these bytes. */
+static inline void write_file(const char *folder, const char *name, const uint8_t *bytes, size_t len) {
+    char path[4300];
+    snprintf(path, sizeof path, "%s/%s", folder, name);
+    FILE *file = fopen(path, "wb");
+    HOLDS(file && fwrite(bytes, 1, len, file) == len && fclose(file) == 0);
+}
+
+/* A new store whose log lies in the heap, of 64 extents, in a new folder: the header, and the first extent, where its
+   log begins. */
+static inline void endless_format(const char *folder) {
+    uint8_t header[512] = "NOOVER01", extent[8192] = {0};
+    header[8] = 4; /* the profile */
+    header[12] = 64;
+    header[20] = 1;
+    HOLDS(mkdir(folder, 0777) == 0);
+    write_file(folder, "heap", extent, sizeof extent);
+    write_file(folder, "archive", extent, 0);
+    write_file(folder, "status", header, sizeof header);
+}
 
 /* A value of one field that is this text. */
 static inline size_t value_of(const char *text, uint8_t *value) {

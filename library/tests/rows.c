@@ -446,6 +446,93 @@ static int32_t cut(const char *folder, const char *name, off_t len, ts_info *inf
     return ts_file_open(folder, &file, info);
 }
 
+/* Commits one record where the log lies in the heap; what was answered. */
+static int32_t try_commit(ts_file *file, const char *text, uint64_t now) {
+    ts *h = ts_file_store(file);
+    ts_info info;
+    uint64_t txn = begun(h);
+    put_text(h, txn, 7, text);
+    return ts_file_commit(file, txn, 9, now, &info);
+}
+
+/* The steps of an archive, between which a commit is made. */
+static void test_endless_steps(ts_file *file) {
+    static const uint64_t steps[] = {TS_WROTE, TS_SYNCED, TS_ENTRY_WRITTEN, TS_GATE_CLOSED, TS_KEPT_SYNCED, TS_GATE_WRITTEN, TS_PUBLISHED, TS_IDLE};
+    ts_info info;
+    for (size_t n = 0; n < sizeof steps / sizeof *steps; n++) {
+        CHECK(TS_OK, ts_file_job_pump(file, &info));
+        HOLDS(info.a == steps[n]);
+        if (n == 0) CHECK(TS_OK, try_commit(file, "d", 400));
+    }
+}
+
+/* What stood when, whatever is archived. */
+static void has_all(ts *h) {
+    HOLDS(now_has(h, 7, 99, NULL) && now_has(h, 7, 199, "a") && now_has(h, 7, 200, "b") && now_has(h, 7, 300, "c"));
+    HOLDS(now_has(h, 7, 400, "d"));
+}
+
+/* Archives until the heap has no extent for another one; that of all that is published takes the last. */
+static void test_endless_room(ts_file *file) {
+    ts *h = ts_file_store(file);
+    ts_info info;
+    int32_t code = TS_OK;
+    while (code == TS_OK) code = try_commit(file, "e", 0);
+    CHECK(TS_HEAP_FULL, code);
+    CHECK(TS_OK, ts_last(h, &info));
+    uint64_t last = info.a, upto = 400;
+    while ((code = ts_archive(h, ++upto, &info)) == TS_OK) CHECK(TS_OK, ts_file_job(file));
+    CHECK(TS_HEAP_FULL, code);
+    HOLDS(upto < last);
+    CHECK(TS_OK, ts_archive(h, last, &info));
+    CHECK(TS_OK, ts_file_job(file));
+    CHECK(TS_NOTHING_TO_DO, ts_archive(h, last, &info));
+    has_all(h);
+}
+
+/* An archive of a store whose log lies in the heap, refused and made: what stood when, also where it is opened again. It
+   has no reclaims. */
+static void test_endless(const char *folder) {
+    ts_file *file;
+    ts_info info;
+    const uint8_t *archive;
+    size_t len;
+    char path[4096];
+    snprintf(path, sizeof path, "%s/endless", folder);
+    endless_format(path);
+    CHECK(TS_OK, ts_file_open(path, &file, &info));
+    ts *h = ts_file_store(file);
+    HOLDS(commit_text(file, 7, "a", 9, 100) == 100 && commit_text(file, 7, "b", 9, 200) == 200);
+    HOLDS(commit_text(file, 7, "c", 9, 300) == 300);
+    CHECK(TS_NOTHING_TO_DO, ts_archive(h, 0, &info));
+    CHECK(TS_NOT_YET, ts_archive(h, 301, &info));
+    HOLDS(info.a == 300);
+    CHECK(TS_OK, ts_archive(h, 200, &info));
+    CHECK(TS_JOB_BUSY, ts_archive(h, 300, &info));
+    CHECK(TS_JOB_BUSY, ts_floor_of(h, 1, 100, &info));
+    CHECK(TS_WRONG_PROFILE, ts_reclaim(h, &info));
+    CHECK(TS_NOT_GROWABLE, ts_grow(h, &info));
+    test_endless_steps(file);
+    CHECK(TS_NOTHING_TO_DO, ts_archive(h, 200, &info));
+    CHECK(TS_WRONG_PROFILE, ts_reclaim(h, &info));
+    has_all(h);
+    ts_file_close(file);
+    CHECK(TS_OK, ts_file_open(path, &file, &info));
+    HOLDS(info.a == 400 && info.b == 0);
+    h = ts_file_store(file);
+    CHECK(TS_NOTHING_TO_DO, ts_archive(h, 200, &info));
+    CHECK(TS_OK, ts_file_archive(file, &archive, &len));
+    HOLDS(len > 0);
+    has_all(h);
+    test_endless_room(file);
+    ts_file_close(file);
+    CHECK(TS_OK, ts_file_open(path, &file, &info));
+    has_all(ts_file_store(file));
+    ts_file_close(file);
+    CHECK(TS_DAMAGED, cut(path, "archive", (off_t)len - 1, &info));
+    HOLDS(info.a == 0 && info.b == TS_ARCHIVE);
+}
+
 /* A store that is damaged says where, by the first check that fails. */
 static void test_damaged(const char *folder) {
     ts_info info;
@@ -529,6 +616,7 @@ int main(int argc, char **argv) {
     test_nothing_left_open(file);
     ts_file_close(file);
     test_earlier(argv[1]);
+    test_endless(argv[1]);
     test_damaged(argv[1]);
     return 0;
 }

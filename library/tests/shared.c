@@ -401,6 +401,34 @@ static void vacuumed(void) {
     ts_file_close(file);
 }
 
+/* The same where the log lies in the heap: it archives alone, and is refused nothing. */
+static void vacuumed_in_the_heap(void) {
+    ts_policy policy = {.every = 1000, .keep = 2, .grows = true};
+    snprintf(folder, sizeof folder, "%s/vacuumed-in-the-heap", top);
+    endless_format(folder);
+    open_it();
+    CHECK(TS_WRONG_PROFILE, ts_shared_reclaim(s, &info));
+    CHECK(TS_OK, ts_shared_vacuum(s, &policy));
+    for (uint64_t n = 1; n <= 10; n++) CHECK(TS_OK, put_number(7, n, 1, &info));
+    do {
+        usleep(1000);
+        CHECK(TS_OK, ts_shared_vacuumed(s, &info));
+    } while (info.a < 1);
+    CHECK(TS_OK, put_number(7, 11, 1, &info));
+    CHECK(TS_OK, ts_shared_view(s, &info));
+    HOLDS(view_has(info.a, 7, 1, "1") && view_has(info.a, 7, 11, "11"));
+    CHECK(TS_OK, ts_shared_close(s));
+    ts_shared_free(s);
+    open_it();
+    CHECK(TS_OK, ts_shared_view(s, &info));
+    uint64_t view = info.a;
+    HOLDS(view_has(view, 7, 1, "1") && view_has(view, 7, 11, "11"));
+    CHECK(TS_OK, ts_shared_archive(s, 11, &info));
+    CHECK(TS_NOTHING_TO_DO, ts_shared_archive(s, 11, &info));
+    HOLDS(view_has(view, 7, 1, "1"));
+    ts_shared_free(s);
+}
+
 /* A file that can't be read is a refused query, and no more. */
 static void unreadable(void) {
     uint8_t out[8];
@@ -431,6 +459,7 @@ int main(int argc, char **argv) {
     forked();
     threads_end();
     vacuumed();
+    vacuumed_in_the_heap();
     unreadable();
     return 0;
 }

@@ -1,5 +1,5 @@
 -- A store stands for a state over any disk, where nothing is said of the disk.
-use Rattle.std.proofs.Common.{◌≡◌, ℕ, false, Bool, Option, None, Some, MatchOption, length, refl, sym, ap, ◌∙◌, subst}
+use Rattle.std.proofs.Common.{◌≡◌, ℕ, false, Bool, Option, None, Some, MatchOption, length, refl, sym, ap, ◌∙◌, subst, inl, inr}
 use Rattle.disk.specs.Calls.{DiskState}
 use Rattle.disk_file.specs.Counts.{untold}
 use Rattle.history.specs.Histories.{History}
@@ -16,6 +16,7 @@ use Rattle.log_store.specs.Values as logs
 use Rattle.any_store.specs.Values as any
 use Rattle.any_store.specs.Values.{commits_of, with_disk}
 use Rattle.any_store.specs.declared.engine.Engine.TheVariants.{Slots, Log}
+use Rattle.law_log_steps.specs.Store.{IsLeft}
 use Rattle.law_log_queries.specs.Archive as archives
 use Rattle.law_any_store.specs.Standing as any_stands
 use Rattle.law_any_store.specs.Standing.{opened_in}
@@ -78,7 +79,20 @@ over tells v m disk s =
 
 log-step-over : (l : LogStoreValue) (disk : DiskState) → logs.IsInStep l → logs.IsInStep (record l { disk = disk })
 log-step-over l disk s =
-    record { contents = s.contents; bytes = s.bytes; promised = s.promised; few = s.few; many = s.many; turn = s.turn; beside = s.beside }
+    record {
+      contents = s.contents;
+      bytes = s.bytes;
+      promised = s.promised;
+      few = s.few;
+      many = s.many;
+      turn = s.turn;
+      beside = s.beside;
+      place = s.place;
+    }
+
+left-over : (tells : Bool) (l : LogStoreValue) (m : Machine Value) (disk : DiskState) → IsLeft tells l m → IsLeft false (record l { disk = disk }) m
+left-over tells l m disk (inl gate) = inl gate
+left-over tells l m disk (inr calm) = inr (record { gate = calm.gate; stops = λ told. untold told })
 
 log-over : (tells : Bool) (l : LogStoreValue) (m : Machine Value) (disk : DiskState) → archives.Stands tells l m
     → archives.Stands false (record l { disk = disk }) m
@@ -88,10 +102,19 @@ log-over tells l m disk s =
       store = record {
         memory = s.store.memory;
         machine = s.store.machine;
-        writing = record { most = w.most; group = w.group; raising = w.raising; made = w.made; gate = w.gate; left = w.left };
+        writing = record {
+          most = w.most;
+          group = w.group;
+          raising = w.raising;
+          made = w.made;
+          gate = w.gate;
+          left = λ fails. left-over tells l m disk (w.left fails);
+        };
         fresh = s.store.fresh;
+        marks = record { reclaimed = s.store.marks.reclaimed; job = s.store.marks.job };
         disk = λ told. untold told;
       };
+      place = s.place;
       runs = λ told. untold told;
     }
 

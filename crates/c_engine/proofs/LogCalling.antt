@@ -1,10 +1,11 @@
--- The device call of a step of a store whose log lies in the heap: all are calls of the heap.
+-- The device call of a step of a store whose log lies in the heap: all are calls of the heap, but those that write the run of an archive.
 use Rattle.std.specs.Prelude.{ℕ, ◌≡◌, ◌==◌, Bool, true, false, List, [], ◌∷◌, length, Option, None, Some, Result, Ok, Err, MatchBool}
 use Rattle.std.proofs.Common.{ap, sym, subst, refl, inl, inr}
 use Rattle.disk.specs.Areas.{Areas}
 use Rattle.disk.specs.Calls.{DiskState}
 use Rattle.disk.specs.declared.area.Area.{Area}
-use Rattle.disk.specs.declared.area.Area.TheVariants.{Heap}
+use Rattle.disk.specs.declared.area.Area.TheVariants.{Heap, Archive}
+use Rattle.archive.specs.Pieces.{InWriting}
 use Rattle.group.specs.declared.answers.PumpFault.{PumpFault}
 use Rattle.group.specs.declared.answers.PumpFault.TheVariants as fault
 use Rattle.log_writer.specs.Turns.{Turn, Stage, Writing, Syncing, Opening, Settling, Done, IsCallOf}
@@ -12,12 +13,14 @@ use Rattle.log_writer.specs.Writer.{WriterState, turn}
 use Rattle.log_writer.specs.Writer as writers
 use Rattle.log_store.specs.Pumps.{Pumps, TakesStep, bars_groups, BeginsOrWaits, BeginsGroup, AdvancesGroup, Advances, did_of}
 use Rattle.log_store.specs.Jobs as log_jobs
+use Rattle.log_store.specs.Runs.{CallsWith, CallsAt, WritesRun, did_with, did_at}
 use Rattle.log_store.specs.Values.{LogStoreValue}
 use Rattle.log_store.specs.declared.job.Job.{Job}
 use Rattle.log_store.specs.declared.job.JobDid.{JobDid}
 use Rattle.log_store.specs.declared.job.JobDid.TheVariants as job_did
 use Rattle.log_store.specs.declared.job.JobStage.{JobStage}
 use Rattle.log_store.specs.declared.job.JobStage.TheVariants.{Ready, Entering}
+use Rattle.log_store.specs.declared.job.JobStage.TheVariants as stages
 use Rattle.log_store.specs.declared.pump.Did.{Did}
 use Rattle.log_store.specs.declared.pump.Did.TheVariants as did
 use Rattle.any_store.specs.Steps.{log_did, log_job_did}
@@ -103,6 +106,22 @@ entry-leads : (job : Job) (w : WriterState) (old new : LogStoreValue) (what : Jo
     → LeadsBy old.disk.areas (job_call Heap (log_job_did what)) new.disk.areas
 entry-leads job w old new what advances = entry-stage-leads w.stage (turn w) _ _ what (advances.call refl) advances.answer.0
 
+-- a piece of a run is written, or all of it is synced
+run-leads : (left : List ℕ) (writer : InWriting) (before after : Areas) (what : JobDid) → CallsWith left writer (Ok tt) before after → what ≡ did_with left
+    → LeadsBy before (job_call Heap (log_job_did what)) after
+run-leads [] writer before after what call is = of-log-job-did Heap _ _ what job_did.RunSynced is (by-sync Archive _ _ call)
+run-leads (b ∷ bs) writer before after what call is = of-log-job-did Heap _ _ what job_did.WroteRun is (by-write Archive _ _ _ _ call)
+
+writes-lead : (job : Job) (old new : LogStoreValue) (what : JobDid) → WritesRun true job old (Ok what) new
+    → LeadsBy old.disk.areas (job_call Heap (log_job_did what)) new.disk.areas
+writes-lead job old new what writes = by-stage job.stage (writes.call refl) writes.answer.0
+  where
+    by-stage : (k : JobStage) → CallsAt k (Ok tt) old.disk.areas new.disk.areas → what ≡ did_at k
+        → LeadsBy old.disk.areas (job_call Heap (log_job_did what)) new.disk.areas
+    by-stage (stages.Writing writer) call is = run-leads writer.left writer _ _ what call is
+    by-stage (Ready waited) never is = absurd never
+    by-stage (Entering w) never is = absurd never
+
 abbrev job_said : JobDid → Result JobDid PumpFault
 job_said what = Ok what
 
@@ -112,6 +131,7 @@ log-job-leads old new what pumps = by-failed old.commits.failed pumps
   where
     by-at : (x : LogStoreValue) (job : Job) (k : JobStage) → log_jobs.AdvancesAt true job k x (Ok what) new
         → LeadsBy x.disk.areas (job_call Heap (log_job_did what)) new.disk.areas
+    by-at x job (stages.Writing writer) never = absurd never
     by-at x job (Ready waited) never = absurd never
     by-at x job (Entering w) advances = entry-leads job w x new what advances
 
@@ -130,6 +150,7 @@ log-job-leads old new what pumps = by-failed old.commits.failed pumps
 
     by-stage : (job : Job) (k : JobStage) → log_jobs.StepsAt true job k old (Ok what) new
         → LeadsBy old.disk.areas (job_call Heap (log_job_did what)) new.disk.areas
+    by-stage job (stages.Writing writer) writes = writes-lead job old new what writes
     by-stage job (Ready waited) takes = by-turn job old.turn takes
     by-stage job (Entering w) advances = entry-leads job w old new what advances
 

@@ -57,6 +57,7 @@ use Rattle.store.specs.declared.job.JobStage.TheVariants as stages
 use Rattle.store.specs.declared.job.JobWork.{JobWork}
 use Rattle.store.specs.declared.job.JobWork.TheVariants.{Archive, Reclaim, Floor, Grow}
 use Rattle.store.specs.declared.job.StartFault.{StartFault}
+use Rattle.log_store.specs.Archives as log_archives
 use Rattle.log_store.specs.Jobs as log_jobs
 use Rattle.log_store.specs.Queries.{in_log_store}
 use Rattle.log_store.specs.Pumps as log_pumps
@@ -303,6 +304,20 @@ log-pumped tells l l' said pumps = by-failed l.commits.failed pumps
     by-failed true failed = log-rests l l' failed.1
     by-failed false step = by-job l.job step
 
+-- an archive that begins
+log-start : (l l' : LogStoreValue) (upto : ℕ) (said : Result (Unit {0}) log_starts.StartFault) → log_archives.StartsArchive l upto said l'
+    → MakesFew (Log l) (Log l')
+log-start l l' upto said starts = by-refusal (log_archives.archive_refusal l upto) starts
+  where
+    begins : (a : Result (Unit {0}) log_starts.StartFault) → log_archives.BeginsRun l upto a l' → MakesFew (Log l) (Log l')
+    begins (Ok done) begun = log-same l l' (ap (λ (x : LogStoreValue). x.disk) (begun.3).new_is)
+    begins (Err why) refused = log-rests l l' refused.1
+
+    by-refusal : (o : Option log_starts.StartFault) → MatchOption o (log_archives.BeginsRun l upto said l') (λ why. (said ≡ Err why) × (l' ≡ l))
+        → MakesFew (Log l) (Log l')
+    by-refusal None begun = begins said begun
+    by-refusal (Some why) refused = log-rests l l' refused.1
+
 -- a floor that begins
 log-floor : (l l' : LogStoreValue) (scope : Option ℕ) (floor : ℕ) (said : Result (Unit {0}) log_starts.StartFault) → log_jobs.StartsFloor l scope floor said l'
     → MakesFew (Log l) (Log l')
@@ -412,7 +427,7 @@ pub start-few : (old new : StoreValue) (upto : ℕ) (answer : Result (Unit {0}) 
 start-few (Slots s) (Slots s') upto answer starts = slots-start s s' upto answer starts
 start-few (Slots s) (Log l') upto answer starts = absurd starts
 start-few (Log l) (Slots s') upto answer starts = absurd starts
-start-few (Log l) (Log l') upto answer starts = log-rests l l' starts.1
+start-few (Log l) (Log l') upto answer starts = log-start l l' upto starts.0 starts.1
 
 pub reclaim-few : (old new : StoreValue) (answer : Result (Unit {0}) StartFault) → StartsReclaim old answer new → MakesFew old new
 reclaim-few (Slots s) (Slots s') answer starts = slots-reclaim s s' answer starts

@@ -1,4 +1,4 @@
--- The jobs of a store, in either layout. Where the log lies in the heap floors alone begin.
+-- The jobs of a store, in either layout. Where the log lies in the heap archives and floors alone begin.
 use Rattle.std.proofs.Common.{◌≡◌, ℕ, Bool, true, false, List, [], ◌∷◌, Option, Result, Ok, Err, refl, ap, sym, subst, ◌∙◌}
 use Rattle.std.specs.Prelude.{IsTrue, MatchBool}
 use Rattle.disk.specs.Areas.{AreSound}
@@ -13,6 +13,7 @@ use Rattle.store.specs.Values as slot_store
 use Rattle.store.specs.declared.job.JobDid as slot_steps
 use Rattle.store.specs.declared.job.StartFault.{StartFault}
 use Rattle.store.specs.declared.job.StartFault.TheVariants as start
+use Rattle.log_store.specs.Archives as log_archives
 use Rattle.log_store.specs.Jobs as log_jobs
 use Rattle.log_store.specs.Values.{LogStoreValue}
 use Rattle.log_store.specs.declared.job.JobDid as log_steps
@@ -33,10 +34,11 @@ use Rattle.law_refinement.proofs.GrowingJobs as slot_jobs
 use Rattle.law_refinement.proofs.GrowingPiece as slot_pieces
 use Rattle.law_log_steps.specs.Laws as log_calls
 use Rattle.law_log_steps.specs.Store.{IsStoreOf}
+use Rattle.law_log_steps.proofs.ArchiveStarts.{archive-starts, archive-starts-in-step}
 use Rattle.law_log_steps.proofs.FloorStarts.{floor-starts, starts-in-step}
 use Rattle.law_log_steps.proofs.InStep.{job-in-step}
 use Rattle.law_log_steps.proofs.Jobs.{job-stands}
-use Rattle.law_log_queries.specs.Calls.{OfFloor, OfJob}
+use Rattle.law_log_queries.specs.Calls.{OfFloor, OfArchive, OfJob}
 use Rattle.law_log_queries.proofs.Calls.{call-keeps}
 use Rattle.law_any_store.specs.Standing.{Stands}
 use Rattle.law_any_store.specs.Calls.{StartsOn, RunsTo, job_ends_in}
@@ -47,12 +49,20 @@ none-begins : (tells : Bool) (why : StartFault) (answer : Result (Unit {0}) Star
     → BeginsNone why answer l l' → Stands tells (Log l') m
 none-begins tells why answer l l' m is none = subst (λ (x : LogStoreValue). Stands tells (Log x) m) (sym none.1) is
 
+-- an archive of one whose log lies in the heap
+log-archive-stands : (tells : Bool) (l l' : LogStoreValue) (upto : ℕ) (said : Result (Unit {0}) log_starts.StartFault) (m : Machine Value)
+    → Stands tells (Log l) m → log_archives.StartsArchive l upto said l' → Stands tells (Log l') m
+log-archive-stands tells l l' upto said m is starts = (
+  archive-starts-in-step l l' upto said is.0 starts,
+  (call-keeps tells l l' m m [] is.1 (OfArchive upto said starts) refl (archive-starts tells l l' upto said m is.0 (is.1).store starts)).0,
+)
+
 pub archive-start-stands : (tells : Bool) (old new : StoreValue) (upto : ℕ) (answer : Result (Unit {0}) StartFault) (m : Machine Value) → Stands tells old m
     → StartsArchive old upto answer new → Stands tells new m
 archive-start-stands tells (Slots s) (Slots s') upto answer m is starts = slot_laws.archive-start-stands tells s s' upto answer m is starts
 archive-start-stands tells (Slots s) (Log l') upto answer m is starts = absurd starts
 archive-start-stands tells (Log l) (Slots s') upto answer m is starts = absurd starts
-archive-start-stands tells (Log l) (Log l') upto answer m is starts = none-begins tells start.WrongProfile answer l l' m is starts
+archive-start-stands tells (Log l) (Log l') upto answer m is starts = log-archive-stands tells l l' upto starts.0 m is starts.1
 
 pub reclaim-start-stands : (tells : Bool) (old new : StoreValue) (answer : Result (Unit {0}) StartFault) (m : Machine Value) → Stands tells old m
     → StartsReclaim old answer new → Stands tells new m

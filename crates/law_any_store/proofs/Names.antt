@@ -33,6 +33,7 @@ use Rattle.law_log_queries.proofs.Leaving.{alone-leaves}
 use Rattle.law_log_queries.proofs.Leaving as log_leaves
 use Rattle.law_any_store.specs.Standing.{Stands, GoesOn}
 use Rattle.law_any_store.specs.Names.{names_from, AreTimesFrom, KeepsNames}
+use Rattle.law_any_store.proofs.Leaving.{log-job-leaves}
 use Rattle.law_any_store.proofs.Memory.{late-times-are}
 
 -- ---- where every name is in memory
@@ -146,7 +147,7 @@ pub start-names : (old new : StoreValue) (upto : ℕ) (answer : Result (Unit {0}
 start-names (Slots s) (Slots s') upto answer starts = refl
 start-names (Slots s) (Log l') upto answer starts = absurd starts
 start-names (Log l) (Slots s') upto answer starts = absurd starts
-start-names (Log l) (Log l') upto answer starts = same-names l l' starts.1
+start-names (Log l) (Log l') upto answer starts = (log_leaves.archive-leaves true l l' upto starts.0 starts.1).reclaimed
 
 pub reclaim-names : (old new : StoreValue) (answer : Result (Unit {0}) StartFault) → StartsReclaim old answer new → KeepsNames old new
 reclaim-names (Slots s) (Slots s') answer starts = refl
@@ -171,7 +172,7 @@ pub pumped-names : (tells : Bool) (old new : StoreValue) (answer : Result JobDid
 pumped-names tells (Slots s) (Slots s') answer pumps = refl
 pumped-names tells (Slots s) (Log l') answer pumps = absurd pumps
 pumped-names tells (Log l) (Slots s') answer pumps = absurd pumps
-pumped-names tells (Log l) (Log l') answer pumps = (log_leaves.job-leaves tells l l' pumps.0 pumps.1).reclaimed
+pumped-names tells (Log l) (Log l') answer pumps = (log-job-leaves tells l l' pumps.0 pumps.1).reclaimed
 
 pub kept-names : (tells : Bool) (old new : StoreValue) → GoesOn tells old new → commits_of new ≡ commits_of old → KeepsNames old new
 kept-names tells (Slots s) (Slots s') goes same = refl

@@ -11,6 +11,7 @@ use Rattle.history.proofs.Members.{Contains-head, Contains-tail}
 use Rattle.law_image.specs.Values.{Value}
 use Rattle.status.specs.Growth.{next_piece}
 use Rattle.status.specs.GrowthState.{GrowthState}
+use Rattle.commits.specs.Values as commits
 use Rattle.snapshot.specs.OpenTable.{lesser, least_with, least_open}
 use Rattle.group.specs.Reclaims.{oldest}
 use Rattle.group.specs.Values.{spare}
@@ -24,10 +25,16 @@ use Rattle.store.specs.Reclaims as reclaims
 use Rattle.store.specs.Values as slot_values
 use Rattle.store.specs.declared.job.StartFault.{StartFault}
 use Rattle.store.specs.declared.job.StartFault.TheVariants as start
+use Rattle.log_store.specs.Archives.{has_archive_room}
+use Rattle.log_store.specs.Archives as log_archives
 use Rattle.log_store.specs.Values.{LogStoreValue}
+use Rattle.log_store.specs.declared.job.StartFault as log_starts
+use Rattle.log_store.specs.declared.job.StartFault.TheVariants as log_fault
 use Rattle.any_store.specs.declared.engine.Engine.TheVariants.{Slots, Log}
 use Rattle.any_store.specs.Values.{StoreValue, is_log}
-use Rattle.any_store.specs.Jobs.{none_of, BeginsNone, StartsArchive, StartsReclaim, StartsGrowth}
+use Rattle.any_store.specs.Jobs.{none_of, told_start, BeginsNone, StartsArchive, StartsReclaim, StartsGrowth}
+use Rattle.law_commits.specs.Standing.{StandsInMemory}
+use Rattle.law_commits.proofs.Names as log_names
 use Rattle.law_refinement.specs.Standing.{snapshots_of}
 use Rattle.law_refinement.specs.Stands as slots
 use Rattle.law_refinement.proofs.Memory.{last-is}
@@ -76,7 +83,7 @@ slots-start tells v v' m upto r stands starts =
     by-tests false on false true d late e is = says (Err start.NothingToDo) is.0 tt
     by-tests false on false false true late e is =
         says (Err (start.NotYet (slot_calls.last v))) is.0 (at-last, (let low : slot_calls.last v < upto = grind (arith, nat_tests) in omega (arith, low)))
-    by-tests false on false false false late true is = says (Err start.StatusFull) is.0 tt
+    by-tests false on false false false late true is = says (Err start.StatusFull) is.0 refl
     by-tests false on false false false late false is = begins on late r is
 
 below-is : (o : Option ℕ) (mark snapshot : ℕ) → below o mark ≡ Some snapshot → o ≡ Some snapshot
@@ -198,6 +205,51 @@ slots-grow tells v v' m r stands starts = by-tests v.transactions.failed refl (i
 
 -- ---- where it lies in the heap
 
+-- what an archive's start says of the machine
+log-start : (tells : Bool) (l l' : LogStoreValue) (m : Machine Value) (upto : ℕ) (said : Result (Unit {0}) log_starts.StartFault) → Stands tells (Log l) m
+    → log_archives.StartsArchive l upto said l'
+    → ArchiveSays true m upto (told_start said)
+log-start tells l l' m upto said is starts =
+    by-tests l.commits.failed refl (is_some l.job) (nat_le upto l.named.upto) (nat_lt (commits.last l.commits) upto) refl (has_archive_room l upto) starts
+  where
+    memory : StandsInMemory l.commits m
+    memory = let store = (is.1).store in store.memory
+
+    at-last : commits.last l.commits ≡ last m.published
+    at-last = log_names.last-is l.commits m memory
+
+    says : (x : Result (Unit {0}) log_starts.StartFault) → said ≡ x → ArchiveSays true m upto (told_start x) → ArchiveSays true m upto (told_start said)
+    says x same so = subst (λ (y : Result (Unit {0}) log_starts.StartFault). ArchiveSays true m upto (told_start y)) (sym same) so
+
+    begins : l.commits.failed ≡ false → nat_lt (commits.last l.commits) upto ≡ false → (x : Result (Unit {0}) log_starts.StartFault)
+        → log_archives.BeginsRun l upto x l' → ArchiveSays true m upto (told_start x)
+    begins on early (Ok done) begun =
+        (sym memory.failed ∙ on, (let low : upto ≤ commits.last l.commits = grind (arith, nat_tests) in omega (arith, low, at-last)))
+    begins on early (Err log_fault.ArchiveFull) refused = tt
+    begins on early (Err log_fault.NoMemory) refused = tt
+    begins on early (Err log_fault.Failed) refused = absurd refused.0
+    begins on early (Err log_fault.WrongProfile) refused = absurd refused.0
+    begins on early (Err log_fault.JobBusy) refused = absurd refused.0
+    begins on early (Err log_fault.NothingToDo) refused = absurd refused.0
+    begins on early (Err (log_fault.NotYet time)) refused = absurd refused.0
+    begins on early (Err (log_fault.InUse time)) refused = absurd refused.0
+    begins on early (Err log_fault.HeapFull) refused = absurd refused.0
+
+    by-tests : (a : Bool) → l.commits.failed ≡ a → (b c d : Bool) → nat_lt (commits.last l.commits) upto ≡ d → (e : Bool)
+        → MatchOption (cond a (Some log_fault.Failed)
+        (cond b (Some log_fault.JobBusy)
+        (cond c (Some log_fault.NothingToDo) (cond d (Some (log_fault.NotYet (commits.last l.commits))) (cond e None (Some log_fault.HeapFull))))))
+        (log_archives.BeginsRun l upto said l') (λ why. (said ≡ Err why) × (l' ≡ l))
+        → ArchiveSays true m upto (told_start said)
+    by-tests true on b c d late e is = says (Err log_fault.Failed) is.0 (sym memory.failed ∙ on)
+    by-tests false on true c d late e is = says (Err log_fault.JobBusy) is.0 tt
+    by-tests false on false true d late e is = says (Err log_fault.NothingToDo) is.0 tt
+    by-tests false on false false true late e is =
+        says (Err (log_fault.NotYet (commits.last l.commits))) is.0
+        (at-last, (let low : commits.last l.commits < upto = grind (arith, nat_tests) in omega (arith, low)))
+    by-tests false on false false false late false is = says (Err log_fault.HeapFull) is.0 refl
+    by-tests false on false false false late true is = begins on late said is
+
 module _ (tells : Bool) (why : StartFault) (answer : Result (Unit {0}) StartFault) (l l' : LogStoreValue) (m : Machine Value) (is : Stands tells (Log l) m)
     (Says : Result (Unit {0}) StartFault → Type 0) where
   -- a store that works begins none for this reason, and one that has failed says so
@@ -216,7 +268,7 @@ start-says tells (Slots s) (Slots s') upto answer m is starts = slots-start tell
 start-says tells (Slots s) (Log l') upto answer m is starts = absurd starts
 start-says tells (Log l) (Slots s') upto answer m is starts = absurd starts
 start-says tells (Log l) (Log l') upto answer m is starts =
-    none-says tells start.WrongProfile answer l l' m is (ArchiveSays true m upto) (λ failed. failed) refl starts
+    subst (λ (a : Result (Unit {0}) StartFault). ArchiveSays true m upto a) (sym starts.2) (log-start tells l l' m upto starts.0 is starts.1)
 
 pub reclaim-says : (tells : Bool) (old new : StoreValue) (answer : Result (Unit {0}) StartFault) (m : Machine Value) → Stands tells old m
     → StartsReclaim old answer new → ReclaimSays (is_log old) m answer

@@ -1,5 +1,5 @@
 -- The calls of a store that stands for a state of the machine: each is one of its steps, with its answer, and the store stands for the state after it.
-use Rattle.std.specs.Prelude.{ℕ, ◌≡◌, ◌<◌, ◌^◌, true, false, Bool, IsTrue, List, [], ◌∷◌, ◌++◌, Option, None, Some, Result, Ok, Err, IsSome, MatchBool}
+use Rattle.std.specs.Prelude.{ℕ, ◌≡◌, ◌<◌, ◌^◌, true, Bool, IsTrue, List, [], ◌∷◌, ◌++◌, Option, None, Some, Result, Ok, Err, IsSome, MatchBool}
 use Rattle.std.specs.Prelude.{if◌then◌else◌}
 use Rattle.disk.specs.Areas.{AreSound}
 use Rattle.history.specs.Answers as answers

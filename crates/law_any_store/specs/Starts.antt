@@ -9,19 +9,19 @@ use Rattle.any_store.specs.Values.{StoreValue, is_log}
 use Rattle.any_store.specs.Jobs.{StartsArchive, StartsReclaim, StartsGrowth}
 use Rattle.law_any_store.specs.Standing.{Stands}
 
--- An archive begins up to a time that is published; which marks and slots there are the machine does not know. None is of the wrong profile but where the log
--- lies in the heap.
+-- An archive begins up to a time that is published; which marks and slots there are the machine does not know, nor what room the heap has where the log lies
+-- in it. None is of the wrong profile, in either layout.
 abbrev pub ArchiveSays : Bool → Machine Value → ℕ → Result (Unit {0}) StartFault → Type 0
 ArchiveSays in_heap m upto (Ok u) = (m.failed ≡ false) × (upto ≤ last m.published)
 ArchiveSays in_heap m upto (Err start.Failed) = m.failed ≡ true
-ArchiveSays in_heap m upto (Err start.WrongProfile) = IsTrue in_heap
+ArchiveSays in_heap m upto (Err start.WrongProfile) = ⊥
 ArchiveSays in_heap m upto (Err start.JobBusy) = Unit {0}
 ArchiveSays in_heap m upto (Err start.NothingToDo) = Unit {0}
 ArchiveSays in_heap m upto (Err (start.NotYet time)) = (time ≡ last m.published) × (time < upto)
-ArchiveSays in_heap m upto (Err start.StatusFull) = Unit {0}
+ArchiveSays in_heap m upto (Err start.StatusFull) = in_heap ≡ false
 ArchiveSays in_heap m upto (Err start.ArchiveFull) = Unit {0}
 ArchiveSays in_heap m upto (Err (start.InUse time)) = ⊥
-ArchiveSays in_heap m upto (Err start.HeapFull) = ⊥
+ArchiveSays in_heap m upto (Err start.HeapFull) = IsTrue in_heap
 ArchiveSays in_heap m upto (Err start.NoMemory) = Unit {0}
 ArchiveSays in_heap m upto (Err start.NotGrowable) = ⊥
 

@@ -22,6 +22,7 @@ use Rattle.store.specs.Reclaims.{BeginsReclaim, reclaim_refusal}
 use Rattle.store.specs.Reclaims as reclaims
 use Rattle.store.specs.Values as slots
 use Rattle.store.specs.declared.job.StartFault.{StartFault}
+use Rattle.log_store.specs.Archives as log_archives
 use Rattle.log_store.specs.Jobs as log_jobs
 use Rattle.log_store.specs.Submits as submits
 use Rattle.log_store.specs.Values.{LogStoreValue}
@@ -120,7 +121,17 @@ slots-grow v v' r starts = by-refusal (refusal_to_grow v) starts
 
 -- ---- jobs that begin
 
--- where the log lies in the heap a floor may begin
+-- where the log lies in the heap an archive may begin
+log-archive : (l l' : LogStoreValue) (upto : ℕ) (said : Result (Unit {0}) log_starts.StartFault) → log_archives.StartsArchive l upto said l' → l'.disk ≡ l.disk
+log-archive l l' upto said starts = by-refusal (log_archives.archive_refusal l upto) said starts
+  where
+    by-refusal : (o : Option log_starts.StartFault) (a : Result (Unit {0}) log_starts.StartFault)
+        → MatchOption o (log_archives.BeginsRun l upto a l') (λ why. (a ≡ Err why) × (l' ≡ l)) → l'.disk ≡ l.disk
+    by-refusal None (Ok done) begins = ap (λ (x : LogStoreValue). x.disk) begins.3.new_is
+    by-refusal None (Err why) refused = ap (λ (x : LogStoreValue). x.disk) refused.1
+    by-refusal (Some why) a refused = ap (λ (x : LogStoreValue). x.disk) refused.1
+
+-- so may a floor
 log-floor : (l l' : LogStoreValue) (scope : Option ℕ) (time : ℕ) (said : Result (Unit {0}) log_starts.StartFault) → log_jobs.StartsFloor l scope time said l'
     → l'.disk ≡ l.disk
 log-floor l l' scope time said starts = by-refusal (log_jobs.floor_refusal l scope time) starts
@@ -143,7 +154,7 @@ pub archive-disk : (v v' : StoreValue) (upto : ℕ) (r : Result (Unit {0}) Start
 archive-disk (Slots s) (Slots s') upto r starts = slots-archive s s' upto r starts
 archive-disk (Slots s) (Log l') upto r starts = absurd starts
 archive-disk (Log l) (Slots s') upto r starts = absurd starts
-archive-disk (Log l) (Log l') upto r starts = none-begins l l' _ r starts
+archive-disk (Log l) (Log l') upto r starts = log-archive l l' upto starts.0 starts.1
 
 pub reclaim-disk : (v v' : StoreValue) (r : Result (Unit {0}) StartFault) → StartsReclaim v r v' → disk_of v' ≡ disk_of v
 reclaim-disk (Slots s) (Slots s') r starts = slots-reclaim s s' r starts

@@ -50,6 +50,7 @@ module _ (l : LogStoreValue) (disk : DiskState) (same : disk.areas ≡ l.disk.ar
         promised = is.promised;
         few = is.few;
         many = is.many;
+        counted = is.counted;
         turn = is.turn;
         beside = is.beside;
         place = is.place;
@@ -59,7 +60,7 @@ module _ (l : LogStoreValue) (disk : DiskState) (same : disk.areas ≡ l.disk.ar
   over-commits h queue is = record { ordered = is.ordered; values = is.values; told = is.told; contents = is.contents; may = is.may }
 
   over-rest : (log : HeapLog) → IsAtRest l log → IsAtRest other log
-  over-rest log is = record { log = subst (λ (a : Areas). KeepsLog log a.heap) (sym same) is.log; room = is.room }
+  over-rest log is = record { log = subst (λ (a : Areas). KeepsLog log a.heap) (sym same) is.log; room = is.room; live = is.live }
 
   over-stage : (log : HeapLog) (reading : Reading) (made : List ArchiveRecord) (work : JobWork) (k : JobStage) → HasStage l log reading made work k
       → HasStage other log reading made work k
@@ -71,6 +72,7 @@ module _ (l : LogStoreValue) (disk : DiskState) (same : disk.areas ≡ l.disk.ar
     shares = is.shares;
     at = subst (λ (a : Areas). IsAt (heap_parts log) (turn_of log.next (placed_entry w work)) w.stage a.heap) (sym same) is.at;
     room = is.room;
+    live = is.live;
   }
 
   over-job : (log : HeapLog) (reading : Reading) (made : List ArchiveRecord) (j : Option Job) → HasJob l log reading made j → HasJob other log reading made j
@@ -89,6 +91,7 @@ module _ (l : LogStoreValue) (disk : DiskState) (same : disk.areas ≡ l.disk.ar
     shares = is.shares;
     at = subst (λ (a : Areas). IsAt (heap_parts log) (turn_of log.next (placed_group w.numbers w.link is.group)) w.stage a.heap) (sym same) is.at;
     room = is.room;
+    live = is.live;
     alone = is.alone;
   }
 

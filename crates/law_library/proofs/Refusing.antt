@@ -32,6 +32,7 @@ use Rattle.store.specs.declared.job.JobWork.TheVariants as works
 use Rattle.log_writer.specs.Writer.{WriterState}
 use Rattle.log_store.specs.Jobs as log_jobs
 use Rattle.log_store.specs.Pumps as logs
+use Rattle.log_store.specs.Runs as log_runs
 use Rattle.log_store.specs.Values.{LogStoreValue}
 use Rattle.log_store.specs.declared.job.Job as log_job
 use Rattle.log_store.specs.declared.job.JobDid as log_steps
@@ -199,8 +200,9 @@ log-job : (old new : LogStoreValue) (said : Result log_steps.JobDid PumpFault) �
 log-job old new said pumps = by-failed old.commits.failed pumps
   where
     by-at : (x : LogStoreValue) (j : log_job.Job) (k : log_stages.JobStage) → log_jobs.AdvancesAt true j k x said new → IfUncountedOn x.disk new.disk
+    by-at x j (log_stage.Writing writer) never = absurd never
     by-at x j (log_stage.Ready waited) never = absurd never
-    by-at x j (log_stage.Entering w) advances = uncounted-on (log_jobs.disk_answer said) x.disk new.disk advances.counts
+    by-at x j (log_stage.Entering w) advances = uncounted-on (log_runs.disk_answer said) x.disk new.disk advances.counts
 
     by-begun : (x : LogStoreValue) (o : Option log_job.Job) → log_jobs.AdvancesEntry true o x said new → IfUncountedOn x.disk new.disk
     by-begun x None never = absurd never
@@ -213,8 +215,9 @@ log-job old new said pumps = by-failed old.commits.failed pumps
     by-turn j (Some w) busy = λ same. ap (λ (v : LogStoreValue). v.disk.areas) busy.1
 
     by-stage : (j : log_job.Job) (k : log_stages.JobStage) → log_jobs.StepsAt true j k old said new → IfUncountedOn old.disk new.disk
+    by-stage j (log_stage.Writing writer) writes = uncounted-on (log_runs.disk_answer said) old.disk new.disk writes.counts
     by-stage j (log_stage.Ready waited) takes = by-turn j old.turn takes
-    by-stage j (log_stage.Entering w) advances = uncounted-on (log_jobs.disk_answer said) old.disk new.disk advances.counts
+    by-stage j (log_stage.Entering w) advances = uncounted-on (log_runs.disk_answer said) old.disk new.disk advances.counts
 
     by-job : (o : Option log_job.Job) → log_jobs.StepsJob true o old said new → IfUncountedOn old.disk new.disk
     by-job None idle = log-nothing old new idle.1

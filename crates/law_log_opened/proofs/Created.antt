@@ -9,12 +9,12 @@ use Rattle.history.proofs.Members.{Contains-nil}
 use Rattle.law_image.specs.HeapPlans.{empty_heap}
 use Rattle.deltas.specs.Extents.{extent_start}
 use Rattle.log_roots.specs.Roots.{IsHeapSize}
-use Rattle.log_recovery.specs.Opening.{ReadsRoots}
 use Rattle.law_log_layout.specs.Laws.{KeepsLog}
 use Rattle.log_store.specs.Values.{LogStoreValue}
 use Rattle.log_store.specs.Formats.{new_roots, formatted, created_on, Creates}
 use Rattle.law_commits.specs.Standing.{StandsInMemory}
 use Rattle.law_log_store.specs.Standing.{StandsOnHeap, KeepsRoots}
+use Rattle.law_log_store.proofs.Headers.{roots-settled}
 use Rattle.law_log_store.proofs.Opened.{leaves-room}
 use Rattle.law_log_steps.specs.Store.{IsStoreOf}
 use Rattle.law_log_steps.proofs.Resting.{stands-opened}
@@ -31,8 +31,7 @@ module _ (mark extents : ℕ) (old : Areas) (disk : DiskState) (size : IsHeapSiz
 
   status : KeepsRoots (new_roots extents) disk.areas.status
   status = subst (λ (areas : Areas). KeepsRoots (new_roots extents) areas.status) (sym made)
-      (λ content left. subst (λ (bytes : List ℕ). ReadsRoots bytes (new_roots extents)) (sym (left.settled refl))
-      (headed-reads extents old.status.bytes size))
+      (roots-settled (new_roots extents) (formatted extents old).status.bytes (headed-reads extents old.status.bytes size))
 
   log : KeepsLog (empty_log 1) disk.areas.heap
   log = subst (λ (areas : Areas). KeepsLog (empty_log 1) areas.heap) (sym made)
@@ -61,7 +60,11 @@ module _ (mark extents : ℕ) (old : Areas) (disk : DiskState) (size : IsHeapSiz
         sound = sound;
         commits = record { ordered = tt; values = λ key. refl; told = tt; contents = tt; may = tt };
         anchors = record { len = refl; fit = tt };
-        turn = record { log = log; room = (leaves-room extents 1 (empty_log 1) (empty_heap extents) [] (λ relation. 0) is stands).room };
+        turn = record {
+          log = log;
+          room = (leaves-room extents 1 (empty_log 1) (empty_heap extents) [] (λ relation. 0) is stands).room;
+          live = record { chains = refl; anchors = refl };
+        };
         job = tt;
         written = tt;
         named = record { archives = refl; rolls = refl; upto = refl; end = record { runs = tt; rolls = tt } };

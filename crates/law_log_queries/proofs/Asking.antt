@@ -61,12 +61,12 @@ module _ (v : LogStoreValue) (archive : ArchiveValue) (refused : ℕ) where
   }
     where
       by-stage : (work : JobWork) (k : JobStage) → HasStage v s.l s.reading s.made work k → HasStage asked s.l s.reading s.made work k
-      by-stage work (Writing writer) is = record { log = is.log; room = is.room }
-      by-stage work (Ready waited) is = record { log = is.log; room = is.room }
-      by-stage work (Entering w) is = record { content = is.content; joins = is.joins; shares = is.shares; at = is.at; room = is.room }
+      by-stage work (Writing writer) is = record { log = is.log; room = is.room; live = is.live }
+      by-stage work (Ready waited) is = record { log = is.log; room = is.room; live = is.live }
+      by-stage work (Entering w) is = record { content = is.content; joins = is.joins; shares = is.shares; at = is.at; room = is.room; live = is.live }
 
       by-job : (j : Option Job) → HasJob v s.l s.reading s.made j → HasJob asked s.l s.reading s.made j
-      by-job None is = record { log = is.log; room = is.room }
+      by-job None is = record { log = is.log; room = is.room; live = is.live }
       by-job (Some job) is = by-stage job.work job.stage is
 
       by-turn : (t : Option WriterState) → HasTurn v queue s.l s.reading s.made h t → HasTurn asked queue s.l s.reading s.made h t
@@ -80,6 +80,7 @@ module _ (v : LogStoreValue) (archive : ArchiveValue) (refused : ℕ) where
         shares = is.shares;
         at = is.at;
         room = is.room;
+        live = is.live;
         alone = is.alone;
       }
 

@@ -31,6 +31,8 @@ use Rattle.log_writer.specs.Writer.{WriterState, turn, with_stage}
 use Rattle.log_writer.specs.Writer as writers
 use Rattle.commits.specs.Values.{CommitsValue, is_own}
 use Rattle.commits.specs.Steps.{grouped}
+use Rattle.log_recovery.specs.Live.{part_of}
+use Rattle.log_store.specs.Live.{with_live}
 use Rattle.log_store.specs.Archives.{archive_refusal, records_to, run_to, with_archive, BeginsArchive, BeginsRun, StartsArchive}
 use Rattle.log_store.specs.Named.{NamedValue, with_archives}
 use Rattle.log_store.specs.Runs as run_calls
@@ -405,7 +407,8 @@ entry-begins-leaves tells old new job begun answer works-on is-job b advances =
       content = entry_bytes (entry_of job.work);
       stage = Writing [] (chain_turn b.numbers b.link (entry_bytes (entry_of job.work))).parts;
     } in
-    let target : LogStoreValue = record (at_stage old job (Entering writer)) { room = b.room } in
+    let target : LogStoreValue =
+    record (at_stage old job (Entering writer)) { room = b.room; live = with_live old.live b.numbers (part_of (entry_of job.work)) } in
     let on = stage-leaves old job (Entering writer) is-job in
     both-leave tells old target new
     (same-disk tells old target

@@ -64,7 +64,7 @@ module _ (tells : Bool) (old : DiskState) (mark : ℕ) (v : LogStoreValue) (root
   abbrev entries : List Run
   entries = map (λ (s : StoredRun). s.entry) l.runs
 
-  abbrev read : IsHeapRead roots.extents (root_of roots) (image_of old.areas).heap r.heap
+  abbrev read : IsHeapRead roots.extents (root_of image.read) (image_of old.areas).heap r.heap
   read = read-is tells old mark v roots h floors tells_so are_sound image opens
 
   chains-same : read.chains ≡ l.chains

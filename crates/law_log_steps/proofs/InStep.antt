@@ -50,9 +50,11 @@ use Rattle.log_store.specs.declared.job.JobWork.TheVariants as kinds
 use Rattle.log_store.specs.Archives.{with_archive}
 use Rattle.log_store.specs.Runs.{stage_with, stage_behind, did_at, behind, with_job_as, WritesRun}
 use Rattle.log_store.specs.Jobs as jobs
-use Rattle.log_store.specs.Jobs.{PumpsJob, StepsJob, StepsAt, StepsReady, AdvancesEntry, BeginsEntry, at_stage, with_entry, with_work, with_floor}
+use Rattle.log_store.specs.Jobs.{PumpsJob, StepsJob, StepsAt, StepsReady, AdvancesEntry, BeginsEntry, at_stage, entry_of, with_entry, with_work, with_floor}
 use Rattle.log_store.specs.Submits.{Submits, SubmitsOwn, AnswersSubmit, anchors_behind, has_room, spent, with_queued}
-use Rattle.log_store.proofs.InStep.{queued_in_step, begun_in_step}
+use Rattle.log_recovery.specs.Live.{part_of}
+use Rattle.log_store.proofs.Entering.{entry-counts}
+use Rattle.log_store.proofs.InStep.{queued_in_step, begun_in_step, counted_more}
 use Rattle.law_log_store.proofs.Calls.{AreNamesAlone, begin-alone, abort-alone, redeem-alone, has-room}
 
 -- ---- names
@@ -65,6 +67,7 @@ names-in-step old new is alone new_is =
       promised = is.promised;
       few = is.few;
       many = is.many;
+      counted = is.counted;
       turn = is.turn;
       beside = is.beside;
       place = is.place;
@@ -89,6 +92,7 @@ spent-in-step v number is =
       promised = is.promised;
       few = is.few;
       many = is.many;
+      counted = is.counted;
       turn = is.turn;
       beside = is.beside;
       place = is.place;
@@ -163,6 +167,7 @@ failed-in-step v is =
       promised = is.promised;
       few = is.few;
       many = is.many;
+      counted = is.counted;
       turn = is.turn;
       beside = is.beside;
       place = is.place;
@@ -175,6 +180,7 @@ published-in-step v is = record {
   promised = is.promised;
   few = is.few;
   many = is.many;
+  counted = is.counted;
   turn = refl;
   beside = none-beside v.turn v.job is.beside;
   place = is.place;
@@ -188,6 +194,7 @@ next-in-step v w standing is some on = record {
   promised = is.promised;
   few = is.few;
   many = is.many;
+  counted = is.counted;
   turn = (some, on);
   beside = other-beside w (with_stage w (stage_after w.stage)) v.job (subst (λ (t : Option WriterState). IsBeside t v.job) standing is.beside);
   place = is.place;
@@ -215,6 +222,7 @@ disk-in-step v disk is =
       promised = is.promised;
       few = is.few;
       many = is.many;
+      counted = is.counted;
       turn = is.turn;
       beside = is.beside;
       place = is.place;
@@ -274,6 +282,7 @@ floor-in-step v relation time none room is = record {
       let fits : v.room.log + v.room.promised + 1 ≤ length v.room.used / 2 - 2 = grind (arith, nat_tests) in
       omega (arith, many, fits);
   many = is.many;
+  counted = is.counted;
   turn = is.turn;
   beside = tt;
   place = tt;
@@ -288,6 +297,7 @@ archive-in-step v run writer entry none fits low is = record {
   promised = let was = is.promised in let nothing : promised_to v.job ≡ 0 = ap promised_to none in omega (arith, was, nothing);
   few = let many = is.many in omega (arith, many, fits);
   many = is.many;
+  counted = is.counted;
   turn = is.turn;
   beside = tt;
   place = low;
@@ -302,6 +312,7 @@ moved-in-step v job stage disk is-job was now is = record {
   promised = is.promised ∙ ap (λ (n : ℕ). extents_of v.contents + n) (ap promised_to is-job ∙ was ∙ sym now);
   few = is.few;
   many = is.many;
+  counted = is.counted;
   turn = is.turn;
   beside = by-stage stage now;
   place = subst IsJobInPlace is-job is.place;
@@ -346,6 +357,7 @@ waits-in-step v job waited is-job e is = record {
   promised = is.promised ∙ ap (λ (n : ℕ). extents_of v.contents + n) (ap promised_to is-job ∙ ap promised_at e);
   few = is.few;
   many = is.many;
+  counted = is.counted;
   turn = is.turn;
   beside = tt;
   place = subst IsJobInPlace is-job is.place;
@@ -366,6 +378,7 @@ begun-entry-in-step old new job waited is-job e at_rest is b =
       few = let was = is.few in let now = ap (λ (r : RoomValue). r.promised) b.takes.new_is in omega (arith, was, now);
       many = subst (λ (n : ℕ). n ≤ 2 ^ 20)
           (sym (ap (λ (r : RoomValue). length r.used) b.takes.new_is ∙ used_len old.room.used (b.takes.others ++ b.link ∷ []))) is.many;
+      counted = counted_more old.live (part_of (entry_of job.work)) old.room b.room 1 1 b.numbers b.link (entry-counts job.work b.numbers) b.takes is.counted;
       turn = is.turn;
       beside = (at_rest, tt);
       place = subst IsJobInPlace is-job is.place;
@@ -380,6 +393,7 @@ next-entry-in-step v job w at_rest is-job e is on = record {
   promised = is.promised ∙ ap (λ (n : ℕ). extents_of v.contents + n) (ap promised_to is-job ∙ ap promised_at e);
   few = is.few;
   many = is.many;
+  counted = is.counted;
   turn = is.turn;
   beside = (at_rest, on);
   place = subst IsJobInPlace is-job is.place;
@@ -396,6 +410,7 @@ entered-in-step v job w is-job e is = by-work job.work
       promised = is.promised ∙ ap (λ (n : ℕ). extents_of v.contents + n) (ap promised_to is-job ∙ ap promised_at e);
       few = is.few;
       many = is.many;
+      counted = is.counted;
       turn = is.turn;
       beside = tt;
       place = tt;
@@ -406,6 +421,7 @@ entered-in-step v job w is-job e is = by-work job.work
       promised = is.promised ∙ ap (λ (n : ℕ). extents_of v.contents + n) (ap promised_to is-job ∙ ap promised_at e);
       few = is.few;
       many = is.many;
+      counted = is.counted;
       turn = is.turn;
       beside = tt;
       place = tt;

@@ -24,6 +24,8 @@ use Rattle.log_writer.specs.Turns.{Stage, Writing, Syncing, Opening, Settling, D
 use Rattle.log_writer.specs.Writer.{WriterState, IsOnItsWay, with_stage}
 use Rattle.log_writer.specs.Writer as writers
 use Rattle.commits.specs.Values.{CommitsValue, with_floors}
+use Rattle.log_recovery.specs.Live.{part_of}
+use Rattle.log_store.specs.Live.{with_live}
 use Rattle.log_store.specs.Values.{LogStoreValue, IsInStep, IsBeside, IsStageBeside}
 use Rattle.log_store.specs.Pumps.{with_failure}
 use Rattle.log_store.specs.Jobs.{PumpsJob, StepsJob, StepsAt, StepsReady, AdvancesEntry, Advances, BeginsEntry, at_stage, with_entry}
@@ -594,7 +596,8 @@ module _ (tells : Bool) (old new : LogStoreValue) (answer : Result JobDid PumpFa
           content = entry_bytes (entry_of job.work);
           stage = Writing [] (chain_turn b.numbers b.link (entry_bytes (entry_of job.work))).parts;
         } in
-        let target : LogStoreValue = record (at_stage old job (Entering writer)) { room = b.room } in
+        let target : LogStoreValue =
+        record (at_stage old job (Entering writer)) { room = b.room; live = with_live old.live b.numbers (part_of (entry_of job.work)) } in
         goes-by target job.work writer tt at_rest is.memory is.fresh (record { reclaimed = is.marks.reclaimed; job = marks-are job is-job }) is.writing.group
         (raising-is job is-job) (made-is job is-job) (gate-is job is-job at_rest ∙ ap (gate_on job.work) e ∙ sym (begun-gate job.work writer.stage refl)) refl
         (subst (λ (x : LogStoreValue). AdvancesEntry tells x.job x answer new) b.new_is advances)

@@ -81,7 +81,7 @@ marks-on old new is writes = record {
       let same = writes.reclaimed in
       let upto = ap (λ (n : NamedValue). n.upto) writes.named in
       omega (arith, low, same, upto)
-  );
+      );
   job = subst (λ (n : NamedValue). JobReaches n.upto new.job) (sym writes.named)
       (subst (λ (j : Option Job). JobReaches old.named.upto j) (sym writes.job) is.job);
 }

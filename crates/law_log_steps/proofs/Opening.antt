@@ -47,6 +47,7 @@ use Rattle.log_store.specs.Values.{LogStoreValue}
 use Rattle.log_store.specs.Opens.{Opens, commits_on, head_as}
 use Rattle.log_store.proofs.Places.{has-place}
 use Rattle.law_log_store.specs.Standing.{IsImageOf}
+use Rattle.law_log_store.proofs.Headers.{image-size}
 use Rattle.law_log_store.proofs.Opening.{facts-are, members-same, open-stands, read as read-is, same as same-log}
 use Rattle.law_log_steps.specs.Store.{gate_of, raising_of, HasAllMade, JobReaches, IsStoreOf}
 use Rattle.log_store.specs.declared.job.Job.{Job}
@@ -136,7 +137,7 @@ module _ (tells : Bool) (old : DiskState) (mark : ℕ) (v : LogStoreValue) (root
   abbrev commits : CommitsValue
   commits = commits_on mark r.heap.members r.heap.end.floors r.heap.end.mark
 
-  abbrev read : IsHeapRead roots.extents (root_of roots) (image_of old.areas).heap r.heap
+  abbrev read : IsHeapRead roots.extents (root_of image.read) (image_of old.areas).heap r.heap
   read = read-is tells old mark v roots h floors tells_so are_sound image opens
 
   chains-same : read.chains ≡ l.chains
@@ -260,7 +261,8 @@ module _ (tells : Bool) (old : DiskState) (mark : ℕ) (v : LogStoreValue) (root
   memory = record {
     names = names;
     rising =
-        let place = has-place roots.extents (root_of roots) (image_of old.areas).heap r.heap image.status.has.in_range.size read in place.order.rising;
+        let size = image-size roots (image_of old.areas) h floors image in
+        let place = has-place roots.extents (root_of image.read) (image_of old.areas).heap r.heap size read in place.order.rising;
     versions = versions_held;
     forgot = forgot;
     recent = λ snapshot there. absurd (Contains-nil snapshot there);

@@ -551,7 +551,7 @@ module _ (tells : Bool) (old new : LogStoreValue) (answer : Result Did PumpFault
               let same = left.reclaimed in
               let upto = ap (λ (n : NamedValue). n.upto) left.named in
               omega (arith, low, same, upto)
-          );
+              );
           job = subst (λ (n : NamedValue). JobReaches n.upto new.job) (sym left.named)
               (subst (λ (j : Option Job). JobReaches old.named.upto j) (sym same-job) is.marks.job);
         }

@@ -126,7 +126,7 @@ module _ (v : LogStoreValue) (upto : ℕ) (h queue : History Value) (floors : �
             })
 
     resting : IsAtRest v s.l → IsAtRest begun s.l
-    resting rest = record { log = rest.log; room = room-promised s.l rest.room }
+    resting rest = record { log = rest.log; room = room-promised s.l rest.room; live = rest.live }
 
     by-turn : (t : Option WriterState) → HasTurn v queue s.l s.reading s.made h t → HasTurn begun queue s.l s.reading made h t
     by-turn None has = resting (subst (λ (j : Option Job). HasJob v s.l s.reading s.made j) none has)
@@ -139,6 +139,7 @@ module _ (v : LogStoreValue) (upto : ℕ) (h queue : History Value) (floors : �
       shares = o.shares;
       at = o.at;
       room = room-promised _ o.room;
+      live = o.live;
       alone = tt;
     }
 

@@ -147,7 +147,7 @@ module _ (v : LogStoreValue) (h queue : History Value) (floors : ℕ → ℕ) (s
     status-same = ap (λ (a : Areas). a.status) same
 
     rests : IsAtRest v s.l → IsAtRest moved s.l
-    rests rest = record { log = subst (KeepsLog s.l) (sym heap-same) rest.log; room = rest.room }
+    rests rest = record { log = subst (KeepsLog s.l) (sym heap-same) rest.log; room = rest.room; live = rest.live }
 
     calm-stage : (k : JobStage) → is_entering k ≡ false → IsAtRest v s.l → HasStage moved s.l s.reading s.made job.work k
     calm-stage (Writing w) calm rest = rests rest
@@ -173,6 +173,7 @@ module _ (v : LogStoreValue) (h queue : History Value) (floors : ℕ → ℕ) (s
       shares = is.shares;
       at = subst (λ (heap : AreaState). IsAt (heap_parts s.l) (turn_of s.l.next (placed_group w.numbers w.link is.group)) w.stage heap) (sym heap-same) is.at;
       room = is.room;
+      live = is.live;
       alone = calm-beside w stage calm;
     }
 

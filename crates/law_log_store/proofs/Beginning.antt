@@ -38,7 +38,9 @@ use Rattle.log_sizes.specs.Counted.{values_in}
 use Rattle.log_room.specs.Rooms.{RoomValue, TakesChain}
 use Rattle.log_room.specs.Contents.{joined, extents_of}
 use Rattle.commits.specs.Values.{CommitsValue, WaitingValue, versions_after}
-use Rattle.commits.specs.Steps.{grouped}
+use Rattle.commits.specs.Steps.{group_last, grouped}
+use Rattle.log_recovery.specs.declared.live.LivePart.TheVariants.{Commits}
+use Rattle.log_store.specs.Live.{LiveValue, with_live}
 use Rattle.log_store.specs.Values.{LogStoreValue, IsInStep}
 use Rattle.log_store.specs.Values as stores
 use Rattle.log_store.specs.Pumps.{Begins, bars_at, bars_groups, group_size, group_content}
@@ -48,13 +50,15 @@ use Rattle.log_store.specs.declared.job.JobStage.TheVariants.{Ready, Entering}
 use Rattle.log_store.specs.declared.job.JobStage.TheVariants as stages
 use Rattle.log_store.proofs.InStep.{beside_group}
 use Rattle.law_log_store.specs.Members.{AreTold, AreContents, members_over}
-use Rattle.law_log_store.specs.Standing.{StandsOnHeap, HasTurn, HasJob, HasStage, IsAtRest, IsOnWay, IsRoomOf, LeavesOne, TakesLast, HasAnchors, counted}
+use Rattle.law_log_store.specs.Standing.{StandsOnHeap, HasTurn, HasJob, HasStage, IsAtRest, IsLiveOf, IsOnWay, IsRoomOf, LeavesOne, TakesLast}
+use Rattle.law_log_store.specs.Standing.{HasAnchors, counted}
 use Rattle.law_log_store.specs.Laws.{AreNext}
 use Rattle.law_log_store.proofs.Members.{members-told}
 use Rattle.law_log_store.proofs.Joining.{in-heap, group-joins}
 use Rattle.law_log_store.proofs.Queues.{taken-and-rest, length-taken, told-many, told-front, contents-front, contents-rest}
 use Rattle.law_log_store.proofs.Anchors.{anchors-front}
 use Rattle.law_log_store.proofs.Flags.{IsTaken, is-taken}
+use Rattle.law_log_store.proofs.Lives.{live-more, group-part}
 
 -- ---- extents that are counted
 
@@ -278,11 +282,21 @@ module _ (old : LogStoreValue) (h queue : History Value) (floors : ℕ → ℕ) 
       stage = Writing [] (chain_turn b.numbers b.link (group_content old)).parts;
     }
 
+    abbrev lives : LiveValue
+    lives = with_live old.live b.numbers (Commits (group_last (grouped 1024 old.commits)))
+
+    -- its chain is the last of those in memory
+    is-live : IsLiveOf (with_chain s.l chain) lives
+    is-live =
+        live-more s.l old.live chain b.numbers (Commits (group_last (grouped 1024 old.commits))) refl
+        (ap (λ (commits : CommitsValue). Commits (group_last commits)) (grouped-is old.commits none some) ∙ group-part versions waiting next told) rest.live
+
     abbrev target : LogStoreValue
     target = record old {
       commits = record old.commits { group = size };
       contents = drop size old.contents;
       room = b.room;
+      live = lives;
       turn = Some writer;
     }
 
@@ -291,6 +305,7 @@ module _ (old : LogStoreValue) (h queue : History Value) (floors : ℕ → ℕ) 
       commits = commits;
       contents = drop size old.contents;
       room = b.room;
+      live = lives;
       turn = Some writer;
     }) (grouped-is old.commits none some)
 
@@ -309,6 +324,7 @@ module _ (old : LogStoreValue) (h queue : History Value) (floors : ℕ → ℕ) 
         written = tt;
       };
       room = is-room;
+      live = is-live;
       alone = beside_group writer old.job unbarred;
     }
 

@@ -30,6 +30,8 @@ use Rattle.log_writer.specs.Turns.{Turn, Stage, Writing, Syncing, Opening, Settl
 use Rattle.log_writer.specs.Writer.{WriterState, turn, with_stage}
 use Rattle.log_writer.specs.Writer as writers
 use Rattle.log_room.specs.Rooms.{RoomValue}
+use Rattle.log_recovery.specs.Live.{part_of}
+use Rattle.log_store.specs.Live.{with_live}
 use Rattle.log_store.specs.Values.{LogStoreValue, IsInStep}
 use Rattle.log_store.specs.Jobs.{Advances, BeginsEntry, at_stage, with_entry, after_call}
 use Rattle.log_store.specs.Jobs.{entry_of, did_of, named_with, with_work}
@@ -44,14 +46,16 @@ use Rattle.law_log_layout.specs.HeapLog.{HeapLog, PlacedChain, heap_parts, AreAn
 use Rattle.law_log_layout.specs.HeapLog.{HeapStandsFor}
 use Rattle.law_log_layout.specs.Laws.{KeepsArchive}
 use Rattle.law_log_layout.specs.Turns.{IsAt, MayBecome}
-use Rattle.law_log_store.specs.Standing.{StandsOnHeap, HasTurn, IsAtRest, IsEntering, IsRoomOf, HasAnchors, KeepsRoots, IsImageOf}
+use Rattle.law_log_store.specs.Standing.{StandsOnHeap, HasTurn, IsAtRest, IsEntering, IsLiveOf, IsRoomOf, HasAnchors, KeepsRoots, IsImageOf}
 use Rattle.law_log_store.specs.Standing.{HasCommits, MayStand, MayStandBy, MayEnter, placed_entry, log_with, floors_with, reading_with, HasWritten, IsNamedBy}
 use Rattle.law_log_store.specs.Standing.{LeavesOne, TakesLast, IsUpTo}
 use Rattle.law_log_store.specs.Calls.{HasFailed, floors_after}
 use Rattle.law_log_store.proofs.Flags.{IsTaken}
 use Rattle.law_log_store.proofs.Beginning.{room-is, taken, spare-then, leaves-then, one-or-none}
 use Rattle.law_log_store.proofs.Going.{entered, entry-way-at, entry-way, entry-turn, runs-kept, same-archive, same-status, status-left, map-within}
+use Rattle.law_log_store.proofs.Headers.{image-left}
 use Rattle.law_log_store.proofs.Joining.{in-heap}
+use Rattle.law_log_store.proofs.Lives.{live-more}
 use Rattle.law_log_store.proofs.Naming.{named-same, named-more}
 
 -- ---- an entry
@@ -220,8 +224,12 @@ module _ (old begun : LogStoreValue) (h queue : History Value) (floors : ℕ →
         (small job.work, tt);
   }
 
+  -- its chain is the last of those in memory
+  chain-live : IsLiveOf (with_chain s.l chain) (with_live old.live b.numbers (part_of (entry_of job.work)))
+  chain-live = live-more s.l old.live chain b.numbers (part_of (entry_of job.work)) refl refl rest.live
+
   abbrev pub target : LogStoreValue
-  target = record (at_stage old job (Entering writer)) { room = b.room }
+  target = record (at_stage old job (Entering writer)) { room = b.room; live = with_live old.live b.numbers (part_of (entry_of job.work)) }
 
   pub on-way : IsEntering target s.l s.reading s.made job.work writer
   on-way = record {
@@ -230,6 +238,7 @@ module _ (old begun : LogStoreValue) (h queue : History Value) (floors : ℕ →
     shares = keeps-shares;
     at = record { live = (rest.log).parts; ends = (rest.log).ends; parts_are = refl; written = tt };
     room = is-room;
+    live = record { chains = (chain-live).chains; anchors = (chain-live).anchors };
   }
 
   pub target-leaves : LeavesOne old.roots.extents (target).room
@@ -297,7 +306,7 @@ module _ (v : LogStoreValue) (h queue : History Value) (floors : ℕ → ℕ) (s
     };
     anchors = s.anchors;
     turn = subst (λ (t : Option WriterState). HasTurn (record (at_stage v job (Entering (with_stage w (stage_after w.stage)))) { disk = u.disk }) queue s.l
-        s.reading s.made h t) (sym at_rest) (record { content = o.content; joins = o.joins; shares = o.shares; at = at; room = o.room });
+        s.reading s.made h t) (sym at_rest) (record { content = o.content; joins = o.joins; shares = o.shares; at = at; room = o.room; live = o.live });
     job = may;
     written = written-at job.work w (with_stage w (stage_after w.stage)) u.disk.areas.archive
         (subst (λ (a : AreaState). HasWritten job.work s.made (Entering w) a) (sym same) written);
@@ -325,7 +334,7 @@ module _ (v : LogStoreValue) (h queue : History Value) (floors : ℕ → ℕ) (s
         commits = same-commits job.work;
         anchors = same-anchors job.work;
         turn = subst (λ (t : Option WriterState). HasTurn (record (with_entry v job) { disk = u.disk }) queue (log_with job.work s.made s.l w)
-            (reading_with job.work s.made s.reading) s.made h t) (sym at_rest) (record { log = done.rests refl; room = o.room });
+            (reading_with job.work s.made s.reading) s.made h t) (sym at_rest) (record { log = done.rests refl; room = o.room; live = o.live });
         job = tt;
         written = tt;
         named = named-with job.work may;
@@ -374,10 +383,11 @@ module _ (v : LogStoreValue) (h queue : History Value) (floors : ℕ → ℕ) (s
       let on = entry-way v h queue floors s job.work w may written o in
       let root = root_of v.roots in
       let then = floors_with job.work floors in
-      let status = s.status image.status (status-left (turn w) w.stage result v.disk.areas areas image s.sound call left) in
+      let left-status = status-left (turn w) w.stage result v.disk.areas areas image s.sound call left in
       map-within w.stage (HeapStandsFor v.roots.extents root image.heap image.archive h floors)
       (HeapStandsFor v.roots.extents root image.heap image.archive h then) (IsImageOf v.roots image h floors) (IsImageOf v.roots image h then)
-      (λ heap. record { status = status; heap = heap }) (λ heap. record { status = status; heap = heap })
+      (λ heap. image-left v.roots v.disk.areas.status image h floors s.status left-status heap)
+      (λ heap. image-left v.roots v.disk.areas.status image h then s.status left-status heap)
       (on.within result areas image
       (subst (λ (t : Turn). IsCallOf t w.stage result v.disk.areas areas) (entry-turn v h queue floors s job.work w may written o) call) left)
 

@@ -58,6 +58,7 @@ use Rattle.law_log_store.specs.Standing.{StandsOnHeap, HasTurn, HasJob, HasStage
 use Rattle.law_log_store.specs.Standing.{MayStand, MayStandAt, MayStandOn, MayStandBy, StopsOnHeap, MayEnter, MayAllEnter, placed_entry, floors_with}
 use Rattle.law_log_store.specs.Standing.{reading_with, log_with, run_made, runs_after, HasWritten, HasAllWritten, IsAhead, LeavesOne, TakesLast}
 use Rattle.law_log_store.specs.Laws.{LeadsTo, GoesOn}
+use Rattle.law_log_store.proofs.Headers.{image-left}
 use Rattle.law_log_store.proofs.Joining.{in-heap}
 use Rattle.law_log_store.proofs.Plans.{merge-plan-stays}
 use Rattle.law_log_store.proofs.Spans.{all-front, apart-with, behind-same, row-with}
@@ -228,6 +229,7 @@ module _ (v : LogStoreValue) (h queue : History Value) (floors : ℕ → ℕ) (s
       shares = o.shares;
       at = at;
       room = o.room;
+      live = o.live;
       alone = alone-at (stage_after w.stage) v.job o.alone;
     };
     job = s.job;
@@ -316,7 +318,7 @@ module _ (v : LogStoreValue) (h queue : History Value) (floors : ℕ → ℕ) (s
             (subst (λ (l : History Value). HasAnchors v.roots.extents s.reading l v.room.anchors) (sym (taken-and-rest v.commits.group queue)) s.anchors);
         turn =
             at-rest (record (with_published v) { disk = u.disk }) (with_chain s.l chain) then s.made w v.job o.alone
-            (record { log = done.rests refl; room = o.room });
+            (record { log = done.rests refl; room = o.room; live = o.live });
         job = enters-later (later h next front) v.job s.job;
         written = subst (HasAllWritten s.made v.job) (sym same) s.written;
         named = named-same v.named s.l chain s.reading then refl refl mark-then s.named;
@@ -401,21 +403,18 @@ standing-stops v h queue floors works s image left = by-turn v.turn s.turn
     at-work stage Old New may = subst (λ (b : Bool). MatchBool b (MayBecome stage Old New) (MayBe stage Old New)) (sym works) may
 
     resting : IsAtRest v s.l → IsImageOf v.roots image h floors
-    resting rest = record {
-      status = s.status image.status left.status;
-      heap = record {
-        log = s.l;
-        reading = s.reading;
-        is_log = s.is_log;
-        stands = s.stands;
-        held = record {
-          parts = all-left (heap_parts s.l) v.disk.areas.heap image.heap (rest.log).parts left.heap;
-          ends = closed-left (extent_start s.l.next) v.disk.areas.heap image.heap (rest.log).ends left.heap;
-          rolls = rolls-left s.l.rolls v.disk.areas.archive image.archive s.archive.rolls left.archive;
-          runs = runs-left s.l.runs v.disk.areas.archive image.archive s.archive.runs left.archive;
-        };
+    resting rest = image-left v.roots v.disk.areas.status image h floors s.status left.status (record {
+      log = s.l;
+      reading = s.reading;
+      is_log = s.is_log;
+      stands = s.stands;
+      held = record {
+        parts = all-left (heap_parts s.l) v.disk.areas.heap image.heap (rest.log).parts left.heap;
+        ends = closed-left (extent_start s.l.next) v.disk.areas.heap image.heap (rest.log).ends left.heap;
+        rolls = rolls-left s.l.rolls v.disk.areas.archive image.archive s.archive.rolls left.archive;
+        runs = runs-left s.l.runs v.disk.areas.archive image.archive s.archive.runs left.archive;
       };
-    }
+    })
 
     by-stage : (work : JobWork) (k : JobStage) → MayEnter s.l s.reading h floors work s.made → HasWritten work s.made k v.disk.areas.archive
         → HasStage v s.l s.reading s.made work k
@@ -429,8 +428,8 @@ standing-stops v h queue floors works s image left = by-turn v.turn s.turn
         at-work w.stage (IsImageOf v.roots image h floors) (IsImageOf v.roots image h then)
         (map-before w.stage (HeapStandsFor v.roots.extents root image.heap image.archive h floors)
         (HeapStandsFor v.roots.extents root image.heap image.archive h then) (IsImageOf v.roots image h floors) (IsImageOf v.roots image h then)
-        (λ heap. record { status = s.status image.status left.status; heap = heap })
-        (λ heap. record { status = s.status image.status left.status; heap = heap }) (on.before image left))
+        (λ heap. image-left v.roots v.disk.areas.status image h floors s.status left.status heap)
+        (λ heap. image-left v.roots v.disk.areas.status image h then s.status left.status heap) (on.before image left))
 
     by-job : (j : Option Job) → MayAllEnter s.l s.reading h floors s.made j → HasAllWritten s.made j v.disk.areas.archive → HasJob v s.l s.reading s.made j
         → MayStandBy v.commits.failed j (IsImageOf v.roots image h floors) (λ work. IsImageOf v.roots image h (floors_with work floors))
@@ -448,8 +447,8 @@ standing-stops v h queue floors works s image left = by-turn v.turn s.turn
         at-work w.stage (IsImageOf v.roots image h floors) (IsImageOf v.roots image next floors)
         (map-before w.stage (HeapStandsFor v.roots.extents root image.heap image.archive h floors)
         (HeapStandsFor v.roots.extents root image.heap image.archive next floors) (IsImageOf v.roots image h floors) (IsImageOf v.roots image next floors)
-        (λ heap. record { status = s.status image.status left.status; heap = heap })
-        (λ heap. record { status = s.status image.status left.status; heap = heap }) (on.before image left))
+        (λ heap. image-left v.roots v.disk.areas.status image h floors s.status left.status heap)
+        (λ heap. image-left v.roots v.disk.areas.status image next floors s.status left.status heap) (on.before image left))
 
 -- ---- a call
 
@@ -463,10 +462,11 @@ call-within w old h queue floors standing s result areas image call left =
     let on = way old h queue floors s w o in
     let root = root_of old.roots in
     let next = h ++ take old.commits.group queue in
-    let status = s.status image.status (status-left (turn w) w.stage result old.disk.areas areas image s.sound call left) in
+    let may = status-left (turn w) w.stage result old.disk.areas areas image s.sound call left in
     map-within w.stage (HeapStandsFor old.roots.extents root image.heap image.archive h floors)
     (HeapStandsFor old.roots.extents root image.heap image.archive next floors) (IsImageOf old.roots image h floors) (IsImageOf old.roots image next floors)
-    (λ heap. record { status = status; heap = heap }) (λ heap. record { status = status; heap = heap })
+    (λ heap. image-left old.roots old.disk.areas.status image h floors s.status may heap)
+    (λ heap. image-left old.roots old.disk.areas.status image next floors s.status may heap)
     (on.within result areas image
     (subst (λ (t : Turn). IsCallOf t w.stage result old.disk.areas areas) (same-turn old h queue floors s w o) call) left)
 

@@ -107,6 +107,7 @@ waits-stands v job waited w h queue floors standing is-job e s = record {
       shares = o.shares;
       at = o.at;
       room = o.room;
+      live = o.live;
       alone = tt;
     }
 
@@ -262,6 +263,7 @@ module _ (tells : Bool) (old new : LogStoreValue) (answer : Result JobDid PumpFa
         promised = step.promised;
         few = step.few;
         many = step.many;
+        counted = step.counted;
         turn = step.turn;
         beside = step.beside;
         place = step.place;
@@ -339,7 +341,7 @@ module _ (v : LogStoreValue) (relation time : ℕ) (h queue : History Value) (fl
   }
     where
       resting : IsAtRest v s.l → IsAtRest begun-floor s.l
-      resting rest = record { log = rest.log; room = room-promised s.l rest.room }
+      resting rest = record { log = rest.log; room = room-promised s.l rest.room; live = rest.live }
 
       by-turn : (t : Option WriterState) → HasTurn v queue s.l s.reading s.made h t → HasTurn begun-floor queue s.l s.reading s.made h t
       by-turn None has = resting (subst (λ (j : Option Job). HasJob v s.l s.reading s.made j) none has)
@@ -352,5 +354,6 @@ module _ (v : LogStoreValue) (relation time : ℕ) (h queue : History Value) (fl
         shares = o.shares;
         at = o.at;
         room = room-promised _ o.room;
+        live = o.live;
         alone = tt;
       }

@@ -6,6 +6,8 @@ pub mod Walked
 pub mod Plans
 pub mod Spans
 pub mod Naming
+pub mod Headers
+pub mod Lives
 pub mod Going
 pub mod Flags
 pub mod Beginning

@@ -42,6 +42,7 @@ use Rattle.law_log_store.specs.Standing.{StandsOnHeap, HasTurn, HasJob, MayAllEn
 use Rattle.log_store.specs.declared.job.Job.{Job}
 use Rattle.law_log_store.specs.Opened.{live_uses, LeavesRoom, IsOpenedOn}
 use Rattle.law_log_store.proofs.Flags.{all-used-length, distinct-join}
+use Rattle.law_log_store.proofs.Headers.{roots-settled}
 
 -- ---- numbers
 
@@ -192,8 +193,7 @@ opened-stands v image l reading h floors same sound reads is held stands opened 
     rolls = settled-rolls l.rolls image.archive held.rolls;
     runs = settled-runs l.runs image.archive held.runs;
   });
-  status = subst (λ (areas : Areas). KeepsRoots v.roots areas.status) (sym same)
-      (λ content left. subst (λ (bytes : List ℕ). ReadsRoots bytes v.roots) (sym (left.settled refl)) reads);
+  status = subst (λ (areas : Areas). KeepsRoots v.roots areas.status) (sym same) (roots-settled v.roots image.status reads);
   sound = sound;
   commits = record {
     ordered = opened.ordered;
@@ -215,6 +215,7 @@ opened-stands v image l reading h floors same sound reads is held stands opened 
         });
         room = subst (IsRoomOf v.roots.extents l) (sym opened.room)
             ((leaves-room v.roots.extents (root_of v.roots) l reading h floors is stands).room);
+        live = opened.live;
       }));
   job = subst (λ (j : Option Job). MayAllEnter l reading h floors [] j) (sym opened.job) tt;
   written = subst (λ (j : Option Job). HasAllWritten [] j v.disk.areas.archive) (sym opened.job) tt;

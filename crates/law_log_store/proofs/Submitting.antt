@@ -149,18 +149,19 @@ module _ (v : LogStoreValue) (label time : ℕ) (writes : List (KeyWrite Value))
       omega (arith, room-fits, heap, some)
 
   stage-more : (work : JobWork) (k : JobStage) → HasStage v s.l s.reading s.made work k → HasStage more s.l s.reading s.made work k
-  stage-more work (Writing writer) is = record { log = is.log; room = room-more s.l is.room }
-  stage-more work (Ready waited) is = record { log = is.log; room = room-more s.l is.room }
+  stage-more work (Writing writer) is = record { log = is.log; room = room-more s.l is.room; live = is.live }
+  stage-more work (Ready waited) is = record { log = is.log; room = room-more s.l is.room; live = is.live }
   stage-more work (Entering w) is = record {
     content = is.content;
     joins = is.joins;
     shares = is.shares;
     at = is.at;
     room = room-more (log_with work s.made s.l w) is.room;
+    live = is.live;
   }
 
   job-more : (j : Option Job) → HasJob v s.l s.reading s.made j → HasJob more s.l s.reading s.made j
-  job-more None is = record { log = is.log; room = room-more s.l is.room }
+  job-more None is = record { log = is.log; room = room-more s.l is.room; live = is.live }
   job-more (Some job) is = stage-more job.work job.stage is
 
   turn-more : (t : Option WriterState) → HasTurn v queue s.l s.reading s.made h t → HasTurn more (queue ++ commit ∷ []) s.l s.reading s.made h t
@@ -177,6 +178,7 @@ module _ (v : LogStoreValue) (label time : ℕ) (writes : List (KeyWrite Value))
         shares = is.shares;
         at = is.at;
         room = room-more (with_chain s.l (placed_group w.numbers w.link is.group)) is.room;
+        live = is.live;
         alone = is.alone;
       }
 

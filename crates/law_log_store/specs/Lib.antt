@@ -1,4 +1,5 @@
 pub mod Members
+pub mod Headers
 pub mod Standing
 pub mod Laws
 pub mod Calls

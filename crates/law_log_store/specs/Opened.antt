@@ -21,7 +21,7 @@ use Rattle.log_space.specs.Uses.{with_use, all_used}
 use Rattle.log_room.specs.Rooms.{RoomValue, MayOpen}
 use Rattle.log_store.specs.Values.{LogStoreValue}
 use Rattle.log_store.specs.Opens.{Opens, OpenRefuses}
-use Rattle.law_log_store.specs.Standing.{StandsOnHeap, IsNamedBy, IsRoomOf, IsImageOf, counted}
+use Rattle.law_log_store.specs.Standing.{StandsOnHeap, IsLiveOf, IsNamedBy, IsRoomOf, IsImageOf, counted}
 
 -- the flags of a heap of so many extents where those of the log's chains are in use, and then those of the anchors
 abbrev pub live_uses : ℕ → HeapLog → List Bool
@@ -42,7 +42,7 @@ RoomOpens =
     (most root : ℕ) (l : HeapLog) (reading : Reading) (h : History Value) (floors : ℕ → ℕ) → IsLogOf most root l reading → StandsFor reading h floors
     → LeavesRoom most l reading
 
--- the store has the last values of what is read in its memory, and what the log names in the archive; nothing waits
+-- the store has the last values of what is read in its memory, the chains of the log, and what the log names in the archive; nothing waits
 pub record IsOpenedOn (v : LogStoreValue) (l : HeapLog) (reading : Reading) : Type 0 where
   pub ordered : IsOrdered v.commits.versions
   pub values : (key : Key) → values_in v.commits.versions key ≡ values_now reading key
@@ -50,6 +50,7 @@ pub record IsOpenedOn (v : LogStoreValue) (l : HeapLog) (reading : Reading) : Ty
   pub group : v.commits.group ≡ 0
   pub contents : v.contents ≡ []
   pub room : v.room ≡ opened_room v.roots.extents l reading
+  pub live : IsLiveOf l v.live
   pub turn : v.turn ≡ None
   pub job : v.job ≡ None
   pub named : IsNamedBy v.named l reading
@@ -70,7 +71,7 @@ OpenedStands =
 abbrev pub OpenStands : Type 0
 OpenStands =
     (tells : Bool) (old : DiskState) (mark : ℕ) (v : LogStoreValue) (roots : Roots) (h : History Value) (floors : ℕ → ℕ) → IsTrue tells → AreSound old.areas
-    → IsImageOf roots (image_of old.areas) h floors → Opens tells old mark v → (v.roots ≡ roots) × StandsOnHeap v h [] floors
+    → IsImageOf roots (image_of old.areas) h floors → Opens tells old mark v → (v.roots.extents ≡ roots.extents) × StandsOnHeap v h [] floors
 
 -- and no opening is refused for what such an image says
 abbrev pub OpensAny : Type 0

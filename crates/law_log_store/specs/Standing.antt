@@ -2,10 +2,11 @@
 use Rattle.std.specs.Prelude.{ℕ, ◌≡◌, ◌⊎◌, ◌+◌, ◌-◌, ◌*◌, ◌/◌, ◌^◌, ◌<◌, ◌≤◌, ◌↔◌, Bool, false, MatchBool, List, [], ◌∷◌, ◌++◌, length, map, flat_map}
 use Rattle.std.specs.Prelude.{take, drop, Option, None, Some}
 use Rattle.std.specs.List.{AllByRecursion}
+use Rattle.byteorder.specs.Endian.{little_bytes}
 use Rattle.history.specs.declared.key.Key.{Key}
 use Rattle.history.specs.Floors.{raised}
 use Rattle.history.specs.Histories.{History, MayAllFollow, last}
-use Rattle.disk.specs.Areas.{AreaState, Image, AreSound, LeavesImage, MayLeave}
+use Rattle.disk.specs.Areas.{AreaState, Image, AreSound, LeavesImage}
 use Rattle.disk.specs.Parts.{HoldsPart, KeepsPart}
 use Rattle.wire.specs.declared.slot.Run.{Run}
 use Rattle.archive.specs.Pieces.{InWriting}
@@ -30,18 +31,21 @@ use Rattle.law_log_layout.specs.HeapLog.{PlacedChain, HeapLog, heap_parts, live_
 use Rattle.law_log_layout.specs.HeapLog.{PlacedRoll, MayJoin, archives_in, placed_group, turn_of, with_chain, with_runs}
 use Rattle.law_log_layout.specs.Entries.{runs_with}
 use Rattle.law_log_layout.specs.Laws.{KeepsArchive, KeepsLog}
+use Rattle.law_log_layout.specs.Roots.{Rests}
 use Rattle.law_log_layout.specs.Turns.{IsAt, MayBe, MayBecome}
 use Rattle.law_log_sizes.specs.Sizes.{len_from, lens_behind, size_now}
+use Rattle.log_recovery.specs.Live.{live_of}
 use Rattle.log_recovery.specs.Opening.{ReadsRoots}
 use Rattle.log_recovery.specs.Read.{all_archives}
 use Rattle.log_roots.specs.declared.roots.Roots.{Roots}
-use Rattle.log_roots.specs.Roots.{root_of}
+use Rattle.log_roots.specs.Roots.{root_of, IsRoots}
 use Rattle.log_sizes.specs.Counted.{values_in}
 use Rattle.log_space.specs.Uses.{IsFree}
 use Rattle.log_room.specs.Rooms.{RoomValue}
 use Rattle.commits.specs.Values.{versions_after}
 use Rattle.commits.specs.Steps.{members}
 use Rattle.log_store.specs.Jobs.{entry_of, is_entering}
+use Rattle.log_store.specs.Live.{LiveValue}
 use Rattle.log_store.specs.Named.{NamedValue}
 use Rattle.log_store.specs.Values.{LogStoreValue, IsBeside}
 use Rattle.log_store.specs.declared.job.Job.{Job}
@@ -50,6 +54,7 @@ use Rattle.log_store.specs.declared.job.JobStage.TheVariants.{Writing, Ready, En
 use Rattle.log_store.specs.declared.job.JobWork.{JobWork}
 use Rattle.log_store.specs.declared.job.JobWork.TheVariants.{Floor}
 use Rattle.log_store.specs.declared.job.JobWork.TheVariants as works
+use Rattle.law_log_store.specs.Headers.{header_parts}
 use Rattle.law_log_store.specs.Members.{AreTold, AreContents}
 
 -- ---- memory
@@ -105,9 +110,10 @@ pub record HasAnchors (most : ℕ) (reading : Reading) (queue : History Value) (
 
 -- ---- the status area
 
--- whatever a stop may leave of it begins with the header of these roots
-abbrev pub KeepsRoots : Roots → AreaState → Type 0
-KeepsRoots roots a = (content : List ℕ) → MayLeave a content → ReadsRoots content roots
+-- Whatever a stop may leave of it begins with a header of as many extents, where the same root counts. Of the other root nothing is said.
+pub record KeepsRoots (roots : Roots) (a : AreaState) : Type 0 where
+  pub in_range : IsRoots roots
+  pub rests : Rests (header_parts roots.extents) roots.turned (little_bytes 4 (root_of roots)) a
 
 -- ---- jobs
 
@@ -195,14 +201,20 @@ pub record IsNamedBy (named : NamedValue) (l : HeapLog) (reading : Reading) : Ty
   pub upto : named.upto ≡ archived_upto reading
   pub end : IsBehind named.end l
 
+-- Memory has the chains of this log, and the extents of its anchors.
+pub record IsLiveOf (l : HeapLog) (live : LiveValue) : Type 0 where
+  pub chains : live.chains ≡ map live_of l.chains
+  pub anchors : live.anchors ≡ l.anchors.numbers
+
 -- ---- the log, and the chain on its way behind it
 
 -- no chain is in the writing, and the log is at rest
 pub record IsAtRest (v : LogStoreValue) (l : HeapLog) : Type 0 where
   pub log : KeepsLog l v.disk.areas.heap
   pub room : IsRoomOf v.roots.extents l v.room
+  pub live : IsLiveOf l v.live
 
--- The group of the queue's first commits is on its way behind the log. The room is that of the log with it.
+-- The group of the queue's first commits is on its way behind the log. The room is that of the log with it, and memory has the chains of that.
 pub record IsOnWay (v : LogStoreValue) (queue : History Value) (l : HeapLog) (reading : Reading) (h : History Value) (w : WriterState) : Type 0 where
   pub group : List Member
   pub told : map member_told group ≡ stored_members (values_now reading) (take v.commits.group queue)
@@ -212,16 +224,18 @@ pub record IsOnWay (v : LogStoreValue) (queue : History Value) (l : HeapLog) (re
   pub shares : KeepsShares v.roots.extents (with_chain l (placed_group w.numbers w.link group)) (with_group reading (map member_told group))
   pub at : IsAt (heap_parts l) (turn_of l.next (placed_group w.numbers w.link group)) w.stage v.disk.areas.heap
   pub room : IsRoomOf v.roots.extents (with_chain l (placed_group w.numbers w.link group)) v.room
+  pub live : IsLiveOf (with_chain l (placed_group w.numbers w.link group)) v.live
   -- no entry of a job is
   pub alone : IsBeside (Some w) v.job
 
--- A job's entry is on its way behind the log. The room is that of the log with it.
+-- A job's entry is on its way behind the log. The room is that of the log with it, and memory has the chains of that.
 pub record IsEntering (v : LogStoreValue) (l : HeapLog) (reading : Reading) (made : List ArchiveRecord) (work : JobWork) (w : WriterState) : Type 0 where
   pub content : w.content ≡ entry_bytes (entry_of work)
   pub joins : MayJoin v.roots.extents l (placed_entry w work)
   pub shares : KeepsShares v.roots.extents (log_with work made l w) (reading_with work made reading)
   pub at : IsAt (heap_parts l) (turn_of l.next (placed_entry w work)) w.stage v.disk.areas.heap
   pub room : IsRoomOf v.roots.extents (log_with work made l w) v.room
+  pub live : IsLiveOf (log_with work made l w) v.live
 
 -- where no group stands, the log is at rest or a job's entry is on its way
 abbrev pub HasStage : LogStoreValue → HeapLog → Reading → List ArchiveRecord → JobWork → JobStage → Type 0
@@ -261,10 +275,14 @@ pub record StandsOnHeap (v : LogStoreValue) (h queue : History Value) (floors : 
 
 -- ---- stops
 
--- An image stands for a history with these floors: its status area has these roots, and heap and archive stand for it where that root counts.
+-- An image stands for a history with these floors: its status area begins with a header of as many extents as these roots have, whichever root counts there,
+-- and heap and archive stand for it from that root on.
 pub record IsImageOf (roots : Roots) (image : Image) (h : History Value) (floors : ℕ → ℕ) : Type 0 where
-  pub status : ReadsRoots image.status roots
-  pub heap : HeapStandsFor roots.extents (root_of roots) image.heap image.archive h floors
+  -- what the status area says
+  pub read : Roots
+  pub status : ReadsRoots image.status read
+  pub size : read.extents ≡ roots.extents
+  pub heap : HeapStandsFor roots.extents (root_of read) image.heap image.archive h floors
 
 -- Of two claims, which holds of what a stop may leave, by the stage of a chain. Of a store that has failed it is the stage whose call was refused.
 abbrev pub MayStandAt : Bool → Stage → Type 0 → Type 0 → Type 0

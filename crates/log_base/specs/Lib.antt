@@ -1,3 +1,4 @@
 pub mod Bases
+pub mod Laws
 pub mod Names
 pub mod Rolls

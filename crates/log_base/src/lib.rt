@@ -4,6 +4,7 @@
 
 mod base;
 mod front;
+pub mod laws;
 mod names;
 mod raising;
 mod roll_writer;

@@ -80,7 +80,14 @@ impl Model for HeapRoom {
 
     ghost view = { λ r. record { used = r.space; next = r.next; log = r.log; promised = r.promised; anchors = r.anchors; reserved = r.reserved } };
 
-    ghost invariant = { λ r. IsRoom (record { used = r.space; next = r.next; log = r.log; promised = r.promised; anchors = r.anchors; reserved = r.reserved }) };
+    ghost invariant = { λ r. IsRoom (record {
+      used = r.space;
+      next = r.next;
+      log = r.log;
+      promised = r.promised;
+      anchors = r.anchors;
+      reserved = r.reserved;
+    }) };
 }
 
 impl HeapRoom {

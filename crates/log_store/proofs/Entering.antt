@@ -1,21 +1,25 @@
 -- The entry of a job begins.
-use Rattle.std.proofs.Common.{◌≡◌, ℕ, List, Option, Some, refl, sym, ap, subst, ◌∙◌, MatchOption}
+use Rattle.std.proofs.Common.{◌≡◌, ℕ, ◌+◌, ◌-◌, ◌^◌, ◌≤◌, true, false, List, [], ◌∷◌, ◌++◌, length, Option, None, Some, refl, sym, ap, subst, ◌∙◌, arith}
+use Rattle.std.proofs.Common.{MatchOption}
 use Rattle.floors.specs.Floors.{FloorsValue}
 use Rattle.log_entries.specs.declared.entry.Archive.{Archive}
 use Rattle.log_entries.specs.declared.entry.RelationFloor.{RelationFloor}
 use Rattle.log_entries.specs.Spelling.{entry_bytes, archive_bytes, floor_bytes}
-use Rattle.log_recovery.specs.Live.{counted_at, part_of}
+use Rattle.log_recovery.specs.Live.{counted_at, live_count, part_of}
 use Rattle.log_room.specs.Rooms.{RoomValue, TakesChain}
+use Rattle.log_room.proofs.Taken.{used_len}
 use Rattle.log_writer.specs.Writer.{WriterState}
 use Rattle.log_store.specs.Live.{LiveValue, with_live}
-use Rattle.log_store.specs.Values.{LogStoreValue}
-use Rattle.log_store.specs.Jobs.{BeginsEntry, entry_of, entering}
+use Rattle.log_store.specs.Values.{LogStoreValue, IsBeside, IsInStep, IsJobInPlace, promised_at, promised_to}
+use Rattle.log_store.specs.Jobs.{BeginsEntry, IsReady, entry_of, entering, is_ready}
 use Rattle.log_store.specs.declared.job.Job.{Job}
-use Rattle.log_store.specs.declared.job.JobStage.TheVariants.{Entering}
+use Rattle.log_store.specs.declared.job.JobStage.{JobStage}
+use Rattle.log_store.specs.declared.job.JobStage.TheVariants.{Ready, Entering}
+use Rattle.log_store.specs.declared.job.JobStage.TheVariants as stages
 use Rattle.log_store.specs.declared.job.JobWork.{JobWork}
 use Rattle.log_store.specs.declared.job.JobWork.TheVariants.{Floor}
 use Rattle.log_store.specs.declared.job.JobWork.TheVariants as works
-use Rattle.log_store.proofs.InStep.{begun_writer}
+use Rattle.log_store.proofs.InStep.{begun_writer, counted_more}
 
 -- the entry of a job is one record
 pub floor-entry : (floor : RelationFloor) (floors : FloorsValue) → floor_bytes floor ≡ entry_bytes (entry_of (Floor floor floors))
@@ -50,3 +54,39 @@ begins-entry old job bytes numbers link room live w after is-job bytes-are takes
 pub entry-counts : (work : JobWork) (numbers : List ℕ) → counted_at (part_of (entry_of work)) numbers ≡ numbers
 entry-counts (Floor floor floors) numbers = refl
 entry-counts (works.Archive made archives) numbers = refl
+
+-- a job whose entry is to begin is promised its extent
+ready-one : (k : JobStage) → is_ready k ≡ true → promised_at k ≡ 1
+ready-one (stages.Writing writer) ready = refl
+ready-one (Ready waited) ready = refl
+ready-one (Entering w) ready = absurd (let no : false ≡ true = ready in cc)
+
+-- the store is in step once it has begun
+pub entered_in_step : (old : LogStoreValue) (job : Job) (bytes numbers : List ℕ) (link : ℕ) (room : RoomValue) (live : LiveValue) (w : WriterState)
+    (after : Option Job)
+    → IsInStep old → old.turn ≡ None → IsReady old.job → old.job ≡ Some job → TakesChain old.room 1 1 numbers link room
+    → live ≡ with_live old.live numbers (part_of (entry_of job.work)) → w ≡ begun_writer numbers link bytes → after ≡ entering old.job w
+    → IsInStep (record old { room = room; live = live; job = after })
+entered_in_step old job bytes numbers link room live w after is none ready is-job takes live-is w-is after-is = record {
+  contents = is.contents;
+  bytes = is.bytes;
+  promised = let was = is.promised in
+      let before : promised_to old.job ≡ 1 = ap promised_to is-job ∙ ready-one job.stage (subst IsReady is-job ready) in
+      let behind : promised_to after ≡ 0 = ap promised_to entered in
+      omega (arith, was, left, before, behind);
+  few = let was = is.few in omega (arith, was, left);
+  many = subst (λ (n : ℕ). n ≤ 2 ^ 20)
+      (sym (ap (λ (r : RoomValue). length r.used) takes.new_is ∙ used_len old.room.used (takes.others ++ link ∷ []))) is.many;
+  counted = subst (λ (l : LiveValue). room.log ≡ live_count l.chains + 1) (sym live-is)
+      (counted_more old.live (part_of (entry_of job.work)) old.room room 1 1 numbers link (entry-counts job.work numbers) takes is.counted);
+  turn = is.turn;
+  beside = subst (IsBeside old.turn) (sym entered) (none, tt);
+  place = subst IsJobInPlace (sym entered) (subst IsJobInPlace is-job is.place);
+}
+  where
+    left : room.promised ≡ old.room.promised - 1
+    left = ap (λ (r : RoomValue). r.promised) takes.new_is
+
+    entered : after ≡ Some (record job { stage = Entering (begun_writer numbers link bytes) })
+    entered =
+        after-is ∙ ap (λ (o : Option Job). entering o w) is-job ∙ ap (λ (x : WriterState). Some (record job { stage = Entering x })) w-is

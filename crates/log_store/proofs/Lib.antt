@@ -5,5 +5,5 @@ pub mod Rooms
 pub mod Places
 pub mod Heads
 pub mod Entries
-mod Entering
+pub mod Entering
 mod Archives

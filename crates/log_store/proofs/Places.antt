@@ -25,12 +25,14 @@ use Rattle.log_recovery.specs.declared.image.LogRecovered.{LogRecovered}
 use Rattle.log_recovery.specs.Chains.{AreWalked, numbers_of, uses_of}
 use Rattle.log_recovery.specs.Rules.{mark_of, no_log}
 use Rattle.log_recovery.specs.Ends.{IsEnd}
+use Rattle.log_recovery.specs.Live.{live_count}
 use Rattle.log_recovery.specs.Members.{name_told, heads_told, values_of, members_of_all}
 use Rattle.log_recovery.specs.Opening.{IsImageFault}
 use Rattle.log_recovery.specs.Read.{IsHeapRead}
 use Rattle.log_recovery.specs.Image.{IsReadFrom}
 use Rattle.log_recovery.proofs.Walking.{AreApart, walked_apart, all_joined}
 use Rattle.log_recovery.proofs.Deciding.{end_decides}
+use Rattle.log_recovery.proofs.Lives.{lives-count}
 use Rattle.log_recovery.proofs.Sized.{follow-all}
 use Rattle.log_room.specs.Rooms.{MayOpen}
 use Rattle.log_store.specs.Opens.{head_as, HasPlace, IsPartsFault}
@@ -160,6 +162,12 @@ pub place-of-image : (image : Image) (read : LogRecovered) → IsReadFrom image 
 place-of-image image read is =
     let has = is.roots.has in
     has-place read.roots.extents (Rattle.log_roots.specs.Roots.root_of read.roots) image.heap read.heap has.in_range.size is.heap
+
+-- the extents that count as the log's are those of its chains in memory, the base aside, and the one where it ends
+pub image-counts : (image : Image) (read : LogRecovered) → IsReadFrom image read → read.heap.log ≡ live_count read.heap.live.items + 1
+image-counts image read is =
+    let heap = is.heap in
+    heap.log_is ∙ ap (λ (n : ℕ). n + 1) (sym (lives-count heap.chains) ∙ ap live_count (sym heap.live_are))
 
 -- ---- why nothing is opened
 

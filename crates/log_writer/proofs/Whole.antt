@@ -1,5 +1,6 @@
 -- The extents of a chain that is written whole, one after the other.
-use Rattle.std.proofs.Common.{◌≡◌, ℕ, ◌+◌, ◌*◌, ◌<◌, ◌≤◌, suc, ◌==◌, if◌then◌else◌, Bool, false, List, [], ◌∷◌, length, take, drop, refl, sym, ap, ◌∙◌, arith, get_or, slice_set}
+use Rattle.std.proofs.Common.{◌≡◌, ℕ, ◌+◌, ◌*◌, ◌<◌, ◌≤◌, suc, ◌==◌, if◌then◌else◌, Bool, false, List}
+use Rattle.std.proofs.Common.{[], ◌∷◌, length, take, drop, refl, sym, ap, ◌∙◌, arith, get_or, slice_set}
 use Rattle.std.proofs.lemmas.List.{drop-drop, length-drop}
 use Rattle.std.proofs.lemmas.Bool.Decides.{nat_tests}
 use Rattle.std.proofs.Math.Seq.{drop-cons}

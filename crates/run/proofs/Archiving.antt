@@ -38,14 +38,14 @@ use Rattle.run.proofs.Steps.{kept-world}
 archives-so : (w : World) (upto : ℕ) (r : Result (Unit {0}) StartFault) → ArchiveSays w.in_heap w.machine upto r → Archives w upto r (same w)
 archives-so w upto (Ok u) says = (says.0, says.1, refl)
 archives-so w upto (Err start.Failed) says = (says, refl)
-archives-so w upto (Err start.WrongProfile) says = (says, refl)
+archives-so w upto (Err start.WrongProfile) says = says
 archives-so w upto (Err start.JobBusy) says = refl
 archives-so w upto (Err start.NothingToDo) says = refl
 archives-so w upto (Err (start.NotYet time)) says = (says.0, says.1, refl)
-archives-so w upto (Err start.StatusFull) says = refl
+archives-so w upto (Err start.StatusFull) says = (says, refl)
 archives-so w upto (Err start.ArchiveFull) says = refl
 archives-so w upto (Err (start.InUse time)) says = says
-archives-so w upto (Err start.HeapFull) says = says
+archives-so w upto (Err start.HeapFull) says = (says, refl)
 archives-so w upto (Err start.NoMemory) says = refl
 archives-so w upto (Err start.NotGrowable) says = says
 

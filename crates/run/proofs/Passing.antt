@@ -332,14 +332,14 @@ closes-spent w i (Waits t) next does = absurd does
 pub archive-same : (w : World) (upto : ℕ) (said : Result (Unit {0}) StartFault) (next : World) → Archives w upto said next → next ≡ same w
 archive-same w upto (Ok u) next does = does.2
 archive-same w upto (Err start.Failed) next does = does.1
-archive-same w upto (Err start.WrongProfile) next does = does.1
+archive-same w upto (Err start.WrongProfile) next does = absurd does
 archive-same w upto (Err start.JobBusy) next does = does
 archive-same w upto (Err start.NothingToDo) next does = does
 archive-same w upto (Err (start.NotYet time)) next does = does.2
-archive-same w upto (Err start.StatusFull) next does = does
+archive-same w upto (Err start.StatusFull) next does = does.1
 archive-same w upto (Err start.ArchiveFull) next does = does
 archive-same w upto (Err (start.InUse time)) next does = absurd does
-archive-same w upto (Err start.HeapFull) next does = absurd does
+archive-same w upto (Err start.HeapFull) next does = does.1
 archive-same w upto (Err start.NoMemory) next does = does
 archive-same w upto (Err start.NotGrowable) next does = absurd does
 

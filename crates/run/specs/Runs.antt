@@ -220,23 +220,23 @@ ListsTimes w label said next = IfOk said (λ times. AreTimesFrom w.names_from ti
 
 -- ---- archives
 
--- An archive begins up to a time that is published, and changes nothing of the machine's; which marks and slots there are the machine does not know. Where the
--- log is slots, no profile is without archives.
+-- An archive begins up to a time that is published, and changes nothing of the machine's; which marks and slots there are the machine does not know, nor what
+-- room the heap has where the log lies in it. No profile is without archives.
 abbrev pub Archives : World → ℕ → Result (Unit {0}) StartFault → World → Type 0
 Archives w upto (Ok u) next = (w.machine.failed ≡ false) × (upto ≤ last w.machine.published) × (next ≡ same w)
 Archives w upto (Err start.Failed) next = (w.machine.failed ≡ true) × (next ≡ same w)
-Archives w upto (Err start.WrongProfile) next = IsTrue w.in_heap × (next ≡ same w)
+Archives w upto (Err start.WrongProfile) next = ⊥
 Archives w upto (Err start.JobBusy) next = next ≡ same w
 Archives w upto (Err start.NothingToDo) next = next ≡ same w
 Archives w upto (Err (start.NotYet time)) next = (time ≡ last w.machine.published) × (time < upto) × (next ≡ same w)
-Archives w upto (Err start.StatusFull) next = next ≡ same w
+Archives w upto (Err start.StatusFull) next = (w.in_heap ≡ false) × (next ≡ same w)
 Archives w upto (Err start.ArchiveFull) next = next ≡ same w
 Archives w upto (Err (start.InUse time)) next = ⊥
-Archives w upto (Err start.HeapFull) next = ⊥
+Archives w upto (Err start.HeapFull) next = IsTrue w.in_heap × (next ≡ same w)
 Archives w upto (Err start.NoMemory) next = next ≡ same w
 Archives w upto (Err start.NotGrowable) next = ⊥
 
--- Nor does a reclaim. It does not begin where an open transaction reads what it is to forget, and its profile is as an archive's.
+-- Nor does a reclaim. It does not begin where an open transaction reads what it is to forget. Where the log is slots, no profile is without reclaims.
 abbrev pub Reclaims : World → Result (Unit {0}) StartFault → World → Type 0
 Reclaims w (Ok u) next = (w.machine.failed ≡ false) × (next ≡ same w)
 Reclaims w (Err start.Failed) next = (w.machine.failed ≡ true) × (next ≡ same w)

@@ -52,8 +52,10 @@ use Rattle.log_roots.proofs.roots.Roots.TheSendSync as roots
 use Rattle.log_room.proofs.content.Content.TheSendSync as content
 use Rattle.log_room.proofs.room.HeapRoom.TheSendSync as room
 use Rattle.log_writer.proofs.writer.ChainWriter.TheSendSync as chain_writer
-use Rattle.log_store.proofs.job.Job.TheSendSync as log_job
+use Rattle.log_store.proofs.job.JobWork.TheSendSync as log_work
 use Rattle.log_store.proofs.named.Named.TheSendSync as named
+use Rattle.log_store.specs.contracts.job.Job as LogJob
+use Rattle.log_store.specs.contracts.job.JobStage as LogStage
 use Rattle.log_store.specs.contracts.store.LogStore as LogStore
 use Rattle.log_store.specs.contracts.store.LogStore.TheInside as log_store
 use Rattle.any_store.proofs.engine.Engine.TheSendSync as engine
@@ -159,7 +161,18 @@ work_send = variants_send JobWork.enum (
 job_send : IsSend Job.the_row
 job_send = declared_send Job.the_type (search (sendable, work_send), (search (sendable, job_stage.the_send), tt))
 
--- ---- the commits of a log in the heap
+-- ---- the job of a log in the heap
+
+log_stage_send : IsSend LogStage.the_row
+log_stage_send = variants_send LogStage.enum (
+  (search (sendable, run_writer.the_send, walk_send), tt),
+  ((search sendable, tt), ((search (sendable, chain_writer.the_send), tt), tt)),
+)
+
+log_job_send : IsSend LogJob.the_row
+log_job_send = declared_send LogJob.the_type (search (sendable, log_work.the_send), (search (sendable, log_stage_send), tt))
+
+-- ---- its commits
 
 waiting_send : IsSend Waiting.the_row
 waiting_send = search (sendable, crosses, frozen_send) depth 20
@@ -226,7 +239,7 @@ module _ (D : RattleType) (disk : devices.Ghosts D.Denot) (crossing : IsSend D) 
             (
               search (sendable, option.the_send, chain_writer.the_send),
               (
-                search (sendable, option.the_send, log_job.the_send),
+                search (sendable, option.the_send, log_job_send),
                 (
                   search (sendable, named.the_send),
                   (

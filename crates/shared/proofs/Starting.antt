@@ -17,6 +17,8 @@ use Rattle.store.specs.Reclaims.{StartsReclaim, BeginsReclaim, below, refusal_fo
 use Rattle.store.specs.Growths.{StartsGrowth, BeginsPiece}
 use Rattle.store.specs.declared.job.StartFault.{StartFault}
 use Rattle.store.specs.declared.job.StartFault.TheVariants as fault
+use Rattle.commits.specs.Values as commits
+use Rattle.log_store.specs.Archives as log_archives
 use Rattle.log_store.specs.Jobs as log_jobs
 use Rattle.log_store.specs.Values.{LogStoreValue}
 use Rattle.log_store.specs.declared.job.StartFault.{StartFault as LogFault}
@@ -30,6 +32,7 @@ use Rattle.law_refinement.specs.Standing.{StandsInMemory}
 use Rattle.law_refinement.proofs.FloorStarts.{in-use}
 use Rattle.law_refinement.proofs.Memory.{last-is}
 use Rattle.law_any_store.specs.Standing.{Stands}
+use Rattle.law_any_store.proofs.Memory.{last-published}
 use Rattle.shared.specs.Shared.{ArchiveSays, ReclaimSays, GrowthSays}
 use Rattle.shared.proofs.Engines.{in-memory}
 
@@ -75,10 +78,52 @@ slots-archive old new upto m r stands starts =
         said (Err (fault.NotYet (stores.last old))) is.0 (sym stands.failed ∙ works, omega (arith, later, last-of), last-of)
     by-tests false works false false false late true is =
         let by-last : upto ≤ stores.last old = grind (arith, nat_tests) in
-        said (Err fault.StatusFull) is.0 (sym stands.failed ∙ works, omega (arith, by-last, last-of))
+        said (Err fault.StatusFull) is.0 (refl, sym stands.failed ∙ works, omega (arith, by-last, last-of))
     by-tests false works false false false late false is =
         let by-last : upto ≤ stores.last old = grind (arith, nat_tests) in
         by-run (sym stands.failed ∙ works) (omega (arith, by-last, last-of)) r is
+
+-- of one whose log lies in the heap
+log-archive : (old new : LogStoreValue) (upto : ℕ) (m : Machine Value) (r : Result (Unit {0}) LogFault) → old.commits.failed ≡ m.failed
+    → commits.last old.commits ≡ last m.published → log_archives.StartsArchive old upto r new → ArchiveSays true m upto (told_start r)
+log-archive old new upto m r same last-of starts =
+    by-tests old.commits.failed refl (is_some old.job) (nat_le upto old.named.upto) (nat_lt (commits.last old.commits) upto) refl
+    (log_archives.has_archive_room old upto) starts
+  where
+    said : (x : Result (Unit {0}) LogFault) → r ≡ x → ArchiveSays true m upto (told_start x) → ArchiveSays true m upto (told_start r)
+    said x is says = subst (λ (y : Result (Unit {0}) LogFault). ArchiveSays true m upto (told_start y)) (sym is) says
+
+    by-run : m.failed ≡ false → upto ≤ last m.published → (x : Result (Unit {0}) LogFault) → log_archives.BeginsRun old upto x new
+        → ArchiveSays true m upto (told_start x)
+    by-run works by-last (Ok done) is = (works, by-last)
+    by-run works by-last (Err log_fault.ArchiveFull) is = (works, by-last)
+    by-run works by-last (Err log_fault.NoMemory) is = (works, by-last)
+    by-run works by-last (Err log_fault.Failed) is = absurd is.0
+    by-run works by-last (Err log_fault.WrongProfile) is = absurd is.0
+    by-run works by-last (Err log_fault.JobBusy) is = absurd is.0
+    by-run works by-last (Err log_fault.NothingToDo) is = absurd is.0
+    by-run works by-last (Err (log_fault.NotYet time)) is = absurd is.0
+    by-run works by-last (Err (log_fault.InUse time)) is = absurd is.0
+    by-run works by-last (Err log_fault.HeapFull) is = absurd is.0
+
+    by-tests : (a : Bool) → old.commits.failed ≡ a → (b c d : Bool) → nat_lt (commits.last old.commits) upto ≡ d → (e : Bool)
+        → MatchOption (cond a (Some log_fault.Failed)
+        (cond b (Some log_fault.JobBusy)
+        (cond c (Some log_fault.NothingToDo) (cond d (Some (log_fault.NotYet (commits.last old.commits))) (cond e None (Some log_fault.HeapFull))))))
+        (log_archives.BeginsRun old upto r new) (λ why. (r ≡ Err why) × (new ≡ old))
+        → ArchiveSays true m upto (told_start r)
+    by-tests true failed b c d late e is = said (Err log_fault.Failed) is.0 (sym same ∙ failed)
+    by-tests false works true c d late e is = said (Err log_fault.JobBusy) is.0 (sym same ∙ works)
+    by-tests false works false true d late e is = said (Err log_fault.NothingToDo) is.0 (sym same ∙ works)
+    by-tests false works false false true late e is =
+        let later : commits.last old.commits < upto = grind (arith, nat_tests) in
+        said (Err (log_fault.NotYet (commits.last old.commits))) is.0 (sym same ∙ works, omega (arith, later, last-of), last-of)
+    by-tests false works false false false late false is =
+        let by-last : upto ≤ commits.last old.commits = grind (arith, nat_tests) in
+        said (Err log_fault.HeapFull) is.0 (refl, sym same ∙ works, omega (arith, by-last, last-of))
+    by-tests false works false false false late true is =
+        let by-last : upto ≤ commits.last old.commits = grind (arith, nat_tests) in
+        by-run (sym same ∙ works) (omega (arith, by-last, last-of)) r is
 
 -- what the beginning of an archive answers
 pub archive-says : (tells : Bool) (old new : any.StoreValue) (upto : ℕ) (m : Machine Value) (r : Result (Unit {0}) StartFault) → Stands tells old m
@@ -87,12 +132,8 @@ archive-says tells (Slots s) (Slots s') upto m r stands starts = slots-archive s
 archive-says tells (Slots s) (Log l') upto m r stands starts = absurd starts
 archive-says tells (Log l) (Slots s') upto m r stands starts = absurd starts
 archive-says tells (Log l) (Log l') upto m r stands starts =
-    subst (λ (x : Result (Unit {0}) StartFault). ArchiveSays true m upto x) (sym starts.0)
-    (by-failure l.commits.failed (sym (in-memory tells (Log l) m stands).failed))
-  where
-    by-failure : (b : Bool) → m.failed ≡ b → ArchiveSays true m upto (Err (none_of b fault.WrongProfile))
-    by-failure true fails = fails
-    by-failure false works = (refl, works)
+    subst (λ (x : Result (Unit {0}) StartFault). ArchiveSays true m upto x) (sym starts.2)
+    (log-archive l l' upto m starts.0 (in-memory tells (Log l) m stands).failed (last-published tells (Log l) m stands) starts.1)
 
 -- ---- reclaims
 

@@ -257,20 +257,20 @@ FloorHappens start kind scope floor result seen = OfSeen start seen (λ m. Floor
 -- ---- archives and reclaims
 
 -- An archive begins up to a time that is not later than the last commit; or the store has failed, another job runs, nothing more has ended by then, the time is
--- later than the last commit, which is told, the log has no slot for it, or the run finds no room in the archive or no memory. Only a store whose log lies in
--- the heap has no archives.
+-- later than the last commit, which is told, the log has no slot for it or, where it lies in the heap, no extent, or the run finds no room in the archive or no
+-- memory.
 abbrev pub ArchiveSays : Bool → Machine Value → ℕ → Result (Unit {0}) StartFault → Type 0
 ArchiveSays in_heap m upto (Ok done) = (m.failed ≡ false) × (upto ≤ last m.published)
 ArchiveSays in_heap m upto (Err start_fault.Failed) = m.failed ≡ true
 ArchiveSays in_heap m upto (Err start_fault.JobBusy) = m.failed ≡ false
 ArchiveSays in_heap m upto (Err start_fault.NothingToDo) = m.failed ≡ false
 ArchiveSays in_heap m upto (Err (start_fault.NotYet time)) = (m.failed ≡ false) × (last m.published < upto) × (time ≡ last m.published)
-ArchiveSays in_heap m upto (Err start_fault.StatusFull) = (m.failed ≡ false) × (upto ≤ last m.published)
+ArchiveSays in_heap m upto (Err start_fault.StatusFull) = (in_heap ≡ false) × (m.failed ≡ false) × (upto ≤ last m.published)
+ArchiveSays in_heap m upto (Err start_fault.HeapFull) = IsTrue in_heap × (m.failed ≡ false) × (upto ≤ last m.published)
 ArchiveSays in_heap m upto (Err start_fault.ArchiveFull) = (m.failed ≡ false) × (upto ≤ last m.published)
 ArchiveSays in_heap m upto (Err start_fault.NoMemory) = (m.failed ≡ false) × (upto ≤ last m.published)
-ArchiveSays in_heap m upto (Err start_fault.WrongProfile) = IsTrue in_heap × (m.failed ≡ false)
+ArchiveSays in_heap m upto (Err start_fault.WrongProfile) = ⊥
 ArchiveSays in_heap m upto (Err (start_fault.InUse snapshot)) = ⊥
-ArchiveSays in_heap m upto (Err start_fault.HeapFull) = ⊥
 ArchiveSays in_heap m upto (Err start_fault.NotGrowable) = ⊥
 
 -- at a state that steps lead to it is so, and nothing of the machine's happens; that state was seen

@@ -12,8 +12,7 @@ use disk::Disk;
 use std::sync::Wait;
 
 impl<D: Disk, L: Opening> SharedStore<D, L> {
-    /// Begins an archive of the versions that ended by `upto`, in microseconds since 1970. A store whose log
-    /// lies in the heap answers `WrongProfile`, and so it does to a reclaim.
+    /// Begins an archive of the versions that ended by `upto`, in microseconds since 1970.
     pub fn archive_start<R: Wait>(
         &self,
         rt: &R,
@@ -26,7 +25,8 @@ impl<D: Disk, L: Opening> SharedStore<D, L> {
         self.locked.lock(rt).archive_start(rt, &self.cell, upto, me)
     }
 
-    /// Begins a reclaim: the heap and memory are to hold only what ended after the archive mark.
+    /// Begins a reclaim: the heap and memory are to hold only what ended after the archive mark. A store
+    /// whose log lies in the heap answers `WrongProfile`.
     pub fn reclaim_start<R: Wait>(&self, rt: &R, me: &mut Observer<L>) -> Result<(), StartFault>
         ensures happens { ReclaimHappens L.start L.kind result me.new }
         ensures later { IsLater me.old me.new }

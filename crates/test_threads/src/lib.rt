@@ -30,6 +30,8 @@ mod vacuum_loop;
 #[cfg(test)]
 mod vacuumed;
 #[cfg(test)]
+mod vacuumed_log;
+#[cfg(test)]
 mod view_memory;
 #[cfg(test)]
 mod workers;

@@ -331,7 +331,10 @@ class Store(_CommonStore["Transaction", "View"]):
         self._ask(_library.ts_archive, micros(upto))
 
     def reclaim(self) -> None:
-        """Gives up in the heap and in memory what is archived."""
+        """Gives up in the heap and in memory what is archived.
+
+        `WrongProfile` where the log lies in the heap.
+        """
         self.reclaim_start()
         self.job()
 

@@ -29,13 +29,13 @@ pub enum Step {
     Published(u64),
     /// Of a reclaim: an extent of what stands at its mark was written.
     KeptWritten,
-    /// Of a reclaim: these were synced. Of a floor where the log lies in the heap: its entry was, but for its gate.
+    /// Of a reclaim: these were synced. Where the log lies in the heap: a job's entry was, but for its gate.
     KeptSynced,
     /// Of a growth: zeros were written behind the slots.
     ZerosWritten,
     /// Of a growth: these were synced.
     ZerosSynced,
-    /// Of a floor where the log lies in the heap: its entry was written, but for its gate.
+    /// Where the log lies in the heap: a job's entry was written, but for its gate.
     EntryWritten,
     /// Where the log lies in the heap: the gate where the log will end was closed.
     GateClosed,
@@ -222,7 +222,7 @@ impl Store {
         self.make(|h, info| unsafe { raw::ts_archive(h, upto, info) })
     }
 
-    /// Gives up in the heap and in memory what is archived.
+    /// Gives up in the heap and in memory what is archived. `WrongProfile` where the log lies in the heap.
     pub fn reclaim(&self) -> Result<()> {
         self.reclaim_start()?;
         self.job()

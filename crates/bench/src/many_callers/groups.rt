@@ -1,8 +1,8 @@
 //! Where a committer's time goes.
 
 use crate::numbers::nanoseconds;
+use any_store::{Did, PumpFault};
 use std::time::{Clock, Instant};
-use store::{Did, PumpFault};
 
 /// The groups that a committer published, and the nanoseconds that it waited for the commits of one, wrote
 /// and synced.
