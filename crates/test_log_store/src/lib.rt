@@ -14,6 +14,8 @@ mod on_disk;
 #[cfg(test)]
 mod queries;
 #[cfg(test)]
+mod reclaims;
+#[cfg(test)]
 mod refused;
 #[cfg(test)]
 mod relation_floors;
