@@ -5,7 +5,7 @@ use Rattle.std.proofs.lemmas.List.{length-append, length-replicate}
 use Rattle.std.proofs.lemmas.List.Sums.{sum_by-cons}
 use Rattle.std.specs.List.{AllByRecursion}
 use Rattle.log_space.specs.Uses.{IsFree, with_use, all_used, one_if_used, used_count, IsLeastFree}
-use Rattle.log_space.proofs.Uses.{is_one_more, all_used_len, none_used}
+use Rattle.log_space.proofs.Uses.{is_one_more, all_used_len, none_used, used_in_turn}
 use Rattle.log_extents.specs.Chains.{count_of, first_or, IsNumberOf}
 use Rattle.log_room.specs.Rooms.{AreLeastFree, RoomValue, IsRoom, TakesChain, TakesLeast}
 
@@ -154,6 +154,31 @@ other_flags old used log reserved room len few share half = record {
   where
     quarter : length used / 4 ≡ length old.used / 4
     quarter = ap (λ (n : ℕ). n / 4) len
+
+pub least-append : (used : List Bool) (ns ms : List ℕ) → AreLeastFree used ns → AreLeastFree (all_used used ns) ms → AreLeastFree used (ns ++ ms)
+least-append used [] ms first second = second
+least-append used (n ∷ ns) ms first second = (first.0, least-append (with_use used n true) ns ms first.1 second)
+
+-- some are taken, and then others
+pub both_taken : (old middle new : List Bool) (a b : ℕ) (first second : List ℕ) → TakesLeast old a first middle → TakesLeast middle b second new
+    → TakesLeast old (a + b) (first ++ second) new
+both_taken old middle new a b first second takes then =
+    let one = takes.many in
+    let other = then.many in
+    record {
+      many = omega (arith, one, other, length-append first second);
+      least = least-append old first second takes.least (subst (λ (u : List Bool). AreLeastFree u second) takes.new_is then.least);
+      new_is = then.new_is ∙ ap (λ (u : List Bool). all_used u second) takes.new_is ∙ sym (used_in_turn old first second);
+    }
+
+-- as many are in use then, of as many as there were
+pub taken_many : (old new : List Bool) (count : ℕ) (numbers : List ℕ) → TakesLeast old count numbers new
+    → (used_count new ≡ used_count old + count) × (length new ≡ length old)
+taken_many old new count numbers takes =
+    let many = takes.many in
+    let more = used_more old numbers takes.least in
+    let now = ap used_count takes.new_is in
+    (omega (arith, many, more, now), ap (λ (u : List Bool). length u) takes.new_is ∙ used_len old numbers)
 
 pub room_reserved : (old : RoomValue) (count : ℕ) (numbers : List ℕ) (used : List Bool) → IsRoom old → old.reserved ≡ 0 → count ≤ length old.used / 4
     → TakesLeast old.used count numbers used

@@ -1,8 +1,8 @@
 //! The room in a heap: which extents the log has, and which it will take.
-ghost use Rattle.std.specs.Prelude.{ℕ, ◌≡◌, ◌≤◌, ◌<◌, ◌+◌, ◌*◌, ◌/◌, ◌^◌, ◌∷◌, ◌↔◌, true, IsTrue, IfOk, OnErr, MatchOption, length};
+ghost use Rattle.std.specs.Prelude.{ℕ, ◌≡◌, ◌≤◌, ◌<◌, ◌+◌, ◌*◌, ◌/◌, ◌^◌, ◌∷◌, ◌++◌, [], ◌↔◌, true, IsTrue, IfOk, OnErr, MatchOption, length};
 ghost use Rattle.std.specs.List.{AllByRecursion};
 ghost use Rattle.log_extents.specs.Chains.{count_of, IsNumberOf};
-ghost use Rattle.log_space.specs.Uses.{with_use};
+ghost use Rattle.log_space.specs.Uses.{with_use, IsLeastFree};
 ghost use Rattle.law_log_sizes.specs.Sizes.{len_behind};
 ghost use Rattle.log_sizes.specs.Counted.{values_in};
 ghost use Rattle.log_room.specs.Bases.{has_base_room, has_floor_room};
@@ -64,6 +64,13 @@ fn may_open(space: &Space, next: u32, log: u32, anchors: u64) -> bool
 pub struct TakenChain {
     pub numbers: Vec<u32>,
     pub link: u32,
+}
+
+/// The extents of anchors, and those of the base that names them.
+#[derive(Drop)]
+pub struct Reserved {
+    pub anchors: Vec<u32>,
+    pub base: Vec<u32>,
 }
 
 impl Model for HeapRoom {
@@ -225,17 +232,42 @@ impl HeapRoom {
         }
     }
 
-    /// Takes so many extents for a base and its anchors, each the least free one.
-    pub fn reserve(&mut self, alloc: Global, count: usize) -> Result<Vec<u32>, AllocError>
+    /// The free extent of the least number.
+    pub fn least_free(&self) -> u32
+        requires { self.now.reserved ≡ 0 }
+        ensures { IsLeastFree self.now.used result }
+    {
+        match self.space.least() {
+            Some(number) => number,
+            None => unreachable!(),
+        }
+    }
+
+    /// Takes so many extents for anchors and then so many for the base that names them, each the least free one. Memory comes first: without
+    /// it nothing has changed.
+    pub fn reserve(
+        &mut self,
+        alloc: Global,
+        anchors: usize,
+        base: usize,
+    ) -> Result<Reserved, AllocError>
         requires none { self.old.reserved ≡ 0 }
-        requires share { count ≤ length self.old.used / 4 }
-        ensures ok { IfOk result (λ numbers. Reserves self.old count numbers.items self.new) }
-        ensures in_range { IfOk result (λ numbers. AllByRecursion (IsNumberOf (2 ^ 20)) numbers.items) }
+        requires share { anchors + base ≤ length self.old.used / 4 }
+        ensures many { IfOk result (λ taken. (length taken.anchors.items ≡ anchors) × (length taken.base.items ≡ base)) }
+        ensures ok { IfOk result (λ taken. Reserves self.old (anchors + base) (taken.anchors.items ++ taken.base.items) self.new) }
+        ensures in_range { IfOk result (λ taken. AllByRecursion (IsNumberOf (2 ^ 20)) taken.anchors.items
+            × AllByRecursion (IsNumberOf (2 ^ 20)) taken.base.items) }
         ensures err { OnErr result (self.new ≡ self.old) }
     {
-        let numbers = take_free(alloc, &mut self.space, count)?;
-        self.reserved = count as u32;
-        Ok(numbers)
+        let first = Vec::with_capacity(alloc, anchors)?;
+        let second = Vec::with_capacity(alloc, base)?;
+        let first = take_free(&mut self.space, first, anchors);
+        let second = take_free(&mut self.space, second, base);
+        self.reserved = (anchors + base) as u32;
+        Ok(Reserved {
+            anchors: first,
+            base: second,
+        })
     }
 
     /// The anchors and the base that a reclaim has made stand, in these extents, and of the log nothing is counted: `keep` counts the chains
@@ -261,5 +293,14 @@ impl HeapRoom {
     {
         self.space.claim_all(numbers);
         self.log += numbers.len() as u32;
+    }
+
+    /// So does the one where the log ends.
+    pub fn keep_next(&mut self)
+        requires half { self.old.log + 1 + self.old.promised ≤ length self.old.used / 2 }
+        ensures { self.new ≡ with_kept self.old (self.old.next ∷ []) }
+    {
+        let next = self.next;
+        self.keep(&[next]);
     }
 }

@@ -1,5 +1,5 @@
 //! Extents taken into use one after the other.
-ghost use Rattle.std.specs.Prelude.{◌≡◌, ◌≤◌, ◌+◌, ◌∷◌, ℕ, List, IfOk, OnErr, length};
+ghost use Rattle.std.specs.Prelude.{◌≡◌, ◌≤◌, ◌+◌, ◌∷◌, [], ℕ, List, IfOk, OnErr, length, vec_capacity};
 ghost use Rattle.log_space.specs.Uses.{used_count};
 ghost use Rattle.log_room.specs.Rooms.{TakesLeast};
 
@@ -29,23 +29,20 @@ pub(crate) fn take_least(
     Ok(numbers)
 }
 
-/// So many of the free extents, which are in use now: each the least free one.
-pub(crate) fn take_free(
-    alloc: Global,
-    space: &mut Space,
-    count: usize,
-) -> Result<Vec<u32>, AllocError>
+/// So many of the free extents, which are in use now: each the least free one. They stand in the place that was made for them.
+pub(crate) fn take_free(space: &mut Space, place: Vec<u32>, count: usize) -> Vec<u32>
     requires room { used_count space.old + count ≤ length space.old }
     requires few { length space.old ≤ 1048576 }
-    ensures ok { IfOk result (λ numbers. TakesLeast space.old count numbers.items space.new) }
-    ensures err { OnErr result (space.new ≡ space.old) }
+    requires none { place.items ≡ [] }
+    requires place { vec_capacity place ≡ count }
+    ensures { TakesLeast space.old count result.items space.new }
 {
-    let mut numbers = Vec::with_capacity(alloc, count)?;
+    let mut numbers = place;
     for _ in 0..count {
         match space.take() {
             Some(number) => numbers.push_reserved(number),
             None => unreachable!(),
         }
     }
-    Ok(numbers)
+    numbers
 }

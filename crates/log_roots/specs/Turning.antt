@@ -98,3 +98,19 @@ IsOnItsWay Syncing = Unit {0}
 IsOnItsWay Turning = Unit {0}
 IsOnItsWay Settling = Unit {0}
 IsOnItsWay Done = ⊥
+
+-- the gate is to be turned
+abbrev pub is_turning : Stage → Bool
+is_turning Writing = false
+is_turning Syncing = false
+is_turning Turning = true
+is_turning Settling = false
+is_turning Done = false
+
+-- the gate is turned, and that is to be synced
+abbrev pub is_settling : Stage → Bool
+is_settling Writing = false
+is_settling Syncing = false
+is_settling Turning = false
+is_settling Settling = true
+is_settling Done = false

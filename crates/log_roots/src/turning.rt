@@ -3,7 +3,7 @@ ghost use Rattle.std.specs.Prelude.{◌≡◌, IsTrue, IfOk, OnErr};
 ghost use Rattle.byteorder.specs.Endian.{little_bytes};
 ghost use Rattle.disk.specs.Calls.{Counts};
 ghost use Rattle.status.specs.SlotCalls.{answer_of};
-ghost use Rattle.log_roots.specs.Turning.{IsCallOf, stage_after, turn_of, with_stage, stage_of, did, IsOnItsWay, other, turn_byte};
+ghost use Rattle.log_roots.specs.Turning.{IsCallOf, stage_after, turn_of, with_stage, stage_of, did, IsOnItsWay, other, turn_byte, is_turning, is_settling};
 
 use crate::encoding::OPEN;
 use crate::roots::{Roots, TURN_PLACE};
@@ -120,5 +120,19 @@ impl RootWriter {
         let (step, what) = self.make_call(disk)?;
         self.step = step;
         Ok(what)
+    }
+
+    /// Whether the next call turns the gate.
+    pub fn is_turning(&self) -> bool
+        ensures { result ≡ is_turning self.now.stage }
+    {
+        matches!(self.step, Step::Turning)
+    }
+
+    /// Whether the gate is turned, and the next call syncs that.
+    pub fn is_settling(&self) -> bool
+        ensures { result ≡ is_settling self.now.stage }
+    {
+        matches!(self.step, Step::Settling)
     }
 }

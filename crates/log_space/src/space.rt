@@ -103,6 +103,16 @@ impl Space {
         self.count = 0;
     }
 
+    /// The free extent of the least number; none if no extent is free.
+    pub fn least(&self) -> Option<u32>
+        ensures { MatchOption result ((number : ℕ) → ¬ IsFree self.now number) (IsLeastFree self.now) }
+    {
+        match least_place(&self.used, self.passed) {
+            None => None,
+            Some(place) => Some(place as u32 + 1),
+        }
+    }
+
     /// Takes the free extent of the least number into use; none if no extent is free.
     pub fn take(&mut self) -> Option<u32>
         ensures { MatchOption result (((number : ℕ) → ¬ IsFree self.old number) × (self.new ≡ self.old))

@@ -86,10 +86,11 @@ created_on mark extents disk = record {
     failed = false;
   };
   contents = [];
-  room = record { used = with_use (replicate extents false) 1 true; next = 1; log = 1; promised = 0; anchors = 0 };
+  room = record { used = with_use (replicate extents false) 1 true; next = 1; log = 1; promised = 0; anchors = 0; reserved = 0 };
   live = none_live;
   turn = None;
   job = None;
+  reclaim = None;
   named = none_named;
   archive = record { runs = []; next = []; kept = [] };
   disk = disk;

@@ -19,6 +19,7 @@ use Rattle.log_store.specs.declared.job.Job.{Job}
 use Rattle.log_store.specs.declared.job.JobStage.{JobStage}
 use Rattle.log_store.specs.declared.job.JobStage.TheVariants.{Ready, Entering}
 use Rattle.log_store.specs.declared.job.JobStage.TheVariants as stages
+use Rattle.log_store.specs.Gates.{waits_to_open}
 use Rattle.log_store.specs.Live.{with_live}
 use Rattle.log_store.specs.Values.{LogStoreValue}
 use Rattle.log_store.specs.declared.pump.Did.{Did}
@@ -117,10 +118,11 @@ bars_groups (Some job) = bars_at job.stage
 abbrev pub BeginsOrWaits : Bool → LogStoreValue → Result Did PumpFault → LogStoreValue → Type 0
 BeginsOrWaits tells old result new = MatchBool (bars_groups old.job) ((result ≡ Err fault.Busy) × (new ≡ old)) (BeginsGroup tells old result new)
 
--- a step: where no group stands, one begins if commits wait and no job bars it
+-- A step: where no group stands, one begins if commits wait and no job bars it. The gate of a group waits while the turn gate is written and not synced.
 abbrev pub TakesStep : Bool → LogStoreValue → Option WriterState → Result Did PumpFault → LogStoreValue → Type 0
 TakesStep tells old None result new = MatchBool (length old.commits.queue == 0) ((result ≡ Ok did.Idle) × (new ≡ old)) (BeginsOrWaits tells old result new)
-TakesStep tells old (Some w) result new = Advances tells w old result new
+TakesStep tells old (Some w) result new =
+    MatchBool (waits_to_open old.reclaim w.stage) ((result ≡ Err fault.Busy) × (new ≡ old)) (Advances tells w old result new)
 
 -- a failed store writes nothing; any other takes the next step
 abbrev pub Pumps : Bool → LogStoreValue → Result Did PumpFault → LogStoreValue → Type 0

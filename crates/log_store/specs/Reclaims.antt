@@ -1,7 +1,6 @@
 -- The beginning of a reclaim.
-use Rattle.std.specs.Prelude.{ℕ, ◌≡◌, ◌+◌, ◌*◌, ◌/◌, ◌^◌, ◌<◌, ◌≤◌, ◌==◌, ◌&&◌, ◌||◌, nat_le, nat_lt, is_some, Bool, List, [], ◌∷◌, ◌++◌, length, take, drop}
+use Rattle.std.specs.Prelude.{ℕ, ◌≡◌, ◌+◌, ◌*◌, ◌/◌, ◌^◌, ◌<◌, ◌≤◌, ◌==◌, ◌&&◌, ◌||◌, nat_le, nat_lt, Bool, List, [], ◌∷◌, ◌++◌, length, flat_map, take, drop}
 use Rattle.std.specs.Prelude.{Option, Some, None, Result, Ok, Err, MatchOption, if◌then◌else◌}
-use Rattle.std.specs.List.{flat_map}
 use Rattle.deltas.specs.Records.{spelling}
 use Rattle.deltas.specs.declared.«record».Record.{Record}
 use Rattle.vacuum.specs.Anchors.{olds_of}
@@ -19,12 +18,13 @@ use Rattle.log_base.specs.Names.{AreBytesBetween}
 use Rattle.log_base.specs.Rolls.{InRoll}
 use Rattle.log_writer.specs.Turns.{open_gate}
 use Rattle.log_writer.specs.Whole.{whole_parts}
-use Rattle.log_room.specs.Rooms.{RoomValue}
+use Rattle.log_room.specs.Rooms.{RoomValue, AreLeastFree}
 use Rattle.log_room.specs.Reserves.{Reserves}
 use Rattle.commits.specs.Calls.{oldest}
 use Rattle.log_store.specs.Named.{NamedValue}
-use Rattle.log_store.specs.Values.{LogStoreValue, ReclaimValue}
+use Rattle.log_store.specs.Values.{LogStoreValue, is_busy}
 use Rattle.log_store.specs.declared.reclaim.ReclaimStage.TheVariants.{Writing}
+use Rattle.log_store.specs.declared.reclaim_start.BasePlan.{BasePlan}
 use Rattle.log_store.specs.declared.job.StartFault.{StartFault}
 use Rattle.log_store.specs.declared.job.StartFault.TheVariants as fault
 
@@ -61,10 +61,6 @@ archives_at (parts.Base base) = base.archives
 
 -- ---- why none begins
 
--- a job runs
-abbrev pub is_busy : LogStoreValue → Bool
-is_busy v = is_some v.job || is_some v.reclaim
-
 -- nothing is archived, or the front is but the base that stands for all that is
 abbrev pub has_nothing : LogStoreValue → Bool
 has_nothing v = (v.named.upto == 0) || ((reclaimed v == v.named.upto) && nat_le (front_count v) 1)
@@ -95,6 +91,11 @@ abbrev pub roll_of : ℕ → List ℕ → Option Roll
 roll_of start [] = None
 roll_of start (b ∷ bs) = Some (record { start = start; len = length (b ∷ bs) })
 
+-- this is that roll, which ends before the greatest place
+pub record IsRollOf (start : ℕ) (names : List ℕ) (roll : Option Roll) : Type 0 where
+  pub is : roll ≡ roll_of start names
+  pub fits : start + length names < 2 ^ 63
+
 abbrev pub roll_left : ℕ → List ℕ → Option InRoll
 roll_left start [] = None
 roll_left start (b ∷ bs) = Some (record { at = start; left = b ∷ bs })
@@ -113,20 +114,48 @@ abbrev pub base_len : LogStoreValue → List ℕ → ℕ
 base_len v names = length (base_bytes (base_with v names []))
 
 -- what the log then names in the archive
-abbrev pub named_then : LogStoreValue → Base → List ℕ → NamedValue
-named_then v base names = record v.named {
-  archives = base.archives ++ flat_map (λ (c : LiveChainValue). archives_at c.part) (back v);
+abbrev pub archives_in : List LiveChainValue → List Archive
+archives_in chains = flat_map (λ (c : LiveChainValue). archives_at c.part) chains
+
+abbrev pub named_behind : NamedValue → Base → List LiveChainValue → ℕ → NamedValue
+named_behind named base back len = record named {
+  archives = base.archives ++ archives_in back;
   rolls = base.rolls;
-  end = v.named.end + length names;
+  end = named.end + len;
 }
+
+abbrev pub named_then : LogStoreValue → Base → List ℕ → NamedValue
+named_then v base names = named_behind v.named base (back v) (length names)
+
+-- how many extents the anchors have that it names
+abbrev pub standing : LogStoreValue → ℕ
+standing v = if makes v then count_of (length (anchor_bytes v)) else length v.live.anchors
 
 -- The base and its anchors keep their shares: with room for one roll more a sixteenth of the heap, and three.
 pub record KeepsBaseShares (v : LogStoreValue) (names : List ℕ) : Type 0 where
   pub base : count_of (base_len v names + 17) ≤ length v.room.used / 16
   pub anchors : count_of (length (anchor_bytes v)) ≤ (3 * length v.room.used) / 16
-  pub standing : (if makes v then count_of (length (anchor_bytes v)) else length v.live.anchors) + count_of (base_len v names) ≤ length v.room.used / 4
+  pub standing_few : standing v + count_of (base_len v names) ≤ length v.room.used / 4
 
 -- ---- the beginning
+
+-- The extents that its anchors will have: as many as their bytes need, the least free ones.
+pub record AreForAnchors (v : LogStoreValue) (numbers : List ℕ) : Type 0 where
+  pub many : length numbers ≡ count_of (length (anchor_bytes v))
+  pub others : List ℕ
+  pub least : AreLeastFree v.room.used (numbers ++ others)
+
+-- What a reclaim is to make, all of which keeps its shares. The base names the extents that its anchors will have.
+pub record IsPlanOf (v : LogStoreValue) (plan : BasePlan) : Type 0 where
+  pub front_is : plan.front ≡ front_count v
+  pub makes_is : plan.makes ≡ makes v
+  pub names_are : AreBytesBetween (reclaimed v) v.named.upto v.commits.heads plan.names.items
+  pub shares : KeepsBaseShares v plan.names.items
+  pub fits : v.named.end + length plan.names.items < 2 ^ 63
+  pub anchors_are : plan.anchors.items ≡ anchor_bytes v
+  pub base_is : (numbers : List ℕ) → AreForAnchors v numbers → plan.base ≡ base_with v plan.names.items numbers
+  pub bytes_are : plan.bytes.items ≡ base_bytes plan.base
+  pub named_is : plan.named ≡ named_then v plan.base plan.names.items
 
 -- the store with the reclaim, of which nothing is written
 abbrev pub with_reclaim : LogStoreValue → List ℕ → List ℕ → List ℕ → RoomValue → LogStoreValue

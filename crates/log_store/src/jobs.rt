@@ -167,18 +167,23 @@ fn end_job(
 }
 
 impl<D: Disk> LogStore<D> {
-    /// The next step of the job that runs, which makes at most one write or sync of the disk. `Idle` is answered where none runs.
+    /// The next step of the job or the reclaim that runs, which makes at most one write or sync of the disk. `Idle` is answered where none
+    /// runs.
     ///
     /// # Errors
     ///
     /// `Failed` once a write or sync of the device was refused. Where its entry would begin: `Busy` while a group is in the writing, and
-    /// from then on no other group begins before that entry; `NoMemory`, with nothing done.
+    /// from then on no other group begins before that entry; `NoMemory`, with nothing done. Where a reclaim would turn the root: `Busy` while
+    /// the gate of a group is written and not synced.
     pub fn job_pump(&mut self) -> Result<JobDid, PumpFault>
         ensures is { PumpsJob D.tells self.old result self.new }
         ensures sound { IsTrue D.tells → AreSound self.new.disk.areas }
     {
         if self.commits.has_failed() {
             return Err(PumpFault::Failed);
+        }
+        if self.reclaim.is_some() {
+            return self.step_reclaim();
         }
         let Some(job) = &self.job else {
             return Ok(JobDid::Idle);

@@ -7,6 +7,7 @@ ghost use Rattle.log_store.specs.Calls.{Begins, Aborts, Redeems};
 use crate::job::Job;
 use crate::live::Live;
 use crate::named::Named;
+use crate::reclaim::Reclaim;
 use commits::Commits;
 use disk::Disk;
 use floors::Floors;
@@ -33,6 +34,8 @@ pub struct LogStore<D: Disk> {
     // The group's chain while it is in the writing.
     pub(crate) turn: Option<ChainWriter>,
     pub(crate) job: Option<Job>,
+    // Where no other job runs.
+    pub(crate) reclaim: Option<Reclaim>,
     // What a base would name.
     pub(crate) named: Named,
     pub(crate) archive: StoreArchive,
@@ -53,6 +56,7 @@ impl<D: Disk> Model for LogStore<D> {
       live = live_value s.live;
       turn = s.turn;
       job = s.job;
+      reclaim = s.reclaim;
       named = s.named;
       archive = s.archive;
       disk = D.state s.disk;
@@ -66,6 +70,7 @@ impl<D: Disk> Model for LogStore<D> {
       live = live_value s.live;
       turn = s.turn;
       job = s.job;
+      reclaim = s.reclaim;
       named = s.named;
       archive = s.archive;
       disk = D.state s.disk;
@@ -86,6 +91,7 @@ impl<D: Disk> LogStore<D> {
             live: _,
             turn: _,
             job: _,
+            reclaim: _,
             named: _,
             archive: _,
             disk,

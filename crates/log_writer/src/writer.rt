@@ -256,3 +256,22 @@ impl ChainWriter {
         Ok(what)
     }
 }
+
+impl ChainWriter {
+    ghost use Rattle.std.specs.Prelude.{◌≡◌};
+    ghost use Rattle.log_writer.specs.Writer.{is_opening, is_settling};
+
+    /// Whether the next call opens its gate.
+    pub fn is_opening(&self) -> bool
+        ensures { result ≡ is_opening self.now.stage }
+    {
+        matches!(self.step, Step::Opening)
+    }
+
+    /// Whether its gate is open, and the next call syncs that.
+    pub fn is_settling(&self) -> bool
+        ensures { result ≡ is_settling self.now.stage }
+    {
+        matches!(self.step, Step::Settling)
+    }
+}
