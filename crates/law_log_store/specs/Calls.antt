@@ -100,6 +100,12 @@ floors_by work job_did.WroteEntry floors = floors
 floors_by work job_did.GateClosed floors = floors
 floors_by work job_did.HeapSynced floors = floors
 floors_by work job_did.GateWritten floors = floors
+floors_by work job_did.WroteExtent floors = floors
+floors_by work job_did.WroteRoll floors = floors
+floors_by work job_did.RollSynced floors = floors
+floors_by work job_did.RootWritten floors = floors
+floors_by work job_did.RootSynced floors = floors
+floors_by work job_did.TurnWritten floors = floors
 floors_by work job_did.JobDone floors = floors_with work floors
 
 abbrev pub floors_after : Option Job → JobDid → (ℕ → ℕ) → ℕ → ℕ
@@ -127,11 +133,13 @@ JobLeaves =
     → IsTrue tells → old.commits.failed ≡ false → IsInStep old → StandsOnHeap old h queue floors → PumpsJob tells old answer new
     → LeavesImage old.disk.areas image ⊎ LeavesImage new.disk.areas image → IsFront old image h queue floors
 
--- a floor that begins where it may, and there is room, keeps what the disk stands for
+-- a floor that begins where it may, where no job runs, and there is room, keeps what the disk stands for
 abbrev pub FloorBegins : Type 0
 FloorBegins =
-    (v : LogStoreValue) (relation time : ℕ) (h queue : History Value) (floors : ℕ → ℕ) → v.job ≡ None → IsTrue (has_entry_room v.room)
-    → floors relation < time → time ≤ last h → relation < 2 ^ 16 → StandsOnHeap v h queue floors → StandsOnHeap (with_floor v relation time) h queue floors
+    (v : LogStoreValue) (relation time : ℕ) (h queue : History Value) (floors : ℕ → ℕ) → v.job ≡ None → v.reclaim ≡ None
+    → IsTrue (has_entry_room v.room)
+    → floors relation < time → time ≤ last h → relation < 2 ^ 16 → StandsOnHeap v h queue floors
+    → StandsOnHeap (with_floor v relation time) h queue floors
 
 -- What an archive needs of memory: it is in order, and of the versions that end after the archive mark and the floor of their relation it has those of the
 -- history. Its floors are those of the history.
@@ -145,10 +153,11 @@ pub record HoldsUnarchived (v : LogStoreValue) (h : History Value) (floors : ℕ
 abbrev pub HasRoomFor : LogStoreValue → ℕ → History Value → History Value → Type 0
 HasRoomFor v upto h queue = IsTrue (has_entry_room v.room) ⊎ (IsTrue (has_last_room v.room) × (queue ≡ []) × (upto ≡ last h))
 
--- an archive that begins where it may, and there is room, keeps what the disk stands for
+-- an archive that begins where it may, where no job runs, and there is room, keeps what the disk stands for
 abbrev pub ArchiveBegins : Type 0
 ArchiveBegins =
-    (v new : LogStoreValue) (upto : ℕ) (h queue : History Value) (floors : ℕ → ℕ) → IsInStep v → v.job ≡ None → HasRoomFor v upto h queue
+    (v new : LogStoreValue) (upto : ℕ) (h queue : History Value) (floors : ℕ → ℕ) → IsInStep v → v.job ≡ None → v.reclaim ≡ None
+    → HasRoomFor v upto h queue
     → v.named.upto < upto → upto ≤ last h → IsRun (run_to v upto) → HoldsUnarchived v h floors → StandsOnHeap v h queue floors
     → BeginsArchive v (run_to v upto) (unwritten v.named.end (records_to v upto)) new → StandsOnHeap new h queue floors
 
