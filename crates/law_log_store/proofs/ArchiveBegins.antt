@@ -20,12 +20,14 @@ use Rattle.log_store.specs.Archives.{archive_as, records_to, run_to, with_archiv
 use Rattle.log_store.specs.Values.{LogStoreValue, IsInStep, promised_to}
 use Rattle.log_store.specs.declared.job.Job.{Job}
 use Rattle.law_log_layout.specs.HeapLog.{HeapLog}
+use Rattle.law_log_store.specs.Reclaiming.{taken_of}
 use Rattle.law_log_store.specs.Calls.{HoldsUnarchived, HasRoomFor}
 use Rattle.law_log_store.specs.Standing.{StandsOnHeap, HasTurn, HasJob, IsAtRest, IsRoomOf, IsNextArchive, IsWritten, LeavesOne, TakesLast}
 use Rattle.law_log_store.proofs.Joining.{in-heap}
 use Rattle.law_log_store.proofs.Jobs.{is-upto}
 use Rattle.law_log_store.proofs.Plans.{walked-plan, walked-in-range}
 use Rattle.law_log_store.proofs.Queues.{told-many}
+use Rattle.law_log_store.proofs.Reclaims.{none-made}
 use Rattle.law_log_store.proofs.Used.{used-are}
 
 -- nothing is held at a place within the content
@@ -102,7 +104,8 @@ module _ (v : LogStoreValue) (upto : ℕ) (h queue : History Value) (floors : �
       let promised = step.promised in
       omega (arith, promised, no-contents, free)
 
-  room-promised : (l : HeapLog) → IsRoomOf v.roots.extents l v.room → IsRoomOf v.roots.extents l (record v.room { promised = v.room.promised + 1 })
+  room-promised : (l : HeapLog) → IsRoomOf v.roots.extents l (taken_of v.reclaim) v.room
+      → IsRoomOf v.roots.extents l (taken_of v.reclaim) (record v.room { promised = v.room.promised + 1 })
   room-promised l is = record { many = is.many; next = is.next; free = is.free; log = is.log }
 
   module _ (new : LogStoreValue) (b : BeginsArchive v run writer new) where
@@ -141,6 +144,7 @@ module _ (v : LogStoreValue) (upto : ℕ) (h queue : History Value) (floors : �
       room = room-promised _ o.room;
       live = o.live;
       alone = tt;
+      beside = o.beside;
     }
 
     pub archive-begins : StandsOnHeap new h queue floors
@@ -167,4 +171,5 @@ module _ (v : LogStoreValue) (upto : ℕ) (h queue : History Value) (floors : �
       named = s.named;
       reach = s.reach;
       spare = spare;
+      reclaim = none-made v.roots (begun).job v.named.end v.disk.areas.heap v.disk.areas.archive s.l s.reading v.reclaim no-reclaim;
     })

@@ -2,14 +2,14 @@
 use Rattle.std.proofs.Common.{◌≡◌, ◌≤◌, ◌-◌, ℕ, zero, suc, arith, Bool, true, false, List, [], ◌∷◌, ◌++◌, length, map, take, drop, Option, None, Some}
 use Rattle.std.proofs.Common.{Result, Ok, Err, refl, ap, sym, subst, ◌∙◌, append-nil}
 use Rattle.std.proofs.Common.{◌⊎◌, ⊎_elim, inl, inr}
-use Rattle.std.specs.Prelude.{IsTrue, MatchBool, MatchResult, ¬_}
+use Rattle.std.specs.Prelude.{IsTrue, MatchBool, MatchResult}
 use Rattle.history.specs.Histories.{History, MayAllFollow, HasRisingTimes, last, last_after}
 use Rattle.history.proofs.Histories.{may_follow-behind, may_follow-front, last_after-append, rising-from_following}
 use Rattle.disk.specs.Areas.{AreaState, Areas, Image, AreSound, LeavesImage, MayLeave}
 use Rattle.disk.specs.Parts.{KeepsPart}
-use Rattle.disk.specs.declared.area.Area.TheVariants.{Heap}
+use Rattle.disk.specs.declared.area.Area.TheVariants.{Heap, Status}
 use Rattle.disk.specs.declared.area.DeviceFault.{DeviceFault}
-use Rattle.disk.proofs.Stops.{left_by_write, left_by_sync}
+use Rattle.disk.proofs.Stops.{MayLeave-read, left_by_write, left_by_sync}
 use Rattle.law_image.specs.Values.{Value, IsValue}
 use Rattle.law_image.specs.Reading.{ArchiveRecord, Commits, Reading}
 use Rattle.law_image.specs.Reading as readings
@@ -179,26 +179,35 @@ at-roots v h queue floors s image Goal left from then = root-left v.roots v.disk
           (subst (IsFrom v.roots image) (sym d.root_is) from),
         )
 
--- what is left of a log at rest stands for what it tells, whichever root counts
+-- what is left of a log at rest stands for what it tells, from the root that counts
+pub rest-root : (v : LogStoreValue) (h queue : History Value) (floors : ℕ → ℕ) (s : StandsOnHeap v h queue floors) (image : Image) → IsAtRest v s.l
+    → MayLeave v.disk.areas.heap image.heap → MayLeave v.disk.areas.archive image.archive → IsFrom v.roots image (root_of v.roots)
+    → IsImageOf v.roots image h floors
+rest-root v h queue floors s image rest heap archive from =
+    image-of v.roots image (root_of v.roots) h floors from
+    (log-stands v.roots.extents (root_of v.roots) s.l s.reading h floors v.disk.areas image.heap image.archive s.is_log s.stands rest.log s.archive heap
+    archive)
+
+-- and from the root of a base that is on the disk
+pub rest-base : (v : LogStoreValue) (h queue : History Value) (floors : ℕ → ℕ) (s : StandsOnHeap v h queue floors) (image : Image) → IsAtRest v s.l
+    → (d : IsOnDisk v.roots.extents s.l s.reading v.reclaim v.disk.areas.heap v.disk.areas.archive) → MayLeave v.disk.areas.heap image.heap
+    → MayLeave v.disk.areas.archive image.archive → IsFrom v.roots image (first_or 0 ((d.base).n).numbers) → IsImageOf v.roots image h floors
+rest-base v h queue floors s image rest d heap archive from =
+    let b = d.base in
+    let may = b.may in
+    let then = based-is v.roots.extents (root_of v.roots) s.l s.reading h floors d.plan s.is_log s.stands b in
+    image-of v.roots image (first_or 0 (b.n).numbers) h floors from
+    (log-stands v.roots.extents (first_or 0 (b.n).numbers) (with_new_base s.l b.n b.back) (based_reading s.reading b.names b.n b.back) h floors
+    v.disk.areas image.heap image.archive then.0 then.1
+    (log-based d.plan.makes s.l b.n b.front b.back v.disk.areas.heap may.split b.stand rest.log d.parts)
+    (archive-based s.l b.n b.more b.back v.disk.areas.archive b.rolls_are s.archive d.roll) heap archive)
+
 pub rest-left : (v : LogStoreValue) (h queue : History Value) (floors : ℕ → ℕ) (s : StandsOnHeap v h queue floors) (image : Image) → IsAtRest v s.l
     → LeavesImage v.disk.areas image → IsImageOf v.roots image h floors
 rest-left v h queue floors s image rest left =
     at-roots v h queue floors s image (IsImageOf v.roots image h floors) left.status
-    (λ from. image-of v.roots image (root_of v.roots) h floors from
-    (log-stands v.roots.extents (root_of v.roots) s.l s.reading h floors v.disk.areas image.heap image.archive s.is_log s.stands rest.log s.archive left.heap
-    left.archive))
-    (λ d alone from. image-of v.roots image (first_or 0 ((d.base).n).numbers) h floors from (from-base d))
-  where
-    from-base : (d : IsOnDisk v.roots.extents s.l s.reading v.reclaim v.disk.areas.heap v.disk.areas.archive)
-        → HeapStandsFor v.roots.extents (first_or 0 ((d.base).n).numbers) image.heap image.archive h floors
-    from-base d =
-        let b = d.base in
-        let may = b.may in
-        let then = based-is v.roots.extents (root_of v.roots) s.l s.reading h floors d.plan s.is_log s.stands b in
-        log-stands v.roots.extents (first_or 0 (b.n).numbers) (with_new_base s.l b.n b.back) (based_reading s.reading b.names b.n b.back) h floors
-        v.disk.areas image.heap image.archive then.0 then.1
-        (log-based d.plan.makes s.l b.n b.front b.back v.disk.areas.heap may.split b.stand rest.log d.parts)
-        (archive-based s.l b.n b.more b.back v.disk.areas.archive b.rolls_are s.archive d.roll) left.heap left.archive
+    (λ from. rest-root v h queue floors s image rest left.heap left.archive from)
+    (λ d alone from. rest-base v h queue floors s image rest d left.heap left.archive from)
 
 -- ---- a group on its way
 
@@ -479,25 +488,45 @@ module _ (v : LogStoreValue) (h queue : History Value) (floors : ℕ → ℕ) (s
 -- ---- stops
 
 -- what is left where a group is on its way, before its next call
-pub group-left : (v : LogStoreValue) (h queue : History Value) (floors : ℕ → ℕ) (s : StandsOnHeap v h queue floors) (w : WriterState)
-    (o : IsOnWay v queue s.l s.reading h w) (image : Image) → LeavesImage v.disk.areas image
-    → MayBe w.stage (IsImageOf v.roots image h floors) (IsImageOf v.roots image (h ++ take v.commits.group queue) floors)
-group-left v h queue floors s w o image left =
-    at-roots v h queue floors s image (MayBe w.stage (IsImageOf v.roots image h floors) (IsImageOf v.roots image next floors)) left.status
-    (λ from. let on = way v h queue floors s w o in claims (root_of v.roots) from (on.before image left))
-    (λ d alone from. let on = way-then v h queue floors s w o d in claims (first_or 0 ((d.base).n).numbers) from (on.before image left))
-  where
-    abbrev next : History Value
-    next = h ++ take v.commits.group queue
+module _ (v : LogStoreValue) (h queue : History Value) (floors : ℕ → ℕ) (s : StandsOnHeap v h queue floors) (w : WriterState)
+    (o : IsOnWay v queue s.l s.reading h w) (image : Image) where
+  abbrev grouped-then : History Value
+  grouped-then = h ++ take v.commits.group queue
 
-    claims : (root : ℕ) → IsFrom v.roots image root
-        → MayBe w.stage (HeapStandsFor v.roots.extents root image.heap image.archive h floors)
-        (HeapStandsFor v.roots.extents root image.heap image.archive next floors)
-        → MayBe w.stage (IsImageOf v.roots image h floors) (IsImageOf v.roots image next floors)
-    claims root from is =
-        map-before w.stage (HeapStandsFor v.roots.extents root image.heap image.archive h floors)
-        (HeapStandsFor v.roots.extents root image.heap image.archive next floors) (IsImageOf v.roots image h floors) (IsImageOf v.roots image next floors)
-        (λ heap. image-of v.roots image root h floors from heap) (λ heap. image-of v.roots image root next floors from heap) is
+  abbrev Either : Type 0
+  Either = MayBe w.stage (IsImageOf v.roots image h floors) (IsImageOf v.roots image grouped-then floors)
+
+  claims : (root : ℕ) → IsFrom v.roots image root
+      → MayBe w.stage (HeapStandsFor v.roots.extents root image.heap image.archive h floors)
+      (HeapStandsFor v.roots.extents root image.heap image.archive grouped-then floors)
+      → Either
+  claims root from is =
+      map-before w.stage (HeapStandsFor v.roots.extents root image.heap image.archive h floors)
+      (HeapStandsFor v.roots.extents root image.heap image.archive grouped-then floors) (IsImageOf v.roots image h floors)
+      (IsImageOf v.roots image grouped-then floors) (λ heap. image-of v.roots image root h floors from heap)
+      (λ heap. image-of v.roots image root grouped-then floors from heap) is
+
+  -- of the status area nothing need be known
+  abbrev with-status : Image
+  with-status = record image { status = v.disk.areas.status.bytes }
+
+  leaves-so : MayLeave v.disk.areas.heap image.heap → MayLeave v.disk.areas.archive image.archive → LeavesImage v.disk.areas with-status
+  leaves-so heap archive = record { status = MayLeave-read v.disk.areas.status (s.sound Status); heap = heap; archive = archive }
+
+  pub group-root : MayLeave v.disk.areas.heap image.heap → MayLeave v.disk.areas.archive image.archive → IsFrom v.roots image (root_of v.roots) → Either
+  group-root heap archive from =
+      let on = way v h queue floors s w o in claims (root_of v.roots) from (on.before with-status (leaves-so heap archive))
+
+  pub group-base : (d : IsOnDisk v.roots.extents s.l s.reading v.reclaim v.disk.areas.heap v.disk.areas.archive) → MayLeave v.disk.areas.heap image.heap
+      → MayLeave v.disk.areas.archive image.archive → IsFrom v.roots image (first_or 0 ((d.base).n).numbers) → Either
+  group-base d heap archive from =
+      let on = way-then v h queue floors s w o d in
+      claims (first_or 0 ((d.base).n).numbers) from (on.before with-status (leaves-so heap archive))
+
+  pub group-left : LeavesImage v.disk.areas image → Either
+  group-left left =
+      at-roots v h queue floors s image Either left.status (λ from. group-root left.heap left.archive from)
+      (λ d alone from. group-base d left.heap left.archive from)
 
 pub standing-stops : (v : LogStoreValue) (h queue : History Value) (floors : ℕ → ℕ) → v.commits.failed ≡ false → StandsOnHeap v h queue floors
     → StopsOnHeap v h queue floors

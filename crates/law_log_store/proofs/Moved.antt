@@ -32,11 +32,11 @@ pub record IsOnDisk (most : ℕ) (l : HeapLog) (reading : Reading) (reclaim : Op
   pub parts : KeepsAll (new_parts (written_of plan.makes base.n)) heap
   pub roll : KeepsRoll base.more archive
 
-made-turning : (r : Roots) (w : NewBase) (more : Option PlacedRoll) (waits : Option InRoll) (k : ReclaimStage) (heap archive : AreaState) → TurnsAt k
-    → HasMadeAt r w more waits k heap archive → KeepsAll (new_parts w) heap × KeepsRoll more archive
-made-turning r w more waits (Writing anchors base) heap archive turns made = absurd turns
-made-turning r w more waits (Rolling roll) heap archive turns made = absurd turns
-made-turning r w more waits (Turning t) heap archive turns made = (made.0, (made.1).0)
+made-turning : (r : Roots) (root : ℕ) (w : NewBase) (more : Option PlacedRoll) (waits : Option InRoll) (k : ReclaimStage) (heap archive : AreaState) → TurnsAt k
+    → HasMadeAt r root w more waits k heap archive → KeepsAll (new_parts w) heap × KeepsRoll more archive
+made-turning r root w more waits (Writing anchors base) heap archive turns made = absurd turns
+made-turning r root w more waits (Rolling roll) heap archive turns made = absurd turns
+made-turning r root w more waits (Turning t) heap archive turns made = (made.0, (made.1).0)
 
 module _ (roots : Roots) (job : Option Job) (end : ℕ) (heap archive : AreaState) (l : HeapLog) (reading : Reading) where
   pub on-disk : (reclaim : Option ReclaimValue) → Turns reclaim → HasReclaim roots job end heap archive l reading reclaim
@@ -44,7 +44,7 @@ module _ (roots : Roots) (job : Option Job) (end : ℕ) (heap archive : AreaStat
   on-disk None turns is = absurd turns
   on-disk (Some r) turns is =
       let b = is.base in
-      let made = made-turning roots (written_of r.makes b.n) b.more r.roll r.stage heap archive turns is.made in
+      let made = made-turning roots (first_or 0 r.numbers) (written_of r.makes b.n) b.more r.roll r.stage heap archive turns is.made in
       record {
         plan = plan_of r;
         base = b;
@@ -69,14 +69,14 @@ root-number most l reading plan b =
 
 -- ---- what is written of it is left where it is
 
-pub made-left : (r : Roots) (w : NewBase) (more : Option PlacedRoll) (waits : Option InRoll) (k : ReclaimStage) (old new archive : AreaState)
+pub made-left : (r : Roots) (root : ℕ) (w : NewBase) (more : Option PlacedRoll) (waits : Option InRoll) (k : ReclaimStage) (old new archive : AreaState)
     → ((done rest : List Part) → done ++ rest ≡ new_parts w → HoldsAll done old.bytes → HoldsAll done new.bytes)
-    → (KeepsAll (new_parts w) old → KeepsAll (new_parts w) new) → HasMadeAt r w more waits k old archive → HasMadeAt r w more waits k new archive
-made-left r w more waits (Writing anchors base) old new archive held kept made =
+    → (KeepsAll (new_parts w) old → KeepsAll (new_parts w) new) → HasMadeAt r root w more waits k old archive → HasMadeAt r root w more waits k new archive
+made-left r root w more waits (Writing anchors base) old new archive held kept made =
     let is = made.0 in
     (record { done = is.done; are = is.are; held = held is.done (anchors.left ++ base.left) is.are is.held }, made.1)
-made-left r w more waits (Rolling roll) old new archive held kept made = (kept made.0, made.1)
-made-left r w more waits (Turning t) old new archive held kept made = (kept made.0, made.1)
+made-left r root w more waits (Rolling roll) old new archive held kept made = (kept made.0, made.1)
+made-left r root w more waits (Turning t) old new archive held kept made = (kept made.0, made.1)
 
 -- by each call of a chain behind the log
 module _ (roots : Roots) (job : Option Job) (end root : ℕ) (old new : Areas) (l : HeapLog) (reading : Reading) (c : PlacedChain)
@@ -93,11 +93,11 @@ module _ (roots : Roots) (job : Option Job) (end root : ℕ) (old new : Areas) (
       record {
         alone = is.alone;
         base = b;
-        made = made-left roots w b.more r.roll r.stage old.heap new.heap new.archive
+        made = made-left roots (first_or 0 r.numbers) w b.more r.roll r.stage old.heap new.heap new.archive
             (λ done rest are held.
             chain-leaves-done roots.extents root l reading w is-log b.free c joins apart stage done rest result old new sound are at call held)
             (let both = chain-leaves roots.extents root l reading w is-log b.free c joins apart stage result old new sound at call in
             let leaves = both.0 in leaves.kept)
-            (subst (λ (a : AreaState). HasMadeAt roots w b.more r.roll r.stage old.heap a) (sym same) is.made);
+            (subst (λ (a : AreaState). HasMadeAt roots (first_or 0 r.numbers) w b.more r.roll r.stage old.heap a) (sym same) is.made);
         ends = is.ends;
       }

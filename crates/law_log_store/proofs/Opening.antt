@@ -42,7 +42,8 @@ use Rattle.log_store.specs.Named.{NamedValue}
 use Rattle.log_store.specs.Opens.{Opens, OpenRefuses, named_on}
 use Rattle.log_store.proofs.Places.{len-is}
 use Rattle.log_sizes.specs.Counted.{values_in}
-use Rattle.law_log_store.specs.Standing.{StandsOnHeap, IsBehind, IsImageOf, IsLiveOf, IsNamedBy, counted}
+use Rattle.law_log_store.specs.Named.{IsBehind, IsNamedBy}
+use Rattle.law_log_store.specs.Standing.{StandsOnHeap, IsImageOf, IsLiveOf, counted}
 use Rattle.law_log_store.specs.Opened.{live_uses, opened_room, IsOpenedOn}
 use Rattle.law_log_store.proofs.Headers.{image-size}
 use Rattle.law_log_store.proofs.Opened.{opened-stands}
@@ -212,6 +213,7 @@ module _ (tells : Bool) (old : DiskState) (mark : ℕ) (v : LogStoreValue) (root
     live = lives;
     turn = ap (λ (x : LogStoreValue). x.turn) opens.new_is;
     job = ap (λ (x : LogStoreValue). x.job) opens.new_is;
+    reclaim = ap (λ (x : LogStoreValue). x.reclaim) opens.new_is;
     named = named;
     reach = reach;
     marks = marks;

@@ -22,6 +22,7 @@ use Rattle.log_store.specs.declared.job.JobStage.{JobStage}
 use Rattle.log_store.specs.declared.job.JobStage.TheVariants.{Ready, Entering}
 use Rattle.log_store.specs.declared.job.JobStage.TheVariants as stages
 use Rattle.log_store.specs.Pumps.{Pumps, TakesStep, bars_groups, BeginsOrWaits, BeginsGroup, AdvancesGroup, Advances, after_call, with_failure, did_of}
+use Rattle.log_store.specs.Gates.{waits_to_open}
 use Rattle.log_store.specs.Pumps.{disk_answer}
 use Rattle.log_store.specs.declared.pump.Did.{Did}
 use Rattle.log_store.specs.declared.pump.Did.TheVariants as did
@@ -99,9 +100,15 @@ pump-steps tells old new answer h queue floors tell works step sound s pumps =
         (subst (λ (x : LogStoreValue). StandsOnHeap x (h ++ take 0 queue) (drop 0 queue) floors) (sym is.1) (unpublished old h queue floors s))
     by-queue false some at_rest is = by-job (bars_groups old.job) refl at_rest (grind (arith, nat_tests)) is
 
+    -- its gate waits while the turn gate is written and not synced
+    by-gate : (w : WriterState) → old.turn ≡ Some w → (b : Bool)
+        → MatchBool b ((answer ≡ Err fault.Busy) × (new ≡ old)) (Advances tells w old answer new) → StepsTo answer old new h queue floors
+    by-gate w standing true is = subst (λ (a : Result Did PumpFault). StepsTo a old new h queue floors) (sym is.0) is.1
+    by-gate w standing false is = call-steps tells w old new old answer h queue floors tell works standing s is sound
+
     by-turn : (t : Option WriterState) → old.turn ≡ t → TakesStep tells old t answer new → StepsTo answer old new h queue floors
     by-turn None at_rest is = by-queue (length old.commits.queue == 0) refl at_rest is
-    by-turn (Some w) standing is = call-steps tells w old new old answer h queue floors tell works standing s is sound
+    by-turn (Some w) standing is = by-gate w standing (waits_to_open old.reclaim w.stage) is
 
 pub failed-rests : (tells : Bool) (old new : LogStoreValue) (answer : Result Did PumpFault) → old.commits.failed ≡ true → Pumps tells old answer new
     → (answer ≡ Err fault.Failed) × (new ≡ old)
@@ -249,9 +256,16 @@ pump-leaves tells old new answer h queue floors image tell works step s pumps le
     by-queue true none at_rest is l = old-front at_rest (subst (λ (x : LogStoreValue). LeavesImage x.disk.areas image) is.1 l)
     by-queue false some at_rest is l = by-job (bars_groups old.job) refl at_rest (grind (arith, nat_tests)) is l
 
+    by-gate : (w : WriterState) → old.turn ≡ Some w → (b : Bool)
+        → MatchBool b ((answer ≡ Err fault.Busy) × (new ≡ old)) (Advances tells w old answer new) → LeavesImage new.disk.areas image
+        → Fronts old h queue floors works s image old.commits.group
+    by-gate w standing true is l =
+        front-before old h queue floors works s image (subst (λ (x : LogStoreValue). LeavesImage x.disk.areas image) is.1 l)
+    by-gate w standing false is l = front-after old h queue floors works s image tells w new answer tell standing is l
+
     by-turn : (t : Option WriterState) → old.turn ≡ t → TakesStep tells old t answer new
         → LeavesImage old.disk.areas image ⊎ LeavesImage new.disk.areas image → IsFront old image h queue floors
     by-turn None at_rest is (inl l) = old-front at_rest l
     by-turn None at_rest is (inr l) = by-queue (length old.commits.queue == 0) refl at_rest is l
     by-turn (Some w) standing is (inl l) = standing-front w standing (front-before old h queue floors works s image l)
-    by-turn (Some w) standing is (inr l) = standing-front w standing (front-after old h queue floors works s image tells w new answer tell standing is l)
+    by-turn (Some w) standing is (inr l) = standing-front w standing (by-gate w standing (waits_to_open old.reclaim w.stage) is l)

@@ -119,12 +119,12 @@ abbrev pub KeepsRoll : Option PlacedRoll → AreaState → Type 0
 KeepsRoll None archive = Unit {0}
 KeepsRoll (Some p) archive = KeepsPart p.roll.start (roll_bytes p) archive
 
--- what stands on the disk at a stage, where this is written of the base, and a roll that waits is this one
-abbrev pub HasMadeAt : Roots → NewBase → Option PlacedRoll → Option InRoll → ReclaimStage → AreaState → AreaState → Type 0
-HasMadeAt r w more waits (Writing anchors base) heap archive = AreWritten (new_parts w) (anchors.left ++ base.left) heap × RollWaits more waits
-HasMadeAt r w more waits (Rolling roll) heap archive = KeepsAll (new_parts w) heap × IsRollOnWay more roll archive
-HasMadeAt r w more waits (Turning t) heap archive =
-    KeepsAll (new_parts w) heap × KeepsRoll more archive × (t.roots ≡ r) × (t.root ≡ first_or 0 w.numbers)
+-- What stands on the disk at a stage, where this is written of the base, its root is this one, and this is the roll that waits.
+abbrev pub HasMadeAt : Roots → ℕ → NewBase → Option PlacedRoll → Option InRoll → ReclaimStage → AreaState → AreaState → Type 0
+HasMadeAt r root w more waits (Writing anchors base) heap archive = AreWritten (new_parts w) (anchors.left ++ base.left) heap × RollWaits more waits
+HasMadeAt r root w more waits (Rolling roll) heap archive = KeepsAll (new_parts w) heap × IsRollOnWay more roll archive
+HasMadeAt r root w more waits (Turning t) heap archive =
+    KeepsAll (new_parts w) heap × KeepsRoll more archive × (t.roots ≡ r) × (t.root ≡ root)
 
 -- What the log then names ends by this place, or by the end of the roll that is added.
 abbrev pub EndsBy : ℕ → ℕ → Option PlacedRoll → Type 0
@@ -174,7 +174,7 @@ pub record IsReclaiming (r : Roots) (job : Option Job) (end : ℕ) (heap archive
     (waits : Option InRoll) (stage : ReclaimStage) : Type 0 where
   pub alone : job ≡ None
   pub base : IsBaseOf r.extents l reading plan
-  pub made : HasMadeAt r (written_of plan.makes base.n) base.more waits stage heap archive
+  pub made : HasMadeAt r (first_or 0 plan.numbers) (written_of plan.makes base.n) base.more waits stage heap archive
   pub ends : EndsBy end plan.named.end base.more
 
 abbrev pub HasReclaim : Roots → Option Job → ℕ → AreaState → AreaState → HeapLog → Reading → Option ReclaimValue → Type 0
