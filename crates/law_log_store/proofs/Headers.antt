@@ -259,7 +259,7 @@ image-of r image root h floors from heap = record {
   heap = subst (λ (n : ℕ). HeapStandsFor r.extents n image.heap image.archive h floors) (sym from.root_is) heap;
 }
 
-from-names : (r : Roots) (image : Image) (turned : Bool) (root : ℕ) → AreBytes image.status → IsHeapSize r.extents → IsNumberOf r.extents root
+pub from-names : (r : Roots) (image : Image) (turned : Bool) (root : ℕ) → AreBytes image.status → IsHeapSize r.extents → IsNumberOf r.extents root
     → NamesRoot (header_parts r.extents) turned (little_bytes 4 root) image.status → IsFrom r image root
 from-names r image turned root bytes size number names =
     let found = names-header image.status r.extents root bytes size number.0 number.1 turned names in
@@ -296,7 +296,7 @@ within-turn A B C turning.Settling f g is = ⊎_elim f g is
 within-turn A B C turning.Done f g is = g is
 
 module _ (r : Roots) (areas : Areas) (sound : AreSound areas) where
-  root-way : (reclaim : Option ReclaimValue) → HasRoots r reclaim areas.status
+  pub root-way : (reclaim : Option ReclaimValue) → HasRoots r reclaim areas.status
       → IsRootWay (header_parts r.extents) r.turned (little_bytes 4 (root_of r)) (little_bytes 4 (root_then reclaim)) (root_stage reclaim) areas
   root-way reclaim has =
       goes (header_parts r.extents) r.turned (little_bytes 4 (root_of r)) (little_bytes 4 (root_then reclaim)) (header-apart r.extents) refl refl areas sound

@@ -218,6 +218,46 @@ standing-is-front v h queue floors works s image step left = by-turn v.turn refl
         subst (λ (n : ℕ). Fronts v h queue floors works s image n) (ap (λ (c : CommitsValue). c.group) (sym (grouped-stays v.commits some)))
         (front-before v h queue floors works s image left)
 
+-- so is an image of which that holds by the stages that a store has
+pub stood-is-front : (v : LogStoreValue) (h queue : History Value) (floors : ℕ → ℕ) → IsInStep v → (image : Image)
+    → MayStand false v.turn v.job (IsImageOf v.roots image h floors) (IsImageOf v.roots image (h ++ take v.commits.group queue) floors)
+    (λ work. IsImageOf v.roots image h (floors_with work floors))
+    → IsFront v image h queue floors
+stood-is-front v h queue floors step image is = by-turn v.turn refl is
+  where
+    entered : (Old New : Type 0) → Old ⊎ New → Old ⊎ IsImageOf v.roots image (h ++ take (grouped 1024 v.commits).group queue) floors ⊎ New
+    entered Old New (inl is) = inl is
+    entered Old New (inr is) = inr (inr is)
+
+    by-stage : (work : JobWork) (k : JobStage) → MayStandOn false k (IsImageOf v.roots image h floors) (IsImageOf v.roots image h (floors_with work floors))
+        → IsImageOf v.roots image h floors ⊎ IsImageOf v.roots image (h ++ take (grouped 1024 v.commits).group queue) floors
+        ⊎ IsImageOf v.roots image h (floors_with work floors)
+    by-stage work (stages.Writing writer) is = inl is
+    by-stage work (Ready waited) is = inl is
+    by-stage work (Entering w) is =
+        entered (IsImageOf v.roots image h floors) (IsImageOf v.roots image h (floors_with work floors))
+        (either-old w.stage (IsImageOf v.roots image h floors) (IsImageOf v.roots image h (floors_with work floors)) is)
+
+    by-job : (j : Option Job) → MayStandBy false j (IsImageOf v.roots image h floors) (λ work. IsImageOf v.roots image h (floors_with work floors))
+        → IsImageOf v.roots image h floors ⊎ IsImageOf v.roots image (h ++ take (grouped 1024 v.commits).group queue) floors ⊎ HasEntered v image h floors j
+    by-job None is = inl is
+    by-job (Some job) is = by-stage job.work job.stage is
+
+    grouped-one : (n : ℕ) → n ≡ v.commits.group → IsImageOf v.roots image h floors ⊎ IsImageOf v.roots image (h ++ take v.commits.group queue) floors
+        → IsImageOf v.roots image h floors ⊎ IsImageOf v.roots image (h ++ take n queue) floors ⊎ HasEntered v image h floors v.job
+    grouped-one n same (inl is) = inl is
+    grouped-one n same (inr is) = inr (inl (subst (λ (k : ℕ). IsImageOf v.roots image (h ++ take k queue) floors) (sym same) is))
+
+    by-turn : (t : Option WriterState) → v.turn ≡ t
+        → MayStand false t v.job (IsImageOf v.roots image h floors) (IsImageOf v.roots image (h ++ take v.commits.group queue) floors)
+        (λ work. IsImageOf v.roots image h (floors_with work floors))
+        → IsFront v image h queue floors
+    by-turn None at_rest is = by-job v.job is
+    by-turn (Some w) standing is =
+        let some = (subst (λ (t : Option WriterState). stores.HasTurn v.commits.group t) standing step.turn).0 in
+        grouped-one (grouped 1024 v.commits).group (ap (λ (c : CommitsValue). c.group) (grouped-stays v.commits some))
+        (either-old w.stage (IsImageOf v.roots image h floors) (IsImageOf v.roots image (h ++ take v.commits.group queue) floors) is)
+
 pub pump-leaves : (tells : Bool) (old new : LogStoreValue) (answer : Result Did PumpFault) (h queue : History Value) (floors : ℕ → ℕ) (image : Image)
     → IsTrue tells → old.commits.failed ≡ false → IsInStep old → StandsOnHeap old h queue floors → Pumps tells old answer new
     → LeavesImage old.disk.areas image ⊎ LeavesImage new.disk.areas image → IsFront old image h queue floors

@@ -126,10 +126,10 @@ HasMadeAt r root w more waits (Rolling roll) heap archive = KeepsAll (new_parts 
 HasMadeAt r root w more waits (Turning t) heap archive =
     KeepsAll (new_parts w) heap × KeepsRoll more archive × (t.roots ≡ r) × (t.root ≡ root)
 
--- What the log then names ends by this place, or by the end of the roll that is added.
+-- What the log then names ends by this place, or by the end of the roll that is added, which begins no later.
 abbrev pub EndsBy : ℕ → ℕ → Option PlacedRoll → Type 0
 EndsBy place end None = end ≤ place
-EndsBy place end (Some p) = end ≤ p.roll.start + length (roll_bytes p)
+EndsBy place end (Some p) = (p.roll.start ≤ place) × (end ≤ p.roll.start + length (roll_bytes p))
 
 -- ---- the status area
 
