@@ -24,18 +24,12 @@ use Rattle.law_log_store.specs.Reclaiming.{taken_of}
 use Rattle.law_log_store.specs.Calls.{HoldsUnarchived, HasRoomFor}
 use Rattle.law_log_store.specs.Standing.{StandsOnHeap, HasTurn, HasJob, IsAtRest, IsRoomOf, IsNextArchive, IsWritten, LeavesOne, TakesLast}
 use Rattle.law_log_store.proofs.Joining.{in-heap}
+use Rattle.law_log_store.proofs.Archiving.{none-held}
 use Rattle.law_log_store.proofs.Jobs.{is-upto}
 use Rattle.law_log_store.proofs.Plans.{walked-plan, walked-in-range}
 use Rattle.law_log_store.proofs.Queues.{told-many}
 use Rattle.law_log_store.proofs.Reclaims.{none-made}
 use Rattle.law_log_store.proofs.Used.{used-are}
-
--- nothing is held at a place within the content
-none-held : (at : ℕ) (content : List ℕ) → at ≤ length content → HoldsPart at [] content
-none-held at content within = record { inside = omega (arith, within); is = empty }
-  where
-    empty : slice_range content at (at + 0) ≡ []
-    empty = (let none : at + 0 - at ≡ 0 = omega arith in ap (λ (n : ℕ). take n (drop at content)) none)
 
 -- of no contents no extents are promised
 no-extents : (contents : List (List ℕ)) → length contents ≡ 0 → extents_of contents ≡ 0

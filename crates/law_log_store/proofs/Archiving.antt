@@ -1,7 +1,7 @@
 -- The run of an archive is written, call by call, beside whatever group is in the writing.
-use Rattle.std.proofs.Common.{◌≡◌, ℕ, ◌+◌, ◌*◌, ◌≤◌, Bool, true, false, IsTrue, List, [], ◌∷◌, ◌++◌, length, take, drop, Option, None, Some, Result}
+use Rattle.std.proofs.Common.{◌≡◌, ℕ, ◌+◌, ◌-◌, ◌*◌, ◌≤◌, Bool, true, false, IsTrue, List, [], ◌∷◌, ◌++◌, length, take, drop, Option, None, Some, Result}
 use Rattle.std.proofs.Common.{Ok, Err, refl, arith, ap, sym, subst, ◌∙◌, ◌⊎◌, inl, inr, length-append, append_assoc, append-nil, take-append-drop}
-use Rattle.std.specs.Prelude.{flat_map, MatchResult}
+use Rattle.std.specs.Prelude.{flat_map, slice_range, MatchResult}
 use Rattle.std.specs.List.{AllByRecursion}
 use Rattle.history.specs.Histories.{History, last}
 use Rattle.disk.specs.Areas.{AreaState, Areas, Image, AreSound, IsSound, LeavesImage, loosened, synced, written}
@@ -48,6 +48,13 @@ use Rattle.law_log_store.specs.Calls.{HasFailed, floors_by, floors_after}
 use Rattle.law_log_store.proofs.Going.{standing-stops}
 use Rattle.law_log_store.proofs.Reclaims.{beside-job, none-made}
 use Rattle.law_log_store.proofs.Spans.{stored-ends}
+
+-- nothing is held at a place within the content
+pub none-held : (at : ℕ) (content : List ℕ) → at ≤ length content → HoldsPart at [] content
+none-held at content within = record { inside = omega (arith, within); is = empty }
+  where
+    empty : slice_range content at (at + 0) ≡ []
+    empty = (let none : at + 0 - at ≡ 0 = omega arith in ap (λ (n : ℕ). take n (drop at content)) none)
 
 -- ---- what the log names is kept
 

@@ -8,8 +8,12 @@ pub mod Spans
 pub mod Naming
 pub mod Headers
 pub mod Lives
-pub mod Going
 pub mod Flags
+pub mod Made
+pub mod Reclaims
+pub mod Moved
+pub mod Turned
+pub mod Going
 pub mod Beginning
 pub mod Used
 pub mod Submitting
@@ -17,6 +21,9 @@ pub mod Calls
 pub mod Pumping
 pub mod Entering
 pub mod Archiving
+pub mod Kept
+pub mod Based
+pub mod Reclaimed
 pub mod Jobs
 pub mod ArchiveBegins
 pub mod Opened

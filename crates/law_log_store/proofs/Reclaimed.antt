@@ -55,7 +55,7 @@ use Rattle.law_log_store.specs.Reclaiming.{AreWritten, HasMadeAt, HasReclaim, Ha
 use Rattle.law_log_store.specs.Reclaiming.{EndsBy, KeepsRoll, RollWaits, plan_of, roll_bytes, root_stage_at, root_then, taken_of, turn_stage, written_of}
 use Rattle.law_log_store.specs.Standing.{StandsOnHeap, HasTurn, HasJob, IsAtRest, IsRoomOf, IsImageOf, HasAllWritten, MayStand, MayStandAt, MayStandBy, MayStandOn}
 use Rattle.law_log_store.specs.Standing.{StopsOnHeap, floors_with}
-use Rattle.law_log_store.proofs.Archiving.{be-become, kept-behind, kept-synced}
+use Rattle.law_log_store.proofs.Archiving.{be-become, kept-behind, kept-synced, none-held}
 use Rattle.law_log_store.proofs.Based.{turned-stands}
 use Rattle.law_log_store.proofs.Going.{group-base, group-root, rest-base, rest-root, standing-stops}
 use Rattle.law_log_store.proofs.Headers.{IsFrom, Turns, from-names, root-way, turn-call, within-turn}
@@ -88,11 +88,6 @@ loose-heap p old = record {
   written = tt;
   in_part = inr (record { torn = IsTorn-same p.place (length p.bytes) old.heap.bytes; areas = refl });
 }
-
--- no bytes stand at any place within
-nothing-held : (place : ℕ) (content : List ℕ) → place ≤ length content → HoldsPart place [] content
-nothing-held place content within =
-    record { inside = omega (arith, within); is = ap (λ (end : ℕ). slice_range content place end) (omega arith) ∙ slice_none place content }
 
 -- ---- the base on its way
 
@@ -328,7 +323,7 @@ module _ (v : LogStoreValue) (h queue : History Value) (floors : ℕ → ℕ) (s
           front = [];
           whole = waits.0;
           place = omega (arith, waits.1);
-          held = nothing-held p.roll.start new.disk.areas.archive.bytes (omega (arith, ends.0, reach, firm));
+          held = none-held p.roll.start new.disk.areas.archive.bytes (omega (arith, ends.0, reach, firm));
         }
 
     synced-stands : (roll : Option InRoll) → r.roll ≡ roll → new ≡ record (with_reclaim_as v (begins_roll v.roots r roll)) { disk = new.disk }
@@ -614,7 +609,7 @@ module _ (v : LogStoreValue) (h queue : History Value) (floors : ℕ → ℕ) (s
       turn-step turning.Syncing same is = turn-moves turning.Syncing turning.Turning same refl is
       turn-step turning.Turning same is = turn-moves turning.Turning turning.Settling same refl is
       turn-step turning.Settling same is =
-          turned-stands v h queue floors s r is-it disk-here new sound is (same-others).0 (same-others).1
+          turned-stands v h queue floors s r is-it it (turning-so).0 ((turning-so).1).0 new sound is (same-others).0 (same-others).1
           (subst (λ (x : roots.Stage). roots.IsAt header v.roots.turned (little_bytes 4 (root_of v.roots)) (little_bytes 4 root-new) x new.disk.areas.status)
           (ap (λ (x : turning.Stage). roots.stage_after (turn_stage x)) same) next-root)
       turn-step turning.Done same is =

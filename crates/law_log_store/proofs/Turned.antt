@@ -225,10 +225,10 @@ module _ (most root : ℕ) (l : HeapLog) (reading : Reading) (h : History Value)
     same =
         same-behind most root l reading h next floors numbers link members b.names b.front b.back b.n is stands group joins beside-base b.are_names b.may
 
-    log-more : IsLogOf most root (with_chain l chain) more-reads
+    pub log-more : IsLogOf most root (with_chain l chain) more-reads
     log-more = group-is_log most root l reading h next floors numbers link members is stands group joins shares
 
-    stands-more : StandsFor more-reads (h ++ next) floors
+    pub stands-more : StandsFor more-reads (h ++ next) floors
     stands-more = group-stands_for reading h floors stands (map member_told members) next group (room reading (in-heap most root l reading is))
 
     mark-more : archived_upto (with_group then-reads (map member_told members)) ≡ archived_upto then-reads
