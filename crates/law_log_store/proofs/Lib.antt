@@ -4,6 +4,7 @@ pub mod Queues
 pub mod Anchors
 pub mod Walked
 pub mod Plans
+pub mod Anchored
 pub mod Spans
 pub mod Naming
 pub mod Headers
@@ -27,5 +28,6 @@ pub mod Reclaimed
 pub mod Jobs
 pub mod ArchiveBegins
 pub mod Opened
+pub mod ReclaimBegins
 pub mod Reaching
 pub mod Opening

@@ -48,7 +48,7 @@ use Rattle.law_log_store.proofs.Reclaims.{none-made}
 
 -- ---- numbers
 
-new-flip : (xs ys : List ℕ) → AreNew ys xs → AreNew xs ys
+pub new-flip : (xs ys : List ℕ) → AreNew ys xs → AreNew xs ys
 new-flip [] ys new = tt
 new-flip (x ∷ xs) ys new = (heads ys new, new-flip xs ys (tails ys new))
   where
