@@ -28,6 +28,7 @@ pub mod Reclaimed
 pub mod Jobs
 pub mod ArchiveBegins
 pub mod Opened
+pub mod Fronted
 pub mod ReclaimBegins
 pub mod Reaching
 pub mod Opening
