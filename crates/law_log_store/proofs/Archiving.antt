@@ -58,7 +58,7 @@ none-held at content within = record { inside = omega (arith, within); is = empt
 
 -- ---- what the log names is kept
 
-names-long : (xs : List Head) → length (flat_map name_bytes xs) ≡ 16 * length xs
+pub names-long : (xs : List Head) → length (flat_map name_bytes xs) ≡ 16 * length xs
 unfolding u64_bytes
 names-long [] = refl
 names-long (a ∷ xs) = let rest = names-long xs in omega (arith, rest)
