@@ -59,7 +59,7 @@ use Rattle.law_log_store.proofs.Joining.{in-heap, group-joins}
 use Rattle.law_log_store.proofs.Queues.{taken-and-rest, length-taken, told-many, told-front, contents-front, contents-rest}
 use Rattle.law_log_store.proofs.Anchors.{anchors-front}
 use Rattle.law_log_store.proofs.Flags.{IsTaken, is-taken}
-use Rattle.law_log_store.proofs.Lives.{live-more, group-part}
+use Rattle.law_log_store.proofs.Lives.{lives-more, group-part}
 use Rattle.law_log_store.proofs.Reclaims.{taken-apart}
 
 -- ---- extents that are counted
@@ -141,7 +141,7 @@ module _ (most : ℕ) (l : HeapLog) (base : List ℕ) (old room-then : RoomValue
       next = ap (λ (r : RoomValue). r.next) takes.new_is ∙ sym link-is;
       free = λ m.
           subst (λ (ns : List ℕ). IsFree room-then.used m ↔ (IsNumberOf most m × IsNew m ns))
-          ((λ i. base ++ sym link-is i ∷ live_numbers l ++ sym numbers-are i) ∙ ap (λ (ns : List ℕ). base ++ c.link ∷ ns) (sym (live-more l c))) (taken.free m);
+          ((λ i. base ++ (sym link-is i ∷ live_numbers l ++ sym numbers-are i)) ∙ ap (λ (ns : List ℕ). base ++ c.link ∷ ns) (sym (live-more l c))) (taken.free m);
       log = let more = counted-more l c counts in let was = is.log in omega (arith, log-is, was, more, many-more);
     }
 
@@ -296,7 +296,7 @@ module _ (old : LogStoreValue) (h queue : History Value) (floors : ℕ → ℕ) 
     -- its chain is the last of those in memory
     is-live : IsLiveOf (with_chain s.l chain) lives
     is-live =
-        live-more s.l old.live chain b.numbers (Commits (group_last (grouped 1024 old.commits))) refl
+        lives-more s.l old.live chain b.numbers (Commits (group_last (grouped 1024 old.commits))) refl
         (ap (λ (commits : CommitsValue). Commits (group_last commits)) (grouped-is old.commits none some) ∙ group-part versions waiting next told) rest.live
 
     abbrev target : LogStoreValue

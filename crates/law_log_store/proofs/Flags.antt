@@ -126,7 +126,7 @@ pub record IsTaken (most : ℕ) (l : HeapLog) (base numbers : List ℕ) (link : 
   pub apart : AreDistinct (link ∷ live_numbers l ++ numbers)
   pub beside : AreDistinct (base ++ link ∷ numbers)
   pub many : length used ≡ most
-  pub free : (number : ℕ) → IsFree used number ↔ (IsNumberOf most number × IsNew number (base ++ link ∷ live_numbers l ++ numbers))
+  pub free : (number : ℕ) → IsFree used number ↔ (IsNumberOf most number × IsNew number (base ++ (link ∷ live_numbers l ++ numbers)))
 
 pub is-taken : (most : ℕ) (l : HeapLog) (base : List ℕ) (used : List Bool) (others : List ℕ) (link : ℕ) → length used ≡ most → IsNumberOf most l.next
     → AreDistinct (l.next ∷ live_numbers l) → AreDistinct base × IsNew l.next base

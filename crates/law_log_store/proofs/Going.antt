@@ -66,7 +66,7 @@ use Rattle.law_log_store.proofs.Headers.{IsFrom, Turns, image-of, root-left}
 use Rattle.law_log_store.proofs.Joining.{in-heap}
 use Rattle.law_log_store.proofs.Moved.{IsOnDisk, left-by-chain, on-disk, root-number, turns-alone}
 use Rattle.law_log_store.proofs.Plans.{merge-plan-stays}
-use Rattle.law_log_store.proofs.Reclaims.{taken-are}
+use Rattle.law_log_store.proofs.Reclaims.{none-some, taken-are}
 use Rattle.law_log_store.proofs.Turned.{archive-based, base-published, based-is, log-based, parts-based, way-based}
 use Rattle.law_log_store.proofs.Spans.{all-front, apart-with, behind-same, row-with}
 use Rattle.law_log_store.proofs.Naming.{archives-same, named-same}
@@ -560,7 +560,7 @@ standing-stops v h queue floors works s image left = by-turn v.turn s.turn
         → MayStandBy v.commits.failed j (IsImageOf v.roots image h floors) (λ work. IsImageOf v.roots image h (floors_with work floors))
     by-job None is may written rest = resting rest
     by-job (Some job) is may written has =
-        by-stage job.work job.stage (λ none. let no : None {A = Job} ≡ Some job = sym none ∙ is in cc) may written has
+        by-stage job.work job.stage (λ none. none-some v.job job none is) may written has
 
     by-turn : (t : Option WriterState) → HasTurn v queue s.l s.reading s.made h t
         → MayStand v.commits.failed t v.job (IsImageOf v.roots image h floors) (IsImageOf v.roots image (h ++ take v.commits.group queue) floors)
@@ -585,7 +585,7 @@ call-within w old h queue floors standing s result areas image call left =
     (λ d alone from.
     let on = way-then old h queue floors s w o d in claims (first_or 0 ((d.base).n).numbers) from (on.within result areas image chain-call left))
   where
-    abbrev next : History Value
+    next : History Value
     next = h ++ take old.commits.group queue
 
     o : IsOnWay old queue s.l s.reading h w

@@ -305,12 +305,12 @@ module _ (r : Roots) (areas : Areas) (sound : AreSound areas) where
   -- an image whose status area is left of it says that the root counts, or on the way to another one that that does
   pub root-left : (reclaim : Option ReclaimValue) (image : Image) (Goal : Type 0) → HasRoots r reclaim areas.status → MayLeave areas.status image.status
       → (IsFrom r image (root_of r) → Goal) → (Turns reclaim → IsNumberOf r.extents (root_then reclaim) × (IsFrom r image (root_then reclaim) → Goal)) → Goal
-  root-left reclaim image Goal has left from then =
+  root-left reclaim image Goal has left from turned =
       let way = root-way reclaim has in
       by-reclaim reclaim
       (λ names. from
       (from-names r image r.turned (root_of r) left.are_bytes has.in_range.size (has.in_range.root_low, has.in_range.root_high) names))
-      (λ turns names. let both = then turns in
+      (λ turns names. let both = turned turns in
       both.1 (from-names r image (roots.other r.turned) (root_then reclaim) left.are_bytes has.in_range.size both.0 names))
       (way.before image.status left)
     where

@@ -77,6 +77,9 @@ staying room numbers = record room { used = all_used room.used numbers; log = ro
 add-zero : (n : ℕ) → n ≡ n + 0
 add-zero n = omega arith
 
+zero-add : (n : ℕ) → 0 + n ≡ n
+zero-add n = omega arith
+
 kept-room : (room : RoomValue) (chains : List LiveChainValue) → all_kept room chains ≡ staying room (kept_numbers chains)
 kept-room room [] = ap (λ (n : ℕ). record room { log = n }) (add-zero room.log)
 kept-room room (c ∷ cs) =
@@ -111,20 +114,20 @@ module _ (most : ℕ) (m : HeapLog) (n : NewBase) (front back : List PlacedChain
   abbrev cleared : List Bool
   cleared = replicate most false
 
-  abbrev all : List ℕ
-  all = (((n.anchors).numbers ++ n.numbers) ++ kept) ++ m.next ∷ []
+  abbrev every : List ℕ
+  every = (((n.anchors).numbers ++ n.numbers) ++ kept) ++ m.next ∷ []
 
   kept-is : kept_numbers behind ≡ kept
   kept-is = ap kept_numbers behind-are ∙ kept-are back
 
   -- its room has these flags, and counts these extents
   abbrev then : RoomValue
-  then = record room { used = all_used cleared all; log = length kept + 1; reserved = 0 }
+  then = record room { used = all_used cleared every; log = length kept + 1; reserved = 0 }
 
   pub room-then : room_with r live room ≡ then
   room-then =
       let first : RoomValue = based_on room r.anchors r.numbers in
-      let flags : all_used (all_used (all_used (all_used cleared (n.anchors).numbers) n.numbers) kept) (m.next ∷ []) ≡ all_used cleared all =
+      let flags : all_used (all_used (all_used (all_used cleared (n.anchors).numbers) n.numbers) kept) (m.next ∷ []) ≡ all_used cleared every =
       ap (λ (u : List Bool). all_used (all_used u kept) (m.next ∷ [])) (sym (used_in_turn cleared (n.anchors).numbers n.numbers))
       ∙ ap (λ (u : List Bool). all_used u (m.next ∷ [])) (sym (used_in_turn cleared ((n.anchors).numbers ++ n.numbers) kept))
       ∙ sym (used_in_turn cleared (((n.anchors).numbers ++ n.numbers) ++ kept) (m.next ∷ [])) in
@@ -132,13 +135,13 @@ module _ (most : ℕ) (m : HeapLog) (n : NewBase) (front back : List PlacedChain
       ∙ ap (λ (ns : List ℕ). with_kept (staying first ns) (room.next ∷ [])) kept-is
       ∙ (λ i. record room {
         used = all_used (all_used (all_used (all_used (replicate (size i) false) (sym anchors-are i)) (sym numbers-are i)) kept) (next i ∷ []);
-        log = (0 + length kept) + 1;
+        log = zero-add (length kept) i + 1;
         reserved = 0;
       })
       ∙ ap (λ (u : List Bool). record room { used = u; log = length kept + 1; reserved = 0 }) flags
 
   -- the same extents, in another order
-  turned : (k : ℕ) → IsNew k all ↔ IsNew k (m.next ∷ live_numbers (with_new_base m n back))
+  turned : (k : ℕ) → IsNew k every ↔ IsNew k (m.next ∷ live_numbers (with_new_base m n back))
   turned k = (
     λ new.
         let front-new = new-front k (((n.anchors).numbers ++ n.numbers) ++ kept) (m.next ∷ []) new in
@@ -158,7 +161,7 @@ module _ (most : ℕ) (m : HeapLog) (n : NewBase) (front back : List PlacedChain
         (new.0, tt),
   )
 
-  all-in-range : AllByRecursion (IsNumberOf most) all
+  all-in-range : AllByRecursion (IsNumberOf most) every
   all-in-range =
       let P : ℕ → Type 0 = IsNumberOf most in
       let anchors = fronts P (n.anchors).numbers (n.numbers ++ kept) in-range.1 in
@@ -177,10 +180,10 @@ module _ (most : ℕ) (m : HeapLog) (n : NewBase) (front back : List PlacedChain
 
   room-of-then : IsRoomOf most (with_new_base m n back) [] then
   room-of-then = record {
-    many = all-used-length cleared all ∙ length-replicate most false;
+    many = all-used-length cleared every ∙ length-replicate most false;
     next = next;
     free = λ k.
-        let both = others_are_free most all k all-in-range in (
+        let both = others_are_free most every k all-in-range in (
           λ f. let known = both.0 f in (known.0, (turned k).0 known.1),
           λ known. both.1 (known.0, (turned k).1 known.1),
         );

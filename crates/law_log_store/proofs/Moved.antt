@@ -36,7 +36,7 @@ made-turning : (r : Roots) (root : ℕ) (w : NewBase) (more : Option PlacedRoll)
     → HasMadeAt r root w more waits k heap archive → KeepsAll (new_parts w) heap × KeepsRoll more archive
 made-turning r root w more waits (Writing anchors base) heap archive turns made = absurd turns
 made-turning r root w more waits (Rolling roll) heap archive turns made = absurd turns
-made-turning r root w more waits (Turning t) heap archive turns made = (made.0, (made.1).0)
+made-turning r root w more waits (Turning t) heap archive turns made = (made.0, made.1)
 
 module _ (roots : Roots) (job : Option Job) (end : ℕ) (heap archive : AreaState) (l : HeapLog) (reading : Reading) where
   pub on-disk : (reclaim : Option ReclaimValue) → Turns reclaim → HasReclaim roots job end heap archive l reading reclaim
@@ -76,7 +76,7 @@ made-left r root w more waits (Writing anchors base) old new archive held kept m
     let is = made.0 in
     (record { done = is.done; are = is.are; held = held is.done (anchors.left ++ base.left) is.are is.held }, made.1)
 made-left r root w more waits (Rolling roll) old new archive held kept made = (kept made.0, made.1)
-made-left r root w more waits (Turning t) old new archive held kept made = (kept made.0, made.1)
+made-left r root w more waits (Turning t) old new archive held kept made = (kept made.0, made.1, made.2, made.3)
 
 -- by each call of a chain behind the log
 module _ (roots : Roots) (job : Option Job) (end root : ℕ) (old new : Areas) (l : HeapLog) (reading : Reading) (c : PlacedChain)

@@ -332,7 +332,9 @@ module _ (v : LogStoreValue) (h queue : History Value) (floors : ℕ → ℕ) (s
         subst (λ (x : LogStoreValue). StandsOnHeap x h queue floors) (sym is)
         (synced-moves (Turning (turning.turn_of v.roots (first_or 0 r.numbers))) r.roll refl (
           all-made,
-          (no-roll (b).more (subst (RollWaits (b).more) no (so-far anchors base e).1), (refl, refl)),
+          no-roll (b).more (subst (RollWaits (b).more) no (so-far anchors base e).1),
+          refl,
+          refl,
         ))
       where
         no-roll : (more : Option PlacedRoll) → RollWaits more None → KeepsRoll more new.disk.areas.archive
@@ -481,7 +483,7 @@ module _ (v : LogStoreValue) (h queue : History Value) (floors : ℕ → ℕ) (s
           (sync-leaves-others areas.Archive (Ok tt) v.disk.areas new.disk.areas call)
           (subst (KeepsArchive s.l) (sym at) (kept-synced s.l archive (s.sound areas.Archive) s.archive))
           (subst (λ (a : AreaState). v.named.end ≤ a.firm) (sym at) reach)
-          ((rolled).0, (subst (KeepsRoll (b).more) (sym at) all-there, (refl, refl))))
+          ((rolled).0, subst (KeepsRoll (b).more) (sym at) all-there, refl, refl))
         where
           all-there : KeepsRoll (b).more (synced archive)
           all-there =
@@ -529,9 +531,9 @@ module _ (v : LogStoreValue) (h queue : History Value) (floors : ℕ → ℕ) (s
     root-call : (result : Result (Unit {0}) DeviceFault) (next : Areas) → CallsAt (Turning t) result v.disk.areas next
         → roots.IsCallOf v.roots.turned (little_bytes 4 root-new) (turn_stage t.stage) result v.disk.areas next
     root-call result next call =
-        let there = ((turning-so).1).1 in
-        subst (λ (n : ℕ). roots.IsCallOf v.roots.turned (little_bytes 4 n) (turn_stage t.stage) result v.disk.areas next) there.1
-        (subst (λ (x : Roots). roots.IsCallOf x.turned (little_bytes 4 t.root) (turn_stage t.stage) result v.disk.areas next) there.0
+        let so = turning-so in
+        subst (λ (n : ℕ). roots.IsCallOf v.roots.turned (little_bytes 4 n) (turn_stage t.stage) result v.disk.areas next) so.3
+        (subst (λ (x : Roots). roots.IsCallOf x.turned (little_bytes 4 t.root) (turn_stage t.stage) result v.disk.areas next) so.2
         (turn-call t.roots.turned (little_bytes 4 t.root) t.stage result v.disk.areas next call))
 
     turn-others : (k : turning.Stage) (result : Result (Unit {0}) DeviceFault) (next : Areas)
@@ -601,7 +603,9 @@ module _ (v : LogStoreValue) (h queue : History Value) (floors : ℕ → ℕ) (s
           (λ log. subst (KeepsLog s.l) (same-others).0 log)
           (λ c stage joins beside at. subst (λ (a : AreaState). IsAt (heap_parts s.l) (turn_of s.l.next c) stage a) (same-others).0 at) (
             subst (λ (a : AreaState). KeepsAll (new_parts w) a) (same-others).0 (turning-so).0,
-            (subst (KeepsRoll (b).more) (same-others).1 ((turning-so).1).0, ((turning-so).1).1),
+            subst (KeepsRoll (b).more) (same-others).1 (turning-so).1,
+            (turning-so).2,
+            (turning-so).3,
           ))
 
       turn-step : (k : turning.Stage) → t.stage ≡ k → new ≡ record (behind_turn v r t k) { disk = new.disk } → StandsOnHeap new h queue floors
@@ -609,7 +613,7 @@ module _ (v : LogStoreValue) (h queue : History Value) (floors : ℕ → ℕ) (s
       turn-step turning.Syncing same is = turn-moves turning.Syncing turning.Turning same refl is
       turn-step turning.Turning same is = turn-moves turning.Turning turning.Settling same refl is
       turn-step turning.Settling same is =
-          turned-stands v h queue floors s r is-it it (turning-so).0 ((turning-so).1).0 new sound is (same-others).0 (same-others).1
+          turned-stands v h queue floors s r is-it it (turning-so).0 (turning-so).1 new sound is (same-others).0 (same-others).1
           (subst (λ (x : roots.Stage). roots.IsAt header v.roots.turned (little_bytes 4 (root_of v.roots)) (little_bytes 4 root-new) x new.disk.areas.status)
           (ap (λ (x : turning.Stage). roots.stage_after (turn_stage x)) same) next-root)
       turn-step turning.Done same is =

@@ -12,6 +12,11 @@ use Rattle.log_store.specs.Values.{ReclaimValue, taken_by}
 use Rattle.log_store.specs.declared.job.Job.{Job}
 use Rattle.law_log_store.specs.Reclaiming.{HasReclaim, IsReclaiming, numbers_of, plan_of, taken_of, written_of}
 
+-- there is none, or one
+pub none-some : (j : Option Job) (it : Job) → j ≡ None → j ≡ Some it → ⊥
+none-some None it none some = cc
+none-some (Some x) it none some = cc
+
 -- ---- the extents that are taken
 
 taken-by : (makes : Bool) (n : NewBase) (numbers anchors : List ℕ) → n.numbers ≡ numbers → (n.anchors).numbers ≡ anchors
@@ -42,7 +47,7 @@ module _ (roots : Roots) (job : Option Job) (end : ℕ) (heap archive : AreaStat
   -- where a job runs no reclaim does
   pub beside-job : (it : Job) (reclaim : Option ReclaimValue) → job ≡ Some it → HasReclaim roots job end heap archive l reading reclaim → reclaim ≡ None
   beside-job it None is-job is = refl
-  beside-job it (Some r) is-job is = absurd (let no : None {A = Job} ≡ Some it = sym (is.alone) ∙ is-job in cc)
+  beside-job it (Some r) is-job is = absurd (none-some job it is.alone is-job)
 
 -- so nothing is said of one
 pub none-made : (roots : Roots) (job : Option Job) (end : ℕ) (heap archive : AreaState) (l : HeapLog) (reading : Reading) (reclaim : Option ReclaimValue)

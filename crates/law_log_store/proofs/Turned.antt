@@ -114,15 +114,15 @@ log-based makes l n front back a split stand log made =
 -- and what it names in the archive
 pub archive-based : (l : HeapLog) (n : NewBase) (more : Option PlacedRoll) (back : List PlacedChain) (a : AreaState)
     → n.rolls ≡ l.rolls ++ option_to_list more → KeepsArchive l a → KeepsRoll more a → KeepsArchive (with_new_base l n back) a
-archive-based l n more back a are keeps roll = record {
-  rolls = subst (AllByRecursion P) (sym are) (AllByRecursion-append P l.rolls (option_to_list more) keeps.rolls (by-roll more roll));
-  runs = keeps.runs;
-}
+archive-based l n more back a are keeps roll =
+    let P : PlacedRoll → Type 0 = λ r. KeepsPart r.roll.start (flat_map name_bytes r.names) a in
+    record {
+      rolls = subst (AllByRecursion P) (sym are) (AllByRecursion-append P l.rolls (option_to_list more) keeps.rolls (by-roll more roll));
+      runs = keeps.runs;
+    }
   where
-    abbrev P : PlacedRoll → Type 0
-    P r = KeepsPart r.roll.start (flat_map name_bytes r.names) a
-
-    by-roll : (m : Option PlacedRoll) → KeepsRoll m a → AllByRecursion P (option_to_list m)
+    by-roll : (m : Option PlacedRoll) → KeepsRoll m a
+        → AllByRecursion (λ (r : PlacedRoll). KeepsPart r.roll.start (flat_map name_bytes r.names) a) (option_to_list m)
     by-roll None kept = tt
     by-roll (Some p) kept = (kept, tt)
 
@@ -139,10 +139,10 @@ beside-all most false l n back c apart stand joins beside =
     (all_of_front (λ (m : ℕ). IsNew m first) n.numbers rest (named).new))
     (own).back (joined (c.link ∷ c.numbers) from-log (own).new)
   where
-    abbrev first : List ℕ
+    first : List ℕ
     first = (n.anchors).numbers
 
-    abbrev rest : List ℕ
+    rest : List ℕ
     rest = flat_map (λ (d : PlacedChain). d.numbers) back
 
     named : ArePart first (n.numbers ++ rest)
