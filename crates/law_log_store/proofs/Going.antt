@@ -151,7 +151,7 @@ none-dropped zero xs none = none
 none-dropped (suc n) [] none = refl
 none-dropped (suc n) (x ∷ xs) none = absurd cc
 
-rises-on : (t : ℕ) (h : History Value) → HasRisingTimes t h → t ≤ last_after t h
+pub rises-on : (t : ℕ) (h : History Value) → HasRisingTimes t h → t ≤ last_after t h
 rises-on t [] up = omega arith
 rises-on t (c ∷ cs) up = let rest = rises-on c.time cs up.2 in omega (arith, up.0, rest)
 

@@ -29,6 +29,7 @@ pub mod Jobs
 pub mod ArchiveBegins
 pub mod Opened
 pub mod Fronted
+pub mod Behind
 pub mod Taking
 pub mod ReclaimBegins
 pub mod Reaching
