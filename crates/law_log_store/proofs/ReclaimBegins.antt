@@ -89,7 +89,7 @@ fresh-behind most l c (n ∷ ns) joins all =
       (((((all.0).1).0, own)), rest.1),
     )
 
-module _ (v : LogStoreValue) (h queue : History Value) (floors : ℕ → ℕ) (s : StandsOnHeap v h queue floors) (none : v.job ≡ None) (no : v.reclaim ≡ None)
+module _ (v : LogStoreValue) (h queue : History Value) (floors : ℕ → ℕ) (s : StandsOnHeap v h queue floors) (none : v.job ≡ None) (no-reclaim : v.reclaim ≡ None)
     (new : LogStoreValue) (begun : IsReclaimBegun v new) where
   abbrev taken : List ℕ
   taken = begun.made ++ begun.numbers
@@ -125,7 +125,7 @@ module _ (v : LogStoreValue) (h queue : History Value) (floors : ℕ → ℕ) (s
   taken-is = taken-as (makes v) begun.made v.live.anchors begun.numbers made-none
 
   empty-room : (m : HeapLog) → IsRoomOf v.roots.extents m (taken_of v.reclaim) v.room → IsRoomOf v.roots.extents m [] v.room
-  empty-room m is = subst (λ (x : Option ReclaimValue). IsRoomOf v.roots.extents m (taken_of x) v.room) no is
+  empty-room m is = subst (λ (x : Option ReclaimValue). IsRoomOf v.roots.extents m (taken_of x) v.room) no-reclaim is
 
   room-begun : (m : HeapLog) → IsRoomOf v.roots.extents m (taken_of v.reclaim) v.room → IsRoomOf v.roots.extents m (taken_of (Some r)) begun.room
   room-begun m is =
@@ -208,7 +208,7 @@ module _ (v : LogStoreValue) (h queue : History Value) (floors : ℕ → ℕ) (s
       archive = s.archive;
       status = record {
         in_range = (s.status).in_range;
-        at = (subst (λ (x : Option ReclaimValue). HasRoots v.roots x v.disk.areas.status) no s.status).at;
+        at = (subst (λ (x : Option ReclaimValue). HasRoots v.roots x v.disk.areas.status) no-reclaim s.status).at;
       };
       sound = s.sound;
       commits = record {

@@ -328,11 +328,11 @@ module _ (v : LogStoreValue) (h queue : History Value) (floors : ℕ → ℕ) (s
 
     synced-stands : (roll : Option InRoll) → r.roll ≡ roll → new ≡ record (with_reclaim_as v (begins_roll v.roots r roll)) { disk = new.disk }
         → StandsOnHeap new h queue floors
-    synced-stands None no is =
+    synced-stands None without is =
         subst (λ (x : LogStoreValue). StandsOnHeap x h queue floors) (sym is)
         (synced-moves (Turning (turning.turn_of v.roots (first_or 0 r.numbers))) r.roll refl (
           all-made,
-          no-roll (b).more (subst (RollWaits (b).more) no (so-far anchors base e).1),
+          no-roll (b).more (subst (RollWaits (b).more) without (so-far anchors base e).1),
           refl,
           refl,
         ))

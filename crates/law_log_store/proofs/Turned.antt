@@ -235,7 +235,7 @@ module _ (most root : ℕ) (l : HeapLog) (reading : Reading) (h : History Value)
     mark-more = archive_mark-append 0 (then-reads).log (Commits (map (λ (m : readings.Member). m.head) (map member_told members)) ∷ [])
 
     -- the base may take the place of the same front
-    pub base-published : IsBaseOf most (with_chain l chain) more-reads plan
+    abbrev pub base-published : IsBaseOf most (with_chain l chain) more-reads plan
     base-published = record {
       n = b.n;
       more = b.more;
