@@ -32,7 +32,7 @@ commits_of mark heads versions floors = record {
 
 -- the room where these extents are in use, and the first one
 abbrev room_of : List Bool → RoomValue
-room_of used = record { used = with_use used 1 true; next = 1; log = 1; promised = 0; anchors = 0 }
+room_of used = record { used = with_use used 1 true; next = 1; log = 1; promised = 0; anchors = 0; reserved = 0 }
 
 pub created_is : (mark extents : ℕ) (roots : Roots) (heads : List CommitHead) (versions : List KeyWrites) (floors : FloorsValue) (contents : List (List ℕ))
     (used : List Bool) (commits : CommitsValue) (room : RoomValue) (live : LiveValue) (runs : List RunEntry) (named : NamedValue)
@@ -48,6 +48,7 @@ pub created_is : (mark extents : ℕ) (roots : Roots) (heads : List CommitHead) 
       live = live;
       turn = None;
       job = None;
+      reclaim = None;
       named = named;
       archive = archive;
       disk = disk;
@@ -63,6 +64,7 @@ created_is mark extents roots heads versions floors contents used commits room l
       live = no_live i;
       turn = None;
       job = None;
+      reclaim = None;
       named = unnamed i;
       archive = record { runs = (unread.runs_are ∙ no_runs) i; next = unread.next i; kept = unread.kept i };
       disk = disk;

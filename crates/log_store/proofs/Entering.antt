@@ -9,7 +9,7 @@ use Rattle.log_recovery.specs.Live.{counted_at, live_count, part_of}
 use Rattle.log_room.specs.Rooms.{RoomValue, TakesChain}
 use Rattle.log_room.proofs.Taken.{used_len}
 use Rattle.log_writer.specs.Writer.{WriterState}
-use Rattle.log_store.specs.Live.{LiveValue, with_live}
+use Rattle.log_store.specs.Live.{LiveValue, with_live, is_base, AreNumbers, AreLive}
 use Rattle.log_store.specs.Values.{LogStoreValue, IsBeside, IsInStep, IsJobInPlace, promised_at, promised_to}
 use Rattle.log_store.specs.Jobs.{BeginsEntry, IsReady, entry_of, entering, is_ready}
 use Rattle.log_store.specs.declared.job.Job.{Job}
@@ -20,6 +20,7 @@ use Rattle.log_store.specs.declared.job.JobWork.{JobWork}
 use Rattle.log_store.specs.declared.job.JobWork.TheVariants.{Floor}
 use Rattle.log_store.specs.declared.job.JobWork.TheVariants as works
 use Rattle.log_store.proofs.InStep.{begun_writer, counted_more}
+use Rattle.log_store.proofs.Lives.{live-more, beside-job}
 
 -- the entry of a job is one record
 pub floor-entry : (floor : RelationFloor) (floors : FloorsValue) → floor_bytes floor ≡ entry_bytes (entry_of (Floor floor floors))
@@ -55,6 +56,11 @@ pub entry-counts : (work : JobWork) (numbers : List ℕ) → counted_at (part_of
 entry-counts (Floor floor floors) numbers = refl
 entry-counts (works.Archive made archives) numbers = refl
 
+-- and is no base
+entry-no-base : (work : JobWork) → is_base (part_of (entry_of work)) ≡ false
+entry-no-base (Floor floor floors) = refl
+entry-no-base (works.Archive made archives) = refl
+
 -- a job whose entry is to begin is promised its extent
 ready-one : (k : JobStage) → is_ready k ≡ true → promised_at k ≡ 1
 ready-one (stages.Writing writer) ready = refl
@@ -65,9 +71,9 @@ ready-one (Entering w) ready = absurd (let no : false ≡ true = ready in cc)
 pub entered_in_step : (old : LogStoreValue) (job : Job) (bytes numbers : List ℕ) (link : ℕ) (room : RoomValue) (live : LiveValue) (w : WriterState)
     (after : Option Job)
     → IsInStep old → old.turn ≡ None → IsReady old.job → old.job ≡ Some job → TakesChain old.room 1 1 numbers link room
-    → live ≡ with_live old.live numbers (part_of (entry_of job.work)) → w ≡ begun_writer numbers link bytes → after ≡ entering old.job w
-    → IsInStep (record old { room = room; live = live; job = after })
-entered_in_step old job bytes numbers link room live w after is none ready is-job takes live-is w-is after-is = record {
+    → AreNumbers numbers → live ≡ with_live old.live numbers (part_of (entry_of job.work)) → w ≡ begun_writer numbers link bytes
+    → after ≡ entering old.job w → IsInStep (record old { room = room; live = live; job = after })
+entered_in_step old job bytes numbers link room live w after is none ready is-job takes in-range live-is w-is after-is = record {
   contents = is.contents;
   bytes = is.bytes;
   promised = let was = is.promised in
@@ -82,6 +88,9 @@ entered_in_step old job bytes numbers link room live w after is none ready is-jo
   turn = is.turn;
   beside = subst (IsBeside old.turn) (sym entered) (none, tt);
   place = subst IsJobInPlace (sym entered) (subst IsJobInPlace is-job is.place);
+  live = subst AreLive (sym live-is) (live-more old.live numbers (part_of (entry_of job.work)) is.live in-range (entry-no-base job.work));
+  reclaim = beside-job job old.job after old.live.chains live.chains old.room room old.reclaim is-job (ap (λ (r : RoomValue). r.reserved) takes.new_is)
+      is.reclaim;
 }
   where
     left : room.promised ≡ old.room.promised - 1

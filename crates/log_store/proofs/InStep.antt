@@ -24,13 +24,14 @@ use Rattle.log_recovery.specs.Live.{counted_at, live_count}
 use Rattle.log_recovery.specs.declared.live.LivePart.{LivePart}
 use Rattle.log_recovery.specs.declared.live.LivePart.TheVariants.{Commits}
 use Rattle.log_recovery.proofs.Lives.{lives-more}
-use Rattle.log_store.specs.Live.{LiveValue, with_live}
-use Rattle.log_store.specs.Values.{LogStoreValue, HasBytes, HasTurn, IsStageBeside, IsBeside, IsInStep}
+use Rattle.log_store.specs.Live.{LiveValue, with_live, AreNumbers}
+use Rattle.log_store.specs.Values.{LogStoreValue, HasBytes, HasTurn, IsStageBeside, IsBeside, IsReclaimBeside, IsInStep}
 use Rattle.log_store.specs.Pumps.{group_size, group_content, bars_at, bars_groups, Begins}
 use Rattle.log_store.specs.declared.job.Job.{Job}
 use Rattle.log_store.specs.declared.job.JobStage.{JobStage}
 use Rattle.log_store.specs.declared.job.JobStage.TheVariants.{Ready, Entering}
 use Rattle.log_store.specs.declared.job.JobStage.TheVariants as stages
+use Rattle.log_store.proofs.Lives.{live-more, beside-more}
 
 -- ---- bytes
 
@@ -91,6 +92,8 @@ queued_in_step old label time count anchors writes content commits contents room
   turn = subst (λ (n : ℕ). HasTurn n old.turn) (sym (ap (λ (c : CommitsValue). c.group) commits_are)) is.turn;
   beside = is.beside;
   place = is.place;
+  live = is.live;
+  reclaim = subst (λ (r : RoomValue). IsReclaimBeside old.job old.live.chains r old.reclaim) (sym room_is) is.reclaim;
 }
   where
     len : length content ≡ commit_len (map (λ (r : Record). length (spelling r)) (records_over (ordered old.commits) writes))
@@ -142,24 +145,29 @@ counted_more live part old new count promised numbers link counts takes was =
     let log : new.log ≡ old.log + count = ap (λ (r : RoomValue). r.log) takes.new_is in
     omega (arith, more, long, log, was)
 
-pub begun_in_step : (old new : LogStoreValue) → IsInStep old → old.turn ≡ None → bars_groups old.job ≡ false → 0 < length old.commits.queue → Begins old new
-    → IsInStep new
-begun_in_step old new is none unbarred some begins =
+pub begun_in_step : (old new : LogStoreValue) → IsInStep old → old.turn ≡ None → bars_groups old.job ≡ false → 0 < length old.commits.queue
+    → (begins : Begins old new) → AreNumbers begins.numbers → IsInStep new
+begun_in_step old new is none unbarred some begins in_range =
     subst IsInStep (sym begins.new_is) (record {
       contents = omega (arith, group, waits.1, size_within (length old.commits.queue), length-drop (group_size old) old.contents, queue);
       bytes = all-drop old.contents (group_size old) is.bytes;
       promised = ap (λ (r : _). r.promised) begins.takes.new_is
           ∙ (let was = is.promised in let both = extents_split old.contents (group_size old) in omega (arith, was, both));
       few = let was = is.few in let now = ap (λ (r : _). r.promised) begins.takes.new_is in omega (arith, was, now);
-      many = subst (λ (n : ℕ). n ≤ 2 ^ 20)
-          (sym (ap (λ (r : RoomValue). length r.used) begins.takes.new_is ∙ used_len old.room.used (begins.takes.others ++ begins.link ∷ []))) is.many;
+      many = subst (λ (n : ℕ). n ≤ 2 ^ 20) (sym used) is.many;
       counted = counted_more old.live (Commits (group_last (grouped 1024 old.commits))) old.room begins.room (count_of (length (group_content old)))
           (extents_of (take (group_size old) old.contents)) begins.numbers begins.link refl begins.takes is.counted;
       turn = (subst (λ (n : ℕ). 0 < n) (sym group) (size_some (length old.commits.queue) some), tt);
       beside = beside_group _ old.job unbarred;
       place = is.place;
+      live = live-more old.live begins.numbers (Commits (group_last (grouped 1024 old.commits))) is.live in_range refl;
+      reclaim = beside-more old.job old.live.chains (record { numbers = begins.numbers; part = Commits (group_last (grouped 1024 old.commits)) }) old.room
+          begins.room old.reclaim refl (ap (λ (r : RoomValue). r.reserved) begins.takes.new_is) used is.reclaim;
     })
   where
+    used : length begins.room.used ≡ length old.room.used
+    used = ap (λ (r : RoomValue). length r.used) begins.takes.new_is ∙ used_len old.room.used (begins.takes.others ++ begins.link ∷ [])
+
     waits : (old.commits.group ≡ 0) × (length old.contents ≡ length old.commits.queue)
     waits = all_wait old is none
 

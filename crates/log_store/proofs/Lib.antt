@@ -1,7 +1,11 @@
 pub mod InStep
 pub mod Formats
 pub mod Created
+pub mod Lives
+pub mod Reclaiming
+pub mod Beginning
 pub mod Rooms
+pub mod LivesRead
 pub mod Places
 pub mod Heads
 pub mod Entries

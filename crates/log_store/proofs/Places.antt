@@ -1,6 +1,6 @@
 -- What is read of an image has a place in memory.
 use Rattle.std.specs.Prelude.{Err}
-use Rattle.std.proofs.Common.{◌≡◌, ◌≢◌, ℕ, ◌+◌, ◌*◌, ◌/◌, ◌<◌, ◌≤◌, ◌^◌, max, Bool, false, List, [], ◌∷◌, ◌++◌, length, map, replicate}
+use Rattle.std.proofs.Common.{◌≡◌, ◌≢◌, ℕ, ◌+◌, ◌*◌, ◌/◌, ◌<◌, ◌≤◌, ◌^◌, max, Bool, false, List, [], ◌∷◌, ◌++◌, length, drop, map, replicate}
 use Rattle.std.proofs.Common.{refl, arith, ap, sym, subst, ◌∙◌, length-append}
 use Rattle.std.proofs.lemmas.List.{length-replicate}
 use Rattle.std.specs.List.{AllByRecursion}
@@ -25,7 +25,7 @@ use Rattle.log_recovery.specs.declared.image.LogRecovered.{LogRecovered}
 use Rattle.log_recovery.specs.Chains.{AreWalked, numbers_of, uses_of}
 use Rattle.log_recovery.specs.Rules.{mark_of, no_log}
 use Rattle.log_recovery.specs.Ends.{IsEnd}
-use Rattle.log_recovery.specs.Live.{live_count}
+use Rattle.log_recovery.specs.Live.{LiveChainValue, live_count}
 use Rattle.log_recovery.specs.Members.{name_told, heads_told, values_of, members_of_all}
 use Rattle.log_recovery.specs.Opening.{IsImageFault}
 use Rattle.log_recovery.specs.Read.{IsHeapRead}
@@ -35,7 +35,9 @@ use Rattle.log_recovery.proofs.Deciding.{end_decides}
 use Rattle.log_recovery.proofs.Lives.{lives-count}
 use Rattle.log_recovery.proofs.Sized.{follow-all}
 use Rattle.log_room.specs.Rooms.{MayOpen}
+use Rattle.log_store.specs.Live.{IsNoBase, AreNumbers, HasNumbers}
 use Rattle.log_store.specs.Opens.{head_as, HasPlace, IsPartsFault}
+use Rattle.log_store.proofs.LivesRead.{wider, placed-numbers, none-behind-first}
 use Rattle.log_store.proofs.Rooms.{numbers-count, last-keeps}
 
 -- ---- the commit order
@@ -129,6 +131,9 @@ module _ (most root : ℕ) (heap : List ℕ) (read : LogHeap) (size : IsHeapSize
       let right = is.holds.before.before.anchors in
       subst (λ (n : ℕ). n ≤ bound) (sym right.placed.count) within.0
 
+  few-extents : most ≤ 2 ^ 20
+  few-extents = let high = size.most in omega (arith, high)
+
   pub has-place : HasPlace read
   has-place = record {
     room = record {
@@ -155,6 +160,19 @@ module _ (most root : ℕ) (heap : List ℕ) (read : LogHeap) (size : IsHeapSize
           let marked : read.end.mark ≡ mark = is.end_is.says.mark_is in
           let last = last-as 0 mark read.members.commits.items in
           omega (arith, same, marked, last);
+    };
+    live = record {
+      numbers =
+          let keeps = is.holds.before.before.before in
+          subst (λ (cs : List LiveChainValue). AllByRecursion HasNumbers cs) (sym is.live_are)
+          (placed-numbers most chains few-extents (walked-placed most heap [] root chains read.next keeps.chains_hold.walked));
+      behind =
+          let keeps = is.holds.before.before.before in
+          subst (λ (cs : List LiveChainValue). AllByRecursion IsNoBase (drop 1 cs)) (sym is.live_are)
+          (none-behind-first [] chains (follow-all mark no_log chains keeps.rules));
+      anchors =
+          let right = is.holds.before.before.anchors in
+          subst (λ (ns : List ℕ). AreNumbers ns) (sym is.anchors_are) (wider most anchors.numbers few-extents right.placed.in_range);
     };
   }
 

@@ -155,6 +155,7 @@ pub record IsPlanOf (v : LogStoreValue) (plan : BasePlan) : Type 0 where
   pub anchors_are : plan.anchors.items ≡ anchor_bytes v
   pub base_is : (numbers : List ℕ) → AreForAnchors v numbers → plan.base ≡ base_with v plan.names.items numbers
   pub bytes_are : plan.bytes.items ≡ base_bytes plan.base
+  pub many : length plan.bytes.items ≡ base_len v plan.names.items
   pub named_is : plan.named ≡ named_then v plan.base plan.names.items
 
 -- the store with the reclaim, of which nothing is written

@@ -17,6 +17,7 @@ invariant_of-self-2 g c =
       live = live_value c.self.inside.live;
       turn = c.self.inside.turn;
       job = c.self.inside.job;
+      reclaim = c.self.inside.reclaim;
       named = c.self.inside.named;
       archive = c.self.inside.archive;
       disk = g.D.Disk.state c.self.inside.disk;

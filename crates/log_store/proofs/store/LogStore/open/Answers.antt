@@ -33,6 +33,7 @@ returns-in-Ok-parts_of-clause-ok g c =
         live = parts.live i;
         turn = None;
         job = None;
+        reclaim = None;
         named = parts.named i;
         archive = c.in-Ok-parts_of.parts.archive;
         disk = disk;

@@ -23,6 +23,7 @@ returns g c =
       live = live_value s.live;
       turn = s.turn;
       job = s.job;
+      reclaim = s.reclaim;
       named = s.named;
       archive = s.archive;
       disk = before;
