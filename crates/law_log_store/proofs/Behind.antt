@@ -66,19 +66,19 @@ late-time reading h next floors members stands is =
 -- ---- the chains in memory
 
 -- those of the log, and at most the chain of a group behind it
-pub record HasChains (v : LogStoreValue) (l : HeapLog) (reading : Reading) : Type 0 where
+pub record HasChains (v : LogStoreValue) (l : HeapLog) : Type 0 where
   pub extra : List LiveChainValue
   pub are : v.live.chains ≡ map live_of l.chains ++ extra
-  pub behind : IsBehindLog (archived_upto reading) l.next extra
+  pub behind : IsBehindLog v.named.upto l.next extra
   -- where there is none the log ends where the room says
   pub ends : extra ≡ [] → v.room.next ≡ l.next
   pub anchors : v.live.anchors ≡ l.anchors.numbers
 
 pub has-chains : (v : LogStoreValue) (h queue : History Value) (floors : ℕ → ℕ) (s : StandsOnHeap v h queue floors) → v.job ≡ None
-    → HasChains v s.l s.reading
+    → HasChains v s.l
 has-chains v h queue floors s none = by-turn v.turn s.turn
   where
-    by-turn : (t : Option WriterState) → HasTurn v queue s.l s.reading s.made h t → HasChains v s.l s.reading
+    by-turn : (t : Option WriterState) → HasTurn v queue s.l s.reading s.made h t → HasChains v s.l
     by-turn None has =
         let rest : IsAtRest v s.l = subst (λ (j : Option Job). HasJob v s.l s.reading s.made j) none has in
         record {
@@ -96,7 +96,7 @@ has-chains v h queue floors s none = by-turn v.turn s.turn
           behind = record {
             time = last_in (Group o.group);
             part = refl;
-            later = late-time s.reading h _ floors o.group s.stands o.is_group;
+            later = let late = late-time s.reading h _ floors o.group s.stands o.is_group in let mark = (s.named).upto in omega (arith, late, mark);
             head = (o.joins).head;
           };
           ends = λ none. absurd (let no : suc zero ≡ zero = ap (λ (cs : List LiveChainValue). length cs) none in omega (arith, no));

@@ -1,6 +1,6 @@
 //! Laws of the disk of a store whose log lies in the heap.
 ghost use Rattle.law_log_store.specs.Calls.{AbortKeeps, ArchiveBegins, BeginKeeps, FailedQueuesNone, FailedRests, FloorBegins, JobLeaves, JobSteps};
-ghost use Rattle.law_log_store.specs.Calls.{PumpLeaves, PumpSteps, ReclaimBegins, RedeemKeeps, SubmitSteps};
+ghost use Rattle.law_log_store.specs.Calls.{PumpLeaves, PumpSteps, RedeemKeeps, SubmitSteps};
 ghost use Rattle.law_log_store.specs.Opened.{OpenedStands, OpensAny, OpenStands, RoomOpens};
 ghost use Rattle.law_log_store.specs.Laws.{GroupBegins, GroupGoesOn, GroupJoins, StandingStops, SubmitKeeps};
 
@@ -73,11 +73,6 @@ pub fn floor_begins()
 /// relation, those that end by its time.
 pub fn archive_begins()
     ensures { ArchiveBegins }
-{}
-
-/// Nor does a reclaim that begins: its base may take the place of the front of the log, and lies in free extents.
-pub fn reclaim_begins()
-    ensures { ReclaimBegins }
 {}
 
 /// Transactions that begin or are given up, and tickets that are shown, change nothing of that.
