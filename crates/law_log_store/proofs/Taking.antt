@@ -1,19 +1,21 @@
 -- The base that a reclaim computes may take the place of the front: where it lies, and what it names in the archive.
-use Rattle.std.proofs.Common.{◌≡◌, ◌≢◌, ℕ, zero, suc, ◌+◌, ◌-◌, ◌*◌, ◌^◌, ◌<◌, ◌≤◌, List, [], ◌∷◌, ◌++◌, length, map, take, drop, Option, None, Some}
+use Rattle.std.proofs.Common.{◌≡◌, ◌≢◌, ℕ, zero, suc, ◌+◌, ◌-◌, ◌*◌, ◌^◌, ◌<◌, ◌≤◌, Bool, true, false, cond, List, [], ◌∷◌, ◌++◌, length, map, take, drop, Option, None, Some}
 use Rattle.std.proofs.Common.{◌⊎◌, inl, inr, refl, arith, ap, sym, subst, ◌∙◌, append-nil, append_assoc, take-append-drop}
-use Rattle.std.specs.Prelude.{filter, flat_map, option_to_list}
+use Rattle.std.specs.Prelude.{filter, flat_map, option_to_list, Contains}
+use Rattle.std.proofs.lemmas.List.Elements.{Contains-append_left, Contains-append_right, Contains-append_cases, Contains-push, Contains-push_cases}
 use Rattle.std.specs.List.{AllByRecursion}
 use Rattle.std.proofs.lemmas.List.{map-append, take-map}
 use Rattle.std.proofs.lemmas.List.Concat.{flat_map-cons}
 use Rattle.std.proofs.lemmas.Grind.{flat_map-append}
-use Rattle.history.specs.Histories.{History}
+use Rattle.history.specs.Histories.{History, MayAllFollow}
 use Rattle.history.proofs.Filters.{AllByRecursion-append}
 use Rattle.wire.specs.Numbers.{u64_bytes}
 use Rattle.wire.specs.declared.slot.Run.{Run}
-use Rattle.law_image.specs.Values.{Value}
+use Rattle.law_image.specs.Values.{Value, IsValue}
 use Rattle.law_image.specs.Reading.{Head, Reading, Slot}
 use Rattle.law_image.specs.Log.{archive_mark, heads_of}
-use Rattle.law_image.specs.StandsFor.{StandsFor, archived_upto}
+use Rattle.law_image.specs.StandsFor.{StandsFor, archived_upto, head_of}
+use Rattle.law_image.proofs.HeapRuns.{last_mark, last_mark-is}
 use Rattle.law_layout.specs.Runs.{StoredRun}
 use Rattle.law_layout.proofs.Lists.{weaker, all_of_front, all_of_back}
 use Rattle.law_log.specs.Chains.{reclaimed_by, told, TakesPlace}
@@ -35,18 +37,21 @@ use Rattle.log_base.proofs.NamesTold.{names-go_on}
 use Rattle.log_base.proofs.RunsLeft.{rolls-left, runs-left}
 use Rattle.log_base.proofs.TakesFront.{takes-live}
 use Rattle.log_recovery.specs.Live.{LiveChainValue, live_of}
+use Rattle.log_recovery.specs.Read.{all_archives, archives_named}
+use Rattle.log_store.specs.Named.{NamedValue}
 use Rattle.law_log_layout.specs.HeapLog.{AreChained, AreNamed, AreNamesOf, AreSpansApart, AreSpansInRow, ArePlaced, HeapLog, IsLogOf, IsName, IsPlaced}
 use Rattle.law_log_layout.specs.HeapLog.{IsStoredRoll, PlacedAnchors, PlacedChain, PlacedRoll, ShareNoByte, Span, archives_in, chains_told, name_bytes}
 use Rattle.law_log_layout.specs.HeapLog.{roll_span, rolls_in, run_span, runs_behind, spans_of}
 use Rattle.law_log_layout.specs.HeapLog as layout
-use Rattle.law_log_layout.specs.Reclaims.{MayTakePlace, NewBase, placed_base}
+use Rattle.law_log_layout.specs.Reclaims.{MayTakePlace, NewBase, based_reading, placed_base, with_new_base}
+use Rattle.law_log_layout.proofs.BasedShares.{in-place, tells-by}
 use Rattle.law_log_layout.proofs.Joining.{all-new}
 use Rattle.log_store.specs.Reclaims.{roll_of}
-use Rattle.law_log_store.specs.Named.{IsBehind}
+use Rattle.law_log_store.specs.Named.{IsBehind, IsNamedBy}
 use Rattle.law_log_store.specs.Reclaiming.{IsRollBehind}
 use Rattle.law_log_store.proofs.Archiving.{names-long}
 use Rattle.law_log_store.proofs.Fronted.{chained-behind, first-of}
-use Rattle.law_log_store.proofs.Spans.{all-mapped, runs-standing, stored-ends}
+use Rattle.law_log_store.proofs.Spans.{RunEnds, all-mapped, runs-standing, stored-ends}
 
 -- ---- parts in a row
 
@@ -289,3 +294,95 @@ module _ (most root : ℕ) (l : HeapLog) (reading : Reading) (h : History Value)
     are_names = are-names;
     place = takes;
   }
+
+  -- ---- what memory has of it
+
+  abbrev end : ℕ
+  end = place + length (flat_map name_bytes new)
+
+  -- the same is archived
+  mark-then : MayTakePlace most l is.names front back made → archived_upto (based_reading reading is.names made back) ≡ archived_upto reading
+  mark-then may =
+      let placed = in-place most l reading is.names front back made (tells-by most root l reading h floors is.names is stands is.are_names) may in
+      let after = (based_reading reading is.names made back).log in
+      last_mark-is 0 after ∙ ap (last_mark 0) placed.based.marks ∙ sym (last_mark-is 0 reading.log)
+
+  -- and all that the log then names ends by there
+  ends-then : IsBehind end (with_new_base l made back)
+  ends-then = record {
+    runs =
+        let f : PlacedChain → List Run = λ (d : PlacedChain). archives_in d.entry in
+        let named : AllByRecursion (RunEnds place) (named-runs front ++ named-runs back) =
+        subst (AllByRecursion (RunEnds place)) (ap named-runs split ∙ flat_map-append f front back) ends.runs in
+        let standing : AllByRecursion (RunEnds place) (map run_of base.archives) =
+        subst (AllByRecursion (RunEnds place)) (sym front-runs)
+        (runs-standing (RunEnds place) [] front tt (all_of_front (RunEnds place) (named-runs front) (named-runs back) named)) in
+        let all : AllByRecursion (RunEnds place) (named-runs (placed_base numbers (first-of l.next back) base ∷ back)) =
+        subst (AllByRecursion (RunEnds place)) (sym (flat_map-cons f (placed_base numbers (first-of l.next back) base) back))
+        (AllByRecursion-append (RunEnds place) (map run_of base.archives) (named-runs back) standing
+        (all_of_back (RunEnds place) (named-runs front) (named-runs back) named)) in
+        weaker (RunEnds place) (RunEnds end) (named-runs (placed_base numbers (first-of l.next back) base ∷ back))
+        (λ (run : Run) ends. omega (arith, ends)) all;
+    rolls = AllByRecursion-append (λ (r : PlacedRoll). r.roll.start + r.roll.len ≤ end) l.rolls (option_to_list more)
+        (weaker (λ (r : PlacedRoll). r.roll.start + r.roll.len ≤ place) (λ (r : PlacedRoll). r.roll.start + r.roll.len ≤ end) l.rolls
+        (λ (r : PlacedRoll) ends. omega (arith, ends)) ends.rolls)
+        (by-names new);
+  }
+    where
+      by-names : (xs : List Head) → AllByRecursion (λ (r : PlacedRoll). r.roll.start + r.roll.len ≤ place + length (flat_map name_bytes xs))
+          (option_to_list (roll_placed place xs))
+      by-names [] = tt
+      by-names (x ∷ xs) = (omega arith, tt)
+
+  pub named-then : (named : NamedValue) → named.archives ≡ base.archives ++ all_archives back → named.rolls ≡ base.rolls → named.upto ≡ upto
+      → named.end ≡ end → MayTakePlace most l is.names front back made
+      → IsNamedBy named (with_new_base l made back) (based_reading reading is.names made back)
+  named-then named archives rolls mark ends-at may = record {
+    archives = archives
+        ∙ sym (flat_map-cons (λ (c : PlacedChain). archives_named c.entry) (placed_base numbers (first-of l.next back) base) back);
+    rolls = rolls ∙ sym base-rolls;
+    upto = mark ∙ upto-is ∙ sym (mark-then may);
+    end = subst (λ (n : ℕ). IsBehind n (with_new_base l made back)) (sym ends-at) ends-then;
+  }
+
+-- ---- names of commits
+
+all-of : (P : Head → Type 0) (xs : List Head) → ((x : Head) → Contains xs x → P x) → AllByRecursion P xs
+all-of P [] each = tt
+all-of P (x ∷ xs) each =
+    (each x (Contains-append_left (x ∷ []) xs x (Contains-push [] x)), all-of P xs (λ y has. each y (Contains-append_right (x ∷ []) xs y has)))
+
+of-all : (P : Head → Type 0) (xs : List Head) → AllByRecursion P xs → (x : Head) → Contains xs x → P x
+of-all P [] all x has = absurd (let within = has.1 in omega (arith, within))
+of-all P (y ∷ ys) all x has = by-place (Contains-append_cases (y ∷ []) ys x has)
+  where
+    first : Contains [] x ⊎ (y ≡ x) → P x
+    first (inl has) = absurd (let within = has.1 in omega (arith, within))
+    first (inr same) = subst P same all.0
+
+    by-place : Contains (y ∷ []) x ⊎ Contains ys x → P x
+    by-place (inl has) = first (Contains-push_cases [] y x has)
+    by-place (inr has) = of-all P ys all.1 x has
+
+filtered : (P : Head → Type 0) (test : Head → Bool) (xs : List Head) → AllByRecursion P xs → AllByRecursion P (filter test xs)
+filtered P test [] all = tt
+filtered P test (x ∷ xs) all = by-test (test x)
+  where
+    by-test : (b : Bool) → AllByRecursion P (cond b (x ∷ filter test xs) (filter test xs))
+    by-test true = (all.0, filtered P test xs all.1)
+    by-test false = filtered P test xs all.1
+
+-- those of a history are in their ranges
+history-names : (before h : History Value) → MayAllFollow IsValue before h → AllByRecursion IsName (map head_of h)
+history-names before [] may = tt
+history-names before (c ∷ cs) may =
+    let one = may.0 in ((one.label, omega (arith, one.later), one.in_range), history-names (before ++ c ∷ []) cs may.1)
+
+-- and so are those that a roll has
+pub roll-names-in_range : (h : History Value) (mark upto : ℕ) (heads : List CommitHead) (new : List Head) → MayAllFollow IsValue [] h
+    → map name_of (named_between mark upto heads) ≡ filter (is_named_between mark upto) (map head_of h) → AreNamesBetween mark upto heads new
+    → AllByRecursion IsName new
+roll-names-in_range h mark upto heads new may in-memory are =
+    let all : AllByRecursion IsName (map name_of (named_between mark upto heads)) =
+    subst (AllByRecursion IsName) (sym in-memory) (filtered IsName (is_named_between mark upto) (map head_of h) (history-names [] h may)) in
+    all-of IsName new (λ x has. of-all IsName (map name_of (named_between mark upto heads)) all x ((are.same x).0 has))
