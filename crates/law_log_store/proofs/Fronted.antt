@@ -40,11 +40,11 @@ IsBehindLog mark next (c ∷ d ∷ cs) = ⊥
 -- it is no longer than the log
 front-within : (mark : ℕ) (xs : List LiveChainValue) → front_len mark xs ≤ length xs
 front-within mark [] = omega arith
-front-within mark (c ∷ cs) = by-test (is_later mark c.part)
+front-within mark (c ∷ cs) = by-test (is_later mark c.part) (front-within mark cs)
   where
-    by-test : (b : Bool) → cond b zero (suc (front_len mark cs)) ≤ suc (length cs)
-    by-test true = omega arith
-    by-test false = let rest = front-within mark cs in omega (arith, rest)
+    by-test : (b : Bool) → front_len mark cs ≤ length cs → cond b zero (suc (front_len mark cs)) ≤ suc (length cs)
+    by-test true rest = omega arith
+    by-test false rest = omega (arith, rest)
 
 -- what is behind does not count
 front-same : (mark next : ℕ) (xs extra : List LiveChainValue) → IsBehindLog mark next extra → front_len mark (xs ++ extra) ≡ front_len mark xs

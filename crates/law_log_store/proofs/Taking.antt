@@ -354,23 +354,23 @@ all-of P (x ∷ xs) each =
 
 of-all : (P : Head → Type 0) (xs : List Head) → AllByRecursion P xs → (x : Head) → Contains xs x → P x
 of-all P [] all x has = absurd (let within = has.1 in omega (arith, within))
-of-all P (y ∷ ys) all x has = by-place (Contains-append_cases (y ∷ []) ys x has)
+of-all P (y ∷ ys) all x has = by-place (Contains-append_cases (y ∷ []) ys x has) (λ there. of-all P ys all.1 x there)
   where
     first : Contains [] x ⊎ (y ≡ x) → P x
     first (inl has) = absurd (let within = has.1 in omega (arith, within))
     first (inr same) = subst P same all.0
 
-    by-place : Contains (y ∷ []) x ⊎ Contains ys x → P x
-    by-place (inl has) = first (Contains-push_cases [] y x has)
-    by-place (inr has) = of-all P ys all.1 x has
+    by-place : Contains (y ∷ []) x ⊎ Contains ys x → (Contains ys x → P x) → P x
+    by-place (inl has) rest = first (Contains-push_cases [] y x has)
+    by-place (inr has) rest = rest has
 
 filtered : (P : Head → Type 0) (test : Head → Bool) (xs : List Head) → AllByRecursion P xs → AllByRecursion P (filter test xs)
 filtered P test [] all = tt
-filtered P test (x ∷ xs) all = by-test (test x)
+filtered P test (x ∷ xs) all = by-test (test x) (filtered P test xs all.1)
   where
-    by-test : (b : Bool) → AllByRecursion P (cond b (x ∷ filter test xs) (filter test xs))
-    by-test true = (all.0, filtered P test xs all.1)
-    by-test false = filtered P test xs all.1
+    by-test : (b : Bool) → AllByRecursion P (filter test xs) → AllByRecursion P (cond b (x ∷ filter test xs) (filter test xs))
+    by-test true rest = (all.0, rest)
+    by-test false rest = rest
 
 -- those of a history are in their ranges
 history-names : (before h : History Value) → MayAllFollow IsValue before h → AllByRecursion IsName (map head_of h)

@@ -169,11 +169,11 @@ beside-all most false l n back c apart stand joins beside =
     joined [] a b = tt
     joined (m ∷ ms) a b = (AllByRecursion-append (λ (k : ℕ). k ≢ m) first n.numbers a.0 b.0, joined ms a.1 b.1)
 
-stand-more : (makes : Bool) (l : HeapLog) (c : PlacedChain) (n : NewBase) → AreAnchorsOf makes l n → AreAnchorsOf makes (with_chain l c) n
+pub stand-more : (makes : Bool) (l : HeapLog) (c : PlacedChain) (n : NewBase) → AreAnchorsOf makes l n → AreAnchorsOf makes (with_chain l c) n
 stand-more true l c n stand = tt
 stand-more false l c n stand = stand
 
-roll-more : (more : Option PlacedRoll) (l : HeapLog) (numbers : List ℕ) (link : ℕ) (members : List Member) → IsRollBehind more l
+pub roll-more : (more : Option PlacedRoll) (l : HeapLog) (numbers : List ℕ) (link : ℕ) (members : List Member) → IsRollBehind more l
     → IsRollBehind more (with_chain l (placed_group numbers link members))
 roll-more None l numbers link members behind = tt
 roll-more (Some p) l numbers link members behind = behind-same p.roll.start l (placed_group numbers link members) refl behind
@@ -212,16 +212,16 @@ module _ (most root : ℕ) (l : HeapLog) (reading : Reading) (h : History Value)
       (joins : MayJoin most l (placed_group numbers link members))
       (shares : KeepsShares most (with_chain l (placed_group numbers link members)) (with_group reading (map member_told members)))
       (beside : IsBesideBase (placed_group numbers link members) (written_of plan.makes b.n)) where
-    abbrev chain : PlacedChain
+    abbrev pub chain : PlacedChain
     chain = placed_group numbers link members
 
-    abbrev more-reads : Reading
+    abbrev pub more-reads : Reading
     more-reads = with_group reading (map member_told members)
 
-    beside-base : IsBesideBase chain b.n
+    pub beside-base : IsBesideBase chain b.n
     beside-base = let may = b.may in beside-all most plan.makes l b.n b.back chain may.apart b.stand joins beside
 
-    same : IsSameBehind most l reading numbers link members b.names b.back b.n
+    pub same : IsSameBehind most l reading numbers link members b.names b.back b.n
     same =
         same-behind most root l reading h next floors numbers link members b.names b.front b.back b.n is stands group joins beside-base b.are_names b.may
 
@@ -231,7 +231,7 @@ module _ (most root : ℕ) (l : HeapLog) (reading : Reading) (h : History Value)
     pub stands-more : StandsFor more-reads (h ++ next) floors
     stands-more = group-stands_for reading h floors stands (map member_told members) next group (room reading (in-heap most root l reading is))
 
-    mark-more : archived_upto (with_group then-reads (map member_told members)) ≡ archived_upto then-reads
+    pub mark-more : archived_upto (with_group then-reads (map member_told members)) ≡ archived_upto then-reads
     mark-more = archive_mark-append 0 (then-reads).log (Commits (map (λ (m : readings.Member). m.head) (map member_told members)) ∷ [])
 
     -- the base may take the place of the same front
