@@ -1,5 +1,6 @@
 -- The chains of a log in memory: one more behind them, and a base in the place of the first ones.
-use Rattle.std.proofs.Common.{◌≡◌, ℕ, zero, suc, ◌+◌, ◌/◌, ◌<◌, ◌≤◌, false, true, List, [], ◌∷◌, ◌++◌, length, drop, replicate, Bool, Option, None, Some, refl, sym, ap, subst, ◌∙◌}
+use Rattle.std.proofs.Common.{◌≡◌, ◌⊎◌, inl, inr, ℕ, zero, suc, ◌+◌, ◌/◌, ◌<◌, ◌≤◌, false, true, List, [], ◌∷◌, ◌++◌, length, drop, replicate, Bool, Option}
+use Rattle.std.proofs.Common.{None, Some, refl, sym, ap, subst, ◌∙◌}
 use Rattle.std.proofs.Common.{arith}
 use Rattle.std.specs.Prelude.{flat_map}
 use Rattle.std.specs.List.{AllByRecursion}
@@ -14,7 +15,7 @@ use Rattle.log_recovery.specs.Live.{LiveChainValue, counted_at, live_count}
 use Rattle.log_recovery.specs.declared.live.LivePart.{LivePart}
 use Rattle.log_recovery.specs.declared.live.LivePart.TheVariants.{Commits, Archived, Floor}
 use Rattle.log_recovery.specs.declared.live.LivePart.TheVariants as parts
-use Rattle.log_store.specs.Live.{LiveValue, with_live, is_base, IsNoBase, AreNumbers, HasNumbers, AreLive}
+use Rattle.log_store.specs.Live.{LiveValue, with_live, is_base, begins_with_base, IsNoBase, AreNumbers, HasNumbers, AreLive}
 use Rattle.log_store.specs.Values.{ReclaimValue, IsReclaiming, IsReclaimBeside}
 use Rattle.log_store.specs.Reclaiming.{all_kept, kept_numbers, room_with, live_with, base_chain, MayStand}
 use Rattle.log_store.specs.declared.job.Job.{Job}
@@ -189,3 +190,14 @@ live-stands r live are numbers anchors back = record {
   behind = back;
   anchors = anchors;
 }
+
+-- ---- the place of a base
+
+-- where none of the chains is given up there is a spare one
+pub spare-there : (chains : List LiveChainValue) (front len cap : ℕ) → AllByRecursion IsNoBase (drop front chains)
+    → (begins_with_base chains ≡ true) ⊎ (len < cap) → front ≡ 0 → len < cap
+spare-there [] front len cap none (inl based) is_zero = absurd (let no : false ≡ true = based in cc)
+spare-there (c ∷ cs) front len cap none (inl based) is_zero =
+    let first : AllByRecursion IsNoBase (c ∷ cs) = subst (λ (n : ℕ). AllByRecursion IsNoBase (drop n (c ∷ cs))) is_zero none in
+    absurd (let no : true ≡ false = sym based ∙ first.0 in cc)
+spare-there chains front len cap none (inr room) is_zero = room

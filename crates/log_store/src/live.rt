@@ -1,5 +1,5 @@
 //! The chains of the log, as memory keeps them.
-ghost use Rattle.std.specs.Prelude.{◌≡◌, ◌<◌, ◌≤◌, ◌∷◌, [], ◌↔◌, IsTrue, IfOk, OnOk, length, drop, vec_capacity};
+ghost use Rattle.std.specs.Prelude.{◌≡◌, ◌<◌, ◌≤◌, ◌∷◌, [], ◌↔◌, IsTrue, IfOk, OnOk, length, drop, vec_len, vec_capacity};
 ghost use Rattle.std.specs.List.{AllByRecursion};
 ghost use Rattle.log_recovery.specs.declared.live.LivePart.TheVariants as parts;
 ghost use Rattle.log_store.specs.Live.{none_live, with_live, is_base, IsNoBase, AreNumbers, HasNumbers, AreLive};
@@ -70,6 +70,19 @@ pub(crate) fn are_live(chains: &[LiveChain], anchors: &[u32]) -> bool
         [_, behind @ ..] => are_no_bases(behind),
     };
     behind && have_numbers(chains) && are_numbers(anchors)
+}
+
+// A chain takes the place of so many of the first ones. It takes no memory.
+fn put_first(chains: &mut Vec<LiveChain>, front: usize, first: LiveChain)
+    requires front { front ≤ length chains.old.items }
+    requires room { front ≡ 0 → vec_len chains.old < vec_capacity chains.old }
+    ensures { chains.new.items ≡ first ∷ drop front chains.old.items }
+{
+    let kept = chains.len() - front;
+    chains.as_mut_slice().rotate_left(front);
+    chains.truncate(kept);
+    chains.push_reserved(first);
+    chains.as_mut_slice().rotate_right(1);
 }
 
 /// The chains of the log, and the extents of the anchors that stand.
@@ -170,14 +183,11 @@ impl Live {
           anchors = anchors.items;
         } }
     {
-        let kept = self.chains.len() - front;
-        self.chains.as_mut_slice().rotate_left(front);
-        self.chains.truncate(kept);
-        self.chains.push_reserved(LiveChain {
+        let first = LiveChain {
             numbers,
             part: LivePart::Base(base),
-        });
-        self.chains.as_mut_slice().rotate_right(1);
+        };
+        put_first(&mut self.chains, front, first);
         self.anchors = anchors;
     }
 }

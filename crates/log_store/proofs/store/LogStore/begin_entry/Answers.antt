@@ -50,5 +50,5 @@ invariant_of-self-2 g c =
     c.put.ensures ∙ (λ i. with_live (c.make_place.ensures.same i) (c.deref.ensures.value i) (c.part-part.ensures i)) in
     entered_in_step old c.in-Some.job c.in_ok-bytes.bytes.items c.in_ok-chain.chain.numbers.items c.in_ok-chain.chain.link c.take_chain.new.self
     (live_value c.put.new.self) c.new-entry.result c.enter.new.job c.self.invariant (ap (λ (v : LogStoreValue). v.turn) c.self.view_is ∙ c.requires.none)
-    (subst (λ (v : LogStoreValue). IsReady v.job) (sym c.self.view_is) c.requires.ready) c.in-Some.is c.in_ok-chain.ensures.ok lives c.new-entry.ensures
-    c.enter.ensures
+    (subst (λ (v : LogStoreValue). IsReady v.job) (sym c.self.view_is) c.requires.ready) c.in-Some.is c.in_ok-chain.ensures.ok
+    c.in_ok-chain.ensures.in_range.1 lives c.new-entry.ensures c.enter.ensures

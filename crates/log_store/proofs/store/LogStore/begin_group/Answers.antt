@@ -80,6 +80,7 @@ invariant_of-self-2 g c =
     c.group_last-last.result (live_value c.put.new.self) c.new.result
     size c.in_ok-group.ensures.bytes count c.in_ok-group.ensures.count c.in_ok-chain.ensures.ok c.begin_group.ensures c.drop_first.ensures
     c.group_last-last.ensures lives c.new.ensures)
+    c.in_ok-chain.ensures.in_range.1
 
 pub returns-clause-ok : goal.returns-clause-ok
 returns-clause-ok g c =
