@@ -31,6 +31,7 @@ pub mod Opened
 pub mod Fronted
 pub mod Behind
 pub mod Taking
+pub mod BaseEntry
 pub mod ReclaimBegins
 pub mod Reaching
 pub mod Opening
