@@ -8,17 +8,24 @@ use Rattle.history.specs.declared.key.Key.{Key}
 use Rattle.history.specs.declared.time.Version.{Version}
 use Rattle.history.specs.Key.{key_cmp}
 use Rattle.history.specs.Versions.{versions, stands_at, as_write, first_time, FollowOneAnotherFrom}
+use Rattle.history.specs.Histories.{History}
+use Rattle.history.specs.Histories as histories
+use Rattle.history.proofs.Histories.{writes_of-rising}
 use Rattle.history.proofs.Filters.{AllByRecursion-append}
 use Rattle.history.proofs.Values.{versions-apart, apart-earlier, first_time-later}
 use Rattle.chains.specs.Writes.{Value}
 use Rattle.chains.specs.KeyWrites.{KeyWrites, writes_of}
 use Rattle.chains.proofs.Rising.{rising-writes_of}
 use Rattle.law_image.specs.Reading.{OldRecord, Reading}
-use Rattle.law_image.specs.Facts.{heap_versions, old_write}
-use Rattle.law_image.specs.StandsFor.{IsAnchorUpto, archived_upto}
+use Rattle.law_image.specs.Values as image
+use Rattle.law_image.specs.Facts.{heap_commits, heap_versions, old_write, old_writes}
+use Rattle.law_image.specs.StandsFor.{IsAnchorUpto, StandsFor, archived_upto, reclaimed_upto}
 use Rattle.law_image.specs.Plans.{IsReclaimPlan}
 use Rattle.law_image.specs.PlansMade.{old_record, old_records}
 use Rattle.law_image.proofs.PlansMade.{each-key, one-anchor, keep-sorted, keys-above}
+use Rattle.law_log_sizes.proofs.Orders.{standing-ordered}
+use Rattle.law_log_sizes.proofs.Sizes as sizes
+use Rattle.law_log_sizes.proofs.Standing.{standing-later}
 use Rattle.vacuum.specs.Archives.{AreInMemory}
 use Rattle.vacuum.specs.Anchors.{anchors_of}
 use Rattle.law_log_store.proofs.Walked.{by-key, keys_of, no-writes, sorted-keys}
@@ -67,3 +74,21 @@ module _ (m : List KeyWrites) (versions_are : AreInMemory m) (mark : ℕ) where
         rising = kept-sorted (keys_of m) sorted;
         in_range = subst (λ (n : ℕ). AllByRecursion (IsAnchorUpto n) (old_records kept (keys_of m))) (sym mark_is) (all-anchors (keys_of m));
       })
+
+-- ---- the anchors that stand
+
+-- where nothing was archived since the last reclaim they are the plan of another
+pub own-plan : (reading : Reading) (h : History image.Value) (floors : ℕ → ℕ) → StandsFor reading h floors
+    → archived_upto reading ≡ reclaimed_upto reading → IsReclaimPlan reading reading.anchors
+own-plan reading h floors is same =
+    let mark = reclaimed_upto reading in
+    let ordered = standing-ordered reading h floors is in
+    record {
+      each = λ key.
+          sym (ap (λ (n : ℕ). map as_write (filter (stands_at n) (heap_versions reading key))) same
+          ∙ sizes.stands mark reading ordered mark key (omega arith) ordered.range
+          ∙ standing-later mark (old_writes reading.anchors key) (histories.writes_of (heap_commits reading) key)
+          (writes_of-rising mark (heap_commits reading) key (sizes.rises mark reading ordered)));
+      rising = is.opens.reads.anchors;
+      in_range = subst (λ (n : ℕ). AllByRecursion (IsAnchorUpto n) reading.anchors) (sym same) is.opens.reads.anchor_times;
+    }
