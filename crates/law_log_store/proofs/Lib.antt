@@ -32,6 +32,7 @@ pub mod Fronted
 pub mod Behind
 pub mod Taking
 pub mod BaseEntry
+pub mod ReclaimMakes
 pub mod ReclaimBegins
 pub mod Reaching
 pub mod Opening
