@@ -32,9 +32,9 @@ use Rattle.law_log_store.proofs.Spans.{all-front}
 abbrev IsBased : Archive → Type 0
 IsBased a = IsArchive a × HasNoRuns a
 
-all-based : (as : List Archive) → AllByRecursion IsArchive as → AllByRecursion HasNoRuns as → AllByRecursion IsBased as
+all-based : (xs : List Archive) → AllByRecursion IsArchive xs → AllByRecursion HasNoRuns xs → AllByRecursion IsBased xs
 all-based [] each none = tt
-all-based (a ∷ as) each none = ((each.0, none.0), all-based as each.1 none.1)
+all-based (a ∷ xs) each none = ((each.0, none.0), all-based xs each.1 none.1)
 
 archives-behind : (most : ℕ) (before : List Archive) (e : Entry) → IsEntry most e → AllByRecursion IsBased before
     → AllByRecursion IsBased (runs_behind before (part_of e))
@@ -143,14 +143,14 @@ pub length-named : (upto : ℕ) (a b : AnchorName) (rolls : List Roll) (archives
 unfolding base_bytes
 length-named upto a b rolls archives floors =
     let rs = flat_map roll_bytes rolls in
-    let as = flat_map archive_bytes archives in
+    let xs = flat_map archive_bytes archives in
     let fs = flat_map floor_bytes floors in
     omega (
       arith,
-      length-append (mark_bytes upto a ++ rs ++ as) fs,
-      length-append (mark_bytes upto b ++ rs ++ as) fs,
-      length-append (mark_bytes upto a ++ rs) as,
-      length-append (mark_bytes upto b ++ rs) as,
+      length-append (mark_bytes upto a ++ rs ++ xs) fs,
+      length-append (mark_bytes upto b ++ rs ++ xs) fs,
+      length-append (mark_bytes upto a ++ rs) xs,
+      length-append (mark_bytes upto b ++ rs) xs,
       length-append (mark_bytes upto a) rs,
       length-append (mark_bytes upto b) rs,
       length-mark upto a,
