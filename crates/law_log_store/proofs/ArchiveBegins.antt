@@ -37,8 +37,8 @@ no-extents [] none = refl
 no-extents (c ∷ cs) none = absurd (omega (arith, none))
 
 module _ (v : LogStoreValue) (upto : ℕ) (h queue : History Value) (floors : ℕ → ℕ) (step : IsInStep v) (none : v.job ≡ None)
-    (no-reclaim : v.reclaim ≡ None) (room : HasRoomFor v upto h queue) (later : v.named.upto < upto) (by_last : upto ≤ last h) (in_range : IsRun (run_to v upto))
-    (holds : HoldsUnarchived v h floors) (s : StandsOnHeap v h queue floors) where
+    (no-reclaim : v.reclaim ≡ None) (room : HasRoomFor v upto h queue) (later : v.named.upto < upto) (by_last : upto ≤ last h)
+    (in_range : IsRun (run_to v upto)) (holds : HoldsUnarchived v h floors) (s : StandsOnHeap v h queue floors) where
   abbrev made : List ArchiveRecord
   made = records_to v upto
 

@@ -64,7 +64,8 @@ names-long [] = refl
 names-long (a ∷ xs) = let rest = names-long xs in omega (arith, rest)
 
 -- by a write behind it, in full or in part
-pub kept-behind : (most root place at n : ℕ) (l : HeapLog) (reading : Reading) (old new : AreaState) → IsLogOf most root l reading → IsBehind place l → place ≤ at
+pub kept-behind : (most root place at n : ℕ) (l : HeapLog) (reading : Reading) (old new : AreaState) → IsLogOf most root l reading → IsBehind place l
+    → place ≤ at
     → IsSound old → IsLoosened at n old new → KeepsArchive l old → KeepsArchive l new
 kept-behind most root place at n l reading old new is behind past sound loose keeps = record {
   rolls = three IsStoredRoll (λ (r : PlacedRoll). r.roll.start + r.roll.len ≤ place)

@@ -1,5 +1,6 @@
 -- The base that a reclaim computes has all its numbers in their ranges.
-use Rattle.std.proofs.Common.{◌≡◌, ℕ, ◌+◌, ◌-◌, ◌*◌, ◌%◌, ◌^◌, ◌<◌, ◌≤◌, ◌==◌, nat_lt, Bool, true, false, cond, List, [], ◌∷◌, ◌++◌, length, map, take, refl, arith, ap, sym, subst}
+use Rattle.std.proofs.Common.{◌≡◌, ℕ, ◌+◌, ◌-◌, ◌*◌, ◌%◌, ◌^◌, ◌<◌, ◌≤◌, ◌==◌, nat_lt, Bool, true, false, cond, List, [], ◌∷◌, ◌++◌, length, map}
+use Rattle.std.proofs.Common.{take, refl, arith, ap, sym, subst}
 use Rattle.std.proofs.Common.{◌⊎◌, inl, inr, ◌∙◌, length-append}
 use Rattle.std.specs.Prelude.{flat_map, option_to_list}
 use Rattle.std.specs.List.{AllByRecursion}
@@ -172,7 +173,8 @@ base-entry most upto chains n a rolls placed some less anchors size records each
     let front = take n chains in
     let front-placed = all-front (IsPlaced most) n chains placed in
     let lives : take n (map live_of chains) ≡ map live_of front = take-map live_of n chains in
-    let archives = subst (λ (cs : List LiveChainValue). AllByRecursion IsBased (runs_from [] cs)) (sym lives) (archives-in_range most [] front front-placed tt) in
+    let archives = subst (λ (cs : List LiveChainValue). AllByRecursion IsBased (runs_from [] cs)) (sym lives) (archives-in_range most [] front
+    front-placed tt) in
     let small = subst (λ (cs : List LiveChainValue). AllByRecursion IsSmall (own_from [] cs)) (sym lives) (all-small most [] front front-placed tt) in
     let range = floors-range upto 0 (own_from [] (take n (map live_of chains))) less small floors in
     record {

@@ -69,9 +69,11 @@ counted-less front back =
     omega (arith, ap (λ (ns : List ℕ). length ns) (flat_map-append f front back), length-append (flat_map f front) (flat_map f back))
 
 in-range-of : (most root : ℕ) (l : HeapLog) (reading : Reading) → IsLogOf most root l reading → AllByRecursion (IsNumberOf most) (l.next ∷ live_numbers l)
-in-range-of most root l reading is =
-    (is.next, AllByRecursion-append (IsNumberOf most) l.anchors.numbers (flat_map (λ (c : PlacedChain). c.numbers) l.chains) is.anchors.in_range
-    (numbers-in_range most l.chains is.placed))
+in-range-of most root l reading is = (
+  is.next,
+  AllByRecursion-append (IsNumberOf most) l.anchors.numbers (flat_map (λ (c : PlacedChain). c.numbers) l.chains) is.anchors.in_range
+      (numbers-in_range most l.chains is.placed),
+)
 
 -- What memory has once the base stands in front of these chains.
 record IsTurnedTo (most : ℕ) (l : HeapLog) (r : ReclaimValue) (old : RoomValue) (live : LiveValue) : Type 0 where
@@ -198,7 +200,8 @@ module _ (v : LogStoreValue) (h queue : History Value) (floors : ℕ → ℕ) (s
         let beside : IsBesideBase chain (written_of r.makes (b).n) =
         subst (λ (ns : List ℕ). AreDistinct (ns ++ x.link ∷ x.numbers))
         (taken-are v.roots v.job v.named.end v.disk.areas.heap v.disk.areas.archive l s.reading r it) apart in
-        let behind = base-published most root-old l s.reading h floors plan s.is_log s.stands b next x.numbers x.link o.group o.is_group o.joins o.shares beside in
+        let behind = base-published most root-old l s.reading h floors plan s.is_log s.stands b next x.numbers x.link o.group o.is_group o.joins
+        o.shares beside in
         let more = log-more most root-old l s.reading h floors plan s.is_log s.stands b next x.numbers x.link o.group o.is_group o.joins o.shares beside in
         let stood = stands-more most root-old l s.reading h floors plan s.is_log s.stands b next x.numbers x.link o.group o.is_group o.joins o.shares beside in
         let same = log-same most root-old l s.reading h floors plan s.is_log s.stands b next x.numbers x.link o.group o.is_group o.joins o.shares beside in

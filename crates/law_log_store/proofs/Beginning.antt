@@ -141,7 +141,8 @@ module _ (most : ℕ) (l : HeapLog) (base : List ℕ) (old room-then : RoomValue
       next = ap (λ (r : RoomValue). r.next) takes.new_is ∙ sym link-is;
       free = λ m.
           subst (λ (ns : List ℕ). IsFree room-then.used m ↔ (IsNumberOf most m × IsNew m ns))
-          ((λ i. base ++ (sym link-is i ∷ live_numbers l ++ sym numbers-are i)) ∙ ap (λ (ns : List ℕ). base ++ c.link ∷ ns) (sym (live-more l c))) (taken.free m);
+          ((λ i. base ++ (sym link-is i ∷ live_numbers l ++ sym numbers-are i)) ∙ ap (λ (ns : List ℕ). base ++ c.link ∷ ns) (sym (live-more l c)))
+          (taken.free m);
       log = let more = counted-more l c counts in let was = is.log in omega (arith, log-is, was, more, many-more);
     }
 
@@ -247,13 +248,13 @@ module _ (old : LogStoreValue) (h queue : History Value) (floors : ℕ → ℕ) 
 
     is-room : IsRoomOf old.roots.extents (with_chain s.l chain) (taken_of old.reclaim) b.room
     is-room =
-        room-is old.roots.extents s.l (taken_of old.reclaim) old.room b.room (count_of (length (group_content old))) (extents_of contents) b.numbers b.link rest.room s.is_log.next
-        s.is_log.apart own-taken b.takes chain refl refl refl few enough
+        room-is old.roots.extents s.l (taken_of old.reclaim) old.room b.room (count_of (length (group_content old))) (extents_of contents) b.numbers
+        b.link rest.room s.is_log.next s.is_log.apart own-taken b.takes chain refl refl refl few enough
 
     is-taken-so : IsTaken old.roots.extents s.l (taken_of old.reclaim) b.numbers b.link b.room.used
     is-taken-so =
-        taken old.roots.extents s.l (taken_of old.reclaim) old.room b.room (count_of (length (group_content old))) (extents_of contents) b.numbers b.link rest.room s.is_log.next
-        s.is_log.apart own-taken b.takes
+        taken old.roots.extents s.l (taken_of old.reclaim) old.room b.room (count_of (length (group_content old))) (extents_of contents) b.numbers
+        b.link rest.room s.is_log.next s.is_log.apart own-taken b.takes
 
     may-join : MayJoin old.roots.extents s.l chain
     may-join = record {
@@ -273,8 +274,8 @@ module _ (old : LogStoreValue) (h queue : History Value) (floors : ℕ → ℕ) 
       log =
           let one = one-or-none (nat_lt (archive_mark then.log) (told_time then.log)) in
           let log = is-room.log in
-          let spare = spare-then old.roots.extents s.l (taken_of old.reclaim) old.room b.room (count_of (length (group_content old))) (extents_of contents) b.numbers b.link rest.room
-          s.is_log.next s.is_log.apart own-taken b.takes chain refl refl refl few enough leaves in
+          let spare = spare-then old.roots.extents s.l (taken_of old.reclaim) old.room b.room (count_of (length (group_content old)))
+          (extents_of contents) b.numbers b.link rest.room s.is_log.next s.is_log.apart own-taken b.takes chain refl refl refl few enough leaves in
           omega (arith, one, log, spare);
       anchors =
           (bounds-same (reclaimed_upto then) then (standing-ordered then (h ++ next) floors stands-then) ((3 * old.roots.extents) / 16)).1 sizes-fit;
@@ -370,8 +371,8 @@ module _ (old : LogStoreValue) (h queue : History Value) (floors : ℕ → ℕ) 
       written = s.written;
       named = s.named;
       reach = s.reach;
-      spare = inl (leaves-then old.roots.extents s.l (taken_of old.reclaim) old.room b.room (count_of (length (group_content old))) (extents_of contents) b.numbers b.link rest.room
-          s.is_log.next s.is_log.apart own-taken b.takes chain refl refl refl few enough leaves);
+      spare = inl (leaves-then old.roots.extents s.l (taken_of old.reclaim) old.room b.room (count_of (length (group_content old)))
+          (extents_of contents) b.numbers b.link rest.room s.is_log.next s.is_log.apart own-taken b.takes chain refl refl refl few enough leaves);
       reclaim = s.reclaim;
     })
 

@@ -151,7 +151,8 @@ module _ (old begun : LogStoreValue) (h queue : History Value) (floors : ℕ →
 
   chain-room : IsRoomOf old.roots.extents (with_chain s.l chain) (taken_of old.reclaim) b.room
   chain-room =
-      room-is old.roots.extents s.l (taken_of old.reclaim) old.room b.room 1 1 b.numbers b.link rest.room s.is_log.next s.is_log.apart own-taken b.takes chain refl refl (counts job.work) few
+      room-is old.roots.extents s.l (taken_of old.reclaim) old.room b.room 1 1 b.numbers b.link rest.room s.is_log.next s.is_log.apart own-taken
+      b.takes chain refl refl (counts job.work) few
       promised
 
   is-room : IsRoomOf old.roots.extents log-begun (taken_of old.reclaim) b.room
@@ -198,7 +199,8 @@ module _ (old begun : LogStoreValue) (h queue : History Value) (floors : ℕ →
           → KeepsHalf old.roots.extents b.room.log reading-begun
       by-spare (inl leaves) =
           let one = one-or-none (nat_lt (archive_mark (reading-begun).log) (told_time (reading-begun).log)) in
-          let more = spare-then old.roots.extents s.l (taken_of old.reclaim) old.room b.room 1 1 b.numbers b.link rest.room s.is_log.next s.is_log.apart own-taken b.takes chain refl refl
+          let more = spare-then old.roots.extents s.l (taken_of old.reclaim) old.room b.room 1 1 b.numbers b.link rest.room s.is_log.next
+          s.is_log.apart own-taken b.takes chain refl refl
           (counts job.work) few promised leaves in
           omega (arith, one, more)
       by-spare (inr takes) = let fits = takes.fits in last-fits job.work (takes.entry).1 may (omega (arith, log-more, fits))
@@ -208,7 +210,8 @@ module _ (old begun : LogStoreValue) (h queue : History Value) (floors : ℕ →
     where
       by-spare : LeavesOne old.roots.extents old.room ⊎ TakesLast old.roots.extents old.room h queue (Some job) → LeavesOne old.roots.extents b.room
       by-spare (inl leaves) =
-          leaves-then old.roots.extents s.l (taken_of old.reclaim) old.room b.room 1 1 b.numbers b.link rest.room s.is_log.next s.is_log.apart own-taken b.takes chain refl refl
+          leaves-then old.roots.extents s.l (taken_of old.reclaim) old.room b.room 1 1 b.numbers b.link rest.room s.is_log.next s.is_log.apart
+          own-taken b.takes chain refl refl
           (counts job.work) few promised leaves
       by-spare (inr takes) = λ some.
           let t = b.takes in

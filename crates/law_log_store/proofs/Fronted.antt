@@ -1,5 +1,6 @@
 -- The front of the log as a reclaim reads it off the chains in memory, also where a group is on its way behind the log.
-use Rattle.std.proofs.Common.{◌≡◌, ℕ, zero, suc, ◌+◌, ◌<◌, ◌≤◌, nat_lt, Bool, true, false, cond, List, [], ◌∷◌, ◌++◌, length, map, take, drop, refl, arith, ap, sym, subst}
+use Rattle.std.proofs.Common.{◌≡◌, ℕ, zero, suc, ◌+◌, ◌<◌, ◌≤◌, nat_lt, Bool, true, false, cond, List, [], ◌∷◌, ◌++◌, length, map, take, drop, refl}
+use Rattle.std.proofs.Common.{arith, ap, sym, subst}
 use Rattle.std.proofs.Common.{◌∙◌, append-nil}
 use Rattle.std.specs.Prelude.{flat_map}
 use Rattle.std.proofs.lemmas.List.{map-append, take-map}
@@ -85,7 +86,8 @@ module _ (mark next : ℕ) (chains : List PlacedChain) (extra live : List LiveCh
   pub mark-same : mark_of live ≡ mark_of (map live_of chains)
   mark-same = ap mark_of are ∙ by-chains chains extra behind
     where
-      by-chains : (cs : List PlacedChain) (more : List LiveChainValue) → IsBehindLog mark next more → mark_of (map live_of cs ++ more) ≡ mark_of (map live_of cs)
+      by-chains : (cs : List PlacedChain) (more : List LiveChainValue) → IsBehindLog mark next more
+          → mark_of (map live_of cs ++ more) ≡ mark_of (map live_of cs)
       by-chains [] [] is = refl
       by-chains [] (c ∷ []) is = ap mark_at is.part
       by-chains [] (c ∷ d ∷ more) is = absurd is
@@ -129,7 +131,8 @@ module _ (mark next : ℕ) (chains : List PlacedChain) (extra live : List LiveCh
       by-chains (c ∷ cs) more is same = refl
 
 -- the chains that stay begin there
-pub chained-behind : (root next n : ℕ) (chains : List PlacedChain) → AreChained root chains next → AreChained (first-of next (drop n chains)) (drop n chains) next
+pub chained-behind : (root next n : ℕ) (chains : List PlacedChain) → AreChained root chains next
+    → AreChained (first-of next (drop n chains)) (drop n chains) next
 chained-behind root next zero [] is = refl
 chained-behind root next zero (c ∷ cs) is = (refl, is.1)
 chained-behind root next (suc n) [] is = refl

@@ -176,7 +176,7 @@ at-roots v h queue floors s image Goal left from then = root-left v.roots v.disk
         let d = on-disk v.roots v.job v.named.end v.disk.areas.heap v.disk.areas.archive s.l s.reading v.reclaim turns s.reclaim in (
           subst (IsNumberOf v.roots.extents) d.root_is (root-number v.roots.extents s.l s.reading d.plan d.base),
           λ from. then d (turns-alone v.roots v.job v.named.end v.disk.areas.heap v.disk.areas.archive s.l s.reading v.reclaim turns s.reclaim)
-          (subst (IsFrom v.roots image) (sym d.root_is) from),
+              (subst (IsFrom v.roots image) (sym d.root_is) from),
         )
 
 -- what is left of a log at rest stands for what it tells, from the root that counts

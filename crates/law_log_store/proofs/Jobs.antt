@@ -203,7 +203,8 @@ module _ (tells : Bool) (old new : LogStoreValue) (answer : Result JobDid PumpFa
           let leaves = entering.target-leaves old begun h queue floors s rest step job promised may written spare at_rest none b in
           let way = entering.on-way old begun h queue floors s rest step job promised may written spare at_rest none b in
           by-answer job is-job answer
-          (entering.entry-steps target h queue floors there (record job { stage = Entering writer }) writer at_rest none may (written writer) leaves way tells tell
+          (entering.entry-steps target h queue floors there (record job { stage = Entering writer }) writer at_rest none may (written writer) leaves
+          way tells tell
           refl new sound answer (subst (λ (x : LogStoreValue). AdvancesEntry tells x.job x answer new) b.new_is advances))
 
       by-turn : (job : Job) (waited : Bool) → old.job ≡ Some job → job.stage ≡ Ready waited → (t : Option WriterState) → old.turn ≡ t

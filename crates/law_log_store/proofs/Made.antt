@@ -84,7 +84,7 @@ module _ (most root : ℕ) (l : HeapLog) (reading : Reading) (w : NewBase) (is :
     write-keeps-log result writes log = record {
       parts =
           (let leaves = write-leaves-parts p (heap_parts l) result areas next sound
-              (at-parts (λ (q : Part). AreApartFrom q (heap_parts l)) (parts-free).live) writes in
+          (at-parts (λ (q : Part). AreApartFrom q (heap_parts l)) (parts-free).live) writes in
           leaves.kept log.parts);
       ends = closed-leaves (extent_start l.next) areas.heap next.heap
           (λ gate. write-leaves-parts p (gate_part (extent_start l.next) gate ∷ []) result areas next sound

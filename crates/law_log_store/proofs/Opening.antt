@@ -133,7 +133,14 @@ module _ (tells : Bool) (old : DiskState) (mark : ℕ) (v : LogStoreValue) (root
   room-is : v.room ≡ opened_room v.roots.extents l reading
   room-is =
       ap (λ (x : LogStoreValue). x.room) opens.new_is
-      ∙ (λ i. record { used = with_use (space-is i) ((same.0).1 i) true; next = (same.0).1 i; log = log-is i; promised = 0; anchors = anchors-is i; reserved = 0 })
+      ∙ (λ i. record {
+        used = with_use (space-is i) ((same.0).1 i) true;
+        next = (same.0).1 i;
+        log = log-is i;
+        promised = 0;
+        anchors = anchors-is i;
+        reserved = 0;
+      })
       ∙ sym (ap (λ (most : ℕ). opened_room most l reading) size-is)
 
   -- ---- the chains in memory

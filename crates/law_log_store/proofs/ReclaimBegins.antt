@@ -89,8 +89,8 @@ fresh-behind most l c (n ∷ ns) joins all =
       (((((all.0).1).0, own)), rest.1),
     )
 
-module _ (v : LogStoreValue) (h queue : History Value) (floors : ℕ → ℕ) (s : StandsOnHeap v h queue floors) (none : v.job ≡ None) (no-reclaim : v.reclaim ≡ None)
-    (new : LogStoreValue) (begun : IsReclaimBegun v new) where
+module _ (v : LogStoreValue) (h queue : History Value) (floors : ℕ → ℕ) (s : StandsOnHeap v h queue floors) (none : v.job ≡ None)
+    (no-reclaim : v.reclaim ≡ None) (new : LogStoreValue) (begun : IsReclaimBegun v new) where
   abbrev taken : List ℕ
   taken = begun.made ++ begun.numbers
 
@@ -150,7 +150,7 @@ module _ (v : LogStoreValue) (h queue : History Value) (floors : ℕ → ℕ) (s
           let c = placed_group w.numbers w.link o.group in
           let room = empty-room (with_chain s.l c) o.room in (
             (fresh-behind v.roots.extents s.l c taken o.joins
-            (fresh v.roots.extents (with_chain s.l c) v.room begun.room taken (length begun.made + length begun.numbers) room begun.reserves)).0,
+                (fresh v.roots.extents (with_chain s.l c) v.room begun.room taken (length begun.made + length begun.numbers) room begun.reserves)).0,
             (free-all v.roots.extents (with_chain s.l c) v.room begun.room taken (length begun.made + length begun.numbers) room begun.reserves).1,
           )
 

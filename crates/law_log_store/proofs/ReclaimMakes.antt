@@ -1,5 +1,6 @@
 -- What a reclaim that begins makes is what its store is to have: the anchors, in both cases.
-use Rattle.std.proofs.Common.{◌≡◌, ◌≢◌, ℕ, ◌+◌, ◌*◌, ◌/◌, ◌<◌, ◌≤◌, ◌^◌, Bool, true, false, List, [], ◌∷◌, ◌++◌, length, map, Option, None, Some, refl, arith, ap, sym, subst, ◌∙◌}
+use Rattle.std.proofs.Common.{◌≡◌, ◌≢◌, ℕ, ◌+◌, ◌*◌, ◌/◌, ◌<◌, ◌≤◌, ◌^◌, Bool, true, false, List, [], ◌∷◌, ◌++◌, length, map, Option, None, Some}
+use Rattle.std.proofs.Common.{refl, arith, ap, sym, subst, ◌∙◌}
 use Rattle.std.specs.Prelude.{flat_map, option_to_list, if◌then◌else◌}
 use Rattle.std.specs.List.{AllByRecursion}
 use Rattle.std.proofs.lemmas.List.{append-nil, map-append}
@@ -40,7 +41,8 @@ anchors_by true l made olds = record { numbers = made; records = olds }
 anchors_by false l made olds = l.anchors
 
 -- what is to be written are its parts
-pub parts-written : (m : Bool) (l : HeapLog) (made : List ℕ) (olds : List OldRecord) (n : NewBase) (bytes content : List ℕ) → n.anchors ≡ anchors_by m l made olds
+pub parts-written : (m : Bool) (l : HeapLog) (made : List ℕ) (olds : List OldRecord) (n : NewBase) (bytes content : List ℕ)
+    → n.anchors ≡ anchors_by m l made olds
     → (m ≡ false → made ≡ []) → (m ≡ true → bytes ≡ flat_map old_bytes olds) → content ≡ entry_bytes (entries.Base n.base)
     → whole_parts 0 0 made bytes ++ whole_parts open_gate n.link n.numbers content ≡ new_parts (written_of m n)
 parts-written true l made olds n bytes content are none spelled same =

@@ -53,7 +53,8 @@ use Rattle.law_log_store.specs.Calls.{HasFailed, IsFront, JobStepsTo, floors_aft
 use Rattle.law_log_store.specs.Headers.{header_parts}
 use Rattle.law_log_store.specs.Reclaiming.{AreWritten, HasMadeAt, HasReclaim, HasRoots, IsBaseOf, IsReclaiming, IsRollBehind, IsRollOnWay, IsRollWritten}
 use Rattle.law_log_store.specs.Reclaiming.{EndsBy, KeepsRoll, RollWaits, plan_of, roll_bytes, root_stage_at, root_then, taken_of, turn_stage, written_of}
-use Rattle.law_log_store.specs.Standing.{StandsOnHeap, HasTurn, HasJob, IsAtRest, IsRoomOf, IsImageOf, HasAllWritten, MayStand, MayStandAt, MayStandBy, MayStandOn}
+use Rattle.law_log_store.specs.Standing.{StandsOnHeap, HasTurn, HasJob, IsAtRest, IsRoomOf, IsImageOf, HasAllWritten, MayStand, MayStandAt}
+use Rattle.law_log_store.specs.Standing.{MayStandBy, MayStandOn}
 use Rattle.law_log_store.specs.Standing.{StopsOnHeap, floors_with}
 use Rattle.law_log_store.proofs.Archiving.{be-become, kept-behind, kept-synced, none-held}
 use Rattle.law_log_store.proofs.Based.{turned-stands}
@@ -399,7 +400,8 @@ module _ (v : LogStoreValue) (h queue : History Value) (floors : ℕ → ℕ) (s
         (omega (arith, place)) (s.sound areas.Archive) loose s.archive
 
     -- where the archive alone has changed
-    roll-moves : (k : ReclaimStage) (disk : DiskState) → AreSound disk.areas → root_stage_at k ≡ roots.Writing → AreOthersSame areas.Archive v.disk.areas disk.areas
+    roll-moves : (k : ReclaimStage) (disk : DiskState) → AreSound disk.areas → root_stage_at k ≡ roots.Writing
+        → AreOthersSame areas.Archive v.disk.areas disk.areas
         → KeepsArchive s.l disk.areas.archive → v.named.end ≤ disk.areas.archive.firm
         → HasMadeAt v.roots root-new w (b).more r.roll k heap disk.areas.archive
         → StandsOnHeap (record v { reclaim = Some (record r { stage = k }); disk = disk }) h queue floors

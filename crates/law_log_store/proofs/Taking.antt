@@ -1,5 +1,6 @@
 -- The base that a reclaim computes may take the place of the front: where it lies, and what it names in the archive.
-use Rattle.std.proofs.Common.{◌≡◌, ◌≢◌, ℕ, zero, suc, ◌+◌, ◌-◌, ◌*◌, ◌^◌, ◌<◌, ◌≤◌, Bool, true, false, cond, List, [], ◌∷◌, ◌++◌, length, map, take, drop, Option, None, Some}
+use Rattle.std.proofs.Common.{◌≡◌, ◌≢◌, ℕ, zero, suc, ◌+◌, ◌-◌, ◌*◌, ◌^◌, ◌<◌, ◌≤◌, Bool, true, false, cond, List, [], ◌∷◌, ◌++◌, length, map, take}
+use Rattle.std.proofs.Common.{drop, Option, None, Some}
 use Rattle.std.proofs.Common.{◌⊎◌, inl, inr, refl, arith, ap, sym, subst, ◌∙◌, append-nil, append_assoc, take-append-drop}
 use Rattle.std.specs.Prelude.{filter, flat_map, option_to_list, Contains}
 use Rattle.std.proofs.lemmas.List.Elements.{Contains-append_left, Contains-append_right, Contains-append_cases, Contains-push, Contains-push_cases}
@@ -251,7 +252,8 @@ module _ (most root : ℕ) (l : HeapLog) (reading : Reading) (h : History Value)
   runs-row =
       let f : PlacedChain → List Run = λ (d : PlacedChain). archives_in d.entry in
       let old : spans (named-runs l.chains) ≡ spans (named-runs front) ++ spans (named-runs back) =
-      ap (λ (cs : List PlacedChain). spans (named-runs cs)) split ∙ ap spans (flat_map-append f front back) ∙ spans-append (named-runs front) (named-runs back) in
+      ap (λ (cs : List PlacedChain). spans (named-runs cs)) split ∙ ap spans (flat_map-append f front back) ∙ spans-append (named-runs front)
+      (named-runs back) in
       let then : spans (named-runs (placed_base numbers (first-of l.next back) base ∷ back)) ≡ spans (layout.runs_from [] front) ++ spans (named-runs back) =
       ap spans (flat_map-cons f (placed_base numbers (first-of l.next back) base) back)
       ∙ spans-append (map run_of base.archives) (named-runs back)
