@@ -168,8 +168,7 @@ ArchiveBegins =
     → BeginsArchive v (run_to v upto) (unwritten v.named.end (records_to v upto)) new → StandsOnHeap new h queue floors
 
 -- What a reclaim needs of memory: it is in order, and of the versions that stand at the archive mark it has those of the heap. Of the commits that are later
--- than
--- the mark of the log's base, and no later than the archive mark, it has the names.
+-- than the mark of the log's base, and no later than the archive mark, it has the names.
 pub record HoldsUnreclaimed (v : LogStoreValue) (reading : Reading) (h : History Value) : Type 0 where
   pub in_memory : AreInMemory v.commits.versions
   pub same : (key : Key) → filter (stands_at v.named.upto) (versions (writes_of v.commits.versions key))

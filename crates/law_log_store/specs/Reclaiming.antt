@@ -169,8 +169,7 @@ taken_of None = []
 taken_of (Some r) = taken_by r
 
 -- A reclaim runs beside no job. So much of its base is made; what the log then names in the archive ends by where the next run would begin, or by the end of
--- the
--- base's roll.
+-- the base's roll.
 pub record IsReclaiming (r : Roots) (job : Option Job) (end : ℕ) (heap archive : AreaState) (l : HeapLog) (reading : Reading) (plan : PlanValue)
     (waits : Option InRoll) (stage : ReclaimStage) : Type 0 where
   pub alone : job ≡ None
