@@ -38,7 +38,8 @@ use Rattle.law_refinement.proofs.Growing.{front-map}
 use Rattle.log_store.specs.Values.{LogStoreValue, IsInStep}
 use Rattle.log_store.specs.Opens.{Opens, AreEntriesFrom}
 use Rattle.log_store.specs.declared.job.Job.{Job}
-use Rattle.law_log_store.specs.Standing.{IsImageOf, IsNamedBy}
+use Rattle.law_log_store.specs.Named.{IsNamedBy}
+use Rattle.law_log_store.specs.Standing.{IsImageOf}
 use Rattle.law_log_store.proofs.Opening.{read as read-is, same as same-log, named as opened-named}
 use Rattle.law_log_store.proofs.Spans.{stored-ends}
 use Rattle.law_log_steps.specs.Store.{IsStoreOf}

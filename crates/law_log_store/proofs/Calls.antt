@@ -74,6 +74,7 @@ module _ (v : LogStoreValue) (opened : List (Option ℕ)) (heads : List CommitHe
     named = s.named;
     reach = s.reach;
     spare = s.spare;
+    reclaim = s.reclaim;
   }
     where
       by-stage : (work : JobWork) (k : JobStage) → HasStage v s.l s.reading s.made work k → HasStage named s.l s.reading s.made work k
@@ -98,6 +99,7 @@ module _ (v : LogStoreValue) (opened : List (Option ℕ)) (heads : List CommitHe
         room = is.room;
         live = is.live;
         alone = is.alone;
+        beside = is.beside;
       }
 
   names-keep : KeepsDisk v named

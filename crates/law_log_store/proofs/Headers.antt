@@ -1,6 +1,6 @@
 -- The header of the status area: the parts that it keeps, and what is read where these are kept.
 use Rattle.std.proofs.Common.{◌≡◌, ◌≢◌, ℕ, ◌+◌, ◌-◌, ◌^◌, ◌<◌, ◌≤◌, Bool, true, false, List, [], ◌∷◌, ◌++◌, length, take, drop, get_or, replicate}
-use Rattle.std.proofs.Common.{refl, arith, ap, sym, subst, ◌∙◌, inl, inr}
+use Rattle.std.proofs.Common.{refl, arith, ap, sym, subst, ◌∙◌, ⊎_elim, inl, inr, Option, None, Some, Result}
 use Rattle.std.specs.Prelude.{◌⊎◌, if◌then◌else◌}
 use Rattle.std.proofs.lemmas.Bool.{cases_lt}
 use Rattle.std.proofs.lemmas.Bool.Decides.{nat_tests}
@@ -12,7 +12,8 @@ use Rattle.wire.specs.Numbers.{u32_bytes}
 use Rattle.wire.proofs.Zeros as numbers
 use Rattle.wire.proofs.Zeros.{AreBytes-drop}
 use Rattle.history.specs.Histories.{History}
-use Rattle.disk.specs.Areas.{AreaState, Image, AreBytes, MayLeave, settled_area}
+use Rattle.disk.specs.Areas.{Areas, Image, AreBytes, AreSound, MayLeave, settled_area}
+use Rattle.disk.specs.declared.area.DeviceFault.{DeviceFault}
 use Rattle.disk.specs.Parts.{HoldsPart}
 use Rattle.disk.proofs.Parts.{synced_part}
 use Rattle.law_image.specs.Values.{Value}
@@ -22,13 +23,22 @@ use Rattle.status.specs.Header.{header_front}
 use Rattle.log_writer.specs.Turns.{open_gate}
 use Rattle.log_roots.specs.declared.roots.Roots.{Roots}
 use Rattle.log_roots.specs.Roots.{root_of, is_open, roots_bytes, IsHeapSize}
+use Rattle.log_roots.specs.Turning as turning
+use Rattle.log_store.specs.Values.{ReclaimValue}
+use Rattle.log_store.specs.declared.reclaim.ReclaimStage.{ReclaimStage}
+use Rattle.log_store.specs.declared.reclaim.ReclaimStage.TheVariants.{Writing, Rolling, Turning}
+use Rattle.log_extents.specs.Chains.{IsNumberOf}
 use Rattle.log_recovery.specs.Opening.{ReadsRoots}
 use Rattle.law_log_layout.specs.HeapLog.{HeapStandsFor}
 use Rattle.law_log_layout.specs.Turns.{HoldsAll, AreApartFrom}
 use Rattle.law_log_layout.specs.Roots.{turn_place, root_place, IsTurned, KeepsTurned, NamesRoot, IsHeaderApart}
-use Rattle.law_log_layout.proofs.Parts.{all-left, closed-left, all-synced}
+use Rattle.law_log_layout.specs.Laws.{IsRootWay}
+use Rattle.law_log_layout.specs.Roots as roots
+use Rattle.law_log_layout.proofs.Parts.{all-synced}
+use Rattle.law_log_layout.proofs.RootGoes.{goes}
 use Rattle.law_log_store.specs.Headers.{header_parts}
-use Rattle.law_log_store.specs.Standing.{KeepsRoots, IsImageOf}
+use Rattle.law_log_store.specs.Reclaiming.{HasRoots, root_stage, root_stage_at, root_then, turn_stage}
+use Rattle.law_log_store.specs.Standing.{IsImageOf}
 
 -- ---- its parts
 
@@ -210,11 +220,11 @@ module _ (content : List ℕ) (extents root : ℕ) (bytes : AreBytes content) (s
 -- ---- what is kept
 
 -- a header that is on the disk is kept
-pub roots-settled : (r : Roots) (status : List ℕ) → ReadsRoots status r → KeepsRoots r (settled_area status)
+pub roots-settled : (r : Roots) (status : List ℕ) → ReadsRoots status r → HasRoots r None (settled_area status)
 roots-settled r status reads =
     let names = header-names status r reads in record {
       in_range = reads.has.in_range;
-      rests = record {
+      at = record {
         rest = all-synced (header_parts r.extents) (settled_area status) names.rest;
         is = synced_part (root_place r.turned) (little_bytes 4 (root_of r)) (settled_area status) names.is;
         counts = by-turn r.turned names.counts;
@@ -226,30 +236,93 @@ roots-settled r status reads =
     by-turn false shut =
         record { gate = shut.gate; closed = shut.closed; kept = synced_part turn_place (shut.gate ∷ []) (settled_area status) shut.held }
 
--- and whatever a stop may leave reads as one of as many extents, where the same root counts
-pub roots-left : (r : Roots) (a : AreaState) (content : List ℕ) → KeepsRoots r a → MayLeave a content → ReadsAs r.extents r.turned (root_of r) content
-roots-left r a content keeps left =
-    names-header content r.extents (root_of r) left.are_bytes keeps.in_range.size keeps.in_range.root_low keeps.in_range.root_high r.turned (record {
-      rest = all-left (header_parts r.extents) a content keeps.rests.rest left;
-      is = (let kept = keeps.rests.is in kept.left content left);
-      counts = by-turn r.turned keeps.rests.counts;
-    })
-  where
-    by-turn : (turned : Bool) → KeepsTurned turned a → IsTurned turned content
-    by-turn true keeps = keeps.left content left
-    by-turn false keeps = closed-left turn_place a content keeps left
-
 -- an image is of a heap that may be
 pub image-size : (r : Roots) (image : Image) (h : History Value) (floors : ℕ → ℕ) → IsImageOf r image h floors → IsHeapSize r.extents
 image-size r image h floors is = subst IsHeapSize is.size is.status.has.in_range.size
 
--- So an image whose status area is left of it stands for what heap and archive do from that root on.
-pub image-left : (r : Roots) (a : AreaState) (image : Image) (h : History Value) (floors : ℕ → ℕ) → KeepsRoots r a → MayLeave a image.status
-    → HeapStandsFor r.extents (root_of r) image.heap image.archive h floors → IsImageOf r image h floors
-image-left r a image h floors keeps left heap =
-    let found = roots-left r a image.status keeps left in record {
-      read = found.read;
-      status = found.reads;
-      size = found.size;
-      heap = subst (λ (root : ℕ). HeapStandsFor r.extents root image.heap image.archive h floors) (sym found.root_is) heap;
-    }
+-- ---- what is left of it
+
+-- the status area of an image says that this root counts, of a heap of as many extents
+pub record IsFrom (r : Roots) (image : Image) (root : ℕ) : Type 0 where
+  pub read : Roots
+  pub status : ReadsRoots image.status read
+  pub size : read.extents ≡ r.extents
+  pub root_is : root_of read ≡ root
+
+-- so it stands for what heap and archive do from that root on
+pub image-of : (r : Roots) (image : Image) (root : ℕ) (h : History Value) (floors : ℕ → ℕ) → IsFrom r image root
+    → HeapStandsFor r.extents root image.heap image.archive h floors → IsImageOf r image h floors
+image-of r image root h floors from heap = record {
+  read = from.read;
+  status = from.status;
+  size = from.size;
+  heap = subst (λ (n : ℕ). HeapStandsFor r.extents n image.heap image.archive h floors) (sym from.root_is) heap;
+}
+
+pub from-names : (r : Roots) (image : Image) (turned : Bool) (root : ℕ) → AreBytes image.status → IsHeapSize r.extents → IsNumberOf r.extents root
+    → NamesRoot (header_parts r.extents) turned (little_bytes 4 root) image.status → IsFrom r image root
+from-names r image turned root bytes size number names =
+    let found = names-header image.status r.extents root bytes size number.0 number.1 turned names in
+    record { read = found.read; status = found.reads; size = found.size; root_is = found.root_is }
+
+-- the status area is on its way to another root
+abbrev pub TurnsAt : ReclaimStage → Type 0
+TurnsAt (Writing anchors base) = ⊥
+TurnsAt (Rolling roll) = ⊥
+TurnsAt (Turning t) = Unit {0}
+
+abbrev pub Turns : Option ReclaimValue → Type 0
+Turns None = ⊥
+Turns (Some r) = TurnsAt r.stage
+
+-- the other root may count only where it is
+before-turn : (A B C : Type 0) (k : ReclaimStage) → (A → C) → (TurnsAt k → B → C) → roots.MayBe (root_stage_at k) A B → C
+before-turn A B C (Writing anchors base) f g is = f is
+before-turn A B C (Rolling roll) f g is = f is
+before-turn A B C (Turning t) f g is = by-stage t.stage is
+  where
+    by-stage : (k : turning.Stage) → roots.MayBe (turn_stage k) A B → C
+    by-stage turning.Writing is = f is
+    by-stage turning.Syncing is = f is
+    by-stage turning.Turning is = f is
+    by-stage turning.Settling is = ⊎_elim f (g tt) is
+    by-stage turning.Done is = g tt is
+
+pub within-turn : (A B C : Type 0) (stage : turning.Stage) → (A → C) → (B → C) → roots.MayBecome (turn_stage stage) A B → C
+within-turn A B C turning.Writing f g is = f is
+within-turn A B C turning.Syncing f g is = f is
+within-turn A B C turning.Turning f g is = ⊎_elim f g is
+within-turn A B C turning.Settling f g is = ⊎_elim f g is
+within-turn A B C turning.Done f g is = g is
+
+module _ (r : Roots) (areas : Areas) (sound : AreSound areas) where
+  pub root-way : (reclaim : Option ReclaimValue) → HasRoots r reclaim areas.status
+      → IsRootWay (header_parts r.extents) r.turned (little_bytes 4 (root_of r)) (little_bytes 4 (root_then reclaim)) (root_stage reclaim) areas
+  root-way reclaim has =
+      goes (header_parts r.extents) r.turned (little_bytes 4 (root_of r)) (little_bytes 4 (root_then reclaim)) (header-apart r.extents) refl refl areas sound
+      (root_stage reclaim) has.at
+
+  -- an image whose status area is left of it says that the root counts, or on the way to another one that that does
+  pub root-left : (reclaim : Option ReclaimValue) (image : Image) (Goal : Type 0) → HasRoots r reclaim areas.status → MayLeave areas.status image.status
+      → (IsFrom r image (root_of r) → Goal) → (Turns reclaim → IsNumberOf r.extents (root_then reclaim) × (IsFrom r image (root_then reclaim) → Goal)) → Goal
+  root-left reclaim image Goal has left from turned =
+      let way = root-way reclaim has in
+      by-reclaim reclaim
+      (λ names. from
+      (from-names r image r.turned (root_of r) left.are_bytes has.in_range.size (has.in_range.root_low, has.in_range.root_high) names))
+      (λ turns names. let both = turned turns in
+      both.1 (from-names r image (roots.other r.turned) (root_then reclaim) left.are_bytes has.in_range.size both.0 names))
+      (way.before image.status left)
+    where
+      by-reclaim : {A B : Type 0} (it : Option ReclaimValue) → (A → Goal) → (Turns it → B → Goal) → roots.MayBe (root_stage it) A B → Goal
+      by-reclaim None f g is = f is
+      by-reclaim (Some x) f g is = before-turn _ _ Goal x.stage f g is
+
+-- a call of the turn is one of the way from root to root
+pub turn-call : (turned : Bool) (root : List ℕ) (stage : turning.Stage) (result : Result (Unit {0}) DeviceFault) (old new : Areas)
+    → turning.IsCallOf turned root stage result old new → roots.IsCallOf turned root (turn_stage stage) result old new
+turn-call turned root turning.Writing result old new call = call
+turn-call turned root turning.Syncing result old new call = call
+turn-call turned root turning.Turning result old new call = call
+turn-call turned root turning.Settling result old new call = call
+turn-call turned root turning.Done result old new call = absurd call

@@ -42,7 +42,8 @@ use Rattle.log_store.specs.Named.{NamedValue}
 use Rattle.log_store.specs.Opens.{Opens, OpenRefuses, named_on}
 use Rattle.log_store.proofs.Places.{len-is}
 use Rattle.log_sizes.specs.Counted.{values_in}
-use Rattle.law_log_store.specs.Standing.{StandsOnHeap, IsBehind, IsImageOf, IsLiveOf, IsNamedBy, counted}
+use Rattle.law_log_store.specs.Named.{IsBehind, IsNamedBy}
+use Rattle.law_log_store.specs.Standing.{StandsOnHeap, IsImageOf, IsLiveOf, counted}
 use Rattle.law_log_store.specs.Opened.{live_uses, opened_room, IsOpenedOn}
 use Rattle.law_log_store.proofs.Headers.{image-size}
 use Rattle.law_log_store.proofs.Opened.{opened-stands}
@@ -132,7 +133,14 @@ module _ (tells : Bool) (old : DiskState) (mark : ℕ) (v : LogStoreValue) (root
   room-is : v.room ≡ opened_room v.roots.extents l reading
   room-is =
       ap (λ (x : LogStoreValue). x.room) opens.new_is
-      ∙ (λ i. record { used = with_use (space-is i) ((same.0).1 i) true; next = (same.0).1 i; log = log-is i; promised = 0; anchors = anchors-is i })
+      ∙ (λ i. record {
+        used = with_use (space-is i) ((same.0).1 i) true;
+        next = (same.0).1 i;
+        log = log-is i;
+        promised = 0;
+        anchors = anchors-is i;
+        reserved = 0;
+      })
       ∙ sym (ap (λ (most : ℕ). opened_room most l reading) size-is)
 
   -- ---- the chains in memory
@@ -212,6 +220,7 @@ module _ (tells : Bool) (old : DiskState) (mark : ℕ) (v : LogStoreValue) (root
     live = lives;
     turn = ap (λ (x : LogStoreValue). x.turn) opens.new_is;
     job = ap (λ (x : LogStoreValue). x.job) opens.new_is;
+    reclaim = ap (λ (x : LogStoreValue). x.reclaim) opens.new_is;
     named = named;
     reach = reach;
     marks = marks;

@@ -35,6 +35,7 @@ use Rattle.log_store.specs.declared.job.JobStage.{JobStage}
 use Rattle.log_store.specs.declared.job.JobStage.TheVariants.{Writing, Ready, Entering}
 use Rattle.log_store.specs.Submits.{anchors_behind, has_room, with_queued}
 use Rattle.law_log_store.specs.Members.{IsTold, AreContents}
+use Rattle.law_log_store.specs.Reclaiming.{taken_of}
 use Rattle.law_log_store.specs.Standing.{StandsOnHeap, HasTurn, HasJob, HasStage, IsRoomOf, LeavesOne, log_with}
 use Rattle.law_log_store.proofs.Queues.{taken-and-rest, told-many, told-more, contents-more, may-more, told-ordered, take-more, drop-more, versions-split}
 use Rattle.law_log_store.proofs.Queues.{values-told}
@@ -134,7 +135,7 @@ module _ (v : LogStoreValue) (label time : ℕ) (writes : List (KeyWrite Value))
   anchors-fit : count_of (anchors_behind v writes) ≤ (3 * length v.room.used) / 16
   anchors-fit = is-upto (count_of (anchors_behind v writes)) ((3 * length v.room.used) / 16) tests.1
 
-  room-more : (l : HeapLog) → IsRoomOf v.roots.extents l v.room → IsRoomOf v.roots.extents l more.room
+  room-more : (l : HeapLog) → IsRoomOf v.roots.extents l (taken_of v.reclaim) v.room → IsRoomOf v.roots.extents l (taken_of v.reclaim) more.room
   room-more l is = record {
     many = is.many;
     next = is.next;
@@ -180,6 +181,7 @@ module _ (v : LogStoreValue) (label time : ℕ) (writes : List (KeyWrite Value))
         room = room-more (with_chain s.l (placed_group w.numbers w.link is.group)) is.room;
         live = is.live;
         alone = is.alone;
+        beside = is.beside;
       }
 
   contents-are : AreContents (versions_after v.commits.versions (members more.commits)) more.contents (drop v.commits.group more.commits.queue)
@@ -227,4 +229,5 @@ module _ (v : LogStoreValue) (label time : ℕ) (writes : List (KeyWrite Value))
     named = s.named;
     reach = s.reach;
     spare = inl leaves-more;
+    reclaim = s.reclaim;
   }

@@ -21,7 +21,8 @@ use Rattle.log_space.specs.Uses.{with_use, all_used}
 use Rattle.log_room.specs.Rooms.{RoomValue, MayOpen}
 use Rattle.log_store.specs.Values.{LogStoreValue}
 use Rattle.log_store.specs.Opens.{Opens, OpenRefuses}
-use Rattle.law_log_store.specs.Standing.{StandsOnHeap, IsLiveOf, IsNamedBy, IsRoomOf, IsImageOf, counted}
+use Rattle.law_log_store.specs.Named.{IsNamedBy}
+use Rattle.law_log_store.specs.Standing.{StandsOnHeap, IsLiveOf, IsRoomOf, IsImageOf, counted}
 
 -- the flags of a heap of so many extents where those of the log's chains are in use, and then those of the anchors
 abbrev pub live_uses : ℕ → HeapLog → List Bool
@@ -30,12 +31,12 @@ live_uses most l = all_used (all_used (replicate most false) (flat_map (λ (c : 
 -- the room in the heap of this log
 abbrev pub opened_room : ℕ → HeapLog → Reading → RoomValue
 opened_room most l reading =
-    record { used = with_use (live_uses most l) l.next true; next = l.next; log = counted l; promised = 0; anchors = size_now reading }
+    record { used = with_use (live_uses most l) l.next true; next = l.next; log = counted l; promised = 0; anchors = size_now reading; reserved = 0 }
 
 -- A log that stands for a history leaves room: the heap may be opened, with such a room.
 pub record LeavesRoom (most : ℕ) (l : HeapLog) (reading : Reading) : Type 0 where
   pub may : MayOpen (live_uses most l) l.next (counted l) (size_now reading)
-  pub room : IsRoomOf most l (opened_room most l reading)
+  pub room : IsRoomOf most l [] (opened_room most l reading)
 
 abbrev pub RoomOpens : Type 0
 RoomOpens =
@@ -53,6 +54,7 @@ pub record IsOpenedOn (v : LogStoreValue) (l : HeapLog) (reading : Reading) : Ty
   pub live : IsLiveOf l v.live
   pub turn : v.turn ≡ None
   pub job : v.job ≡ None
+  pub reclaim : v.reclaim ≡ None
   pub named : IsNamedBy v.named l reading
   pub reach : v.named.end ≤ v.disk.areas.archive.firm
   -- what memory has forgotten is archived

@@ -57,7 +57,8 @@ pub fn pump_steps()
 /// A step of a job of a store that works: the run of an archive is written behind all that the log names, and is synced; its entry
 /// goes its way to the disk as a group does, and behind its last call the disk stands for what it says; or the job waits for a
 /// group, or nothing has changed for want of memory, or the store has failed. What a crash leaves before the step and after it
-/// stands for what is published, with what the entry says or without. An archive's says nothing else: it loses no version.
+/// stands for what is published, with what the entry says or without. An archive's says nothing else: it loses no version. Nor
+/// does a reclaim: whichever root a crash leaves, what it leaves stands for what is published, or for that with the whole group.
 pub fn job_steps()
     ensures steps { JobSteps }
     ensures leaves { JobLeaves }
