@@ -18,10 +18,10 @@ returns-in-Err-clause-err g c = record {
 pub returns-in-Ok-format-clause-ok : goal.returns-in-Ok-format-clause-ok
 returns-in-Ok-format-clause-ok g c = record {
   new_is = created_is c.args.mark c.args.extents c.new_roots.result c.new-in-Ok-format.result.items c.new-in-Ok-format-2.result c.none.result
-      c.new-in-Ok-format-3.result.items c.in-Ok.space c.of_recovered.result c.of_opened.result (live_value c.none-in-Ok-format-2.result) c.new-2.result.items c.none-in-Ok-format.result
-      c.in-Ok-new.archive (g.D.Disk.state c.format.new.disk) c.new_roots.ensures c.new-in-Ok-format.ensures.items c.new-in-Ok-format-2.ensures
-      c.none.ensures c.new-in-Ok-format-3.ensures.items c.in-Ok.ensures c.of_recovered.ensures c.of_opened.ensures c.none-in-Ok-format-2.ensures c.new-2.ensures.items
-      c.none-in-Ok-format.ensures c.in-Ok-new.ensures;
+      c.new-in-Ok-format-3.result.items c.in-Ok.space c.of_recovered.result c.of_opened.result (live_value c.none-in-Ok-format.result) c.new-2.result.items
+      c.none-in-Ok-format-2.result c.in-Ok-new.archive (g.D.Disk.state c.format.new.disk) c.new_roots.ensures c.new-in-Ok-format.ensures.items c.new-in-Ok-format-2.ensures
+      c.none.ensures c.new-in-Ok-format-3.ensures.items c.in-Ok.ensures c.of_recovered.ensures c.of_opened.ensures c.none-in-Ok-format.ensures
+      c.new-2.ensures.items c.none-in-Ok-format-2.ensures c.in-Ok-new.ensures;
   formatted = λ told. c.in-Ok-format.ensures.formatted told;
   refused = c.in-Ok-format.ensures.refused;
 }
