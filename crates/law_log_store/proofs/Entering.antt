@@ -54,7 +54,7 @@ use Rattle.law_log_store.proofs.Flags.{IsTaken}
 use Rattle.law_log_store.proofs.Beginning.{room-is, taken, spare-then, leaves-then, one-or-none}
 use Rattle.law_log_store.proofs.Going.{entered, entry-way-at, entry-way, entry-turn, runs-kept, same-archive, same-status, status-left, map-within}
 use Rattle.law_log_store.proofs.Joining.{in-heap}
-use Rattle.law_log_store.proofs.Lives.{live-more}
+use Rattle.law_log_store.proofs.Lives.{one-more-lives}
 use Rattle.law_log_store.proofs.Naming.{named-same, named-more}
 
 -- ---- an entry
@@ -225,7 +225,7 @@ module _ (old begun : LogStoreValue) (h queue : History Value) (floors : ℕ →
 
   -- its chain is the last of those in memory
   chain-live : IsLiveOf (with_chain s.l chain) (with_live old.live b.numbers (part_of (entry_of job.work)))
-  chain-live = live-more s.l old.live chain b.numbers (part_of (entry_of job.work)) refl refl rest.live
+  chain-live = one-more-lives s.l old.live chain b.numbers (part_of (entry_of job.work)) refl refl rest.live
 
   abbrev pub target : LogStoreValue
   target = record (at_stage old job (Entering writer)) { room = b.room; live = with_live old.live b.numbers (part_of (entry_of job.work)) }
