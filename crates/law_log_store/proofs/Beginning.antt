@@ -59,7 +59,7 @@ use Rattle.law_log_store.proofs.Joining.{in-heap, group-joins}
 use Rattle.law_log_store.proofs.Queues.{taken-and-rest, length-taken, told-many, told-front, contents-front, contents-rest}
 use Rattle.law_log_store.proofs.Anchors.{anchors-front}
 use Rattle.law_log_store.proofs.Flags.{IsTaken, is-taken}
-use Rattle.law_log_store.proofs.Lives.{lives-more, group-part}
+use Rattle.law_log_store.proofs.Lives.{one-more-lives, group-part}
 use Rattle.law_log_store.proofs.Reclaims.{taken-apart}
 
 -- ---- extents that are counted
@@ -297,7 +297,7 @@ module _ (old : LogStoreValue) (h queue : History Value) (floors : ℕ → ℕ) 
     -- its chain is the last of those in memory
     is-live : IsLiveOf (with_chain s.l chain) lives
     is-live =
-        lives-more s.l old.live chain b.numbers (Commits (group_last (grouped 1024 old.commits))) refl
+        one-more-lives s.l old.live chain b.numbers (Commits (group_last (grouped 1024 old.commits))) refl
         (ap (λ (commits : CommitsValue). Commits (group_last commits)) (grouped-is old.commits none some) ∙ group-part versions waiting next told) rest.live
 
     abbrev target : LogStoreValue

@@ -57,7 +57,7 @@ use Rattle.law_log_store.proofs.Beginning.{room-is, taken, spare-then, leaves-th
 use Rattle.law_log_store.proofs.Going.{entered, entry-way-at, entry-way, entry-turn, runs-kept, same-archive, same-status, status-left, map-within}
 use Rattle.law_log_store.proofs.Headers.{Turns, image-of, root-left}
 use Rattle.law_log_store.proofs.Joining.{in-heap}
-use Rattle.law_log_store.proofs.Lives.{lives-more}
+use Rattle.law_log_store.proofs.Lives.{one-more-lives}
 use Rattle.law_log_store.proofs.Naming.{named-same, named-more}
 use Rattle.law_log_store.proofs.Reclaims.{none-made, taken-apart}
 
@@ -237,7 +237,7 @@ module _ (old begun : LogStoreValue) (h queue : History Value) (floors : ℕ →
 
   -- its chain is the last of those in memory
   chain-live : IsLiveOf (with_chain s.l chain) (with_live old.live b.numbers (part_of (entry_of job.work)))
-  chain-live = lives-more s.l old.live chain b.numbers (part_of (entry_of job.work)) refl refl rest.live
+  chain-live = one-more-lives s.l old.live chain b.numbers (part_of (entry_of job.work)) refl refl rest.live
 
   abbrev pub target : LogStoreValue
   target = record (at_stage old job (Entering writer)) { room = b.room; live = with_live old.live b.numbers (part_of (entry_of job.work)) }

@@ -18,9 +18,9 @@ use Rattle.law_log_store.specs.Members.{AreTold, members_over}
 use Rattle.law_log_store.specs.Standing.{IsLiveOf}
 
 -- the chain is the last of those in memory
-pub lives-more : (l : HeapLog) (live : LiveValue) (c : PlacedChain) (numbers : List ℕ) (part : LivePart) → numbers ≡ c.numbers → part ≡ part_of c.entry
+pub one-more-lives : (l : HeapLog) (live : LiveValue) (c : PlacedChain) (numbers : List ℕ) (part : LivePart) → numbers ≡ c.numbers → part ≡ part_of c.entry
     → IsLiveOf l live → IsLiveOf (with_chain l c) (with_live live numbers part)
-lives-more l live c numbers part numbers-are part-is is = record {
+one-more-lives l live c numbers part numbers-are part-is is = record {
   chains = (λ i. is.chains i ++ record { numbers = numbers-are i; part = part-is i } ∷ []) ∙ sym (map-append live_of l.chains (c ∷ []));
   anchors = is.anchors;
 }
