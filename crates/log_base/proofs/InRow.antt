@@ -2,7 +2,7 @@
 use Rattle.std.proofs.Common.{◌≡◌, ℕ, ◌+◌, ◌-◌, ◌≤◌, List, [], ◌∷◌, ◌++◌, length, map, take, drop, refl, ap, sym, subst, ◌∙◌, arith, inl, inr, append_assoc}
 use Rattle.std.specs.Prelude.{flat_map}
 use Rattle.std.specs.List.{AllByRecursion}
-use Rattle.std.proofs.lemmas.List.{map-append, take-map, take-append-drop}
+use Rattle.std.proofs.lemmas.List.{map-append, take-append-drop}
 use Rattle.std.proofs.lemmas.Grind.{flat_map-append}
 use Rattle.history.proofs.Filters.{AllByRecursion-append}
 use Rattle.wire.specs.declared.slot.Run.{Run}
@@ -13,11 +13,11 @@ use Rattle.log_entries.specs.declared.entry.Entry.TheVariants as entries
 use Rattle.log_entries.specs.Ranges.{run_of}
 use Rattle.law_log_layout.specs.HeapLog.{PlacedChain, PlacedRoll, Span, run_span, roll_span, spans_of, archives_in, runs_behind, runs_from, ShareNoByte}
 use Rattle.law_log_layout.specs.HeapLog.{AreSpansApart, AreSpansInRow}
-use Rattle.log_recovery.specs.Live.{LiveChainValue, live_of}
+use Rattle.log_recovery.specs.Live.{live_of}
 use Rattle.log_recovery.specs.Rules.{row_end}
 use Rattle.log_base.specs.Bases.{runs_from as runs_at}
 use Rattle.log_base.specs.Laws.{ComesBehind}
-use Rattle.log_base.proofs.RunsLeft.{runs-left}
+use Rattle.log_base.proofs.RunsLeft.{runs-live}
 
 -- ---- parts in a row
 
@@ -119,9 +119,7 @@ pub runs-in_row : (chains : List PlacedChain) (n : ℕ) → AreSpansInRow 0 (spa
 runs-in_row chains n row =
     let parts : named_in chains ≡ named_in (take n chains) ++ named_in (drop n chains) =
     ap named_in (sym (take-append-drop n chains)) ∙ flat_map-append (λ (c : PlacedChain). archives_in c.entry) (take n chains) (drop n chains) in
-    let runs : map run_of (runs_at [] (take n (map live_of chains))) ≡ runs_from [] (take n chains) =
-    ap (λ (cs : List LiveChainValue). map run_of (runs_at [] cs)) (take-map live_of n chains) ∙ runs-left [] (take n chains) in
-    subst (λ (l : List Run). AreSpansInRow 0 (spans (l ++ named_in (drop n chains)))) (sym runs)
+    subst (λ (l : List Run). AreSpansInRow 0 (spans (l ++ named_in (drop n chains)))) (sym (runs-live n chains))
     (in-row (take n chains) (named_in (drop n chains)) (subst (λ (l : List Run). AreSpansInRow 0 (spans l)) parts row))
 
 -- ---- one part more, behind all others

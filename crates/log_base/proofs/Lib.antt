@@ -9,3 +9,4 @@ pub mod TakesFront
 pub mod BaseEntries
 pub mod InRow
 pub mod RollNames
+pub mod MadeBase

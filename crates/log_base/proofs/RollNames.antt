@@ -60,7 +60,7 @@ told-named most upto names chains rules placed =
 
 -- ---- the roll
 
-names-long : (names : List Head) → length (flat_map name_bytes names) ≡ 16 * length names
+pub names-long : (names : List Head) → length (flat_map name_bytes names) ≡ 16 * length names
 unfolding u64_bytes
 names-long [] = refl
 names-long (name ∷ names) = omega (arith, names-long names)

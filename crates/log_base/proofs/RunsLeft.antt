@@ -23,7 +23,7 @@ use Rattle.log_entries.specs.Ranges.{IsEntry, run_of}
 use Rattle.log_extents.specs.Chains.{first_or}
 use Rattle.law_log_layout.specs.HeapLog.{PlacedChain, PlacedAnchors, IsPlaced, member_told, base_told, chain_told, chains_told, rolls_in, anchors_in, AreNamed}
 use Rattle.law_log_layout.specs.HeapLog as heap
-use Rattle.log_recovery.specs.Live.{part_of, live_of}
+use Rattle.log_recovery.specs.Live.{LiveChainValue, part_of, live_of}
 use Rattle.log_base.specs.Bases.{is_later, front_len, in_base, runs_behind, runs_from, rolls_at, rolls_of, no_anchors, anchors_at, mark_of}
 use Rattle.log_base.specs.Laws.{MayBeAnchors, AnchorsStay}
 use Rattle.log_base.proofs.Fronts.{others-none}
@@ -45,6 +45,11 @@ pub runs-left : (before : List Archive) (chains : List PlacedChain)
 runs-left before [] = refl
 runs-left before (c ∷ chains) =
     runs-left (runs_behind before (part_of c.entry)) chains ∙ ap (λ (l : List Run). heap.runs_from l chains) (runs-one before c.entry)
+
+-- so it is with the front as memory keeps it
+pub runs-live : (n : ℕ) (chains : List PlacedChain) → map run_of (runs_from [] (take n (map live_of chains))) ≡ heap.runs_from [] (take n chains)
+runs-live n chains =
+    ap (λ (cs : List LiveChainValue). map run_of (runs_from [] cs)) (take-map live_of n chains) ∙ runs-left [] (take n chains)
 
 -- ---- the base's mark and rolls
 

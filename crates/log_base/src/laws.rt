@@ -1,6 +1,7 @@
 //! What holds of a base that takes the place of a log's front.
 ghost use Rattle.log_base.specs.Laws.{FrontIs, MarkIs, RunsAre, RollsAre, AnchorsAre, NamesGoOn, HeadsAre, BaseTakesFront, BaseIsEntry};
 ghost use Rattle.log_base.specs.Laws.{RunsStayInRow, RollComesBehind, NewRollIs};
+ghost use Rattle.log_base.specs.Places.{MadeBaseMay};
 
 /// The front has no commit later than the mark, the first chain of the rest has one, and no base stands in the rest.
 pub fn front_is()
@@ -60,4 +61,10 @@ pub fn roll_comes_behind()
 /// The names of a new roll are in order and in their ranges, and its bytes are those of a roll.
 pub fn new_roll_is()
     ensures { NewRollIs }
+{}
+
+/// The base that is computed may take the place of the front, where its extents are free and its roll lies behind all
+/// that the log names in the archive.
+pub fn made_base_may()
+    ensures { MadeBaseMay }
 {}
