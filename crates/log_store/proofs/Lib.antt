@@ -3,6 +3,7 @@ pub mod Formats
 pub mod Created
 pub mod Lives
 pub mod Advancing
+pub mod Spelled
 pub mod Beginning
 pub mod Rooms
 pub mod LivesRead

@@ -4,7 +4,8 @@ use Rattle.std.proofs.Common.{None, Some, refl, sym, ap, subst, ◌∙◌}
 use Rattle.std.proofs.Common.{◌-◌, take, arith}
 use Rattle.std.specs.Prelude.{flat_map}
 use Rattle.std.specs.List.{AllByRecursion}
-use Rattle.std.proofs.lemmas.List.{drop-append-le, length-append, length-replicate}
+use Rattle.std.proofs.Math.Seq.{take-length}
+use Rattle.std.proofs.lemmas.List.{drop-append-le, length-append, length-drop, length-replicate}
 use Rattle.std.proofs.lemmas.List.Concat.{flat_map-cons}
 use Rattle.history.proofs.Filters.{AllByRecursion-append}
 use Rattle.log_space.specs.Uses.{all_used}
