@@ -2,7 +2,8 @@ pub mod InStep
 pub mod Formats
 pub mod Created
 pub mod Lives
-pub mod Reclaiming
+pub mod Advancing
+pub mod Spelled
 pub mod Beginning
 pub mod Rooms
 pub mod LivesRead

@@ -1,10 +1,11 @@
 -- The chains of a log in memory: one more behind them, and a base in the place of the first ones.
 use Rattle.std.proofs.Common.{◌≡◌, ◌⊎◌, inl, inr, ℕ, zero, suc, ◌+◌, ◌/◌, ◌<◌, ◌≤◌, false, true, List, [], ◌∷◌, ◌++◌, length, drop, replicate, Bool, Option}
 use Rattle.std.proofs.Common.{None, Some, refl, sym, ap, subst, ◌∙◌}
-use Rattle.std.proofs.Common.{arith}
+use Rattle.std.proofs.Common.{◌-◌, take, arith}
 use Rattle.std.specs.Prelude.{flat_map}
 use Rattle.std.specs.List.{AllByRecursion}
-use Rattle.std.proofs.lemmas.List.{drop-append-le, length-append, length-replicate}
+use Rattle.std.proofs.Math.Seq.{take-length}
+use Rattle.std.proofs.lemmas.List.{drop-append-le, length-append, length-drop, length-replicate}
 use Rattle.std.proofs.lemmas.List.Concat.{flat_map-cons}
 use Rattle.history.proofs.Filters.{AllByRecursion-append}
 use Rattle.log_space.specs.Uses.{all_used}
@@ -171,6 +172,61 @@ room-stands r live old =
       log = let log = kept-log based stay in omega (arith, log);
     }
 
+-- one chain more is kept
+pub kept-next : (room new all : RoomValue) (rest after : List LiveChainValue) (c : LiveChainValue) → rest ≡ c ∷ after → new ≡ with_kept room c.numbers
+    → all_kept room rest ≡ all → all_kept new after ≡ all
+kept-next room new all rest after c front is whole =
+    ap (λ (x : RoomValue). all_kept x after) is ∙ sym (ap (λ (cs : List LiveChainValue). all_kept room cs) front) ∙ whole
+
+pub kept-half : (room new : RoomValue) (rest after : List LiveChainValue) (c : LiveChainValue) → rest ≡ c ∷ after → new ≡ with_kept room c.numbers
+    → room.log + length (kept_numbers rest) + room.promised ≤ length room.used / 2
+    → new.log + length (kept_numbers after) + new.promised ≤ length new.used / 2
+kept-half room new rest after c front is half =
+    let one = kept-one room c.numbers in
+    let log : new.log ≡ room.log + length c.numbers = ap (λ (x : RoomValue). x.log) is in
+    let promised : new.promised ≡ room.promised = ap (λ (x : RoomValue). x.promised) is in
+    let len : length new.used ≡ length room.used = ap (λ (x : RoomValue). length x.used) is ∙ one.len in
+    let all : length (kept_numbers rest) ≡ length c.numbers + length (kept_numbers after) =
+    ap (λ (cs : List LiveChainValue). length (kept_numbers cs)) front ∙ kept-cons c after in
+    omega (arith, half, log, promised, len, all)
+
+pub kept-left : (rest after : List LiveChainValue) (c : LiveChainValue) → rest ≡ c ∷ after → AllByRecursion HasNumbers rest
+    → AreNumbers c.numbers × AllByRecursion HasNumbers after
+kept-left rest after c front all = subst (AllByRecursion HasNumbers) front all
+
+-- the base and its anchors alone, and then the chains that stay, leave the extent where the log ends its place
+module _ (room : RoomValue) (anchors base : List ℕ) (chains : List LiveChainValue) (new kept : RoomValue)
+    (half : length (kept_numbers chains) + 1 + room.promised ≤ length room.used / 2) (new_is : new ≡ based_on room anchors base)
+    (kept_is : kept ≡ all_kept new chains) where
+  based-now : length new.used ≡ length room.used
+  based-now = ap (λ (x : RoomValue). length x.used) new_is ∙ based-len room anchors base
+
+  pub chains-half : new.log + length (kept_numbers chains) + new.promised ≤ length new.used / 2
+  chains-half =
+      let log : new.log ≡ 0 = ap (λ (x : RoomValue). x.log) new_is in
+      let promised : new.promised ≡ room.promised = ap (λ (x : RoomValue). x.promised) new_is in
+      omega (arith, half, log, promised, based-now)
+
+  pub next-half : kept.log + 1 + kept.promised ≤ length kept.used / 2
+  next-half =
+      let all = kept-all new chains in
+      let all_log = kept-log new chains in
+      let all_len = all.len in
+      let all_promised = all.promised in
+      let none : new.log ≡ 0 = ap (λ (x : RoomValue). x.log) new_is in
+      let log : kept.log ≡ (all_kept new chains).log = ap (λ (x : RoomValue). x.log) kept_is in
+      let promised : kept.promised ≡ (all_kept new chains).promised = ap (λ (x : RoomValue). x.promised) kept_is in
+      let same : new.promised ≡ room.promised = ap (λ (x : RoomValue). x.promised) new_is in
+      let len : length kept.used ≡ length (all_kept new chains).used = ap (λ (x : RoomValue). length x.used) kept_is in
+      omega (arith, half, all_log, all_len, all_promised, none, log, promised, same, len, based-now)
+
+  pub all-put : (last : RoomValue) → last ≡ with_kept kept (kept.next ∷ [])
+      → last ≡ with_kept (all_kept (based_on room anchors base) chains) (room.next ∷ [])
+  all-put last is =
+      let all = kept-all new chains in
+      let next : kept.next ≡ room.next = ap (λ (x : RoomValue). x.next) kept_is ∙ all.next ∙ ap (λ (x : RoomValue). x.next) new_is in
+      is ∙ (λ i. with_kept ((kept_is ∙ ap (λ (x : RoomValue). all_kept x chains) new_is) i) (next i ∷ []))
+
 -- what stays has its half of the heap
 pub stays-half : (r : ReclaimValue) (live : LiveValue) (room : RoomValue) → MayStand r live room → IsRoom room
     → length (kept_numbers (drop r.front live.chains)) + 1 + room.promised ≤ length room.used / 2
@@ -201,3 +257,7 @@ spare-there (c ∷ cs) front len cap none (inl based) is_zero =
     let first : AllByRecursion IsNoBase (c ∷ cs) = subst (λ (n : ℕ). AllByRecursion IsNoBase (drop n (c ∷ cs))) is_zero none in
     absurd (let no : true ≡ false = sym based ∙ first.0 in cc)
 spare-there chains front len cap none (inr room) is_zero = room
+
+-- the rest of them as a slice has it
+pub rest-is : {X : Type 0} (xs : List X) (n : ℕ) → take (length xs - n) (drop n xs) ≡ drop n xs
+rest-is xs n = ap (λ (m : ℕ). take m (drop n xs)) (sym (length-drop n xs)) ∙ take-length (drop n xs)

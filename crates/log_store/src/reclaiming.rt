@@ -1,11 +1,12 @@
 //! The steps of a reclaim to the disk.
-ghost use Rattle.std.specs.Prelude.{◌≡◌, ◌+◌, ◌/◌, ◌≤◌, false, IsTrue, IsSome, MatchOption, None, length};
+ghost use Rattle.std.specs.Prelude.{◌≡◌, ◌+◌, ◌/◌, ◌≤◌, ◌∷◌, [], false, IsTrue, IsSome, MatchOption, None, length};
 ghost use Rattle.std.specs.List.{AllByRecursion};
 ghost use Rattle.disk.specs.Areas.{AreSound};
 ghost use Rattle.log_extents.specs.Chains.{first_or};
 ghost use Rattle.log_roots.specs.Turning.{turned_to};
 ghost use Rattle.log_store.specs.Gates.{is_open, waits_to_turn};
-ghost use Rattle.log_store.specs.Live.{HasNumbers, live_value};
+ghost use Rattle.log_room.specs.Reserves.{based_on, with_kept};
+ghost use Rattle.log_store.specs.Live.{AreNumbers, HasNumbers, live_value};
 ghost use Rattle.log_store.specs.Reclaiming.{StepsReclaim, AdvancesReclaim, MayStand, Stands, all_kept, kept_numbers, room_with, live_with};
 
 use crate::job::JobDid;
@@ -27,10 +28,24 @@ fn keep_chains(room: &mut HeapRoom, chains: &[LiveChain])
     ensures { room.new ≡ all_kept room.old chains.now }
 {
     let mut rest = chains;
-    while let [first, after @ ..] = rest {
+    while let Some((first, after)) = rest.split_first() {
         room.keep(&first.numbers);
         rest = after;
     }
+}
+
+// The anchors and the base of these extents stand, and these chains of the log stay, and the extent where the log ends.
+fn put_chains(room: &mut HeapRoom, anchors: &[u32], base: &[u32], chains: &[LiveChain])
+    requires anchors { AreNumbers anchors.now }
+    requires base { AreNumbers base.now }
+    requires share { length anchors.now + length base.now ≤ length room.old.used / 4 }
+    requires chains { AllByRecursion HasNumbers chains.now }
+    requires half { length (kept_numbers chains.now) + 1 + room.old.promised ≤ length room.old.used / 2 }
+    ensures { room.new ≡ with_kept (all_kept (based_on room.old anchors.now base.now) chains.now) (room.old.next ∷ []) }
+{
+    room.put_base(anchors, base);
+    keep_chains(room, chains);
+    room.keep_next();
 }
 
 impl Reclaim {
@@ -55,9 +70,7 @@ impl Reclaim {
         *roots = roots.turned_to(numbers[0]);
         // The log and what is promised have half of the heap.
         let _most = room.len();
-        room.put_base(&anchors, &numbers);
-        keep_chains(room, &live.chains()[front..]);
-        room.keep_next();
+        put_chains(room, &anchors, &numbers, &live.chains()[front..]);
         live.put_base(front, numbers, base, anchors);
         *named = then;
     }

@@ -1,6 +1,11 @@
 -- A reclaim goes on, and ends.
-use Rattle.std.proofs.Common.{◌≡◌, ◌≢◌, ℕ, ◌+◌, ◌≤◌, ◌^◌, List, [], ◌∷◌, ◌++◌, length, drop, Option, None, Some, refl, sym, ap, subst, ◌∙◌, arith}
+use Rattle.std.specs.Prelude.{Result}
+use Rattle.std.proofs.Common.{◌≡◌, ◌≢◌, ℕ, ◌+◌, ◌<◌, ◌≤◌, ◌^◌, List, [], ◌∷◌, ◌++◌, length, drop, Option, None, Some, refl, sym, ap, subst, ◌∙◌, arith}
 use Rattle.std.proofs.lemmas.List.{append-nil}
+use Rattle.disk.specs.Areas.{Areas}
+use Rattle.disk.specs.Calls.{Writes}
+use Rattle.disk.specs.declared.area.Area.TheVariants.{Heap}
+use Rattle.disk.specs.declared.area.DeviceFault.{DeviceFault}
 use Rattle.log_writer.specs.Turns.{Part}
 use Rattle.log_writer.specs.Whole.{WholeState}
 use Rattle.log_roots.specs.declared.roots.Roots.{Roots}
@@ -13,7 +18,7 @@ use Rattle.log_room.proofs.Taken.{used_len}
 use Rattle.log_store.specs.Live.{LiveValue, AreLive}
 use Rattle.log_store.specs.Named.{NamedValue}
 use Rattle.log_store.specs.Values.{LogStoreValue, ReclaimValue, IsStageOnWay, IsReclaiming, IsReclaimBeside, IsInStep}
-use Rattle.log_store.specs.Reclaiming.{did_extents, did_roll, did_of_root, did_at, one_written, piece_written, stage_behind, begins_turn, begins_roll, at_turn}
+use Rattle.log_store.specs.Reclaiming.{CallsExtents, did_extents, did_roll, did_of_root, did_at, one_written, piece_written, stage_behind, begins_turn, begins_roll, at_turn}
 use Rattle.log_store.specs.Reclaiming.{behind_extents, behind_roll, reclaim_behind, base_chain, MayStand, Stands, room_with, live_with, with_base}
 use Rattle.log_store.specs.Reclaiming.{with_reclaim_as, behind_turn, behind}
 use Rattle.log_store.specs.declared.job.Job.{Job}
@@ -72,6 +77,34 @@ module _ (job : Option Job) (chains : List LiveChainValue) (reserved most : ℕ)
   goes-on (Writing anchors base) way more = extents-go anchors base anchors.left base.left
   goes-on (Rolling roll) way more = pieces-go roll roll.left
   goes-on (Turning t) way more = status-goes t t.stage way more
+
+-- a call behind which nothing else begins leads on by its stage alone
+module _ (roots : Roots) (r : ReclaimValue) where
+  extents-same : (anchors base : WholeState) (xs ys : List Part) → did_extents (xs ++ ys) ≢ did.HeapSynced
+      → record r { stage = one_written anchors base xs ys } ≡ behind_extents roots r anchors base xs ys
+  extents-same anchors base (x ∷ xs) ys more = refl
+  extents-same anchors base [] (y ∷ ys) more = refl
+  extents-same anchors base [] [] more = absurd (more refl)
+
+  pieces-same : (roll : InRoll) (bs : List ℕ) → did_roll bs ≢ did.RollSynced
+      → record r { stage = piece_written roll bs } ≡ behind_roll roots r roll bs
+  pieces-same roll [] more = absurd (more refl)
+  pieces-same roll (b ∷ bs) more = refl
+
+  pub same-behind : (stage : ReclaimStage) → did_at stage ≢ did.HeapSynced → did_at stage ≢ did.RollSynced
+      → record r { stage = stage_behind stage } ≡ reclaim_behind roots r stage
+  same-behind (Writing anchors base) more other = extents-same anchors base anchors.left base.left more
+  same-behind (Rolling roll) other more = pieces-same roll roll.left more
+  same-behind (Turning t) other more = refl
+
+-- ---- the device call
+
+-- where the anchors are written it is that of the base
+pub second-extent : (xs ys : List Part) (result : Result (Unit {0}) DeviceFault) (old new : Areas) → length xs ≡ 0 → 0 < length ys
+    → ((p : Part) (rest : List Part) → ys ≡ p ∷ rest → Writes Heap p.place p.bytes result old new) → CallsExtents (xs ++ ys) result old new
+second-extent [] (y ∷ ys) result old new none some calls = calls y ys refl
+second-extent [] [] result old new none some calls = absurd (omega (arith, some))
+second-extent (x ∷ xs) ys result old new none some calls = absurd (omega (arith, none))
 
 -- ---- the store
 
