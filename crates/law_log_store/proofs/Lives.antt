@@ -1,5 +1,5 @@
 -- What memory has of the chains of a log, with one chain more.
-use Rattle.std.proofs.Common.{◌≡◌, ℕ, List, [], ◌∷◌, ◌++◌, length, map, take, min, refl, ap, sym, ◌∙◌}
+use Rattle.std.proofs.Common.{◌≡◌, ℕ, List, [], ◌∷◌, ◌++◌, map, refl, ap, sym, ◌∙◌}
 use Rattle.std.proofs.lemmas.List.{map-append}
 use Rattle.history.specs.Histories.{History}
 use Rattle.law_image.specs.Values.{Value}
@@ -8,7 +8,7 @@ use Rattle.law_log.specs.Chains.{heads_in}
 use Rattle.chains.specs.KeyWrites.{KeyWrites}
 use Rattle.log_entries.specs.declared.entry.Entry.TheVariants.{Group}
 use Rattle.law_log_layout.specs.HeapLog.{HeapLog, PlacedChain, member_told, with_chain}
-use Rattle.log_recovery.specs.Live.{LiveChainValue, last_in, live_of, part_of}
+use Rattle.log_recovery.specs.Live.{live_of, part_of}
 use Rattle.log_recovery.specs.declared.live.LivePart.{LivePart}
 use Rattle.log_recovery.specs.declared.live.LivePart.TheVariants.{Commits}
 use Rattle.commits.specs.Values.{WaitingValue}
