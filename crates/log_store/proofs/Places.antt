@@ -1,18 +1,17 @@
 -- What is read of an image has a place in memory.
 use Rattle.std.specs.Prelude.{Err}
-use Rattle.std.proofs.Common.{◌≡◌, ◌≢◌, ℕ, ◌+◌, ◌*◌, ◌/◌, ◌<◌, ◌≤◌, ◌^◌, max, Bool, false, List, [], ◌∷◌, ◌++◌, length, map, replicate}
+use Rattle.std.proofs.Common.{◌≡◌, ℕ, ◌+◌, ◌*◌, ◌/◌, ◌≤◌, max, Bool, false, List, [], ◌∷◌, ◌++◌, length, map, replicate}
 use Rattle.std.proofs.Common.{refl, arith, ap, sym, subst, ◌∙◌, length-append}
 use Rattle.std.proofs.lemmas.List.{length-replicate}
 use Rattle.std.specs.List.{AllByRecursion}
 use Rattle.disk.specs.Areas.{Image}
-use Rattle.law_image.specs.Reading.{Head}
 use Rattle.law_image.specs.Log.{AreRisingAfter}
 use Rattle.law_image.specs.Log as logs
 use Rattle.group.specs.CommitOrder.{IsRisingAfter, last_time_after}
-use Rattle.log_extents.specs.Chains.{count_of, IsNumberOf, AreDistinct}
-use Rattle.log_space.specs.Uses.{all_used, used_count}
+use Rattle.log_extents.specs.Chains.{count_of, IsNumberOf}
+use Rattle.log_space.specs.Uses.{used_count}
 use Rattle.log_space.proofs.Uses.{used_are_counted, used_in_turn, all_used_len}
-use Rattle.law_log_layout.specs.HeapLog.{PlacedChain, PlacedAnchors, IsPlaced, chains_told}
+use Rattle.law_log_layout.specs.HeapLog.{PlacedChain, PlacedAnchors, IsPlaced}
 use Rattle.law_log_sizes.specs.Sizes.{anchors_len, greatest, len_from, lens_behind}
 use Rattle.law_log_sizes.proofs.Sizes.{all-within}
 use Rattle.log_roots.specs.Roots.{IsHeapSize}
@@ -26,7 +25,7 @@ use Rattle.log_recovery.specs.Chains.{AreWalked, numbers_of, uses_of}
 use Rattle.log_recovery.specs.Rules.{mark_of, no_log}
 use Rattle.log_recovery.specs.Ends.{IsEnd}
 use Rattle.log_recovery.specs.Live.{live_count}
-use Rattle.log_recovery.specs.Members.{name_told, heads_told, values_of, members_of_all}
+use Rattle.log_recovery.specs.Members.{name_told, values_of, members_of_all}
 use Rattle.log_recovery.specs.Opening.{IsImageFault}
 use Rattle.log_recovery.specs.Read.{IsHeapRead}
 use Rattle.log_recovery.specs.Image.{IsReadFrom}
@@ -34,7 +33,6 @@ use Rattle.log_recovery.proofs.Walking.{AreApart, walked_apart, all_joined}
 use Rattle.log_recovery.proofs.Deciding.{end_decides}
 use Rattle.log_recovery.proofs.Lives.{lives-count}
 use Rattle.log_recovery.proofs.Sized.{follow-all}
-use Rattle.log_room.specs.Rooms.{MayOpen}
 use Rattle.log_store.specs.Opens.{head_as, HasPlace, IsPartsFault}
 use Rattle.log_store.proofs.Rooms.{numbers-count, last-keeps}
 
