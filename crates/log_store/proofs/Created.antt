@@ -12,7 +12,6 @@ use Rattle.timequery.specs.Archives.{ArchiveValue, IsUnread}
 use Rattle.archive.specs.declared.run.RunEntry.{RunEntry}
 use Rattle.log_store.specs.Live.{LiveValue, none_live}
 use Rattle.log_store.specs.Named.{NamedValue, none_named}
-use Rattle.log_store.specs.Values.{LogStoreValue}
 use Rattle.log_store.specs.Formats.{new_roots, created_on}
 
 -- what memory has of these commits, all of them published

@@ -1,4 +1,4 @@
-use Rattle.std.proofs.Common.{◌≡◌, ◌∙◌, ap, sym, subst, Option, MatchOption}
+use Rattle.std.proofs.Common.{◌≡◌, ◌∙◌, ap, sym, subst, MatchOption}
 use Rattle.log_recovery.specs.Live.{part_of}
 use Rattle.log_store.specs.Live.{live_value, with_live}
 use Rattle.log_store.specs.Jobs.{BeginsEntry, IsReady, entry_of}
