@@ -208,7 +208,7 @@ def shown(program, store):
 
 
 def endless(program, folder):
-    """A store of profile 4, which is still being built: format says so, what is done stays and is shown, and jobs but archives and floors are refused."""
+    """A store of profile 4, which is still being built: format says so, what is done stays and is shown, and floors of all and growth are refused."""
     store = os.path.join(folder, "endless")
     os.mkdir(store)
     for words in (["--profile", "4", "--slots", "64"], ["--extents", "64"], ["--profile", "3", "--extents", "64"]):
@@ -222,7 +222,7 @@ def endless(program, folder):
         assert run(program, ["format", store, *words])[:2] == (1, "refused: occupied\n"), words
     script = "begin t\nput t 1 7 61\nsubmit t 5 100\nflush\nredeem t\nreopen\nat 1 7 100\nreclaim\nfloor 100\ngrow\nfinish\n"
     script += "archive 100\nfinish\nfloorof 2 100\nfinish\n"
-    answers = "snapshot 0\nok\nqueued\nidle\ndone 100\nlast 100 floors 0\nvalue 61\n" + "refused: wrong profile\n" * 2
+    answers = "snapshot 0\nok\nqueued\nidle\ndone 100\nlast 100 floors 0\nvalue 61\nrefused: nothing to do\nrefused: wrong profile\n"
     answers += "refused: not growable\nidle\nstarted\nidle\nstarted\nidle\n"
     assert run(program, ["run", store], script) == (0, answers, "")
     assert run(program, ["run", store], "begin t\ndel t 1 7\nput t 1 8 62 -\nsubmit t 6 200\nflush\nredeem t\n")[:2] == (
@@ -236,10 +236,10 @@ def endless(program, folder):
     assert (status, told) == (0, "") and said.startswith("done "), (status, said, told)
     assert run(program, ["get", store, "1", "7", "--json"])[1].endswith('"value":["Ada"]}\n')
     assert run(program, ["del", store, "1", "7"])[0] == 0 and run(program, ["get", store, "1", "7"]) == (0, "none\n", "")
-    assert run(program, ["vacuum", store, "200"])[:2] == (1, "archived 1\nrefused: wrong profile\n")
+    assert run(program, ["vacuum", store, "200"]) == (0, "archived 1\nreclaimed 1\n", "")
     assert run(program, ["vacuum", store, "200"])[:2] == (1, "refused: nothing to do\n")
     assert run(program, ["at", store, "1", "7", "100"]) == (0, "value 61\n", "")
-    assert "archived 200\narchive 37\n" in run(program, ["info", store])[1]
+    assert "archived 200\narchive 69\nreclaimed 200\n" in run(program, ["info", store])[1]
     assert run(program, ["grow", store])[:2] == (1, "refused: not growable\n")
     assert run(program, ["floor", store, "1", "200"]) == (0, "floor 200\n", "")
     assert run(program, ["floor", store, "1", "200"])[:2] == (1, "refused: nothing to do\n")

@@ -14,7 +14,7 @@ COMMITS = [("put k 1 7 61", 1, 100), ("put k 1 7 62", 2, 110), ("del k 1 7", 3, 
 # Each store: the heading of what the page shows of it, how it is formatted, and the jobs behind the commits.
 STORES = [
     ("## A small store, whole", ["--slots", "16"], ["archive 120", "reclaim", "floorof 1 120"]),
-    ("## A small store of profile 4", ["--profile", "4", "--extents", "64"], ["archive 120"]),
+    ("## A small store of profile 4", ["--profile", "4", "--extents", "64"], ["archive 120", "reclaim"]),
 ]
 
 

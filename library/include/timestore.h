@@ -118,8 +118,7 @@ enum {
     TS_BAD_SLOTS = -24,     /* a store has 16 to 65,536 slots */
     TS_IN_USE = -25,        /* a: the least open snapshot */
     TS_NEEDS_ARCHIVE = -26, /* the answer needs the archive, and none was lent */
-    TS_WRONG_PROFILE = -27, /* ts_floor: this store has a floor for each relation; ts_floor_of: one for all;
-                               ts_reclaim: its log lies in the heap */
+    TS_WRONG_PROFILE = -27, /* ts_floor: this store has a floor for each relation; ts_floor_of: one for all */
     TS_NOT_GROWABLE = -28   /* it would have more than 65,536 slots, or the first timestore made it */
 };
 
@@ -132,12 +131,18 @@ enum {
     TS_BODY_SYNCED = 4,
     TS_GATE_WRITTEN = 5,
     TS_PUBLISHED = 6, /* of a job: it is done */
-    TS_KEPT_WRITTEN = 7, /* of a reclaim: an extent of what stands at its mark is written */
-    TS_KEPT_SYNCED = 8, /* where the log lies in the heap: a job's entry is synced, but for its gate */
+    TS_KEPT_WRITTEN = 7, /* of a reclaim: an extent of what stands at its mark, or of its base, is written */
+    TS_KEPT_SYNCED = 8, /* these are synced; where the log lies in the heap a job's entry, but for its gate */
     TS_ZEROS_WRITTEN = 9, /* of a growth: zeros are written behind the slots */
     TS_ZEROS_SYNCED = 10,
     TS_ENTRY_WRITTEN = 12, /* where the log lies in the heap: a job's entry is written, but for its gate */
-    TS_GATE_CLOSED = 13 /* where the log lies in the heap: the gate where the log will end is closed */
+    TS_GATE_CLOSED = 13, /* where the log lies in the heap: the gate where the log will end is closed */
+    /* of a reclaim there: */
+    TS_ROLL_WRITTEN = 14, /* a piece of the names of archived commits is written */
+    TS_ROLL_SYNCED = 15,
+    TS_ROOT_WRITTEN = 16, /* the status area names the new base, which does not count yet */
+    TS_ROOT_SYNCED = 17,
+    TS_TURN_WRITTEN = 18 /* the base comes to count */
 };
 /* What ts_pump and ts_job_pump tell in a, where it is not TS_IDLE: the device call of the step is to be made. */
 enum { TS_CALL_DUE = 11 };
@@ -223,16 +228,17 @@ int32_t ts_scan_between(ts *h, uint64_t view, uint16_t relation, uint64_t from, 
                         const uint8_t *archive, size_t archive_len, ts_row *rows, size_t row_count,
                         uint8_t *out, size_t len, ts_info *info);
 
-/* The times of the commits with a label, rising; a: how many. */
+/* The times of the commits with a label, rising; a: how many. A store whose log lies in the heap, once it is opened
+   again, tells no commit up to its last reclaim. */
 int32_t ts_times_of(ts *h, uint64_t label, uint64_t *times, size_t count, ts_info *info);
 
 /* Begins a copy of the versions that ended by a time into the archive. It takes a slot or, where the log lies in the
    heap, an extent. */
 int32_t ts_archive(ts *h, uint64_t upto, ts_info *info);
 
-/* Begins a reclaim: once it is done the heap and memory have only what ended after the last archive. Open
-   views keep what they have. TS_IN_USE while an open transaction reads below that. A store whose log lies in the heap
-   has no reclaims: TS_WRONG_PROFILE. */
+/* Begins a reclaim: once it is done the heap and memory have only what ended after the last archive; where the log
+   lies in the heap, memory once the store is opened again. Open views keep what they have. TS_IN_USE while an open
+   transaction reads below that. */
 int32_t ts_reclaim(ts *h, ts_info *info);
 
 /* Begins to raise the floor of a relation to a time: once it is done views that are taken answer TS_BEFORE_KEPT

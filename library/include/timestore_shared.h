@@ -104,7 +104,7 @@ int32_t ts_shared_between(ts_shared *store, uint64_t view, uint16_t relation, ui
 int32_t ts_shared_scan_between(ts_shared *store, uint64_t view, uint16_t relation, uint64_t from, uint64_t upto,
                                ts_row *rows, size_t row_count, uint8_t *out, size_t len, ts_info *info);
 
-/* The times of the commits with a label, rising; a: how many. */
+/* The times of the commits with a label, rising, as ts_times_of; a: how many. */
 int32_t ts_shared_times_of(ts_shared *store, uint64_t label, uint64_t *times, size_t count, ts_info *info);
 
 /* ---- jobs, which return once they are done, while commits go on. One is made at a time: TS_JOB_BUSY. */
@@ -129,12 +129,12 @@ typedef struct ts_policy {
 
 /* Starts a thread that archives and reclaims by a policy until the store is closed. It looks at once where a commit was
    refused with TS_HEAP_FULL or TS_STATUS_FULL. TS_BUSY where one runs, TS_SYSTEM where no thread can be started. Signals are
-   blocked in it. A store whose log lies in the heap has no reclaims: there it archives alone. */
+   blocked in it. */
 int32_t ts_shared_vacuum(ts_shared *store, const ts_policy *policy);
 
 /* What it was answered last, TS_OK or a refusal, those not counted that say that there is nothing to do or that it is to
-   wait (TS_NOTHING_TO_DO, TS_IN_USE, TS_JOB_BUSY), nor that the store has no reclaims (TS_WRONG_PROFILE); a: how many
-   archives, reclaims and growths it has made. TS_NONE where none was started. */
+   wait (TS_NOTHING_TO_DO, TS_IN_USE, TS_JOB_BUSY); a: how many archives, reclaims and growths it has made. TS_NONE where
+   none was started. */
 int32_t ts_shared_vacuumed(ts_shared *store, ts_info *info);
 
 #ifdef __cplusplus

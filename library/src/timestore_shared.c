@@ -490,10 +490,9 @@ int32_t ts_shared_scan_between(ts_shared *s, uint64_t view, uint16_t relation, u
 
 /* ---- the vacuum */
 
-/* Whether the vacuum goes on behind this answer as if nothing had been: a store whose log lies in the heap has no
-   reclaims. */
+/* Whether the vacuum goes on behind this answer as if nothing had been. */
 static bool is_for_later(int32_t code) {
-    return code == TS_NOTHING_TO_DO || code == TS_IN_USE || code == TS_JOB_BUSY || code == TS_WRONG_PROFILE;
+    return code == TS_NOTHING_TO_DO || code == TS_IN_USE || code == TS_JOB_BUSY;
 }
 
 static void note_vacuum(ts_shared *s, int32_t code) {

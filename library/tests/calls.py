@@ -134,7 +134,7 @@ def has_all(store: timestore.Store) -> None:
 
 
 def test_endless(folder: Path) -> None:
-    """A store whose log lies in the heap, of 64 extents: its archive, and what stood when, also where it is opened again."""
+    """A store whose log lies in the heap, of 64 extents: its archive and its reclaim, and what stood when, also where it is opened again."""
     folder.mkdir()
     (folder / "heap").write_bytes(bytes(8192))
     (folder / "archive").write_bytes(b"")
@@ -143,18 +143,29 @@ def test_endless(folder: Path) -> None:
     with timestore.Store(folder) as store:
         for time, value in ((100, b"a"), (200, b"b"), (300, b"c")):
             store.put(1, 7, value, now=time)
+        refuses(timestore.NothingToDo, store.reclaim)
         assert refuses(timestore.NotYet, store.archive, 301).last == 300
         store.archive_start(200)
         refuses(timestore.JobBusy, store.archive, 300)
         steps = [step.WROTE, step.SYNCED, step.ENTRY_WRITTEN, step.GATE_CLOSED, step.KEPT_SYNCED, step.GATE_WRITTEN, step.PUBLISHED]
         assert [store.job_pump() for _ in steps] == steps and store.job_pump() == step.IDLE
         refuses(timestore.NothingToDo, store.archive, 200)
-        refuses(timestore.WrongProfile, store.reclaim)
+        has_all(store)
+        store.reclaim_start()
+        refuses(timestore.JobBusy, store.reclaim)
+        steps = [step.KEPT_WRITTEN, step.KEPT_WRITTEN, step.KEPT_SYNCED, step.ROLL_WRITTEN, step.ROLL_SYNCED]
+        steps += [step.ROOT_WRITTEN, step.ROOT_SYNCED, step.TURN_WRITTEN, step.PUBLISHED]
+        assert [store.job_pump() for _ in steps] == steps and store.job_pump() == step.IDLE
+        refuses(timestore.NothingToDo, store.reclaim)
         has_all(store)
     with timestore.Store(folder) as store:
         refuses(timestore.NothingToDo, store.archive, 200)
+        refuses(timestore.NothingToDo, store.reclaim)
         has_all(store)
         store.archive(300)
+        store.reclaim()
+        has_all(store)
+    with timestore.Store(folder) as store:
         has_all(store)
 
 

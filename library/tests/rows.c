@@ -455,24 +455,40 @@ static int32_t try_commit(ts_file *file, const char *text, uint64_t now) {
     return ts_file_commit(file, txn, 9, now, &info);
 }
 
-/* The steps of an archive, between which a commit is made. */
-static void test_endless_steps(ts_file *file) {
-    static const uint64_t steps[] = {TS_WROTE, TS_SYNCED, TS_ENTRY_WRITTEN, TS_GATE_CLOSED, TS_KEPT_SYNCED, TS_GATE_WRITTEN, TS_PUBLISHED, TS_IDLE};
+/* The steps of a job, behind whose first a commit is made. */
+static void test_endless_steps(ts_file *file, const uint64_t *steps, size_t count, const char *text, uint64_t now) {
     ts_info info;
-    for (size_t n = 0; n < sizeof steps / sizeof *steps; n++) {
+    for (size_t n = 0; n < count; n++) {
         CHECK(TS_OK, ts_file_job_pump(file, &info));
         HOLDS(info.a == steps[n]);
-        if (n == 0) CHECK(TS_OK, try_commit(file, "d", 400));
+        if (n == 0) CHECK(TS_OK, try_commit(file, text, now));
     }
 }
 
-/* What stood when, whatever is archived. */
-static void has_all(ts *h) {
-    HOLDS(now_has(h, 7, 99, NULL) && now_has(h, 7, 199, "a") && now_has(h, 7, 200, "b") && now_has(h, 7, 300, "c"));
-    HOLDS(now_has(h, 7, 400, "d"));
+/* Whether record 7 had this text at a time, none for NULL: the archive is lent. */
+static int had(ts_file *file, uint64_t time, const char *text) {
+    uint8_t value[TS_VALUE_MOST], wanted[258];
+    const uint8_t *archive;
+    size_t len;
+    ts_info view, info;
+    ts *h = ts_file_store(file);
+    CHECK(TS_OK, ts_view(h, &view));
+    CHECK(TS_OK, ts_file_archive(file, &archive, &len));
+    int32_t code = ts_at(h, view.a, 1, 7, time, archive, len, value, sizeof value, &info);
+    CHECK(TS_OK, ts_end(h, view.a));
+    if (!text) return code == TS_NONE;
+    size_t count = value_of(text, wanted);
+    return code == TS_OK && info.a == count && memcmp(value, wanted, count) == 0;
 }
 
-/* Archives until the heap has no extent for another one; that of all that is published takes the last. */
+/* What stood when, whatever is archived and reclaimed. */
+static void has_all(ts_file *file) {
+    HOLDS(had(file, 99, NULL) && had(file, 199, "a") && had(file, 200, "b") && had(file, 300, "c"));
+    HOLDS(had(file, 400, "d"));
+}
+
+/* Archives until the heap has no extent for another one; that of all that is published takes the last. A reclaim makes
+   room again. */
 static void test_endless_room(ts_file *file) {
     ts *h = ts_file_store(file);
     ts_info info;
@@ -487,12 +503,19 @@ static void test_endless_room(ts_file *file) {
     CHECK(TS_OK, ts_archive(h, last, &info));
     CHECK(TS_OK, ts_file_job(file));
     CHECK(TS_NOTHING_TO_DO, ts_archive(h, last, &info));
-    has_all(h);
+    CHECK(TS_HEAP_FULL, try_commit(file, "f", 0));
+    CHECK(TS_OK, ts_reclaim(h, &info));
+    CHECK(TS_OK, ts_file_job(file));
+    CHECK(TS_OK, try_commit(file, "f", 0));
+    has_all(file);
 }
 
-/* An archive of a store whose log lies in the heap, refused and made: what stood when, also where it is opened again. It
-   has no reclaims. */
+/* An archive and a reclaim of a store whose log lies in the heap, refused and made: what stood when, also where it is
+   opened again. */
 static void test_endless(const char *folder) {
+    static const uint64_t archive_steps[] = {TS_WROTE, TS_SYNCED, TS_ENTRY_WRITTEN, TS_GATE_CLOSED, TS_KEPT_SYNCED, TS_GATE_WRITTEN, TS_PUBLISHED, TS_IDLE};
+    /* what stands at its mark, and its base */
+    static const uint64_t reclaim_steps[] = {TS_KEPT_WRITTEN, TS_KEPT_WRITTEN, TS_KEPT_SYNCED, TS_ROLL_WRITTEN, TS_ROLL_SYNCED, TS_ROOT_WRITTEN, TS_ROOT_SYNCED, TS_TURN_WRITTEN, TS_PUBLISHED, TS_IDLE};
     ts_file *file;
     ts_info info;
     const uint8_t *archive;
@@ -505,31 +528,37 @@ static void test_endless(const char *folder) {
     HOLDS(commit_text(file, 7, "a", 9, 100) == 100 && commit_text(file, 7, "b", 9, 200) == 200);
     HOLDS(commit_text(file, 7, "c", 9, 300) == 300);
     CHECK(TS_NOTHING_TO_DO, ts_archive(h, 0, &info));
+    CHECK(TS_NOTHING_TO_DO, ts_reclaim(h, &info));
     CHECK(TS_NOT_YET, ts_archive(h, 301, &info));
     HOLDS(info.a == 300);
     CHECK(TS_OK, ts_archive(h, 200, &info));
     CHECK(TS_JOB_BUSY, ts_archive(h, 300, &info));
     CHECK(TS_JOB_BUSY, ts_floor_of(h, 1, 100, &info));
-    CHECK(TS_WRONG_PROFILE, ts_reclaim(h, &info));
+    CHECK(TS_JOB_BUSY, ts_reclaim(h, &info));
     CHECK(TS_NOT_GROWABLE, ts_grow(h, &info));
-    test_endless_steps(file);
+    test_endless_steps(file, archive_steps, sizeof archive_steps / sizeof *archive_steps, "d", 400);
     CHECK(TS_NOTHING_TO_DO, ts_archive(h, 200, &info));
-    CHECK(TS_WRONG_PROFILE, ts_reclaim(h, &info));
-    has_all(h);
+    has_all(file);
+    CHECK(TS_OK, ts_reclaim(h, &info));
+    CHECK(TS_JOB_BUSY, ts_reclaim(h, &info));
+    test_endless_steps(file, reclaim_steps, sizeof reclaim_steps / sizeof *reclaim_steps, "e", 500);
+    CHECK(TS_NOTHING_TO_DO, ts_reclaim(h, &info));
+    has_all(file);
     ts_file_close(file);
     CHECK(TS_OK, ts_file_open(path, &file, &info));
-    HOLDS(info.a == 400 && info.b == 0);
+    HOLDS(info.a == 500 && info.b == 0);
     h = ts_file_store(file);
     CHECK(TS_NOTHING_TO_DO, ts_archive(h, 200, &info));
+    CHECK(TS_NOTHING_TO_DO, ts_reclaim(h, &info));
     CHECK(TS_OK, ts_file_archive(file, &archive, &len));
-    HOLDS(len > 0);
-    has_all(h);
+    HOLDS(len == 37 + 32); /* a version, and the names of two commits */
+    has_all(file);
     test_endless_room(file);
     ts_file_close(file);
     CHECK(TS_OK, ts_file_open(path, &file, &info));
-    has_all(ts_file_store(file));
+    has_all(file);
     ts_file_close(file);
-    CHECK(TS_DAMAGED, cut(path, "archive", (off_t)len - 1, &info));
+    CHECK(TS_DAMAGED, cut(path, "archive", 36, &info));
     HOLDS(info.a == 0 && info.b == TS_ARCHIVE);
 }
 

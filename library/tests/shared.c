@@ -401,19 +401,19 @@ static void vacuumed(void) {
     ts_file_close(file);
 }
 
-/* The same where the log lies in the heap: it archives alone, and is refused nothing. */
+/* The same where the log lies in the heap, and it is refused nothing. */
 static void vacuumed_in_the_heap(void) {
     ts_policy policy = {.every = 1000, .keep = 2, .grows = true};
     snprintf(folder, sizeof folder, "%s/vacuumed-in-the-heap", top);
     endless_format(folder);
     open_it();
-    CHECK(TS_WRONG_PROFILE, ts_shared_reclaim(s, &info));
+    CHECK(TS_NOTHING_TO_DO, ts_shared_reclaim(s, &info));
     CHECK(TS_OK, ts_shared_vacuum(s, &policy));
     for (uint64_t n = 1; n <= 10; n++) CHECK(TS_OK, put_number(7, n, 1, &info));
     do {
         usleep(1000);
         CHECK(TS_OK, ts_shared_vacuumed(s, &info));
-    } while (info.a < 1);
+    } while (info.a < 2);
     CHECK(TS_OK, put_number(7, 11, 1, &info));
     CHECK(TS_OK, ts_shared_view(s, &info));
     HOLDS(view_has(info.a, 7, 1, "1") && view_has(info.a, 7, 11, "11"));
@@ -426,6 +426,11 @@ static void vacuumed_in_the_heap(void) {
     CHECK(TS_OK, ts_shared_archive(s, 11, &info));
     CHECK(TS_NOTHING_TO_DO, ts_shared_archive(s, 11, &info));
     HOLDS(view_has(view, 7, 1, "1"));
+    CHECK(TS_OK, ts_shared_reclaim(s, &info));
+    CHECK(TS_NOTHING_TO_DO, ts_shared_reclaim(s, &info));
+    HOLDS(view_has(view, 7, 1, "1"));
+    CHECK(TS_OK, ts_shared_view(s, &info));
+    HOLDS(view_has(info.a, 7, 1, "1") && view_has(info.a, 7, 11, "11"));
     ts_shared_free(s);
 }
 

@@ -76,7 +76,7 @@ def main() -> None:
     versions += re.findall(r'^version = "(.+?)"', (TOP / "library/rust/Cargo.toml").read_text(), re.M)
     assert versions == [timestore.__version__] * 2, versions
 
-    steps = listed("TS_IDLE", "TS_GATE_CLOSED")
+    steps = listed("TS_IDLE", "TS_TURN_WRITTEN")
     assert {f"TS_{step.name}": step.value for step in timestore.Step} == steps
     rust_steps = re.findall(r"(\d+) => Step::(\w+)", (TOP / "library/rust/src/store.rs").read_text())
     assert {name: int(code) for code, name in rust_steps} == {cased(name): code for name, code in steps.items() if code > 0}

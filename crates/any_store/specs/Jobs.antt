@@ -9,6 +9,7 @@ use Rattle.store.specs.declared.job.StartFault.{StartFault}
 use Rattle.store.specs.declared.job.StartFault.TheVariants as fault
 use Rattle.log_store.specs.Archives as log_archives
 use Rattle.log_store.specs.Jobs as log_jobs
+use Rattle.log_store.specs.Reclaims as log_reclaims
 use Rattle.log_store.specs.Values.{LogStoreValue}
 use Rattle.log_store.specs.declared.job.StartFault as log_starts
 use Rattle.log_store.specs.declared.job.StartFault.TheVariants as log_fault
@@ -48,9 +49,13 @@ StartsLogArchive upto answer old new =
 abbrev pub StartsArchive : StoreValue → ℕ → Result (Unit {0}) StartFault → StoreValue → Type 0
 StartsArchive old upto answer new = ByEngine (λ s s'. archives.StartsArchive s upto answer s') (StartsLogArchive upto answer) old new
 
--- a reclaim begins, where the log is slots
+-- and so does a reclaim
+abbrev pub StartsLogReclaim : Result (Unit {0}) StartFault → LogStoreValue → LogStoreValue → Type 0
+StartsLogReclaim answer old new =
+    (said : Result (Unit {0}) log_starts.StartFault) × log_reclaims.StartsReclaim old said new × (answer ≡ told_start said)
+
 abbrev pub StartsReclaim : StoreValue → Result (Unit {0}) StartFault → StoreValue → Type 0
-StartsReclaim old answer new = ByEngine (λ s s'. reclaims.StartsReclaim s answer s') (BeginsNone fault.WrongProfile answer) old new
+StartsReclaim old answer new = ByEngine (λ s s'. reclaims.StartsReclaim s answer s') (StartsLogReclaim answer) old new
 
 -- a floor begins in either layout; where the log lies in the heap it is one of one relation
 abbrev pub StartsLogFloor : Option ℕ → ℕ → Result (Unit {0}) StartFault → LogStoreValue → LogStoreValue → Type 0

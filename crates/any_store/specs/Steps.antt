@@ -77,6 +77,12 @@ log_job_did log_job.WroteEntry = job.WroteEntry
 log_job_did log_job.GateClosed = job.GateClosed
 log_job_did log_job.HeapSynced = job.HeapSynced
 log_job_did log_job.GateWritten = job.GateWritten
+log_job_did log_job.WroteExtent = job.WroteExtent
+log_job_did log_job.WroteRoll = job.WroteRoll
+log_job_did log_job.RollSynced = job.RollSynced
+log_job_did log_job.RootWritten = job.RootWritten
+log_job_did log_job.RootSynced = job.RootSynced
+log_job_did log_job.TurnWritten = job.TurnWritten
 log_job_did log_job.JobDone = job.JobDone
 
 abbrev pub slots_job_step : Result slots_jobs.JobDid PumpFault → Result JobDid PumpFault

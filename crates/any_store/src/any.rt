@@ -2,7 +2,7 @@
 ghost use Rattle.std.specs.Prelude.{◌≡◌, IsTrue, IfOk};
 ghost use Rattle.disk.specs.Areas.{AreSound};
 ghost use Rattle.any_store.specs.Values.{disk_of, profile_of};
-ghost use Rattle.any_store.specs.Places.{log_area};
+ghost use Rattle.any_store.specs.Places.{log_area, job_area};
 ghost use Rattle.any_store.specs.Calls.{last, floors, has_own_floors, Begins, Aborts, Submits, Redeems, Pumps, IsTimesOf};
 
 use crate::engine::Engine;
@@ -89,6 +89,22 @@ impl<D: Disk> Store<D> {
         match &self.engine {
             Engine::Slots(_) => Area::Status,
             Engine::Log(_) => Area::Heap,
+        }
+    }
+
+    /// The area of the gate by which the job that runs comes to count.
+    pub fn job_area(&self) -> Area
+        ensures { result ≡ job_area self.now }
+    {
+        match &self.engine {
+            Engine::Slots(_) => Area::Status,
+            Engine::Log(store) => {
+                if store.is_reclaiming() {
+                    Area::Status
+                } else {
+                    Area::Heap
+                }
+            }
         }
     }
 

@@ -3,7 +3,7 @@ ghost use Rattle.std.specs.Prelude.{◌≡◌, IsTrue, None, Some};
 ghost use Rattle.disk.specs.Areas.{AreSound};
 ghost use Rattle.any_store.specs.Values.{disk_of};
 ghost use Rattle.any_store.specs.Jobs.{none_of, StartsArchive, StartsReclaim, StartsFloor, StartsGrowth, PumpsJob};
-ghost use Rattle.any_store.specs.Jobs.{told_fault, told_start, StartsLogArchive, StartsLogFloor};
+ghost use Rattle.any_store.specs.Jobs.{told_fault, told_start, StartsLogArchive, StartsLogReclaim, StartsLogFloor};
 
 use crate::any::Store;
 use crate::engine::Engine;
@@ -30,7 +30,7 @@ impl<D: Disk> Store<D> {
     {
         match &mut self.engine {
             Engine::Slots(store) => store.reclaim_start(),
-            Engine::Log(store) => Err(none_of(store.has_failed(), StartFault::WrongProfile)),
+            Engine::Log(store) => start_log_reclaim(store),
         }
     }
 
@@ -119,6 +119,12 @@ fn start_log_archive<D: Disk>(store: &mut LogStore<D>, upto: u64) -> Result<(), 
     ensures { StartsLogArchive upto result store.old store.new }
 {
     told_start(store.archive_start(upto))
+}
+
+fn start_log_reclaim<D: Disk>(store: &mut LogStore<D>) -> Result<(), StartFault>
+    ensures { StartsLogReclaim result store.old store.new }
+{
+    told_start(store.reclaim_start())
 }
 
 fn start_log_floor<D: Disk>(

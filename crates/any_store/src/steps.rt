@@ -36,7 +36,7 @@ pub enum JobDid {
     /// The next piece of the run is written.
     WroteRun,
     RunSynced,
-    /// The next extent of the anchors is written.
+    /// The next extent of the anchors is written, or of a base.
     WroteExtent,
     HeapSynced,
     /// The next 8,192 zeros of a piece of slots are written.
@@ -49,9 +49,17 @@ pub enum JobDid {
     WroteEntry,
     /// There too: the gate where the log will end is closed.
     GateClosed,
+    /// There too: the next piece of a roll of names is written.
+    WroteRoll,
+    RollSynced,
+    /// There too: the root that does not count yet names the base.
+    RootWritten,
+    RootSynced,
+    /// There too: the turn gate is written, so that the root counts that names the base.
+    TurnWritten,
     /// The gate of the job's slot, entry or piece is written.
     GateWritten,
-    /// The job's slot, entry or piece counts: its gate is synced.
+    /// The job's slot, entry, base or piece counts: its gate is synced.
     JobDone,
 }
 
@@ -147,6 +155,12 @@ fn log_job_did(what: LogJobDid) -> JobDid
         LogJobDid::GateClosed => JobDid::GateClosed,
         LogJobDid::HeapSynced => JobDid::HeapSynced,
         LogJobDid::GateWritten => JobDid::GateWritten,
+        LogJobDid::WroteExtent => JobDid::WroteExtent,
+        LogJobDid::WroteRoll => JobDid::WroteRoll,
+        LogJobDid::RollSynced => JobDid::RollSynced,
+        LogJobDid::RootWritten => JobDid::RootWritten,
+        LogJobDid::RootSynced => JobDid::RootSynced,
+        LogJobDid::TurnWritten => JobDid::TurnWritten,
         LogJobDid::JobDone => JobDid::JobDone,
     }
 }

@@ -85,9 +85,12 @@ log-step-over l disk s =
       promised = s.promised;
       few = s.few;
       many = s.many;
+      counted = s.counted;
       turn = s.turn;
       beside = s.beside;
       place = s.place;
+      live = s.live;
+      reclaim = s.reclaim;
     }
 
 left-over : (tells : Bool) (l : LogStoreValue) (m : Machine Value) (disk : DiskState) → IsLeft tells l m → IsLeft false (record l { disk = disk }) m
@@ -111,7 +114,13 @@ log-over tells l m disk s =
           left = λ fails. left-over tells l m disk (w.left fails);
         };
         fresh = s.store.fresh;
-        marks = record { reclaimed = s.store.marks.reclaimed; job = s.store.marks.job };
+        marks = record {
+          reclaimed = s.store.marks.reclaimed;
+          base = s.store.marks.base;
+          job = s.store.marks.job;
+          reclaim = s.store.marks.reclaim;
+        };
+        ends = s.store.ends;
         disk = λ told. untold told;
       };
       place = s.place;

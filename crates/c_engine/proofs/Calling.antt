@@ -15,7 +15,7 @@ use Rattle.log_store.specs.declared.job.JobDid.{JobDid as LogJobDid}
 use Rattle.log_store.specs.declared.pump.Did.{Did as LogDid}
 use Rattle.any_store.specs.Calls.{Pumps}
 use Rattle.any_store.specs.Jobs.{PumpsJob}
-use Rattle.any_store.specs.Places.{log_area}
+use Rattle.any_store.specs.Places.{log_area, job_area}
 use Rattle.any_store.specs.Values.{StoreValue, disk_of}
 use Rattle.any_store.specs.Steps.{slots_did, log_did, slots_job_did, log_job_did, slots_step, log_step, slots_job_step, log_job_step}
 use Rattle.any_store.specs.declared.engine.Engine.TheVariants.{Slots, Log}
@@ -65,7 +65,7 @@ abbrev job_said : JobDid → Result JobDid PumpFault
 job_said what = Ok what
 
 pub job-leads : (old new : StoreValue) (what : JobDid) → PumpsJob true old (Ok what) new
-    → LeadsBy (disk_of old).areas (job_call (log_area old) what) (disk_of new).areas
+    → LeadsBy (disk_of old).areas (job_call (job_area old) what) (disk_of new).areas
 job-leads (Slots s) (Slots s') what pumps = by-answer pumps.0 pumps.1 pumps.2
   where
     by-answer : (said : Result SlotsJobDid PumpFault) → slot_jobs.PumpsJob true s said s' → job_said what ≡ slots_job_step said
@@ -78,9 +78,10 @@ job-leads (Log l) (Slots s') what pumps = absurd pumps
 job-leads (Log l) (Log l') what pumps = by-answer pumps.0 pumps.1 pumps.2
   where
     by-answer : (said : Result LogJobDid PumpFault) → log_jobs.PumpsJob true l said l' → job_said what ≡ log_job_step said
-        → LeadsBy l.disk.areas (job_call Heap what) l'.disk.areas
+        → LeadsBy l.disk.areas (job_call (job_area (Log l)) what) l'.disk.areas
     by-answer (Ok done) takes is =
-        let same : what ≡ log_job_did done = (let e = is in cc) in of-job-did Heap _ _ what (log_job_did done) same (log-job-leads l l' done takes)
+        let same : what ≡ log_job_did done = (let e = is in cc) in
+        of-job-did (job_area (Log l)) _ _ what (log_job_did done) same (log-job-leads l l' done takes)
     by-answer (Err why) takes is = absurd (let e = is in cc)
 
 -- ---- what stands out
@@ -114,7 +115,7 @@ GroupStep old said info new = ((said ≡ code.NoMemory) × (new ≡ old))
 abbrev JobStep : Engine → Code → Info → Engine → Type 0
 JobStep old said info new = ((said ≡ code.NoMemory) × (new ≡ old))
     ⊎ ((answer : Result JobDid PumpFault) × PumpsJob true old.store answer new.store × AreSound (disk_of new.store).areas × (new.places ≡ old.places)
-    × AfterStep (of_job (log_area old.store) answer) old said info new)
+    × AfterStep (of_job (job_area old.store) answer) old said info new)
 
 -- nothing stops a settled engine
 unstopped : (Does : Type 0) (state : EngineState) (old new : Engine) (said : Code) → state ≡ Settled
@@ -137,9 +138,9 @@ group-call old new said info settled pumps asking = by-way (unstopped (GroupStep
 pub job-call : JobCallIsTheSteps
 job-call old new said info settled pumps asking = by-way (unstopped (JobStep old said info new) old.state old new said settled pumps)
   where
-    by-answer : (answer : Result JobDid PumpFault) → PumpsJob true old.store answer new.store → AfterStep (of_job (log_area old.store) answer) old said info new
+    by-answer : (answer : Result JobDid PumpFault) → PumpsJob true old.store answer new.store → AfterStep (of_job (job_area old.store) answer) old said info new
         → LeadsByItsCall (disk_of old.store).areas new.state (disk_of new.store).areas
-    by-answer (Ok what) takes after = after-step (job_call (log_area old.store) what) (Job (log_area old.store) what) old new refl settled asking after.2
+    by-answer (Ok what) takes after = after-step (job_call (job_area old.store) what) (Job (job_area old.store) what) old new refl settled asking after.2
         (job-leads old.store new.store what takes)
     by-answer (Err why) takes after = absurd (refused-asks-not _ old new settled asking after.1)
 

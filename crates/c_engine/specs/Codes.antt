@@ -141,6 +141,11 @@ job_number job.WroteZeros = 9
 job_number job.ZerosSynced = 10
 job_number job.WroteEntry = 12
 job_number job.GateClosed = 13
+job_number job.WroteRoll = 14
+job_number job.RollSynced = 15
+job_number job.RootWritten = 16
+job_number job.RootSynced = 17
+job_number job.TurnWritten = 18
 
 -- what a call on a handle answers: by the number of a code that the engine says, or that there is none
 abbrev pub AnswersOn : (Engine → Code → Type 0) → Option Engine → ℤ → Type 0

@@ -21,7 +21,7 @@ use Rattle.snapshot.specs.declared.txn.TxnFault.{TxnFault}
 use Rattle.any_store.specs.Calls.{Begins, Aborts, Submits, Redeems, Pumps, IsTimesOf, last, floors}
 use Rattle.any_store.specs.Jobs.{StartsArchive, StartsReclaim, StartsFloor, StartsGrowth, PumpsJob}
 use Rattle.any_store.specs.Opens.{Opens}
-use Rattle.any_store.specs.Places.{log_area}
+use Rattle.any_store.specs.Places.{log_area, job_area}
 use Rattle.any_store.specs.Queries.{IsViewOf}
 use Rattle.any_store.specs.Values.{StoreValue, disk_of, with_disk}
 use Rattle.any_store.specs.declared.steps.Did.{Did}
@@ -355,7 +355,7 @@ RaisesFloorOf relation time = StartsEngine (λ old answer new. StartsFloor old (
 abbrev pub PumpsJobOf : Engine → Code → Info → Engine → Type 0
 PumpsJobOf old said info new = WhileSettled old said new (((said ≡ code.NoMemory) × (new ≡ old))
     ⊎ ((answer : Result JobDid PumpFault) × PumpsJob true old.store answer new.store × AreSound (disk_of new.store).areas × (new.places ≡ old.places)
-    × AfterStep (of_job (log_area old.store) answer) old said info new))
+    × AfterStep (of_job (job_area old.store) answer) old said info new))
 
 -- ---- handles
 

@@ -25,7 +25,7 @@ group_call log did.BodySynced = Some (Sync log)
 group_call log did.GateWritten = Some (Write log)
 group_call log (did.Published count) = Some (Sync log)
 
--- the device call of a step of a job, so too
+-- the device call of a step of a job, by the area of the gate that makes it count
 abbrev pub job_call : Area → JobDid → Option DeviceCall
 job_call log job.Idle = None
 job_call log job.WroteRun = Some (Write Archive)
@@ -40,6 +40,11 @@ job_call log job.WroteZeros = Some (Write Status)
 job_call log job.ZerosSynced = Some (Sync Status)
 job_call log job.WroteEntry = Some (Write Heap)
 job_call log job.GateClosed = Some (Write Heap)
+job_call log job.WroteRoll = Some (Write Archive)
+job_call log job.RollSynced = Some (Sync Archive)
+job_call log job.RootWritten = Some (Write Status)
+job_call log job.RootSynced = Some (Sync Status)
+job_call log job.TurnWritten = Some (Write Status)
 
 -- the device call of a step; none where there was nothing to do
 abbrev pub call_of : Step → Option DeviceCall

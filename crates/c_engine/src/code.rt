@@ -46,7 +46,7 @@ pub enum Code {
     InUse,
     /// The answer needs the archive, and none was lent.
     NeedsArchive,
-    /// The store has a floor for each relation, or one for all, and not such a one; or it has no reclaims.
+    /// The store has a floor for each relation, or one for all, and not such a one.
     WrongProfile,
     /// The store has no room for 256 slots more, or its profile has no pieces.
     NotGrowable,

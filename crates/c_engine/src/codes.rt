@@ -175,5 +175,10 @@ pub(crate) fn job_number(did: JobDid) -> u64
         JobDid::ZerosSynced => 10,
         JobDid::WroteEntry => 12,
         JobDid::GateClosed => 13,
+        JobDid::WroteRoll => 14,
+        JobDid::RollSynced => 15,
+        JobDid::RootWritten => 16,
+        JobDid::RootSynced => 17,
+        JobDid::TurnWritten => 18,
     }
 }

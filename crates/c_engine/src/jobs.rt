@@ -83,7 +83,7 @@ impl Engine {
             return Code::NoMemory;
         };
         let made = self.calls();
-        let log = self.store.log_area();
+        let log = self.store.job_area();
         match self.store.job_pump() {
             Ok(did) => self.stand_out(Step::Job(log, did), published, info),
             Err(fault) => self.refuse_step(fault, made, published),

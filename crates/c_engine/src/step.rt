@@ -8,7 +8,7 @@ use crate::device_call::DeviceCall;
 use any_store::{Did, JobDid};
 use disk::Area;
 
-/// What a step of a store did, and the area of its log.
+/// What a step of a store did, and the area of the gate that makes it count.
 #[derive(Clone, Copy, Debug, PartialEq, Eq)]
 pub enum Step {
     Group(Area, Did),
@@ -32,14 +32,16 @@ fn job_call(log: Area, did: JobDid) -> Option<DeviceCall>
 {
     match did {
         JobDid::Idle => None,
-        JobDid::WroteRun => Some(DeviceCall::Write(Area::Archive)),
-        JobDid::RunSynced => Some(DeviceCall::Sync(Area::Archive)),
+        JobDid::WroteRun | JobDid::WroteRoll => Some(DeviceCall::Write(Area::Archive)),
+        JobDid::RunSynced | JobDid::RollSynced => Some(DeviceCall::Sync(Area::Archive)),
         JobDid::WroteExtent | JobDid::WroteEntry | JobDid::GateClosed => {
             Some(DeviceCall::Write(Area::Heap))
         }
         JobDid::HeapSynced => Some(DeviceCall::Sync(Area::Heap)),
-        JobDid::WroteZeros => Some(DeviceCall::Write(Area::Status)),
-        JobDid::ZerosSynced => Some(DeviceCall::Sync(Area::Status)),
+        JobDid::WroteZeros | JobDid::RootWritten | JobDid::TurnWritten => {
+            Some(DeviceCall::Write(Area::Status))
+        }
+        JobDid::ZerosSynced | JobDid::RootSynced => Some(DeviceCall::Sync(Area::Status)),
         JobDid::BodyWritten | JobDid::GateWritten => Some(DeviceCall::Write(log)),
         JobDid::BodySynced | JobDid::JobDone => Some(DeviceCall::Sync(log)),
     }

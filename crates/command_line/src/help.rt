@@ -45,9 +45,8 @@ groups, and its heap as many extents of 8 KiB; one that is full answers
 `refused: status full` to each further commit.
 
 Profile 4 has no slots: its log lies in the heap, and does not end. It is still
-being built. Its bytes may change, and nothing gives extents back yet: `vacuum`
-archives, and answers `wrong profile` then. So is a size refused that is of the
-other profile.";
+being built: its bytes may change. A size that is of the other profile is refused
+as `wrong profile`.";
 
 /// Of `run`.
 pub const RUN: &str = "A line has one command, words parted by one space:
@@ -124,16 +123,16 @@ it open, the answer is `refused: device`.";
 /// Of `vacuum`.
 pub const VACUUM: &str =
     "Up to the time, which is read as that of `at`, what was replaced or deleted by
-then goes to the archive, and the heap gives up its space. Both take a slot. Every
-answer stays as it was. The lines are:
+then goes to the archive, and the heap gives up its space. Both take a slot, or
+extents where there are no slots. Every answer stays as it was, but that `times`
+tells no commit up to then of profile 4. The lines are:
   archived N    N versions went to the archive
   reclaimed N   N versions that stand at the time were written anew
 It stops at the first refusal, after the line of what was done before it:
   nothing to do   the archive already reaches the time
   not yet T       the time is after the last commit, that of T
   status full     no slot is left
-  heap full       no extents are left for what is written anew
-  wrong profile   the store is of profile 4, which archives alone";
+  heap full       no extents are left for what is written anew";
 
 /// Of `grow`.
 pub const GROW: &str =

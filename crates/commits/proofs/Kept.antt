@@ -10,7 +10,7 @@ use Rattle.group.specs.CommitOrder as orders
 use Rattle.group.proofs.Orders.{last_time-push}
 use Rattle.commits.specs.Values.{CommitsValue, WaitingValue, versions_after, mark_after, ordered, ordered_mark, last_assigned}
 use Rattle.commits.specs.Order.{AreBy, IsInOrder}
-use Rattle.commits.specs.Steps.{waiting_as, with_waiting, published}
+use Rattle.commits.specs.Steps.{time_behind, waiting_as, with_waiting, published}
 
 -- ---- the last commit that waits
 
@@ -29,6 +29,14 @@ mark_after-last mark (x ∷ []) zero w e is = ap (λ (z : WaitingValue). z.recla
 mark_after-last mark (x ∷ []) (suc n) w e is = absurd (omega arith)
 mark_after-last mark (x ∷ y ∷ ys) zero w e is = absurd (omega arith)
 mark_after-last mark (x ∷ y ∷ ys) (suc n) w e is = mark_after-last x.reclaimed (y ∷ ys) n w (omega arith) is
+
+-- ---- the last commit of a group
+
+pub time-last : (time : ℕ) (ws : List WaitingValue) (n : ℕ) (w : WaitingValue) → n < length ws → w ≡ get_or ws n w
+    → w.time ≡ time_behind time (take (suc n) ws)
+time-last time [] n w lt is = absurd (omega (arith, lt))
+time-last time (x ∷ ws) zero w lt is = ap (λ (z : WaitingValue). z.time) is
+time-last time (x ∷ ws) (suc n) w lt is = time-last x.time ws n w (omega (arith, lt)) is
 
 -- ---- no version is later than the last time
 

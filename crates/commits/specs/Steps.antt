@@ -26,6 +26,15 @@ with_waiting v label time writes = record v {
 abbrev pub members : CommitsValue → List WaitingValue
 members v = take v.group v.queue
 
+-- the time of the last of these commits, or that before them
+abbrev pub time_behind : ℕ → List WaitingValue → ℕ
+time_behind time [] = time
+time_behind time (w ∷ ws) = time_behind w.time ws
+
+-- of the group that stands; 0 where none does
+abbrev pub group_last : CommitsValue → ℕ
+group_last v = time_behind 0 (members v)
+
 -- where no group stands and commits wait, one begins: of the first so many, or of all of them
 abbrev pub grouped : ℕ → CommitsValue → CommitsValue
 grouped most v = if (v.group == 0) && nat_lt 0 (length v.queue) then record v { group = min most (length v.queue) } else v

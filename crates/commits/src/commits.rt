@@ -253,6 +253,14 @@ impl Commits {
         self.reclaimed
     }
 
+    /// The commits in memory, those that wait behind those that are published.
+    pub fn heads(&self) -> &[CommitHead]
+        ensures is { result.now ≡ self.now.heads }
+        ensures rising { IsRisingAfter 0 self.now.heads }
+    {
+        self.order.heads()
+    }
+
     /// Whether the device refused a write or a sync: nothing is written any more.
     pub fn has_failed(&self) -> bool
         ensures { result ≡ self.now.failed }

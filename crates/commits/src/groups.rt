@@ -1,7 +1,7 @@
 //! The group: commits that wait and are published together.
-ghost use Rattle.std.specs.Prelude.{◌≡◌, ◌≤◌, length, take, drop};
+ghost use Rattle.std.specs.Prelude.{◌≡◌, ◌<◌, ◌≤◌, length, take, drop};
 ghost use Rattle.commits.specs.Values.{versions_after};
-ghost use Rattle.commits.specs.Steps.{grouped, published};
+ghost use Rattle.commits.specs.Steps.{group_last, grouped, published};
 
 use crate::commits::Commits;
 use crate::waiting::Waiting;
@@ -26,6 +26,17 @@ impl Commits {
         ensures few { result ≤ 1024 }
     {
         self.group
+    }
+
+    /// The time of the last commit of the group that stands, in microseconds since 1970.
+    pub fn group_last(&self) -> u64
+        requires { 0 < self.now.group }
+        ensures { result ≡ group_last self.now }
+    {
+        match self.queue.get(self.group - 1) {
+            None => unreachable!(),
+            Some(waiting) => waiting.time(),
+        }
     }
 
     /// Where no group stands and commits wait, one begins: of the first `most`, or of all of them.

@@ -36,6 +36,13 @@ impl Waiting {
         }
     }
 
+    /// Its time, in microseconds since 1970.
+    pub fn time(&self) -> u64
+        ensures { result ≡ self.now.time }
+    {
+        self.time
+    }
+
     /// The versions after it.
     pub fn after(&self) -> &Frozen
         ensures { result.now ≡ self.now.after }

@@ -107,6 +107,14 @@ impl CommitOrder {
         self.published += count;
     }
 
+    /// The commits, those that wait behind those that are published.
+    pub fn heads(&self) -> &[CommitHead]
+        ensures is { result.now ≡ self.now.heads }
+        ensures rising { IsRisingAfter 0 self.now.heads }
+    {
+        self.heads.as_slice()
+    }
+
     /// How many commits are published.
     pub fn published(&self) -> usize
         ensures is { result ≡ self.now.published }

@@ -166,7 +166,7 @@ log-pump-stands tells l l' said m is sound pumps = so m.failed refl
           after = runs.after;
           run = subst (λ (events : List (Event Value)). Run IsValue m events runs.after) (log-told m said works) runs.run;
           stands = (
-            pump-in-step tells l l' said is.0 pumps,
+            pump-in-step tells l l' said (is.0, stands_then.ends) pumps,
             (call-keeps tells l l' m runs.after (log_calls.events_in m said) is.1 (OfPump said sound pumps) runs.run runs.stands).0,
           );
         }

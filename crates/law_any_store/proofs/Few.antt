@@ -59,10 +59,13 @@ use Rattle.store.specs.declared.job.JobWork.TheVariants.{Archive, Reclaim, Floor
 use Rattle.store.specs.declared.job.StartFault.{StartFault}
 use Rattle.log_store.specs.Archives as log_archives
 use Rattle.log_store.specs.Jobs as log_jobs
+use Rattle.log_store.specs.Gates.{waits_at, waits_to_open}
+use Rattle.log_store.specs.Reclaiming.{AdvancesReclaim, StepsReclaim}
+use Rattle.log_store.specs.Reclaims as log_reclaims
 use Rattle.log_store.specs.Queries.{in_log_store}
 use Rattle.log_store.specs.Pumps as log_pumps
 use Rattle.log_store.specs.Submits as log_submits
-use Rattle.log_store.specs.Values.{LogStoreValue}
+use Rattle.log_store.specs.Values.{LogStoreValue, ReclaimValue}
 use Rattle.log_store.specs.declared.job.Job as log_job
 use Rattle.log_store.specs.declared.job.JobDid as log_did
 use Rattle.log_store.specs.declared.job.JobStage as log_stages
@@ -259,9 +262,14 @@ log-pump tells l l' answer pumps = by-failed l.commits.failed pumps
     by-queue true idle = log-rests l l' idle.1
     by-queue false begun = by-job (log_pumps.bars_groups l.job) begun
 
+    by-gate : (w : WriterState) (b : Bool) → MatchBool b ((answer ≡ Err pump.Busy) × (l' ≡ l)) (log_pumps.Advances tells w l answer l')
+        → MakesFew (Log l) (Log l')
+    by-gate w true busy = log-rests l l' busy.1
+    by-gate w false step = advance-log tells w l l l' answer refl step
+
     by-turn : (t : Option WriterState) → log_pumps.TakesStep tells l t answer l' → MakesFew (Log l) (Log l')
     by-turn None step = by-queue (length l.commits.queue == 0) step
-    by-turn (Some w) step = advance-log tells w l l l' answer refl step
+    by-turn (Some w) step = by-gate w (waits_to_open l.reclaim w.stage) step
 
     by-failed : (b : Bool) → MatchBool b ((answer ≡ Err pump.Failed) × (l' ≡ l)) (log_pumps.TakesStep tells l l.turn answer l') → MakesFew (Log l) (Log l')
     by-failed true failed = log-rests l l' failed.1
@@ -272,6 +280,15 @@ advance-entry : (tells : Bool) (job : log_job.Job) (w : WriterState) (l x l' : L
     → log_jobs.Advances tells job w x said l' → MakesFew (Log l) (Log l')
 advance-entry tells job w l x l' said same advances =
     let before = ap (λ (d : DiskState). d.made) same in omega (arith, before, advances.counts.made, counted-few x.disk.made)
+
+-- a step of a reclaim
+reclaim-step : (tells : Bool) (r : ReclaimValue) (l l' : LogStoreValue) (said : Result log_did.JobDid PumpFault) → StepsReclaim tells r l said l'
+    → MakesFew (Log l) (Log l')
+reclaim-step tells r l l' said steps = by-gate (waits_at l.turn r.stage) steps
+  where
+    by-gate : (b : Bool) → MatchBool b ((said ≡ Err pump.Busy) × (l' ≡ l)) (AdvancesReclaim tells r l said l') → MakesFew (Log l) (Log l')
+    by-gate true busy = log-rests l l' busy.1
+    by-gate false advances = omega (arith, advances.counts.made, counted-few l.disk.made)
 
 log-pumped : (tells : Bool) (l l' : LogStoreValue) (said : Result log_did.JobDid PumpFault) → log_jobs.PumpsJob tells l said l' → MakesFew (Log l) (Log l')
 log-pumped tells l l' said pumps = by-failed l.commits.failed pumps
@@ -300,9 +317,16 @@ log-pumped tells l l' said pumps = by-failed l.commits.failed pumps
     by-job None idle = log-rests l l' idle.1
     by-job (Some job) step = by-stage job job.stage step
 
-    by-failed : (b : Bool) → MatchBool b ((said ≡ Err pump.Failed) × (l' ≡ l)) (log_jobs.StepsJob tells l.job l said l') → MakesFew (Log l) (Log l')
+    by-reclaim : (o : Option ReclaimValue) → MatchOption o (log_jobs.StepsJob tells l.job l said l') (λ r. StepsReclaim tells r l said l')
+        → MakesFew (Log l) (Log l')
+    by-reclaim None step = by-job l.job step
+    by-reclaim (Some r) step = reclaim-step tells r l l' said step
+
+    by-failed : (b : Bool)
+        → MatchBool b ((said ≡ Err pump.Failed) × (l' ≡ l))
+        (MatchOption l.reclaim (log_jobs.StepsJob tells l.job l said l') (λ r. StepsReclaim tells r l said l')) → MakesFew (Log l) (Log l')
     by-failed true failed = log-rests l l' failed.1
-    by-failed false step = by-job l.job step
+    by-failed false step = by-reclaim l.reclaim step
 
 -- an archive that begins
 log-start : (l l' : LogStoreValue) (upto : ℕ) (said : Result (Unit {0}) log_starts.StartFault) → log_archives.StartsArchive l upto said l'
@@ -314,6 +338,19 @@ log-start l l' upto said starts = by-refusal (log_archives.archive_refusal l upt
     begins (Err why) refused = log-rests l l' refused.1
 
     by-refusal : (o : Option log_starts.StartFault) → MatchOption o (log_archives.BeginsRun l upto said l') (λ why. (said ≡ Err why) × (l' ≡ l))
+        → MakesFew (Log l) (Log l')
+    by-refusal None begun = begins said begun
+    by-refusal (Some why) refused = log-rests l l' refused.1
+
+-- a reclaim that begins
+log-reclaim : (l l' : LogStoreValue) (said : Result (Unit {0}) log_starts.StartFault) → log_reclaims.StartsReclaim l said l' → MakesFew (Log l) (Log l')
+log-reclaim l l' said starts = by-refusal (log_reclaims.reclaim_refusal l) starts
+  where
+    begins : (a : Result (Unit {0}) log_starts.StartFault) → log_reclaims.BeginsReclaim l a l' → MakesFew (Log l) (Log l')
+    begins (Ok done) begun = log-same l l' (ap (λ (x : LogStoreValue). x.disk) begun.new_is)
+    begins (Err why) refused = log-rests l l' refused.1
+
+    by-refusal : (o : Option log_starts.StartFault) → MatchOption o (log_reclaims.BeginsReclaim l said l') (λ why. (said ≡ Err why) × (l' ≡ l))
         → MakesFew (Log l) (Log l')
     by-refusal None begun = begins said begun
     by-refusal (Some why) refused = log-rests l l' refused.1
@@ -433,7 +470,7 @@ pub reclaim-few : (old new : StoreValue) (answer : Result (Unit {0}) StartFault)
 reclaim-few (Slots s) (Slots s') answer starts = slots-reclaim s s' answer starts
 reclaim-few (Slots s) (Log l') answer starts = absurd starts
 reclaim-few (Log l) (Slots s') answer starts = absurd starts
-reclaim-few (Log l) (Log l') answer starts = log-rests l l' starts.1
+reclaim-few (Log l) (Log l') answer starts = log-reclaim l l' starts.0 starts.1
 
 pub floor-few : (old new : StoreValue) (scope : Option ℕ) (floor : ℕ) (answer : Result (Unit {0}) StartFault) → StartsFloor old scope floor answer new
     → MakesFew old new

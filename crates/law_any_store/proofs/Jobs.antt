@@ -1,6 +1,6 @@
--- The jobs of a store, in either layout. Where the log lies in the heap archives and floors alone begin.
+-- The jobs of a store, in either layout. Where the log lies in the heap no growth begins.
 use Rattle.std.proofs.Common.{◌≡◌, ℕ, Bool, true, false, List, [], ◌∷◌, Option, Result, Ok, Err, refl, ap, sym, subst, ◌∙◌}
-use Rattle.std.specs.Prelude.{IsTrue, MatchBool}
+use Rattle.std.specs.Prelude.{IsTrue, MatchBool, MatchOption}
 use Rattle.disk.specs.Areas.{AreSound}
 use Rattle.history.specs.Floors.{Raising}
 use Rattle.history.specs.Machine.{Machine}
@@ -15,6 +15,8 @@ use Rattle.store.specs.declared.job.StartFault.{StartFault}
 use Rattle.store.specs.declared.job.StartFault.TheVariants as start
 use Rattle.log_store.specs.Archives as log_archives
 use Rattle.log_store.specs.Jobs as log_jobs
+use Rattle.log_store.specs.Reclaiming.{StepsReclaim}
+use Rattle.log_store.specs.Reclaims as log_reclaims
 use Rattle.log_store.specs.Values.{LogStoreValue}
 use Rattle.log_store.specs.declared.job.JobDid as log_steps
 use Rattle.log_store.specs.declared.job.StartFault as log_starts
@@ -38,7 +40,8 @@ use Rattle.law_log_steps.proofs.ArchiveStarts.{archive-starts, archive-starts-in
 use Rattle.law_log_steps.proofs.FloorStarts.{floor-starts, starts-in-step}
 use Rattle.law_log_steps.proofs.InStep.{job-in-step}
 use Rattle.law_log_steps.proofs.Jobs.{job-stands}
-use Rattle.law_log_queries.specs.Calls.{OfFloor, OfArchive, OfJob}
+use Rattle.law_log_steps.proofs.ReclaimStarts.{reclaim-starts, reclaim-starts-in-step}
+use Rattle.law_log_queries.specs.Calls.{OfFloor, OfArchive, OfReclaim, OfJob}
 use Rattle.law_log_queries.proofs.Calls.{call-keeps}
 use Rattle.law_any_store.specs.Standing.{Stands}
 use Rattle.law_any_store.specs.Calls.{StartsOn, RunsTo, job_ends_in}
@@ -64,12 +67,20 @@ archive-start-stands tells (Slots s) (Log l') upto answer m is starts = absurd s
 archive-start-stands tells (Log l) (Slots s') upto answer m is starts = absurd starts
 archive-start-stands tells (Log l) (Log l') upto answer m is starts = log-archive-stands tells l l' upto starts.0 m is starts.1
 
+-- a reclaim of one
+log-reclaim-stands : (tells : Bool) (l l' : LogStoreValue) (said : Result (Unit {0}) log_starts.StartFault) (m : Machine Value) → Stands tells (Log l) m
+    → log_reclaims.StartsReclaim l said l' → Stands tells (Log l') m
+log-reclaim-stands tells l l' said m is starts = (
+  reclaim-starts-in-step l l' said is.0 starts,
+  (call-keeps tells l l' m m [] is.1 (OfReclaim said starts) refl (reclaim-starts tells l l' said m is.0 (is.1).store starts)).0,
+)
+
 pub reclaim-start-stands : (tells : Bool) (old new : StoreValue) (answer : Result (Unit {0}) StartFault) (m : Machine Value) → Stands tells old m
     → StartsReclaim old answer new → Stands tells new m
 reclaim-start-stands tells (Slots s) (Slots s') answer m is starts = slot_laws.reclaim-start-stands tells s s' answer m is starts
 reclaim-start-stands tells (Slots s) (Log l') answer m is starts = absurd starts
 reclaim-start-stands tells (Log l) (Slots s') answer m is starts = absurd starts
-reclaim-start-stands tells (Log l) (Log l') answer m is starts = none-begins tells start.WrongProfile answer l l' m is starts
+reclaim-start-stands tells (Log l) (Log l') answer m is starts = log-reclaim-stands tells l l' starts.0 m is starts.1
 
 pub grow-start-stands : (tells : Bool) (old new : StoreValue) (answer : Result (Unit {0}) StartFault) (m : Machine Value) → Stands tells old m
     → StartsGrowth old answer new → Stands tells new m
@@ -165,7 +176,8 @@ log-job-stands tells l l' said m is sound pumps = so m.failed refl
 
     failed-rests : l.commits.failed ≡ true → (said ≡ Err pump.Failed) × (l' ≡ l)
     failed-rests failed =
-        subst (λ (b : Bool). MatchBool b ((said ≡ Err pump.Failed) × (l' ≡ l)) (log_jobs.StepsJob tells l.job l said l')) failed pumps
+        subst (λ (b : Bool). MatchBool b ((said ≡ Err pump.Failed) × (l' ≡ l))
+        (MatchOption l.reclaim (log_jobs.StepsJob tells l.job l said l') (λ r. StepsReclaim tells r l said l'))) failed pumps
 
     so : (b : Bool) → m.failed ≡ b
         → MatchBool b ((log_job_step said ≡ Err pump.Failed) × Stands tells (Log l') m) (RunsTo tells m (job_ends_in true m (log_job_step said)) (Log l'))
@@ -177,7 +189,7 @@ log-job-stands tells l l' said m is sound pumps = so m.failed refl
           after = runs.after;
           run = subst (λ (events : List (Event Value)). Run IsValue m events runs.after) (log-job-told m said works) runs.run;
           stands = (
-            job-in-step tells l l' said is.0 pumps,
+            job-in-step tells l l' said (is.0, stands_then.ends) pumps,
             (call-keeps tells l l' m runs.after (log_calls.job_events_in m said) is.1 (OfJob said sound pumps) runs.run runs.stands).0,
           );
         }

@@ -29,11 +29,18 @@ use Rattle.commits.specs.Values.{CommitsValue, is_own, over, order_of}
 use Rattle.log_writer.specs.Turns.{Stage, Writing, Syncing, Opening, Settling, Done}
 use Rattle.log_writer.specs.Writer.{WriterState}
 use Rattle.log_writer.specs.Writer as writers
-use Rattle.log_store.specs.Values.{LogStoreValue}
+use Rattle.log_store.specs.Values.{LogStoreValue, ReclaimValue}
 use Rattle.log_store.specs.Pumps as log_steps
 use Rattle.log_store.specs.Pumps.{Advances, AdvancesGroup, bars_groups, BeginsOrWaits, BeginsGroup, TakesStep, after_call}
 use Rattle.log_store.specs.Submits as log_submits
 use Rattle.log_store.specs.Archives as log_archives
+use Rattle.log_store.specs.Gates.{waits_at, waits_to_open}
+use Rattle.log_store.specs.Reclaiming as log_reclaim_steps
+use Rattle.log_store.specs.Reclaims as log_reclaims
+use Rattle.log_store.specs.declared.reclaim.ReclaimStage.{ReclaimStage}
+use Rattle.log_store.specs.declared.reclaim.ReclaimStage.TheVariants as reclaims
+use Rattle.log_roots.specs.Turning.{RootTurnState}
+use Rattle.log_roots.specs.Turning as turning
 use Rattle.log_store.specs.Jobs as log_jobs
 use Rattle.log_store.specs.Runs as log_runs
 use Rattle.log_store.specs.declared.job.Job as log_job
@@ -130,9 +137,13 @@ log-pump-leaves tells l l' answer pumps = by-failed l.commits.failed pumps
     by-queue true idle = same idle.1
     by-queue false so = by-job (bars_groups l.job) so
 
+    by-gate : (w : WriterState) (b : Bool) → MatchBool b ((answer ≡ Err pump.Busy) × (l' ≡ l)) (Advances tells w l answer l') → Leaves l.commits l'.commits
+    by-gate w true busy = same busy.1
+    by-gate w false next = advance-left tells w l l' answer next
+
     by-turn : (t : Option WriterState) → TakesStep tells l t answer l' → Leaves l.commits l'.commits
     by-turn None next = by-queue (length l.commits.queue == 0) next
-    by-turn (Some w) next = advance-left tells w l l' answer next
+    by-turn (Some w) next = by-gate w (waits_to_open l.reclaim w.stage) next
 
     by-failed : (b : Bool) → MatchBool b ((answer ≡ Err pump.Failed) × (l' ≡ l)) (TakesStep tells l l.turn answer l') → Leaves l.commits l'.commits
     by-failed true is = same is.1
@@ -194,6 +205,36 @@ run-left tells job l l' said writes = by-answer said writes.answer
     by-answer (Err why) so =
         names-then l.commits (commit_steps.broken l.commits) l'.commits (broken-names l.commits) (ap (λ (x : LogStoreValue). x.commits) so.1)
 
+-- a call of a reclaim, which takes nothing from memory
+turn-kept : (l : LogStoreValue) (r : ReclaimValue) (t : RootTurnState) (k : turning.Stage) → (log_reclaim_steps.behind_turn l r t k).commits ≡ l.commits
+turn-kept l r t turning.Writing = refl
+turn-kept l r t turning.Syncing = refl
+turn-kept l r t turning.Turning = refl
+turn-kept l r t turning.Settling = refl
+turn-kept l r t turning.Done = refl
+
+behind-kept : (l : LogStoreValue) (r : ReclaimValue) (k : ReclaimStage) → (log_reclaim_steps.behind l r k).commits ≡ l.commits
+behind-kept l r (reclaims.Writing anchors base) = refl
+behind-kept l r (reclaims.Rolling roll) = refl
+behind-kept l r (reclaims.Turning t) = turn-kept l r t t.stage
+
+reclaim-left : (tells : Bool) (r : ReclaimValue) (l l' : LogStoreValue) (said : Result log_did.JobDid PumpFault)
+    → log_reclaim_steps.StepsReclaim tells r l said l' → LeavesNames l.commits l'.commits
+reclaim-left tells r l l' said steps = by-gate (waits_at l.turn r.stage) steps
+  where
+    by-answer : (a : Result log_did.JobDid PumpFault)
+        → MatchResult a (λ what. (what ≡ log_reclaim_steps.did_at r.stage) × (l' ≡ record (log_reclaim_steps.behind l r r.stage) { disk = l'.disk }))
+        (λ why. (why ≡ pump.Failed) × (l' ≡ record (log_steps.with_failure l) { disk = l'.disk }))
+        → LeavesNames l.commits l'.commits
+    by-answer (Ok what) so = same-names l.commits l'.commits (ap (λ (x : LogStoreValue). x.commits) so.1 ∙ behind-kept l r r.stage)
+    by-answer (Err why) so =
+        names-then l.commits (commit_steps.broken l.commits) l'.commits (broken-names l.commits) (ap (λ (x : LogStoreValue). x.commits) so.1)
+
+    by-gate : (b : Bool) → MatchBool b ((said ≡ Err pump.Busy) × (l' ≡ l)) (log_reclaim_steps.AdvancesReclaim tells r l said l')
+        → LeavesNames l.commits l'.commits
+    by-gate true busy = same-names l.commits l'.commits (ap (λ (x : LogStoreValue). x.commits) busy.1)
+    by-gate false advances = by-answer said advances.answer
+
 pub log-job-leaves : (tells : Bool) (l l' : LogStoreValue) (said : Result log_did.JobDid PumpFault) → log_jobs.PumpsJob tells l said l'
     → LeavesNames l.commits l'.commits
 log-job-leaves tells l l' said pumps = by-failed l.commits.failed pumps
@@ -227,9 +268,17 @@ log-job-leaves tells l l' said pumps = by-failed l.commits.failed pumps
     by-job None idle = same l refl idle.1
     by-job (Some job) step = by-stage job job.stage step
 
-    by-failed : (b : Bool) → MatchBool b ((said ≡ Err pump.Failed) × (l' ≡ l)) (log_jobs.StepsJob tells l.job l said l') → LeavesNames l.commits l'.commits
+    by-reclaim : (o : Option ReclaimValue)
+        → MatchOption o (log_jobs.StepsJob tells l.job l said l') (λ r. log_reclaim_steps.StepsReclaim tells r l said l') → LeavesNames l.commits l'.commits
+    by-reclaim None step = by-job l.job step
+    by-reclaim (Some r) step = reclaim-left tells r l l' said step
+
+    by-failed : (b : Bool)
+        → MatchBool b ((said ≡ Err pump.Failed) × (l' ≡ l))
+        (MatchOption l.reclaim (log_jobs.StepsJob tells l.job l said l') (λ r. log_reclaim_steps.StepsReclaim tells r l said l'))
+        → LeavesNames l.commits l'.commits
     by-failed true failed = same l refl failed.1
-    by-failed false step = by-job l.job step
+    by-failed false step = by-reclaim l.reclaim step
 
 -- ---- the beginning of a job, where the log lies in the heap
 
@@ -245,6 +294,22 @@ log-start-leaves l l' upto said starts = by-refusal (log_archives.archive_refusa
     begins (Err why) refused = same (ap (λ (x : LogStoreValue). x.commits) refused.1)
 
     by-refusal : (o : Option log_starts.StartFault) → MatchOption o (log_archives.BeginsRun l upto said l') (λ why. (said ≡ Err why) × (l' ≡ l))
+        → Leaves l.commits l'.commits
+    by-refusal None begun = begins said begun
+    by-refusal (Some why) refused = same (ap (λ (x : LogStoreValue). x.commits) refused.1)
+
+log-reclaim-leaves : (l l' : LogStoreValue) (said : Result (Unit {0}) log_starts.StartFault) → log_reclaims.StartsReclaim l said l'
+    → Leaves l.commits l'.commits
+log-reclaim-leaves l l' said starts = by-refusal (log_reclaims.reclaim_refusal l) starts
+  where
+    same : l'.commits ≡ l.commits → Leaves l.commits l'.commits
+    same is = same-left l.commits l'.commits is
+
+    begins : (a : Result (Unit {0}) log_starts.StartFault) → log_reclaims.BeginsReclaim l a l' → Leaves l.commits l'.commits
+    begins (Ok done) begun = same (ap (λ (x : LogStoreValue). x.commits) begun.new_is)
+    begins (Err why) refused = same (ap (λ (x : LogStoreValue). x.commits) refused.1)
+
+    by-refusal : (o : Option log_starts.StartFault) → MatchOption o (log_reclaims.BeginsReclaim l said l') (λ why. (said ≡ Err why) × (l' ≡ l))
         → Leaves l.commits l'.commits
     by-refusal None begun = begins said begun
     by-refusal (Some why) refused = same (ap (λ (x : LogStoreValue). x.commits) refused.1)
@@ -283,7 +348,7 @@ pub reclaim-leaves : (old new : StoreValue) (answer : Result (Unit {0}) StartFau
 reclaim-leaves (Slots s) (Slots s') answer starts = of-slots s.transactions s'.transactions (job_leaves.reclaim-leaves s s' answer starts)
 reclaim-leaves (Slots s) (Log l') answer starts = absurd starts
 reclaim-leaves (Log l) (Slots s') answer starts = absurd starts
-reclaim-leaves (Log l) (Log l') answer starts = same-left l.commits l'.commits (ap (λ (x : LogStoreValue). x.commits) starts.1)
+reclaim-leaves (Log l) (Log l') answer starts = log-reclaim-leaves l l' starts.0 starts.1
 
 pub floor-leaves : (old new : StoreValue) (scope : Option ℕ) (floor : ℕ) (answer : Result (Unit {0}) StartFault) → StartsFloor old scope floor answer new
     → Leaves (commits_of old) (commits_of new)

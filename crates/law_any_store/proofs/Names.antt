@@ -153,7 +153,7 @@ pub reclaim-names : (old new : StoreValue) (answer : Result (Unit {0}) StartFaul
 reclaim-names (Slots s) (Slots s') answer starts = refl
 reclaim-names (Slots s) (Log l') answer starts = absurd starts
 reclaim-names (Log l) (Slots s') answer starts = absurd starts
-reclaim-names (Log l) (Log l') answer starts = same-names l l' starts.1
+reclaim-names (Log l) (Log l') answer starts = (log_leaves.reclaim-leaves true l l' starts.0 starts.1).reclaimed
 
 pub floor-names : (old new : StoreValue) (scope : Option ℕ) (floor : ℕ) (answer : Result (Unit {0}) StartFault) → StartsFloor old scope floor answer new
     → KeepsNames old new

@@ -12,22 +12,24 @@ use Rattle.law_image.specs.Values.{Value}
 use Rattle.status.specs.declared.header.Header.{Header}
 use Rattle.status.specs.Reading as slot_headers
 use Rattle.log_roots.specs.declared.roots.Roots.{Roots}
-use Rattle.log_roots.specs.Roots.{HasRoots, roots_bytes}
-use Rattle.log_roots.proofs.Headers.{one_reading}
-use Rattle.log_recovery.specs.Image.{IsReadFrom}
+use Rattle.log_roots.specs.Roots.{HasRoots, root_of, roots_bytes}
 use Rattle.log_writer.specs.Writer.{WriterState}
 use Rattle.log_store.specs.Formats.{HasLogHeader}
 use Rattle.log_store.specs.Opens as log_opens
 use Rattle.log_store.specs.Values.{LogStoreValue, IsInStep}
 use Rattle.log_store.specs.declared.job.Job.{Job}
+use Rattle.log_store.proofs.Places.{has-place, image-counts}
 use Rattle.any_store.specs.declared.engine.Engine.TheVariants.{Slots, Log}
 use Rattle.any_store.specs.Values.{StoreValue}
 use Rattle.any_store.specs.Opens.{Opens}
 use Rattle.law_refinement.specs.OnDisk as slot_images
 use Rattle.law_log_store.specs.Standing as log_images
 use Rattle.law_log_store.specs.Standing.{StopsOnHeap, StandsOnHeap, HasTurn, HasJob}
+use Rattle.law_log_store.proofs.Headers.{image-size}
+use Rattle.law_log_store.proofs.Opening.{read as log-read}
 use Rattle.law_log_queries.specs.Archive as logs
 use Rattle.law_log_queries.proofs.Opening.{opened-stands}
+use Rattle.law_log_opened.proofs.Reopened.{open-size}
 use Rattle.law_opening.proofs.Opened as slot_opened
 use Rattle.law_any_store.specs.Standing.{Stands, AnyHeader, IsImageOf, opened_as, opened_in}
 use Rattle.law_any_store.specs.Opened.{IsOfHeader, RecoversHeader}
@@ -53,17 +55,9 @@ pub image-slots : (header : Header) (image : Image) (h : History Value) (floors 
 image-slots header image h floors is = record { stands = is.held.log.header_is; built = is.profile_built }
 
 pub image-log : (roots : Roots) (image : Image) (h : History Value) (floors : ℕ → ℕ) → log_images.IsImageOf roots image h floors → HasLogHeader image.status
-image-log roots image h floors is = record { long = is.status.long; header = (roots, is.status.has) }
+image-log roots image h floors is = record { long = is.status.long; header = (is.read, is.status.has) }
 
 -- ---- a store whose log lies in the heap
-
--- it has the roots of its image
-open-roots : (tells : Bool) (disk : DiskState) (mark : ℕ) (l : LogStoreValue) (roots : Roots) (h : History Value) (floors : ℕ → ℕ)
-    → log_opens.Opens tells disk mark l → IsTrue tells → log_images.IsImageOf roots (image_of disk.areas) h floors → l.roots ≡ roots
-open-roots tells disk mark l roots h floors opens told image =
-    let read : IsReadFrom (image_of disk.areas) opens.recovered = opens.read told in
-    ap (λ (x : LogStoreValue). x.roots) opens.new_is
-    ∙ one_reading (take 512 disk.areas.status.bytes) opens.recovered.roots roots read.roots.has image.status.has
 
 module _ (tells : Bool) (old : DiskState) (mark : ℕ) (l : LogStoreValue) (roots : Roots) (h : History Value) (floors : ℕ → ℕ)
     (opens : log_opens.Opens tells old mark l) (told : IsTrue tells) (sound : AreSound old.areas)
@@ -96,10 +90,10 @@ module _ (tells : Bool) (old : DiskState) (mark : ℕ) (l : LogStoreValue) (root
 
   log-few : length l.room.used ≤ 2 ^ 20
   log-few =
-      let same = ap (λ (r : Roots). r.extents) (open-roots tells old mark l roots h floors opens told image) in
-      let most = image.status.has.in_range.size.most in
+      let same = open-size tells old mark l roots h floors opens told image in
+      let size = image-size roots (image_of old.areas) h floors image in
       let many = log-many in
-      omega (arith, same, most, many)
+      omega (arith, same, size.most, many)
 
   log-in-step : IsInStep l
   log-in-step =
@@ -109,9 +103,13 @@ module _ (tells : Bool) (old : DiskState) (mark : ℕ) (l : LogStoreValue) (root
         promised = refl;
         few = omega arith;
         many = subst (λ (x : LogStoreValue). length x.room.used ≤ 2 ^ 20) opens.new_is log-few;
+        counted = image-counts (image_of old.areas) opens.recovered (opens.read told);
         turn = refl;
         beside = tt;
         place = tt;
+        live = (has-place roots.extents (root_of image.read) (image_of old.areas).heap opens.recovered.heap
+            (image-size roots (image_of old.areas) h floors image) (log-read tells old mark l roots h floors told sound image opens)).live;
+        reclaim = refl;
       })
 
 -- ---- in either
@@ -137,7 +135,7 @@ open-header tells old mark (Slots s) (Slots header) h floors opens told image = 
 open-header tells old mark (Slots s) (Log roots) h floors opens told image = opens.layout told (image-log roots (image_of old.areas) h floors image)
 open-header tells old mark (Log l) (Slots header) h floors opens told image =
     slots-no_log (image_of old.areas).status header (image-slots header (image_of old.areas) h floors image) (opens.layout told)
-open-header tells old mark (Log l) (Log roots) h floors opens told image = open-roots tells old mark l roots h floors opens.engine told image
+open-header tells old mark (Log l) (Log roots) h floors opens told image = open-size tells old mark l roots h floors opens.engine told image
 
 -- so it is opened as its own layout says
 header-opened : (v : StoreValue) (header : AnyHeader) (h : History Value) (floors : ℕ → ℕ) → IsOfHeader v header
@@ -163,7 +161,7 @@ image-header tells (Slots header) image h floors told is = record {
       (subst (λ (i : Image). slot_images.IsImageOf header i h floors) (sym same) is);
 }
 image-header tells (Log roots) image h floors told is = record {
-  reads = is.status;
+  reads = (is.read, is.status, is.size);
   recovered =
       λ disk mark again same opens. open-header tells disk mark again (Log roots) h floors opens told
       (subst (λ (i : Image). log_images.IsImageOf roots i h floors) (sym same) is);

@@ -11,6 +11,7 @@ use Rattle.history.proofs.Members.{Contains-head, Contains-tail}
 use Rattle.law_image.specs.Values.{Value}
 use Rattle.status.specs.Growth.{next_piece}
 use Rattle.status.specs.GrowthState.{GrowthState}
+use Rattle.commits.specs.Calls as log_calls
 use Rattle.commits.specs.Values as commits
 use Rattle.snapshot.specs.OpenTable.{lesser, least_with, least_open}
 use Rattle.group.specs.Reclaims.{oldest}
@@ -27,7 +28,9 @@ use Rattle.store.specs.declared.job.StartFault.{StartFault}
 use Rattle.store.specs.declared.job.StartFault.TheVariants as start
 use Rattle.log_store.specs.Archives.{has_archive_room}
 use Rattle.log_store.specs.Archives as log_archives
+use Rattle.log_store.specs.Reclaims as log_reclaims
 use Rattle.log_store.specs.Values.{LogStoreValue}
+use Rattle.log_store.specs.Values as log_values
 use Rattle.log_store.specs.declared.job.StartFault as log_starts
 use Rattle.log_store.specs.declared.job.StartFault.TheVariants as log_fault
 use Rattle.any_store.specs.declared.engine.Engine.TheVariants.{Slots, Log}
@@ -165,7 +168,7 @@ slots-reclaim tells v v' m r stands starts = by-tests v.transactions.failed refl
 
     by-room : v.transactions.failed ≡ false → (e : Bool)
         → MatchOption (cond e (Some start.StatusFull) None) (BeginsReclaim v r v') (λ why. (r ≡ Err why) × (v' ≡ v)) → ReclaimSays false m r
-    by-room on true is = says (Err start.StatusFull) is.0 tt
+    by-room on true is = says (Err start.StatusFull) is.0 refl
     by-room on false is = begins on r is
 
     by-use : v.transactions.failed ≡ false → (o : Option ℕ) → below (oldest v.transactions) v.archived ≡ o
@@ -210,7 +213,8 @@ log-start : (tells : Bool) (l l' : LogStoreValue) (m : Machine Value) (upto : �
     → log_archives.StartsArchive l upto said l'
     → ArchiveSays true m upto (told_start said)
 log-start tells l l' m upto said is starts =
-    by-tests l.commits.failed refl (is_some l.job) (nat_le upto l.named.upto) (nat_lt (commits.last l.commits) upto) refl (has_archive_room l upto) starts
+    by-tests l.commits.failed refl (log_values.is_busy l) (nat_le upto l.named.upto) (nat_lt (commits.last l.commits) upto) refl
+    (has_archive_room l upto) starts
   where
     memory : StandsInMemory l.commits m
     memory = let store = (is.1).store in store.memory
@@ -250,6 +254,69 @@ log-start tells l l' m upto said is starts =
     by-tests false on false false false late false is = says (Err log_fault.HeapFull) is.0 refl
     by-tests false on false false false late true is = begins on late said is
 
+-- the snapshot that a reclaim would leave without its versions is that of an open transaction
+log-in-use : (l : LogStoreValue) (m : Machine Value) → StandsInMemory l.commits m → (o : Option ℕ) → log_calls.oldest l.commits ≡ o → (mark snapshot : ℕ)
+    → log_reclaims.refusal_for_use o mark ≡ Some (log_fault.InUse snapshot) → Contains m.snapshots snapshot
+log-in-use l m memory None least mark snapshot is = absurd cc
+log-in-use l m memory (Some s) least mark snapshot is = by-test (nat_lt s mark) is
+  where
+    by-test : (b : Bool) → cond b (Some (log_fault.InUse s)) None ≡ Some (log_fault.InUse snapshot) → Contains m.snapshots snapshot
+    by-test true same =
+        let own : s ≡ snapshot = cc in
+        Contains-permutation (snapshots_of l.commits.opened) m.snapshots snapshot
+        (IsPermutation-sym m.snapshots (snapshots_of l.commits.opened) memory.snapshots)
+        (least-open l.commits.opened snapshot (least ∙ ap (λ (n : ℕ). Some n) own))
+    by-test false same = absurd cc
+
+-- what a reclaim's start says of the machine
+log-reclaim : (tells : Bool) (l l' : LogStoreValue) (m : Machine Value) (said : Result (Unit {0}) log_starts.StartFault) → Stands tells (Log l) m
+    → log_reclaims.StartsReclaim l said l'
+    → ReclaimSays true m (told_start said)
+log-reclaim tells l l' m said is starts = by-tests l.commits.failed refl (log_values.is_busy l) (log_reclaims.has_nothing l) starts
+  where
+    memory : StandsInMemory l.commits m
+    memory = let store = (is.1).store in store.memory
+
+    says : (x : Result (Unit {0}) log_starts.StartFault) → said ≡ x → ReclaimSays true m (told_start x) → ReclaimSays true m (told_start said)
+    says x same so = subst (λ (y : Result (Unit {0}) log_starts.StartFault). ReclaimSays true m (told_start y)) (sym same) so
+
+    begins : l.commits.failed ≡ false → (x : Result (Unit {0}) log_starts.StartFault) → log_reclaims.BeginsReclaim l x l' → ReclaimSays true m (told_start x)
+    begins on (Ok done) begun = sym memory.failed ∙ on
+    begins on (Err log_fault.HeapFull) refused = tt
+    begins on (Err log_fault.ArchiveFull) refused = refl
+    begins on (Err log_fault.NoMemory) refused = tt
+    begins on (Err log_fault.Failed) refused = absurd refused.0
+    begins on (Err log_fault.WrongProfile) refused = absurd refused.0
+    begins on (Err log_fault.JobBusy) refused = absurd refused.0
+    begins on (Err log_fault.NothingToDo) refused = absurd refused.0
+    begins on (Err (log_fault.NotYet time)) refused = absurd refused.0
+    begins on (Err (log_fault.InUse time)) refused = absurd refused.0
+
+    by-use : l.commits.failed ≡ false → (o : Option ℕ) → log_calls.oldest l.commits ≡ o
+        → MatchOption (log_reclaims.refusal_for_use o l.named.upto) (log_reclaims.BeginsReclaim l said l') (λ why. (said ≡ Err why) × (l' ≡ l))
+        → ReclaimSays true m (told_start said)
+    by-use on None least is = begins on said is
+    by-use on (Some s) least is = by-mark (nat_lt s l.named.upto) refl is
+      where
+        by-mark : (b : Bool) → nat_lt s l.named.upto ≡ b
+            → MatchOption (cond b (Some (log_fault.InUse s)) None) (log_reclaims.BeginsReclaim l said l') (λ why. (said ≡ Err why) × (l' ≡ l))
+            → ReclaimSays true m (told_start said)
+        by-mark true low refused =
+            says (Err (log_fault.InUse s)) refused.0
+            (log-in-use l m memory (Some s) least l.named.upto s (ap (λ (b : Bool). cond b (Some (log_fault.InUse s)) None) low))
+        by-mark false low begun = begins on said begun
+
+    by-tests : (a : Bool) → l.commits.failed ≡ a → (b c : Bool)
+        → MatchOption (cond a (Some log_fault.Failed)
+        (cond b (Some log_fault.JobBusy)
+        (cond c (Some log_fault.NothingToDo) (log_reclaims.refusal_for_use (log_calls.oldest l.commits) l.named.upto))))
+        (log_reclaims.BeginsReclaim l said l') (λ why. (said ≡ Err why) × (l' ≡ l))
+        → ReclaimSays true m (told_start said)
+    by-tests true on b c is = says (Err log_fault.Failed) is.0 (sym memory.failed ∙ on)
+    by-tests false on true c is = says (Err log_fault.JobBusy) is.0 tt
+    by-tests false on false true is = says (Err log_fault.NothingToDo) is.0 tt
+    by-tests false on false false is = by-use on (log_calls.oldest l.commits) refl is
+
 module _ (tells : Bool) (why : StartFault) (answer : Result (Unit {0}) StartFault) (l l' : LogStoreValue) (m : Machine Value) (is : Stands tells (Log l) m)
     (Says : Result (Unit {0}) StartFault → Type 0) where
   -- a store that works begins none for this reason, and one that has failed says so
@@ -276,7 +343,7 @@ reclaim-says tells (Slots s) (Slots s') answer m is starts = slots-reclaim tells
 reclaim-says tells (Slots s) (Log l') answer m is starts = absurd starts
 reclaim-says tells (Log l) (Slots s') answer m is starts = absurd starts
 reclaim-says tells (Log l) (Log l') answer m is starts =
-    none-says tells start.WrongProfile answer l l' m is (ReclaimSays true m) (λ failed. failed) refl starts
+    subst (λ (a : Result (Unit {0}) StartFault). ReclaimSays true m a) (sym starts.2) (log-reclaim tells l l' m starts.0 is starts.1)
 
 pub grow-says : (tells : Bool) (old new : StoreValue) (answer : Result (Unit {0}) StartFault) (m : Machine Value) → Stands tells old m
     → StartsGrowth old answer new → GrowSays m answer

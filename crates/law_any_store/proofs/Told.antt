@@ -84,6 +84,12 @@ log-floor log_job.WroteEntry r = refl
 log-floor log_job.GateClosed r = refl
 log-floor log_job.HeapSynced r = refl
 log-floor log_job.GateWritten r = refl
+log-floor log_job.WroteExtent r = refl
+log-floor log_job.WroteRoll r = refl
+log-floor log_job.RollSynced r = refl
+log-floor log_job.RootWritten r = refl
+log-floor log_job.RootSynced r = refl
+log-floor log_job.TurnWritten r = refl
 log-floor log_job.JobDone r = refl
 
 log-floors : (what : logs_jobs.JobDid) (o : Option Raising) → log_ends.floor_ends what o ≡ floor_ends true (log_job_did what) o

@@ -1,6 +1,6 @@
 -- Views, in either layout.
-use Rattle.std.proofs.Common.{◌≡◌, ◌⊎◌, ◌≤◌, ℕ, Bool, true, false, cond, List, Option, Some, Result, Ok, Err, arith, ap, sym, subst, inl, inr}
-use Rattle.std.specs.Prelude.{IsTrue, MatchBool}
+use Rattle.std.proofs.Common.{◌≡◌, ◌⊎◌, ℕ, Bool, true, false, cond, Option, Result, Ok, Err, ap, sym, subst, inl, inr}
+use Rattle.std.specs.Prelude.{MatchBool}
 use Rattle.std.specs.declared.alloc.Global.{Global}
 use Rattle.std.specs.declared.vec.Vec.{Vec}
 use Rattle.history.specs.declared.key.Key.{Key}
@@ -9,8 +9,6 @@ use Rattle.history.specs.Answers as answers
 use Rattle.history.specs.Histories.{History}
 use Rattle.history.specs.Machine.{Machine}
 use Rattle.law_image.specs.Values.{Value}
-use Rattle.law_image.specs.Reading.{ArchiveRecord}
-use Rattle.archive.specs.Pieces.{InWriting}
 use Rattle.snapshot.specs.Txn.{TxnValue}
 use Rattle.timequery.specs.Asked.{Finds, OrStranger, is_own}
 use Rattle.timequery.specs.View.{ViewValue}
@@ -37,12 +35,7 @@ use Rattle.store.specs.declared.job.StartFault.{StartFault}
 use Rattle.log_store.specs.Jobs as log_jobs
 use Rattle.log_store.specs.Queries.{in_log_store}
 use Rattle.log_store.specs.Values.{LogStoreValue, IsInStep}
-use Rattle.log_store.specs.declared.job.Job as log_job
 use Rattle.log_store.specs.declared.job.JobDid as log_did
-use Rattle.log_store.specs.declared.job.JobStage as log_stages
-use Rattle.log_store.specs.declared.job.JobStage.TheVariants as log_stage
-use Rattle.log_store.specs.declared.job.JobWork.{JobWork}
-use Rattle.log_store.specs.declared.job.JobWork.TheVariants as works
 use Rattle.any_store.specs.declared.engine.Engine.TheVariants.{Slots, Log}
 use Rattle.any_store.specs.declared.steps.Did.{Did}
 use Rattle.any_store.specs.declared.steps.JobDid.{JobDid}
@@ -56,11 +49,11 @@ use Rattle.law_refinement.specs.Stands as slots
 use Rattle.law_refinement.proofs.GrowingViews as slot_asked
 use Rattle.law_refinement.proofs.Views as slot_views
 use Rattle.law_refinement.proofs.Whole.{rest-goes}
-use Rattle.law_log_store.specs.Standing.{StandsOnHeap, StopsOnHeap, HasWritten, HasAllWritten}
 use Rattle.law_log_store.proofs.Calls.{begin-alone, abort-alone, redeem-alone}
 use Rattle.law_log_queries.specs.Archive as logs
 use Rattle.law_log_queries.proofs.Adding.{added-goes}
 use Rattle.law_log_queries.proofs.Asking as log_asked
+use Rattle.law_log_queries.proofs.Calls.{base-past, run-past}
 use Rattle.law_log_queries.proofs.Leaving.{alone-leaves, leaves-goes, leaves-same}
 use Rattle.law_log_queries.proofs.Leaving as log_leaves
 use Rattle.law_log_queries.proofs.Views as log_views
@@ -162,9 +155,12 @@ log-asked tells l l' m view from Refuses Recent OfHistory Exact answer is says =
         promised = (is.0).promised;
         few = (is.0).few;
         many = (is.0).many;
+        counted = (is.0).counted;
         turn = (is.0).turn;
         beside = (is.0).beside;
         place = (is.0).place;
+        live = (is.0).live;
+        reclaim = (is.0).reclaim;
       }),
     )
     by-own false strange = (ap (λ (x : LogStoreValue). x.commits) strange.1, subst IsInStep (sym strange.1) is.0)
@@ -277,27 +273,10 @@ pump-goes tells (Slots s) (Log l') answer m is pumps = absurd pumps
 pump-goes tells (Log l) (Slots s') answer m is pumps = absurd pumps
 pump-goes tells (Log l) (Log l') answer m is pumps = leaves-goes tells l l' (log_leaves.pump-leaves tells l l' pumps.0 pumps.1)
 
--- a run goes behind those that stand
-run-past : (tells : Bool) (l : LogStoreValue) (m : Machine Value) → logs.Stands tells l m → (writer : InWriting) (job : log_job.Job)
-    → l.commits.failed ≡ false → l.job ≡ Some job → job.stage ≡ log_stage.Writing writer → IsTrue tells → logs.end_of l.archive.runs ≤ writer.at
-run-past tells l m stands writer job works-on is-job e told =
-    let heap : StandsOnHeap l m.published m.queue m.floors =
-    subst (λ (b : Bool). MatchBool b (StopsOnHeap l m.published m.queue m.floors) (StandsOnHeap l m.published m.queue m.floors)) works-on
-    (stands.store.disk told) in
-    by-work heap.made job.work (subst (λ (j : Option log_job.Job). logs.JobHasPlace l.named l.archive.runs l.archive.next j) is-job stands.place)
-    (subst (λ (k : log_stages.JobStage). HasWritten job.work heap.made k l.disk.areas.archive) e
-    (subst (λ (j : Option log_job.Job). HasAllWritten heap.made j l.disk.areas.archive) is-job heap.written))
-  where
-    by-work : (made : List ArchiveRecord) (work : JobWork) → logs.HasPlace l.named l.archive.runs l.archive.next work
-        → HasWritten work made (log_stage.Writing writer) l.disk.areas.archive → logs.end_of l.archive.runs ≤ writer.at
-    by-work made (works.Floor floor kept) place has = absurd has
-    by-work made (works.Archive archive archives) place has =
-        let end = (stands.runs told).ends in let behind = place.behind in let at = has.place in omega (arith, end, behind, at)
-
 -- a step of a job leaves the runs as they are, or adds one behind them
 log-job-goes : (tells : Bool) (l l' : LogStoreValue) (said : Result log_did.JobDid PumpFault) (m : Machine Value) → logs.Stands tells l m
     → log_jobs.PumpsJob tells l said l' → logs.GoesOn tells l l'
-log-job-goes tells l l' said m is pumps = by-move (log_leaves.job-moves tells l l' said (run-past tells l m is) pumps)
+log-job-goes tells l l' said m is pumps = by-move (log_leaves.job-moves tells l l' said (run-past tells l m is) (base-past tells l m is) pumps)
   where
     by-move : log_leaves.LeavesArchive tells l l' ⊎ log_leaves.AddsRun tells l l' → logs.GoesOn tells l l'
     by-move (inl leaves) = leaves-goes tells l l' leaves
@@ -323,7 +302,8 @@ pub reclaim-start-goes : (tells : Bool) (old new : StoreValue) (answer : Result 
 reclaim-start-goes tells (Slots s) (Slots s') answer m is starts = slot_asked.reclaim-start-goes tells s s' answer m is starts
 reclaim-start-goes tells (Slots s) (Log l') answer m is starts = absurd starts
 reclaim-start-goes tells (Log l) (Slots s') answer m is starts = absurd starts
-reclaim-start-goes tells (Log l) (Log l') answer m is starts = same-goes tells l l' starts.1
+reclaim-start-goes tells (Log l) (Log l') answer m is starts =
+    leaves-goes tells l l' (log_leaves.reclaim-leaves tells l l' starts.0 starts.1)
 
 pub floor-start-goes : (tells : Bool) (old new : StoreValue) (scope : Option ℕ) (floor : ℕ) (answer : Result (Unit {0}) StartFault) (m : Machine Value)
     → Stands tells old m → StartsFloor old scope floor answer new → GoesOn tells old new

@@ -19,6 +19,7 @@ use Rattle.recovery.specs.declared.fault.OpenFault.{OpenFault}
 use Rattle.timequery.specs.View.{ViewValue}
 use Rattle.timequery.specs.declared.fault.QueryFault.{QueryFault}
 use Rattle.log_recovery.specs.Opening.{ReadsRoots}
+use Rattle.log_roots.specs.declared.roots.Roots.{Roots}
 use Rattle.any_store.specs.declared.engine.Engine.TheVariants.{Slots, Log}
 use Rattle.any_store.specs.Values.{StoreValue, disk_of}
 use Rattle.any_store.specs.Opens.{Opens, OpenRefuses}
@@ -47,24 +48,24 @@ OpenRefusesFor = (tells : Bool) (old new : DiskState) (why : OpenFault) (header 
 
 -- ---- headers
 
--- the status area begins with this header
+-- The status area begins with this header. A log's is one of as many extents, whichever of its roots counts.
 abbrev pub ReadsHeader : List ℕ → AnyHeader → Type 0
 ReadsHeader status (Slots header) = slot_headers.ReadsHeader status header
-ReadsHeader status (Log roots) = ReadsRoots status roots
+ReadsHeader status (Log roots) = (read : Roots) × ReadsRoots status read × (read.extents ≡ roots.extents)
 
--- The store has this header: its profile, its slots and its open pieces, or its roots.
+-- The store has this header: its profile, its slots and its open pieces, or its extents.
 abbrev pub IsOfHeader : StoreValue → AnyHeader → Type 0
 IsOfHeader (Slots s) (Slots header) = slots.IsOfHeader s header
 IsOfHeader (Slots s) (Log roots) = ⊥
 IsOfHeader (Log l) (Slots header) = ⊥
-IsOfHeader (Log l) (Log roots) = l.roots ≡ roots
+IsOfHeader (Log l) (Log roots) = l.roots.extents ≡ roots.extents
 
 -- What a stop leaves of the store has this header: the store's own or, once the gate of a piece may be open, that with the piece.
 abbrev pub IsHeaderLeftBy : StoreValue → AnyHeader → Type 0
 IsHeaderLeftBy (Slots s) (Slots found) = slots.IsHeaderLeftBy s found
 IsHeaderLeftBy (Slots s) (Log roots) = ⊥
 IsHeaderLeftBy (Log l) (Slots found) = ⊥
-IsHeaderLeftBy (Log l) (Log roots) = roots ≡ l.roots
+IsHeaderLeftBy (Log l) (Log roots) = roots.extents ≡ l.roots.extents
 
 -- An image has this header, and so has every store that is opened on it.
 pub record RecoversHeader (tells : Bool) (image : Image) (header : AnyHeader) : Type 0 where

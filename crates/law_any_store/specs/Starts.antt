@@ -30,19 +30,20 @@ abbrev pub ArchiveStartSays : Type 0
 ArchiveStartSays = (tells : Bool) (old new : StoreValue) (upto : ℕ) (answer : Result (Unit {0}) StartFault) (m : Machine Value) → Stands tells old m
     → StartsArchive old upto answer new → ArchiveSays (is_log old) m upto answer
 
--- A reclaim does not begin where an open transaction reads what it is to forget. None is of the wrong profile but where the log lies in the heap.
+-- A reclaim does not begin where an open transaction reads what it is to forget. None is of the wrong profile, in either layout. Only where the log lies in the
+-- heap does it write to the archive, which may have no room for its roll.
 abbrev pub ReclaimSays : Bool → Machine Value → Result (Unit {0}) StartFault → Type 0
 ReclaimSays in_heap m (Ok u) = m.failed ≡ false
 ReclaimSays in_heap m (Err start.Failed) = m.failed ≡ true
-ReclaimSays in_heap m (Err start.WrongProfile) = IsTrue in_heap
+ReclaimSays in_heap m (Err start.WrongProfile) = ⊥
 ReclaimSays in_heap m (Err start.JobBusy) = Unit {0}
 ReclaimSays in_heap m (Err start.NothingToDo) = Unit {0}
 ReclaimSays in_heap m (Err (start.InUse time)) = Contains m.snapshots time
-ReclaimSays in_heap m (Err start.StatusFull) = Unit {0}
+ReclaimSays in_heap m (Err start.StatusFull) = in_heap ≡ false
 ReclaimSays in_heap m (Err start.HeapFull) = Unit {0}
 ReclaimSays in_heap m (Err start.NoMemory) = Unit {0}
 ReclaimSays in_heap m (Err (start.NotYet time)) = ⊥
-ReclaimSays in_heap m (Err start.ArchiveFull) = ⊥
+ReclaimSays in_heap m (Err start.ArchiveFull) = IsTrue in_heap
 ReclaimSays in_heap m (Err start.NotGrowable) = ⊥
 
 -- so says each start

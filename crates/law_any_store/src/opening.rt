@@ -17,8 +17,8 @@ pub fn close_leaves()
 {}
 
 /// A store that is opened again after a stop stands for a front of its commit order, with all that was published, and has the header
-/// that there was or, once the gate of a piece might be open, that with the piece. A stop at any moment while it is opened, refused or
-/// not, and a second stop leave nothing that the first might not have left.
+/// that there was or, once the gate of a piece might be open, that with the piece; of a log, one of as many extents. A stop at any
+/// moment while it is opened, refused or not, and a second stop leave nothing that the first might not have left.
 pub fn reopen_stands()
     ensures opens { ReopenStands }
     ensures header { ReopenHasHeader }

@@ -24,6 +24,7 @@ use Rattle.store.specs.Values as slots
 use Rattle.store.specs.declared.job.StartFault.{StartFault}
 use Rattle.log_store.specs.Archives as log_archives
 use Rattle.log_store.specs.Jobs as log_jobs
+use Rattle.log_store.specs.Reclaims as log_reclaims
 use Rattle.log_store.specs.Submits as submits
 use Rattle.log_store.specs.Values.{LogStoreValue}
 use Rattle.log_store.specs.declared.job.StartFault as log_starts
@@ -131,6 +132,16 @@ log-archive l l' upto said starts = by-refusal (log_archives.archive_refusal l u
     by-refusal None (Err why) refused = ap (λ (x : LogStoreValue). x.disk) refused.1
     by-refusal (Some why) a refused = ap (λ (x : LogStoreValue). x.disk) refused.1
 
+-- so may a reclaim
+log-reclaim : (l l' : LogStoreValue) (said : Result (Unit {0}) log_starts.StartFault) → log_reclaims.StartsReclaim l said l' → l'.disk ≡ l.disk
+log-reclaim l l' said starts = by-refusal (log_reclaims.reclaim_refusal l) said starts
+  where
+    by-refusal : (o : Option log_starts.StartFault) (a : Result (Unit {0}) log_starts.StartFault)
+        → MatchOption o (log_reclaims.BeginsReclaim l a l') (λ why. (a ≡ Err why) × (l' ≡ l)) → l'.disk ≡ l.disk
+    by-refusal None (Ok done) begins = ap (λ (x : LogStoreValue). x.disk) begins.new_is
+    by-refusal None (Err why) refused = ap (λ (x : LogStoreValue). x.disk) refused.1
+    by-refusal (Some why) a refused = ap (λ (x : LogStoreValue). x.disk) refused.1
+
 -- so may a floor
 log-floor : (l l' : LogStoreValue) (scope : Option ℕ) (time : ℕ) (said : Result (Unit {0}) log_starts.StartFault) → log_jobs.StartsFloor l scope time said l'
     → l'.disk ≡ l.disk
@@ -160,7 +171,7 @@ pub reclaim-disk : (v v' : StoreValue) (r : Result (Unit {0}) StartFault) → St
 reclaim-disk (Slots s) (Slots s') r starts = slots-reclaim s s' r starts
 reclaim-disk (Slots s) (Log l') r starts = absurd starts
 reclaim-disk (Log l) (Slots s') r starts = absurd starts
-reclaim-disk (Log l) (Log l') r starts = none-begins l l' _ r starts
+reclaim-disk (Log l) (Log l') r starts = log-reclaim l l' starts.0 starts.1
 
 pub floor-disk : (v v' : StoreValue) (scope : Option ℕ) (time : ℕ) (r : Result (Unit {0}) StartFault) → StartsFloor v scope time r v' → disk_of v' ≡ disk_of v
 floor-disk (Slots s) (Slots s') scope time r starts = slots-floor s s' scope time r starts

@@ -24,7 +24,8 @@ use Rattle.any_store.specs.Values.{StoreValue, disk_of, with_disk}
 use Rattle.law_log_layout.specs.HeapLog.{HeapLog, heap_parts, placed_group, turn_of}
 use Rattle.law_log_layout.specs.Laws.{KeepsArchive, KeepsLog}
 use Rattle.law_log_layout.specs.Turns.{IsAt}
-use Rattle.law_log_store.specs.Standing.{HasCommits, HasTurn, HasJob, HasStage, IsAtRest, KeepsRoots, StandsOnHeap, StopsBy, StopsOnHeap}
+use Rattle.law_log_store.specs.Reclaiming.{HasReclaim, HasRoots}
+use Rattle.law_log_store.specs.Standing.{HasCommits, HasTurn, HasJob, HasStage, IsAtRest, StandsOnHeap, StopsBy, StopsOnHeap}
 use Rattle.law_log_store.specs.Standing.{HasAllWritten, placed_entry}
 use Rattle.law_log_steps.specs.Store.{IsLeft, IsStoreOf, IsWriting}
 use Rattle.law_log_queries.specs.Archive.{RunsStand}
@@ -50,16 +51,19 @@ module _ (l : LogStoreValue) (disk : DiskState) (same : disk.areas ≡ l.disk.ar
         promised = is.promised;
         few = is.few;
         many = is.many;
+        counted = is.counted;
         turn = is.turn;
         beside = is.beside;
         place = is.place;
+        live = is.live;
+        reclaim = is.reclaim;
       }
 
   over-commits : (h queue : History Value) → HasCommits l h queue → HasCommits other h queue
   over-commits h queue is = record { ordered = is.ordered; values = is.values; told = is.told; contents = is.contents; may = is.may }
 
   over-rest : (log : HeapLog) → IsAtRest l log → IsAtRest other log
-  over-rest log is = record { log = subst (λ (a : Areas). KeepsLog log a.heap) (sym same) is.log; room = is.room }
+  over-rest log is = record { log = subst (λ (a : Areas). KeepsLog log a.heap) (sym same) is.log; room = is.room; live = is.live }
 
   over-stage : (log : HeapLog) (reading : Reading) (made : List ArchiveRecord) (work : JobWork) (k : JobStage) → HasStage l log reading made work k
       → HasStage other log reading made work k
@@ -71,6 +75,7 @@ module _ (l : LogStoreValue) (disk : DiskState) (same : disk.areas ≡ l.disk.ar
     shares = is.shares;
     at = subst (λ (a : Areas). IsAt (heap_parts log) (turn_of log.next (placed_entry w work)) w.stage a.heap) (sym same) is.at;
     room = is.room;
+    live = is.live;
   }
 
   over-job : (log : HeapLog) (reading : Reading) (made : List ArchiveRecord) (j : Option Job) → HasJob l log reading made j → HasJob other log reading made j
@@ -89,7 +94,9 @@ module _ (l : LogStoreValue) (disk : DiskState) (same : disk.areas ≡ l.disk.ar
     shares = is.shares;
     at = subst (λ (a : Areas). IsAt (heap_parts log) (turn_of log.next (placed_group w.numbers w.link is.group)) w.stage a.heap) (sym same) is.at;
     room = is.room;
+    live = is.live;
     alone = is.alone;
+    beside = is.beside;
   }
 
   -- what is written of a run is there
@@ -104,9 +111,10 @@ module _ (l : LogStoreValue) (disk : DiskState) (same : disk.areas ≡ l.disk.ar
     is_log = is.is_log;
     stands = is.stands;
     archive = subst (λ (a : Areas). KeepsArchive is.l a.archive) (sym same) is.archive;
-    status = subst (λ (a : Areas). KeepsRoots l.roots a.status) (sym same) is.status;
+    status = subst (λ (a : Areas). HasRoots l.roots l.reclaim a.status) (sym same) is.status;
     sound = subst AreSound (sym same) is.sound;
     commits = over-commits h queue is.commits;
+    facts = is.facts;
     anchors = is.anchors;
     turn = over-turn l.turn queue is.l is.reading is.made h is.turn;
     job = is.job;
@@ -114,6 +122,7 @@ module _ (l : LogStoreValue) (disk : DiskState) (same : disk.areas ≡ l.disk.ar
     named = is.named;
     reach = subst (λ (a : Areas). l.named.end ≤ a.archive.firm) (sym same) is.reach;
     spare = is.spare;
+    reclaim = subst (λ (a : Areas). HasReclaim l.roots l.job l.named.end a.heap a.archive is.l is.reading l.reclaim) (sym same) is.reclaim;
   }
 
   over-stops : (failed : Bool) (h queue : History Value) (floors : ℕ → ℕ) → StopsBy failed l h queue floors → StopsBy failed other h queue floors
@@ -144,7 +153,8 @@ module _ (l : LogStoreValue) (disk : DiskState) (same : disk.areas ≡ l.disk.ar
     machine = is.machine;
     writing = over-writing m is.writing;
     fresh = is.fresh;
-    marks = record { reclaimed = is.marks.reclaimed; job = is.marks.job };
+    marks = record { reclaimed = is.marks.reclaimed; base = is.marks.base; job = is.marks.job; reclaim = is.marks.reclaim };
+    ends = is.ends;
     disk = λ told. over-disk l.commits.failed m.published m.queue m.floors (is.disk told);
   }
 

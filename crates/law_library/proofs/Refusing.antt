@@ -33,7 +33,9 @@ use Rattle.log_writer.specs.Writer.{WriterState}
 use Rattle.log_store.specs.Jobs as log_jobs
 use Rattle.log_store.specs.Pumps as logs
 use Rattle.log_store.specs.Runs as log_runs
-use Rattle.log_store.specs.Values.{LogStoreValue}
+use Rattle.log_store.specs.Gates.{waits_at, waits_to_open}
+use Rattle.log_store.specs.Reclaiming.{StepsReclaim, AdvancesReclaim}
+use Rattle.log_store.specs.Values.{LogStoreValue, ReclaimValue}
 use Rattle.log_store.specs.declared.job.Job as log_job
 use Rattle.log_store.specs.declared.job.JobDid as log_steps
 use Rattle.log_store.specs.declared.job.JobStage as log_stages
@@ -189,7 +191,12 @@ log-pump old new why pumps = by-failed old.commits.failed pumps
 
     by-turn : (t : Option WriterState) → logs.TakesStep true old t (Err why) new → IfUncountedOn old.disk new.disk
     by-turn None takes = by-queue (length old.commits.queue == 0) takes
-    by-turn (Some w) advances = uncounted-on refused_answer old.disk new.disk advances.counts
+    by-turn (Some w) takes = by-gate (waits_to_open old.reclaim w.stage) takes
+      where
+        by-gate : (b : Bool) → MatchBool b ((log_said why ≡ log_said fault.Busy) × (new ≡ old)) (logs.Advances true w old (Err why) new)
+            → IfUncountedOn old.disk new.disk
+        by-gate true busy = log-nothing old new busy.1
+        by-gate false advances = uncounted-on refused_answer old.disk new.disk advances.counts
 
     by-failed : (b : Bool) → MatchBool b ((log_said why ≡ log_said fault.Failed) × (new ≡ old)) (logs.TakesStep true old old.turn (Err why) new)
         → IfUncountedOn old.disk new.disk
@@ -223,10 +230,20 @@ log-job old new said pumps = by-failed old.commits.failed pumps
     by-job None idle = log-nothing old new idle.1
     by-job (Some j) takes = by-stage j j.stage takes
 
-    by-failed : (b : Bool) → MatchBool b ((said ≡ Err fault.Failed) × (new ≡ old)) (log_jobs.StepsJob true old.job old said new)
+    by-gate : (r : ReclaimValue) (b : Bool) → MatchBool b ((said ≡ Err fault.Busy) × (new ≡ old)) (AdvancesReclaim true r old said new)
         → IfUncountedOn old.disk new.disk
+    by-gate r true busy = log-nothing old new busy.1
+    by-gate r false advances = uncounted-on (log_runs.disk_answer said) old.disk new.disk advances.counts
+
+    by-reclaim : (o : Option ReclaimValue) → MatchOption o (log_jobs.StepsJob true old.job old said new) (λ r. StepsReclaim true r old said new)
+        → IfUncountedOn old.disk new.disk
+    by-reclaim None takes = by-job old.job takes
+    by-reclaim (Some r) takes = by-gate r (waits_at old.turn r.stage) takes
+
+    by-failed : (b : Bool) → MatchBool b ((said ≡ Err fault.Failed) × (new ≡ old))
+        (MatchOption old.reclaim (log_jobs.StepsJob true old.job old said new) (λ r. StepsReclaim true r old said new)) → IfUncountedOn old.disk new.disk
     by-failed true fails = log-nothing old new fails.1
-    by-failed false takes = by-job old.job takes
+    by-failed false takes = by-reclaim old.reclaim takes
 
 -- ---- in either
 

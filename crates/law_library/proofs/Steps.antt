@@ -10,7 +10,7 @@ use Rattle.any_store.specs.declared.steps.Did.{Did}
 use Rattle.group.specs.declared.answers.PumpFault.{PumpFault}
 use Rattle.any_store.specs.Calls.{Pumps}
 use Rattle.any_store.specs.Jobs.{PumpsJob}
-use Rattle.any_store.specs.Places.{log_area}
+use Rattle.any_store.specs.Places.{log_area, job_area}
 use Rattle.any_store.specs.Values.{StoreValue, disk_of}
 use Rattle.any_store.specs.declared.steps.JobDid.{JobDid}
 use Rattle.law_any_store.proofs.Memory.{last-published}
@@ -164,10 +164,10 @@ module _ (e : Event) (m : HostMoment) (new : Host) (is : IsHostMoment m) (areas 
       ((disk_of after.store).made == (disk_of old.store).made) (pump-same old.store after.store why takes) step.1
 
   job-step : (said : Code) (info : Info) (o : Result JobDid PumpFault) → PumpsJob true old.store o after.store → AreSound (disk_of after.store).areas
-      → after.places ≡ old.places → AfterStep (of_job (log_area old.store) o) old said info after → HostLink e m new
+      → after.places ≡ old.places → AfterStep (of_job (job_area old.store) o) old said info after → HostLink e m new
   job-step said info (Ok what) takes sound places step =
       done-step call.JobPump (answer.JobPump (Ok what)) (pumped-goes true old.store after.store is.held (Ok what) (λ told. sound) takes) places sound
-      (Job (log_area old.store) what) (call_of (Job (log_area old.store) what)) refl (job-leads old.store after.store what takes) step.2
+      (Job (job_area old.store) what) (call_of (Job (job_area old.store) what)) refl (job-leads old.store after.store what takes) step.2
   job-step said info (Err why) takes sound places step =
       refused-step call.JobPump (answer.JobPump (Err why)) (pumped-goes true old.store after.store is.held (Err why) (λ told. sound) takes) places sound
       ((disk_of after.store).made == (disk_of old.store).made) (job-same old.store after.store why takes) step.1
@@ -189,7 +189,7 @@ module _ (e : Event) (m : HostMoment) (new : Host) (is : IsHostMoment m) (areas 
       where
         by-way : m.host.engine.state ≡ Settled → ((said ≡ code.NoMemory) × (new.engine ≡ m.host.engine))
             ⊎ ((o : Result JobDid PumpFault) × PumpsJob true m.host.engine.store o new.engine.store × AreSound (disk_of new.engine.store).areas
-            × (new.engine.places ≡ m.host.engine.places) × AfterStep (of_job (log_area m.host.engine.store) o) m.host.engine said info new.engine)
+            × (new.engine.places ≡ m.host.engine.places) × AfterStep (of_job (job_area m.host.engine.store) o) m.host.engine said info new.engine)
             → HostLink e m new
         by-way settled (inl none) = stays e m new is none.1 areas silent
         by-way settled (inr takes) = job-step e m new is areas silent settled said info takes.0 takes.1 takes.2 takes.3 takes.4

@@ -33,7 +33,7 @@ use Rattle.law_layout.proofs.Lists.{all_of_back}
 
 -- ---- the extents are free
 
-new-within : (most : ℕ) (l : HeapLog) (n : NewBase) → AreFree most l n → AreWithin ((n.anchors).numbers ++ n.numbers) (new_parts n)
+pub new-within : (most : ℕ) (l : HeapLog) (n : NewBase) → AreFree most l n → AreWithin ((n.anchors).numbers ++ n.numbers) (new_parts n)
 new-within most l n free =
     subst (AreWithin ((n.anchors).numbers ++ n.numbers))
     (sym (map-append extent_part (anchor_extents n.anchors) (extents_of (placed_base n.numbers n.link n.base))))

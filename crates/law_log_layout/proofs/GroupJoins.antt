@@ -47,7 +47,7 @@ live-more l c =
 pub room : (reading : Reading) → is_in_heap reading.profile ≡ true → HasRoom reading
 room reading heap = rw heap tt
 
-most-is : (reading : Reading) → is_in_heap reading.profile ≡ true → most_members reading.profile ≡ 1024
+pub most-is : (reading : Reading) → is_in_heap reading.profile ≡ true → most_members reading.profile ≡ 1024
 most-is reading heap = rw heap refl
 
 pub group-is_log : (most root : ℕ) (l : HeapLog) (reading : Reading) (h next : History Value) (floors : ℕ

@@ -83,7 +83,7 @@ own-gate gate link next (n ∷ ns) content most are distinct head some =
       ),
     )
 
-all-new : (P : ℕ → Type 0) (numbers : List ℕ) (next : ℕ) → AllByRecursion P numbers → first_or 0 numbers ≡ next → 0 < length numbers → P next
+pub all-new : (P : ℕ → Type 0) (numbers : List ℕ) (next : ℕ) → AllByRecursion P numbers → first_or 0 numbers ≡ next → 0 < length numbers → P next
 all-new P [] next all head some = absurd (omega (arith, some))
 all-new P (n ∷ ns) next all head some = subst P head all.0
 

@@ -1,6 +1,8 @@
 pub mod Parts
 pub mod Goes
 pub mod RootGoes
+pub mod Beside
+pub mod RootBeside
 pub mod Places
 pub mod Joining
 pub mod GroupJoins
@@ -9,5 +11,9 @@ pub mod ReclaimGoes
 pub mod BaseJoins
 pub mod EntryJoins
 pub mod BaseGoes
+pub mod BaseBeside
 pub mod OneLog
 pub mod OneReading
+pub mod BasedShares
+pub mod StaysBehind
+pub mod SameHistory

@@ -68,7 +68,7 @@ rising-by : (time : ℕ) (heads : List Head) → AreRisingAfter time heads → I
 rising-by time [] up = tt
 rising-by time (head ∷ heads) up = (up.0, rising-by head.time heads up.2)
 
-names-same : (rolls : List PlacedRoll) (a b : List Head) → AreNamesOf rolls a → AreNamesOf rolls b → a ≡ b
+pub names-same : (rolls : List PlacedRoll) (a b : List Head) → AreNamesOf rolls a → AreNamesOf rolls b → a ≡ b
 names-same rolls a b is_a is_b =
     same_rising (λ (head : Head). head.time) 0 0 a b (rising-by 0 a is_a.rising) (rising-by 0 b is_b.rising)
     (λ head has. (is_b.same head).1 ((is_a.same head).0 has)) (λ head has. (is_a.same head).1 ((is_b.same head).0 has))

@@ -5,3 +5,5 @@ pub mod Laws
 pub mod Reclaims
 pub mod Entries
 pub mod OneLog
+pub mod Behind
+pub mod Beside

@@ -3,6 +3,9 @@ ghost use Rattle.law_log_layout.specs.Laws.{ChainGoes, EntryGoes, GroupEnds, Gro
 ghost use Rattle.law_log_layout.specs.Reclaims.{BaseGoes, BaseIsLog, BaseRests};
 ghost use Rattle.law_log_layout.specs.Entries.{FloorIsLog, RunIsLog};
 ghost use Rattle.law_log_layout.specs.OneLog.{OneLogInHeap, OneReading};
+ghost use Rattle.law_log_layout.specs.Beside.{BaseLiesBeside, ChainAmongOthers, ChainIsAmong, ChainLeavesParts, RootBeside, SyncKeepsParts};
+ghost use Rattle.law_log_layout.specs.Beside.{SyncLeavesChain, SyncLeavesOthers, SyncLeavesParts, WriteAddsPart, WriteLeavesChain, WriteLeavesOthers};
+ghost use Rattle.law_log_layout.specs.Beside.{WriteLeavesParts};
 
 /// A chain's way behind the log, at every moment: a stop leaves the log without it, or, from the write
 /// of its gate on, with it or without; and once that is synced with it.
@@ -59,4 +62,40 @@ pub fn base_goes()
 pub fn one_log_in_heap()
     ensures heap { OneLogInHeap }
     ensures reading { OneReading }
+{}
+
+/// Chains beside each other. While a chain is on its way, what is written beside it, and each sync,
+/// leaves it where it is; and its calls leave what lies beside it, and the other areas, as they were.
+/// So a base can be written while groups go to the heap.
+pub fn chains_beside()
+    // A chain on its way is left where it is, whether the call is made or refused.
+    ensures chain_by_write { WriteLeavesChain }
+    ensures chain_by_sync { SyncLeavesChain }
+    ensures chain_among { ChainAmongOthers }
+    ensures among { ChainIsAmong }
+    ensures base { BaseLiesBeside }
+    // Parts of the heap are left as they were, and after a sync what was read outlasts a stop.
+    ensures parts_by_chain { ChainLeavesParts }
+    ensures parts_by_write { WriteLeavesParts }
+    ensures part_written { WriteAddsPart }
+    ensures parts_by_sync { SyncLeavesParts }
+    ensures parts_synced { SyncKeepsParts }
+    // A call of one area leaves the others.
+    ensures others_by_write { WriteLeavesOthers }
+    ensures others_by_sync { SyncLeavesOthers }
+{}
+
+/// What two roots claim of the heap and the archive.
+pub trait RootClaims {
+    ghost use Rattle.std.specs.Prelude.{ℕ, List};
+
+    ghost Old: { List ℕ → List ℕ → Type 0 };
+
+    ghost New: { List ℕ → List ℕ → Type 0 };
+}
+
+/// The way from one root to the other, whatever each of them claims of the heap and the archive: where a
+/// stop leaves nothing that fails either claim, it leaves a root whose claim is met, at every moment.
+pub fn root_beside<C: RootClaims>()
+    ensures { RootBeside C.Old C.New }
 {}

@@ -2,4 +2,5 @@
 //! with nothing to do.
 #![tactic(auto)]
 
+pub mod behind;
 pub mod laws;

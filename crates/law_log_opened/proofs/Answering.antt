@@ -1,6 +1,6 @@
 -- Views are answered by the history, after a stop as before it.
 use Rattle.std.proofs.Common.{◌≡◌, inl, inr, ℕ, zero, suc, ◌≤◌, ◌==◌, nat_lt, Bool, true, false, IsTrue, List, [], ◌∷◌, ◌++◌, map, take, Option, Result}
-use Rattle.std.proofs.Common.{◌⊎◌, Some, MatchOption, refl, arith, ap, sym, subst, ◌∙◌}
+use Rattle.std.proofs.Common.{◌⊎◌, MatchOption, refl, arith, ap, sym, subst, ◌∙◌}
 use Rattle.std.specs.List.{filter}
 use Rattle.std.proofs.lemmas.Bool.Decides.{nat_tests}
 use Rattle.std.proofs.lemmas.List.{append-nil, map-append}

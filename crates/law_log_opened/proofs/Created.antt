@@ -1,5 +1,5 @@
 -- A store that is created stands for the empty history.
-use Rattle.std.proofs.Common.{◌≡◌, ℕ, Bool, true, false, IsTrue, List, [], ◌∷◌, replicate, refl, arith, sym, subst, inl}
+use Rattle.std.proofs.Common.{◌≡◌, ℕ, Bool, true, false, IsTrue, [], ◌∷◌, None, replicate, refl, arith, sym, subst, inl}
 use Rattle.disk.specs.Areas.{Areas, AreSound, written}
 use Rattle.disk.specs.Calls.{DiskState}
 use Rattle.disk.proofs.Parts.{synced_part}
@@ -9,12 +9,13 @@ use Rattle.history.proofs.Members.{Contains-nil}
 use Rattle.law_image.specs.HeapPlans.{empty_heap}
 use Rattle.deltas.specs.Extents.{extent_start}
 use Rattle.log_roots.specs.Roots.{IsHeapSize}
-use Rattle.log_recovery.specs.Opening.{ReadsRoots}
 use Rattle.law_log_layout.specs.Laws.{KeepsLog}
 use Rattle.log_store.specs.Values.{LogStoreValue}
 use Rattle.log_store.specs.Formats.{new_roots, formatted, created_on, Creates}
 use Rattle.law_commits.specs.Standing.{StandsInMemory}
-use Rattle.law_log_store.specs.Standing.{StandsOnHeap, KeepsRoots}
+use Rattle.law_log_store.specs.Reclaiming.{HasRoots}
+use Rattle.law_log_store.specs.Standing.{StandsOnHeap}
+use Rattle.law_log_store.proofs.Headers.{roots-settled}
 use Rattle.law_log_store.proofs.Opened.{leaves-room}
 use Rattle.law_log_steps.specs.Store.{IsStoreOf}
 use Rattle.law_log_steps.proofs.Resting.{stands-opened}
@@ -29,10 +30,9 @@ module _ (mark extents : ℕ) (old : Areas) (disk : DiskState) (size : IsHeapSiz
 
   -- ---- the disk
 
-  status : KeepsRoots (new_roots extents) disk.areas.status
-  status = subst (λ (areas : Areas). KeepsRoots (new_roots extents) areas.status) (sym made)
-      (λ content left. subst (λ (bytes : List ℕ). ReadsRoots bytes (new_roots extents)) (sym (left.settled refl))
-      (headed-reads extents old.status.bytes size))
+  status : HasRoots (new_roots extents) None disk.areas.status
+  status = subst (λ (areas : Areas). HasRoots (new_roots extents) None areas.status) (sym made)
+      (roots-settled (new_roots extents) (formatted extents old).status.bytes (headed-reads extents old.status.bytes size))
 
   log : KeepsLog (empty_log 1) disk.areas.heap
   log = subst (λ (areas : Areas). KeepsLog (empty_log 1) areas.heap) (sym made)
@@ -60,13 +60,19 @@ module _ (mark extents : ℕ) (old : Areas) (disk : DiskState) (size : IsHeapSiz
         status = status;
         sound = sound;
         commits = record { ordered = tt; values = λ key. refl; told = tt; contents = tt; may = tt };
+        facts = record { rising = λ key. tt; early = λ key. omega arith; same = λ key. refl };
         anchors = record { len = refl; fit = tt };
-        turn = record { log = log; room = (leaves-room extents 1 (empty_log 1) (empty_heap extents) [] (λ relation. 0) is stands).room };
+        turn = record {
+          log = log;
+          room = (leaves-room extents 1 (empty_log 1) (empty_heap extents) [] (λ relation. 0) is stands).room;
+          live = record { chains = refl; anchors = refl };
+        };
         job = tt;
         written = tt;
         named = record { archives = refl; rolls = refl; upto = refl; end = record { runs = tt; rolls = tt } };
         reach = omega arith;
         spare = inl (λ some. absurd (omega (arith, some)));
+        reclaim = tt;
       }
 
   -- ---- memory
@@ -107,7 +113,7 @@ module _ (mark extents : ℕ) (old : Areas) (disk : DiskState) (size : IsHeapSiz
   store tells =
       stands-opened tells v [] (λ relation. 0) (empty_heap extents) (empty-stands (new_roots extents) (new-in_range extents size)) on-heap refl refl
       (record { most = refl; group = refl; raising = refl; made = tt; gate = λ works. refl; left = λ fails. absurd (let no : false ≡ true = fails in cc) })
-      (record { reclaimed = omega arith; job = tt }) memory
+      (record { reclaimed = omega arith; base = omega arith; job = tt; reclaim = tt }) (omega arith, omega arith) memory
 
   runs : RunsStand v [] (λ relation. 0)
   runs = record {
@@ -123,7 +129,7 @@ module _ (mark extents : ℕ) (old : Areas) (disk : DiskState) (size : IsHeapSiz
   }
 
   pub created : (tells : Bool) → Stands tells v (opened_by 1024 [] (λ relation. 0))
-  created tells = record { store = store tells; place = tt; runs = λ told. runs }
+  created tells = record { store = store tells; place = (tt, tt); runs = λ told. runs }
 
 pub create-stands : (tells : Bool) (old : DiskState) (mark extents : ℕ) (v : LogStoreValue) → IsHeapSize extents → AreSound v.disk.areas
     → Creates tells old mark extents v → IsTrue tells → Stands tells v (opened_by 1024 [] (λ relation. 0))

@@ -68,7 +68,9 @@ module _ (roots : Roots) (is : IsRoots roots) where
 pub empty-image : (roots : Roots) (image : Image) → ReadsRoots image.status roots → IsClosed (extent_start (root_of roots)) image.heap
     → IsImageOf roots image [] (λ relation. 0)
 empty-image roots image reads closed = record {
+  read = roots;
   status = reads;
+  size = refl;
   heap = record {
     log = empty_log (root_of roots);
     reading = empty_heap roots.extents;

@@ -15,6 +15,7 @@ use Rattle.recovery.specs.declared.fault.OpenFault.{OpenFault}
 use Rattle.log_roots.specs.declared.roots.Roots.{Roots}
 use Rattle.log_roots.proofs.Headers.{one_reading}
 use Rattle.log_recovery.specs.Image.{IsReadFrom}
+use Rattle.log_recovery.specs.Opening.{ReadsRoots}
 use Rattle.law_log_opening.specs.Laws.{SaysNothing}
 use Rattle.log_store.specs.Values.{LogStoreValue, IsInStep}
 use Rattle.log_store.specs.Opens.{Opens, OpenRefuses}
@@ -40,21 +41,29 @@ open-refuses tells old new why roots h floors refuses told image =
 
 -- ---- headers
 
--- a store that is opened on an image with these roots has them
-pub open-roots : (tells : Bool) (disk : DiskState) (mark : ℕ) (v : LogStoreValue) (roots : Roots) (h : History Value) (floors : ℕ → ℕ)
-    → Opens tells disk mark v → IsTrue tells → IsImageOf roots (image_of disk.areas) h floors → v.roots ≡ roots
-open-roots tells disk mark v roots h floors opens told image =
+-- a store that is opened where these roots are read has them
+open-roots : (tells : Bool) (disk : DiskState) (mark : ℕ) (v : LogStoreValue) (roots : Roots) → Opens tells disk mark v → IsTrue tells
+    → ReadsRoots disk.areas.status.bytes roots → v.roots ≡ roots
+open-roots tells disk mark v roots opens told reads =
     let read : IsReadFrom (image_of disk.areas) opens.recovered = opens.read told in
     ap (λ (x : LogStoreValue). x.roots) opens.new_is
-    ∙ one_reading (take 512 disk.areas.status.bytes) opens.recovered.roots roots read.roots.has image.status.has
+    ∙ one_reading (take 512 disk.areas.status.bytes) opens.recovered.roots roots read.roots.has reads.has
+
+-- so on an image of as many extents it has as many
+pub open-size : (tells : Bool) (disk : DiskState) (mark : ℕ) (v : LogStoreValue) (roots : Roots) (h : History Value) (floors : ℕ → ℕ)
+    → Opens tells disk mark v → IsTrue tells → IsImageOf roots (image_of disk.areas) h floors → v.roots.extents ≡ roots.extents
+open-size tells disk mark v roots h floors opens told image =
+    ap (λ (x : Roots). x.extents) (open-roots tells disk mark v image.read opens told image.status) ∙ image.size
 
 pub image-header : (tells : Bool) (roots : Roots) (image : Image) (h : History Value) (floors : ℕ → ℕ) → IsTrue tells → IsImageOf roots image h floors
     → RecoversHeader tells image roots
 image-header tells roots image h floors told is = record {
+  read = is.read;
   reads = is.status;
+  size = is.size;
   recovered =
-      λ disk mark again same opens. open-roots tells disk mark again roots h floors opens told
-      (subst (λ (i : Image). IsImageOf roots i h floors) (sym same) is);
+      λ disk mark again same opens. open-roots tells disk mark again is.read opens told
+      (subst (λ (i : Image). ReadsRoots i.status is.read) (sym same) is.status);
 }
 
 -- ---- closing
@@ -90,10 +99,10 @@ front-image tells v m image step stands told left R say =
     by-front (inr (inr floor)) = say m.published (raised (floor.0).scope (floor.0).floor m.floors) floor.2
 
 pub reopen-roots : (tells : Bool) (v : LogStoreValue) (m : Machine Value) (disk : DiskState) (mark : ℕ) (again : LogStoreValue)
-    → IsInStep v → Stands tells v m → IsTrue tells → OpensAgain tells v disk mark again → again.roots ≡ v.roots
+    → IsInStep v → Stands tells v m → IsTrue tells → OpensAgain tells v disk mark again → again.roots.extents ≡ v.roots.extents
 reopen-roots tells v m disk mark again step stands told opens =
-    front-image tells v m (image_of disk.areas) step stands told opens.left (again.roots ≡ v.roots)
-    (λ h floors image. open-roots tells disk mark again v.roots h floors opens.opens told image)
+    front-image tells v m (image_of disk.areas) step stands told opens.left (again.roots.extents ≡ v.roots.extents)
+    (λ h floors image. open-size tells disk mark again v.roots h floors opens.opens told image)
 
 pub reopen-refuses : (tells : Bool) (v : LogStoreValue) (m : Machine Value) (disk new : DiskState) (why : OpenFault)
     → IsInStep v → Stands tells v m → IsTrue tells → LeavesImage v.disk.areas (image_of disk.areas) → OpenRefuses tells disk why new → IsReadFault why

@@ -28,12 +28,14 @@ OpenRefusesFor = (tells : Bool) (old new : DiskState) (why : OpenFault) (roots :
 
 -- ---- headers
 
--- An image has the header of these roots, and so has every store that is opened on it.
+-- An image has a header of as many extents as these roots have, and so has every store that is opened on it: the header that is read there.
 pub record RecoversHeader (tells : Bool) (image : Image) (roots : Roots) : Type 0 where
-  pub reads : ReadsRoots image.status roots
-  pub recovered : (disk : DiskState) (mark : ℕ) (again : LogStoreValue) → image_of disk.areas ≡ image → Opens tells disk mark again → again.roots ≡ roots
+  pub read : Roots
+  pub reads : ReadsRoots image.status read
+  pub size : read.extents ≡ roots.extents
+  pub recovered : (disk : DiskState) (mark : ℕ) (again : LogStoreValue) → image_of disk.areas ≡ image → Opens tells disk mark again → again.roots ≡ read
 
--- an image that stands for a history has the header by which it does
+-- an image that stands for a history has such a header
 abbrev pub ImageHasHeader : Type 0
 ImageHasHeader =
     (tells : Bool) (roots : Roots) (image : Image) (h : History Value) (floors : ℕ → ℕ) → IsTrue tells → IsImageOf roots image h floors
@@ -41,7 +43,7 @@ ImageHasHeader =
 
 -- ---- closing, and opening again
 
--- whatever a stop may leave of these areas of a store has its header, and stands for a front of the commit order
+-- whatever a stop may leave of these areas of a store has a header of as many extents, and stands for a front of the commit order
 abbrev pub LeavesFronts : LogStoreValue → Areas → Machine Value → Type 0
 LeavesFronts v areas m = (image : Image) → LeavesImage areas image → OnFront (IsImageOf v.roots image) m
 
@@ -62,10 +64,10 @@ abbrev pub ReopenStands : Type 0
 ReopenStands = (tells : Bool) (v : LogStoreValue) (m : Machine Value) (disk : DiskState) (mark : ℕ) (again : LogStoreValue)
     → IsInStep v → Stands tells v m → IsTrue tells → OpensAgain tells v disk mark again → OnFront (λ h floors. Stands tells again (opened_by 1024 h floors)) m
 
--- It has the header that there was, so as many extents.
+-- It has as many extents as there were.
 abbrev pub ReopenHasRoots : Type 0
 ReopenHasRoots = (tells : Bool) (v : LogStoreValue) (m : Machine Value) (disk : DiskState) (mark : ℕ) (again : LogStoreValue)
-    → IsInStep v → Stands tells v m → IsTrue tells → OpensAgain tells v disk mark again → again.roots ≡ v.roots
+    → IsInStep v → Stands tells v m → IsTrue tells → OpensAgain tells v disk mark again → again.roots.extents ≡ v.roots.extents
 
 -- Where that is refused, the device or memory gave out, and the disk still holds what the stop left.
 abbrev pub ReopenRefuses : Type 0

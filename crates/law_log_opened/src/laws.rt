@@ -23,12 +23,12 @@ pub fn format_stands()
     ensures creates { CreateStands }
 {}
 
-/// Whatever a stop may leave of a closed store's disk has the store's header, and stands for a front of the commit order.
+/// Whatever a stop may leave of a closed store's disk has a header of as many extents, and stands for a front of the commit order.
 pub fn close_leaves()
     ensures { CloseLeaves }
 {}
 
-/// A store that is opened again after a stop has the header that there was, and stands for a front of its commit order, with all that
+/// A store that is opened again after a stop has as many extents as there were, and stands for a front of its commit order, with all that
 /// was published. So it does where it was closed. A stop at any moment while it is opened, refused or not, and a second stop leave
 /// nothing that the first might not have left.
 pub fn reopen_stands()

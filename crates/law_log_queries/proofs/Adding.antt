@@ -100,7 +100,7 @@ plan-adds reading h floors kept upto made stands plan all later key =
 
 module _ (tells : Bool) (old new : LogStoreValue) (m after : Machine Value) (stands : Stands tells old m) (adds : AddsRun tells old new) where
   place : RunHasPlace old.named old.archive.runs old.archive.next adds.a
-  place = subst (λ (j : Option Job). JobHasPlace old.named old.archive.runs old.archive.next j) adds.is-job stands.place
+  place = subst (λ (j : Option Job). JobHasPlace old.named old.archive.runs old.archive.next j) adds.is-job stands.place.0
 
   abbrev entry : RunEntry
   entry = (place).entry

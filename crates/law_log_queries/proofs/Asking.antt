@@ -51,6 +51,7 @@ module _ (v : LogStoreValue) (archive : ArchiveValue) (refused : ℕ) where
       contents = s.commits.contents;
       may = s.commits.may;
     };
+    facts = s.facts;
     anchors = s.anchors;
     turn = by-turn v.turn s.turn;
     job = s.job;
@@ -58,15 +59,16 @@ module _ (v : LogStoreValue) (archive : ArchiveValue) (refused : ℕ) where
     named = s.named;
     reach = s.reach;
     spare = s.spare;
+    reclaim = s.reclaim;
   }
     where
       by-stage : (work : JobWork) (k : JobStage) → HasStage v s.l s.reading s.made work k → HasStage asked s.l s.reading s.made work k
-      by-stage work (Writing writer) is = record { log = is.log; room = is.room }
-      by-stage work (Ready waited) is = record { log = is.log; room = is.room }
-      by-stage work (Entering w) is = record { content = is.content; joins = is.joins; shares = is.shares; at = is.at; room = is.room }
+      by-stage work (Writing writer) is = record { log = is.log; room = is.room; live = is.live }
+      by-stage work (Ready waited) is = record { log = is.log; room = is.room; live = is.live }
+      by-stage work (Entering w) is = record { content = is.content; joins = is.joins; shares = is.shares; at = is.at; room = is.room; live = is.live }
 
       by-job : (j : Option Job) → HasJob v s.l s.reading s.made j → HasJob asked s.l s.reading s.made j
-      by-job None is = record { log = is.log; room = is.room }
+      by-job None is = record { log = is.log; room = is.room; live = is.live }
       by-job (Some job) is = by-stage job.work job.stage is
 
       by-turn : (t : Option WriterState) → HasTurn v queue s.l s.reading s.made h t → HasTurn asked queue s.l s.reading s.made h t
@@ -80,7 +82,9 @@ module _ (v : LogStoreValue) (archive : ArchiveValue) (refused : ℕ) where
         shares = is.shares;
         at = is.at;
         room = is.room;
+        live = is.live;
         alone = is.alone;
+        beside = is.beside;
       }
 
   asked-disk : (b : Bool) (h queue : History Value) (floors : ℕ → ℕ) → MatchBool b (StopsOnHeap v h queue floors) (StandsOnHeap v h queue floors)
@@ -105,7 +109,8 @@ module _ (v : LogStoreValue) (archive : ArchiveValue) (refused : ℕ) where
       left = λ fails. asked-left tells m (is.writing.left fails);
     };
     fresh = is.fresh;
-    marks = record { reclaimed = is.marks.reclaimed; job = is.marks.job };
+    marks = record { reclaimed = is.marks.reclaimed; base = is.marks.base; job = is.marks.job; reclaim = is.marks.reclaim };
+    ends = is.ends;
     disk = λ told. asked-disk v.commits.failed m.published m.queue m.floors (is.disk told);
   }
 

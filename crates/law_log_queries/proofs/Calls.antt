@@ -10,9 +10,10 @@ use Rattle.group.specs.declared.answers.BeginFault.TheVariants as fault
 use Rattle.archive.specs.declared.run.RunEntry.{RunEntry}
 use Rattle.commits.specs.Values.{is_own}
 use Rattle.archive.specs.Pieces.{InWriting}
-use Rattle.log_store.specs.Values.{LogStoreValue, IsInStep}
+use Rattle.log_store.specs.Values.{LogStoreValue, ReclaimValue, IsInStep}
 use Rattle.log_store.specs.declared.job.Job.{Job}
 use Rattle.log_store.specs.declared.job.JobStage.{JobStage}
+use Rattle.log_store.specs.declared.job.JobStage.TheVariants.{Entering}
 use Rattle.log_store.specs.declared.job.JobStage.TheVariants as stages
 use Rattle.log_store.specs.declared.job.JobWork.{JobWork}
 use Rattle.log_store.specs.declared.job.JobWork.TheVariants as works
@@ -34,13 +35,14 @@ use Rattle.law_log_steps.proofs.Pumping.{pump-stands}
 use Rattle.law_log_steps.proofs.Jobs.{job-stands}
 use Rattle.law_log_steps.proofs.ArchiveStarts.{archive-starts}
 use Rattle.law_log_steps.proofs.FloorStarts.{floor-starts}
-use Rattle.law_log_queries.specs.Archive.{HasPlace, JobHasPlace, Stands, GoesOn, end_of}
-use Rattle.law_log_queries.specs.Calls.{IsCall, LeadsTo, OfBegin, OfAbort, OfRedeem, OfSubmit, OfPump, OfFloor, OfArchive, OfJob, OfAt, OfScanAt}
-use Rattle.law_log_queries.specs.Calls.{OfBetween, OfScanBetween}
+use Rattle.law_log_steps.proofs.ReclaimStarts.{reclaim-starts}
+use Rattle.law_log_queries.specs.Archive.{HasPlace, JobHasPlace, ReclaimHasPlace, Stands, GoesOn, end_of}
+use Rattle.law_log_queries.specs.Calls.{IsCall, LeadsTo, OfBegin, OfAbort, OfRedeem, OfSubmit, OfPump, OfFloor, OfArchive, OfReclaim, OfJob, OfAt}
+use Rattle.law_log_queries.specs.Calls.{OfScanAt, OfBetween, OfScanBetween}
 use Rattle.law_log_queries.specs.Laws.{GoesTo}
 use Rattle.law_log_queries.proofs.Runs.{end-more}
-use Rattle.law_log_queries.proofs.Leaving.{LeavesArchive, AddsRun, alone-leaves, submit-leaves, pump-leaves, floor-leaves, archive-leaves, job-moves}
-use Rattle.law_log_queries.proofs.Leaving.{leaves-goes, leaves-same, runs-left}
+use Rattle.law_log_queries.proofs.Leaving.{LeavesArchive, AddsRun, BaseIsPast, alone-leaves, submit-leaves, pump-leaves, floor-leaves, archive-leaves}
+use Rattle.law_log_queries.proofs.Leaving.{beside-place, job-moves, leaves-goes, leaves-same, reclaim-leaves, runs-left}
 use Rattle.law_log_queries.proofs.Adding.{added-goes, runs-added}
 use Rattle.law_log_queries.proofs.Asking.{query-stands}
 
@@ -64,20 +66,25 @@ added : (tells : Bool) (old new : LogStoreValue) (m after : Machine Value) → S
 added tells old new m after stands adds later is = (
   record {
     store = is;
-    place = subst (λ (j : Option Job). JobHasPlace new.named new.archive.runs new.archive.next j) (sym adds.no-job) tt;
+    place = (
+      subst (λ (j : Option Job). JobHasPlace new.named new.archive.runs new.archive.next j) (sym adds.no-job) tt,
+      subst (λ (r : Option ReclaimValue). ReclaimHasPlace new.job new.named.end r) (sym adds.reclaim)
+          (beside-place old.job new.job (record { work = works.Archive adds.a adds.archives; stage = Entering adds.w }) old.named.end new.named.end old.reclaim
+          adds.is-job stands.place.1),
+    );
     runs = λ told. runs-added tells old new m after stands adds told (machine-rises m stands.store.machine) later;
   },
   added-goes tells old new m after stands adds,
 )
 
 -- a run goes behind those that stand
-run-past : (tells : Bool) (old : LogStoreValue) (m : Machine Value) → Stands tells old m → (writer : InWriting) (job : Job) → old.commits.failed ≡ false
+pub run-past : (tells : Bool) (old : LogStoreValue) (m : Machine Value) → Stands tells old m → (writer : InWriting) (job : Job) → old.commits.failed ≡ false
     → old.job ≡ Some job → job.stage ≡ stages.Writing writer → IsTrue tells → end_of old.archive.runs ≤ writer.at
 run-past tells old m stands writer job works-on is-job e told =
     let s : StandsOnHeap old m.published m.queue m.floors =
     subst (λ (b : Bool). MatchBool b (StopsOnHeap old m.published m.queue m.floors) (StandsOnHeap old m.published m.queue m.floors)) works-on
     (stands.store.disk told) in
-    by-work (s.made) job.work (subst (λ (j : Option Job). JobHasPlace old.named old.archive.runs old.archive.next j) is-job stands.place)
+    by-work (s.made) job.work (subst (λ (j : Option Job). JobHasPlace old.named old.archive.runs old.archive.next j) is-job stands.place.0)
     (subst (λ (k : JobStage). HasWritten job.work s.made k old.disk.areas.archive) e
     (subst (λ (j : Option Job). HasAllWritten s.made j old.disk.areas.archive) is-job s.written))
   where
@@ -86,6 +93,14 @@ run-past tells old m stands writer job works-on is-job e told =
     by-work made (works.Floor floor kept) place has = absurd has
     by-work made (works.Archive a archives) place has =
         let end = (stands.runs told).ends in let behind = place.behind in let at = has.place in omega (arith, end, behind, at)
+
+-- and so does the roll of a reclaim
+pub base-past : (tells : Bool) (old : LogStoreValue) (m : Machine Value) → Stands tells old m → BaseIsPast tells old
+base-past tells old m stands = record {
+  ends = λ told. (stands.runs told).ends;
+  reaches = stands.store.marks.reclaim;
+  place = stands.place.1;
+}
 
 -- a query keeps it for the state that stood, and so for each later one
 asked : (tells : Bool) (old new : LogStoreValue) (m after : Machine Value) → IsLater m after → IsStoreOf tells new after
@@ -119,7 +134,8 @@ call-keeps tells old new m after events stands call run is = by-call call
     by-call (OfPump answer sound pumps) = leaving (pump-leaves tells old new answer pumps)
     by-call (OfFloor scope floor answer starts) = leaving (floor-leaves tells old new scope floor answer starts)
     by-call (OfArchive upto answer starts) = leaving (archive-leaves tells old new upto answer starts)
-    by-call (OfJob answer sound pumps) = moving (job-moves tells old new answer (run-past tells old m stands) pumps)
+    by-call (OfReclaim answer starts) = leaving (reclaim-leaves tells old new answer starts)
+    by-call (OfJob answer sound pumps) = moving (job-moves tells old new answer (run-past tells old m stands) (base-past tells old m stands) pumps)
     by-call (OfAt view key time answer says) =
         asked tells old new m after later is (query-stands tells old new m view time _ _ _ _ answer stands says)
     by-call (OfScanAt view relation time answer says) =
@@ -180,6 +196,7 @@ module _ (tells : Bool) (old new : LogStoreValue) (m : Machine Value) (told : Is
   by-call (OfFloor scope floor answer starts) =
       started-on (raising_to scope floor) answer (floor-starts tells old new scope floor answer m stands.store starts)
   by-call (OfArchive upto answer starts) = stays (archive-starts tells old new upto answer m step stands.store starts)
+  by-call (OfReclaim answer starts) = stays (reclaim-starts tells old new answer m step stands.store starts)
   by-call (OfJob answer sound pumps) =
       let runs = job-stands tells old new answer m step sound stands.store pumps in through (job_events_in m answer) runs.after runs.run runs.stands
   by-call (OfAt view key time answer says) = queried (query-stands tells old new m view time _ _ _ _ answer stands says)

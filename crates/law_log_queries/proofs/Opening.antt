@@ -35,16 +35,17 @@ use Rattle.log_recovery.specs.Read.{IsHeapRead}
 use Rattle.law_log_opening.proofs.Named.{alike-from, alike-none, mark-same}
 use Rattle.law_refinement.specs.Homes.{AreArchived}
 use Rattle.law_refinement.proofs.Growing.{front-map}
-use Rattle.log_store.specs.Values.{LogStoreValue, IsInStep}
+use Rattle.log_store.specs.Values.{LogStoreValue, ReclaimValue, IsInStep}
 use Rattle.log_store.specs.Opens.{Opens, AreEntriesFrom}
 use Rattle.log_store.specs.declared.job.Job.{Job}
-use Rattle.law_log_store.specs.Standing.{IsImageOf, IsNamedBy}
+use Rattle.law_log_store.specs.Named.{IsNamedBy}
+use Rattle.law_log_store.specs.Standing.{IsImageOf}
 use Rattle.law_log_store.proofs.Opening.{read as read-is, same as same-log, named as opened-named}
 use Rattle.law_log_store.proofs.Spans.{stored-ends}
 use Rattle.law_log_steps.specs.Store.{IsStoreOf}
 use Rattle.law_log_steps.proofs.Fronts.{leaves-fronts}
 use Rattle.law_log_steps.proofs.Opening.{is-opened}
-use Rattle.law_log_queries.specs.Archive.{JobHasPlace, RunsStand, Stands, end_of}
+use Rattle.law_log_queries.specs.Archive.{JobHasPlace, ReclaimHasPlace, RunsStand, Stands, end_of}
 use Rattle.law_log_queries.proofs.Runs.{entries-within, runs-hold, mark-is}
 
 module _ (tells : Bool) (old : DiskState) (mark : ℕ) (v : LogStoreValue) (roots : Roots) (h : History Value) (floors : ℕ → ℕ) (tells_so : IsTrue tells)
@@ -64,7 +65,7 @@ module _ (tells : Bool) (old : DiskState) (mark : ℕ) (v : LogStoreValue) (root
   abbrev entries : List Run
   entries = map (λ (s : StoredRun). s.entry) l.runs
 
-  abbrev read : IsHeapRead roots.extents (root_of roots) (image_of old.areas).heap r.heap
+  abbrev read : IsHeapRead roots.extents (root_of image.read) (image_of old.areas).heap r.heap
   read = read-is tells old mark v roots h floors tells_so are_sound image opens
 
   chains-same : read.chains ≡ l.chains
@@ -145,7 +146,10 @@ module _ (tells : Bool) (old : DiskState) (mark : ℕ) (v : LogStoreValue) (root
   pub opened-stands : Stands tells v (opened_by 1024 h floors)
   opened-stands = record {
     store = is-opened tells old mark v roots h floors tells_so are_sound image opens;
-    place = subst (λ (j : Option Job). JobHasPlace v.named v.archive.runs v.archive.next j) (sym (ap (λ (x : LogStoreValue). x.job) opens.new_is)) tt;
+    place = (
+      subst (λ (j : Option Job). JobHasPlace v.named v.archive.runs v.archive.next j) (sym (ap (λ (x : LogStoreValue). x.job) opens.new_is)) tt,
+      subst (λ (x : Option ReclaimValue). ReclaimHasPlace v.job v.named.end x) (sym (ap (λ (x : LogStoreValue). x.reclaim) opens.new_is)) tt,
+    );
     runs = λ told. runs-stand;
   }
 

@@ -13,12 +13,15 @@ use Rattle.timequery.specs.View.{ViewValue, mark_of}
 use Rattle.floors.specs.Floors.{no_floors}
 use Rattle.log_entries.specs.declared.entry.Archive.{Archive}
 use Rattle.log_entries.specs.Ranges.{run_of}
+use Rattle.log_base.specs.Rolls.{InRoll}
 use Rattle.log_store.specs.Named.{NamedValue}
-use Rattle.log_store.specs.Values.{LogStoreValue}
+use Rattle.log_store.specs.Values.{LogStoreValue, ReclaimValue}
 use Rattle.log_store.specs.declared.job.Job.{Job}
 use Rattle.log_store.specs.declared.job.JobWork.{JobWork}
 use Rattle.log_store.specs.declared.job.JobWork.TheVariants.{Floor}
 use Rattle.log_store.specs.declared.job.JobWork.TheVariants as works
+use Rattle.log_store.specs.declared.reclaim.ReclaimStage.{ReclaimStage}
+use Rattle.log_store.specs.declared.reclaim.ReclaimStage.TheVariants.{Writing, Rolling, Turning}
 use Rattle.law_refinement.specs.Homes.{AreArchived, KeepsUpTo}
 use Rattle.law_log_steps.specs.Store.{IsStoreOf}
 
@@ -46,8 +49,29 @@ abbrev pub JobHasPlace : NamedValue → List RunEntry → List RunEntry → Opti
 JobHasPlace named runs next None = Unit {0}
 JobHasPlace named runs next (Some job) = HasPlace named runs next job.work
 
+-- the roll of a reclaim that waits, and the one in the writing, go behind a place
+abbrev pub WaitsBehind : ℕ → Option InRoll → Type 0
+WaitsBehind end None = Unit {0}
+WaitsBehind end (Some roll) = end ≤ roll.at
+
+abbrev pub GoesBehind : ℕ → ReclaimStage → Type 0
+GoesBehind end (Writing anchors base) = Unit {0}
+GoesBehind end (Rolling roll) = end ≤ roll.at
+GoesBehind end (Turning t) = Unit {0}
+
+-- A reclaim runs beside no job. Its roll goes behind all that the log has named, and what the log then names ends no earlier.
+pub record BaseHasPlace (job : Option Job) (end : ℕ) (r : ReclaimValue) : Type 0 where
+  pub alone : job ≡ None
+  pub waits : WaitsBehind end r.roll
+  pub goes : GoesBehind end r.stage
+  pub named : end ≤ r.named.end
+
+abbrev pub ReclaimHasPlace : Option Job → ℕ → Option ReclaimValue → Type 0
+ReclaimHasPlace job end None = Unit {0}
+ReclaimHasPlace job end (Some r) = BaseHasPlace job end r
+
 abbrev pub IsPlaced : LogStoreValue → Type 0
-IsPlaced v = JobHasPlace v.named v.archive.runs v.archive.next v.job
+IsPlaced v = JobHasPlace v.named v.archive.runs v.archive.next v.job × ReclaimHasPlace v.job v.named.end v.reclaim
 
 -- The archive's bytes hold the runs of the store, and those have what the history says. What the reader keeps of them is right.
 pub record RunsStand (v : LogStoreValue) (h : History Value) (floors : ℕ → ℕ) : Type 0 where

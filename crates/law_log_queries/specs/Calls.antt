@@ -20,6 +20,7 @@ use Rattle.log_store.specs.Calls.{Begins, Aborts, Redeems}
 use Rattle.log_store.specs.Submits.{Submits}
 use Rattle.log_store.specs.Pumps.{Pumps}
 use Rattle.log_store.specs.Archives.{StartsArchive}
+use Rattle.log_store.specs.Reclaims.{StartsReclaim}
 use Rattle.log_store.specs.Jobs.{StartsFloor, PumpsJob}
 use Rattle.log_store.specs.declared.job.JobDid.{JobDid}
 use Rattle.log_store.specs.declared.job.StartFault.{StartFault}
@@ -36,6 +37,7 @@ pub data IsCall (tells : Bool) (old new : LogStoreValue) : Type 0 where
   OfPump : (answer : Result Did PumpFault) → (IsTrue tells → AreSound new.disk.areas) → Pumps tells old answer new → IsCall tells old new
   OfFloor : (scope : Option ℕ) (floor : ℕ) (answer : Result (Unit {0}) StartFault) → StartsFloor old scope floor answer new → IsCall tells old new
   OfArchive : (upto : ℕ) (answer : Result (Unit {0}) StartFault) → StartsArchive old upto answer new → IsCall tells old new
+  OfReclaim : (answer : Result (Unit {0}) StartFault) → StartsReclaim old answer new → IsCall tells old new
   OfJob : (answer : Result JobDid PumpFault) → (IsTrue tells → AreSound new.disk.areas) → PumpsJob tells old answer new → IsCall tells old new
   OfAt : (view : ViewValue) (key : Key) (time : ℕ) (answer : Result (Option Value) QueryFault) → AnswersAtView tells old view key time answer new
       → IsCall tells old new

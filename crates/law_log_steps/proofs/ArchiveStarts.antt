@@ -1,6 +1,6 @@
 -- The beginning of an archive changes nothing of the machine's.
 use Rattle.std.proofs.Common.{◌≡◌, ℕ, ◌+◌, ◌-◌, ◌/◌, ◌<◌, ◌≤◌, max, nat_le, nat_lt, Bool, true, false, cond, List, [], ◌∷◌, ◌++◌, length}
-use Rattle.std.proofs.Common.{Option, None, Some, is_some, Result, Ok, Err, refl, arith, ap, sym, subst, ◌∙◌, inl, inr, append-nil}
+use Rattle.std.proofs.Common.{Option, None, Some, Result, Ok, Err, refl, arith, ap, sym, subst, ◌∙◌, inl, inr, append-nil}
 use Rattle.std.specs.Prelude.{IsTrue, MatchBool, MatchOption, filter}
 use Rattle.std.proofs.lemmas.Bool.Decides.{nat_tests}
 use Rattle.history.specs.declared.key.Key.{Key}
@@ -21,7 +21,7 @@ use Rattle.log_writer.specs.Writer.{WriterState}
 use Rattle.log_room.specs.Bases.{has_base_room}
 use Rattle.log_room.specs.Rooms.{has_entry_room, has_last_room}
 use Rattle.commits.specs.Values.{last, last_assigned}
-use Rattle.log_store.specs.Values.{LogStoreValue, IsInStep}
+use Rattle.log_store.specs.Values.{LogStoreValue, IsInStep, is_busy}
 use Rattle.log_store.specs.Archives.{has_archive_room, archive_refusal, records_to, run_to, with_archive, BeginsArchive, BeginsRun, StartsArchive}
 use Rattle.log_store.specs.Jobs.{base_parts}
 use Rattle.log_store.specs.declared.job.Job.{Job}
@@ -39,24 +39,25 @@ use Rattle.law_log_store.proofs.ArchiveBegins.{archive-begins}
 use Rattle.law_log_store.proofs.Jobs.{is-upto}
 use Rattle.law_log_store.proofs.Plans.{after-higher}
 use Rattle.law_log_steps.specs.Store.{gate_of, raising_of, IsStoreOf}
-use Rattle.law_log_steps.proofs.FloorStarts.{first-is, none-there}
+use Rattle.law_log_steps.proofs.FloorStarts.{first-is, none-runs}
 use Rattle.law_log_steps.proofs.InStep.{archive-in-step}
 
 -- ---- the tests in their order
 
 -- what holds where none fails
-record MayArchive (v : LogStoreValue) (upto : ℕ) : Type 0 where
-  works : v.commits.failed ≡ false
-  free : v.job ≡ None
-  later : v.named.upto < upto
-  by_last : upto ≤ last v.commits
-  room : IsTrue (has_archive_room v upto)
+pub record MayArchive (v : LogStoreValue) (upto : ℕ) : Type 0 where
+  pub works : v.commits.failed ≡ false
+  pub free : v.job ≡ None
+  pub unmade : v.reclaim ≡ None
+  pub later : v.named.upto < upto
+  pub by_last : upto ≤ last v.commits
+  pub room : IsTrue (has_archive_room v upto)
 
-may-archive : (v : LogStoreValue) (upto : ℕ) → archive_refusal v upto ≡ None → MayArchive v upto
+pub may-archive : (v : LogStoreValue) (upto : ℕ) → archive_refusal v upto ≡ None → MayArchive v upto
 may-archive v upto none =
-    by-tests v.commits.failed refl (is_some v.job) refl (nat_le upto v.named.upto) refl (nat_lt (last v.commits) upto) refl (has_archive_room v upto) refl none
+    by-tests v.commits.failed refl (is_busy v) refl (nat_le upto v.named.upto) refl (nat_lt (last v.commits) upto) refl (has_archive_room v upto) refl none
   where
-    by-tests : (a : Bool) → v.commits.failed ≡ a → (b : Bool) → is_some v.job ≡ b → (c : Bool) → nat_le upto v.named.upto ≡ c → (d : Bool)
+    by-tests : (a : Bool) → v.commits.failed ≡ a → (b : Bool) → is_busy v ≡ b → (c : Bool) → nat_le upto v.named.upto ≡ c → (d : Bool)
         → nat_lt (last v.commits) upto ≡ d → (e : Bool) → has_archive_room v upto ≡ e
         → Path (Option StartFault)
         (cond a (Some start.Failed)
@@ -67,13 +68,16 @@ may-archive v upto none =
     by-tests false a false c true e f g h i is = absurd cc
     by-tests false a false c false e true g h i is = absurd cc
     by-tests false a false c false e false g false i is = absurd cc
-    by-tests false a false c false e false g true i is = record {
-      works = a;
-      free = none-there v.job c;
-      later = grind (arith, nat_tests);
-      by_last = grind (arith, nat_tests);
-      room = i;
-    }
+    by-tests false a false c false e false g true i is =
+        let idle = none-runs v c in
+        record {
+          works = a;
+          free = idle.0;
+          unmade = idle.1;
+          later = grind (arith, nat_tests);
+          by_last = grind (arith, nat_tests);
+          room = i;
+        }
 
 -- the log's half has an extent for its entry
 room-is : (v : LogStoreValue) (upto : ℕ) → IsTrue (has_archive_room v upto)
@@ -91,7 +95,7 @@ half-fits v upto room = by-last (nat_lt upto (last_assigned v.commits)) (room-is
 -- ---- what it needs of memory
 
 module _ (tells : Bool) (v : LogStoreValue) (m : Machine Value) (is : IsStoreOf tells v m) where
-  in-memory : AreInMemory v.commits.versions
+  pub in-memory : AreInMemory v.commits.versions
   in-memory = record {
     ordered = is.memory.versions.ordered;
     rising = all-rising v.commits.versions
@@ -171,11 +175,18 @@ module _ (tells : Bool) (v : LogStoreValue) (m : Machine Value) (is : IsStoreOf 
         left = λ fails. absurd (let no : false ≡ true = sym may.works ∙ is.memory.failed ∙ fails in cc);
       };
       fresh = is.fresh;
-      marks = record { reclaimed = is.marks.reclaimed; job = (let later = may.later in omega (arith, later)) };
+      marks = record {
+        reclaimed = is.marks.reclaimed;
+        base = is.marks.base;
+        job = (let later = may.later in omega (arith, later));
+        reclaim = is.marks.reclaim;
+      };
+      ends = is.ends;
       disk = λ told. subst (λ (b : Bool). MatchBool b (StopsOnHeap begun m.published m.queue m.floors) (StandsOnHeap begun m.published m.queue m.floors))
           (sym may.works)
           (subst (λ (x : LogStoreValue). StandsOnHeap x m.published m.queue m.floors) b.new_is
-          (archive-begins v upto m.published m.queue m.floors step may.free (room-for upto may.by_last may.room) may.later by_last-here in_range holds
+          (archive-begins v upto m.published m.queue m.floors step may.free may.unmade (room-for upto may.by_last may.room) may.later by_last-here in_range
+          holds
           (subst (λ (b : Bool). MatchBool b (StopsOnHeap v m.published m.queue m.floors) (StandsOnHeap v m.published m.queue m.floors)) may.works
           (is.disk told)) new b));
     })
@@ -204,7 +215,8 @@ archive-starts-in-step old new upto answer is starts = by-refusal (archive_refus
     by-answer none (Ok done) so =
         let may = may-archive old upto none in
         subst IsInStep (sym (so.3).new_is)
-        (archive-in-step old (run_to old upto) (unwritten old.named.end (records_to old upto)) (so.3).entry may.free (half-fits old upto may.room) so.1 is)
+        (archive-in-step old (run_to old upto) (unwritten old.named.end (records_to old upto)) (so.3).entry may.free may.unmade
+        (half-fits old upto may.room) so.1 is)
     by-answer none (Err why) so = subst IsInStep (sym so.1) is
 
     by-refusal : (o : Option StartFault) → archive_refusal old upto ≡ o

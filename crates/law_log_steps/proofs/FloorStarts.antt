@@ -21,7 +21,7 @@ use Rattle.log_room.specs.Bases as bases
 use Rattle.commits.specs.Values.{last}
 use Rattle.commits.specs.Calls.{oldest}
 use Rattle.store.specs.Reclaims.{below}
-use Rattle.log_store.specs.Values.{LogStoreValue, IsInStep}
+use Rattle.log_store.specs.Values.{LogStoreValue, IsInStep, is_busy}
 use Rattle.log_store.specs.Jobs.{with_floor, StartsFloor, BeginsFloor, floor_refusal, refusal_for_use, has_floor_room, base_parts}
 use Rattle.log_store.specs.declared.job.Job.{Job}
 use Rattle.log_store.specs.declared.job.StartFault.{StartFault}
@@ -42,7 +42,7 @@ use Rattle.law_log_steps.proofs.Jobs.{making-memory}
 
 record Tests (v : LogStoreValue) (relation floor : ℕ) (a b c d : Bool) : Type 0 where
   failed : v.commits.failed ≡ a
-  busy : is_some v.job ≡ b
+  busy : is_busy v ≡ b
   low : nat_le floor (floor_at v.commits.floors relation) ≡ c
   high : nat_lt (last v.commits) floor ≡ d
 
@@ -53,18 +53,29 @@ Refusal v relation floor a b c d =
     (cond c (Some start.NothingToDo)
     (cond d (Some (start.NotYet (last v.commits))) (refusal_for_use (oldest v.commits) floor (has_floor_room v relation)))))
 
-pub none-there : (o : Option Job) → is_some o ≡ false → o ≡ None
+none-there : {T : Type 0} (o : Option T) → is_some o ≡ false → o ≡ None
 none-there None none = refl
-none-there (Some job) some = absurd (let no : true ≡ false = some in cc)
+none-there (Some x) some = absurd (let no : true ≡ false = some in cc)
+
+pub neither : (a b : Bool) → (a || b) ≡ false → (a ≡ false) × (b ≡ false)
+neither true b both = absurd (let no : true ≡ false = both in cc)
+neither false b both = (refl, both)
+
+-- neither a job runs nor a reclaim
+pub none-runs : (v : LogStoreValue) → is_busy v ≡ false → (v.job ≡ None) × (v.reclaim ≡ None)
+none-runs v idle =
+    let both = neither (is_some v.job) (is_some v.reclaim) idle in
+    (none-there v.job both.0, none-there v.reclaim both.1)
 
 -- what holds where none fails
-record MayBegin (v : LogStoreValue) (relation floor : ℕ) : Type 0 where
-  works : v.commits.failed ≡ false
-  free : v.job ≡ None
-  rises : floor_at v.commits.floors relation < floor
-  by_last : floor ≤ last v.commits
-  unused : below (oldest v.commits) floor ≡ None
-  room : IsTrue (has_entry_room v.room)
+pub record MayBegin (v : LogStoreValue) (relation floor : ℕ) : Type 0 where
+  pub works : v.commits.failed ≡ false
+  pub free : v.job ≡ None
+  pub unmade : v.reclaim ≡ None
+  pub rises : floor_at v.commits.floors relation < floor
+  pub by_last : floor ≤ last v.commits
+  pub unused : below (oldest v.commits) floor ≡ None
+  pub room : IsTrue (has_entry_room v.room)
 
 room-left : (b : Bool) → Path (Option StartFault) (cond b None (Some start.HeapFull)) None → IsTrue b
 room-left true is = refl
@@ -88,9 +99,9 @@ entry-room : (v : LogStoreValue) (relation : ℕ) → IsTrue (has_floor_room v r
 entry-room v relation room =
     first-is (has_entry_room v.room) (nat_lt 0 (floor_at v.commits.floors relation) || bases.has_floor_room v.room (base_parts v)) room
 
-may-begin : (v : LogStoreValue) (relation floor : ℕ) → floor_refusal v (Some relation) floor ≡ None → MayBegin v relation floor
+pub may-begin : (v : LogStoreValue) (relation floor : ℕ) → floor_refusal v (Some relation) floor ≡ None → MayBegin v relation floor
 may-begin v relation floor none =
-    by-tests v.commits.failed (is_some v.job) (nat_le floor (floor_at v.commits.floors relation)) (nat_lt (last v.commits) floor)
+    by-tests v.commits.failed (is_busy v) (nat_le floor (floor_at v.commits.floors relation)) (nat_lt (last v.commits) floor)
     (record { failed = refl; busy = refl; low = refl; high = refl }) none
   where
     by-tests : (a b c d : Bool) → Tests v relation floor a b c d → Path (Option StartFault) (Refusal v relation floor a b c d) None → MayBegin v relation floor
@@ -102,9 +113,11 @@ may-begin v relation floor none =
         let unused = unused-is (oldest v.commits) floor (has_floor_room v relation) is in
         let low = tests.low in
         let high = tests.high in
+        let idle = none-runs v tests.busy in
         record {
           works = tests.failed;
-          free = none-there v.job tests.busy;
+          free = idle.0;
+          unmade = idle.1;
           rises = grind (arith, nat_tests);
           by_last = grind (arith, nat_tests);
           unused = unused.0;
@@ -124,7 +137,7 @@ module _ (tells : Bool) (v : LogStoreValue) (m : Machine Value) (is : IsStoreOf 
 
   refuses : (why : StartFault) → floor_refusal v (Some relation) floor ≡ Some why → StartsOn tells m r (Err why) v
   refuses why some =
-      by-tests v.commits.failed (is_some v.job) (nat_le floor (floor_at v.commits.floors relation)) (nat_lt (last v.commits) floor)
+      by-tests v.commits.failed (is_busy v) (nat_le floor (floor_at v.commits.floors relation)) (nat_lt (last v.commits) floor)
       (record { failed = refl; busy = refl; low = refl; high = refl }) some
     where
       given : (said : StartFault) → StartsOn tells m r (Err said) v → Path (Option StartFault) (Some said) (Some why) → StartsOn tells m r (Err why) v
@@ -223,10 +236,11 @@ module _ (tells : Bool) (v : LogStoreValue) (m : Machine Value) (is : IsStoreOf 
           left = λ fails. absurd (let no : false ≡ true = sym works ∙ fails in cc);
         };
         fresh = is.fresh;
-        marks = record { reclaimed = is.marks.reclaimed; job = tt };
+        marks = record { reclaimed = is.marks.reclaimed; base = is.marks.base; job = tt; reclaim = is.marks.reclaim };
+        ends = is.ends;
         disk = λ told. subst (λ (b : Bool). MatchBool b (StopsOnHeap (with_floor v relation floor) m.published m.queue m.floors)
             (StandsOnHeap (with_floor v relation floor) m.published m.queue m.floors)) (sym may.works)
-            (floor-begins v relation floor m.published m.queue m.floors may.free may.room above upto range
+            (floor-begins v relation floor m.published m.queue m.floors may.free may.unmade may.room above upto range
             (subst (λ (b : Bool). MatchBool b (StopsOnHeap v m.published m.queue m.floors) (StandsOnHeap v m.published m.queue m.floors)) may.works
             (is.disk told)));
       }
@@ -242,7 +256,7 @@ starts-in-step old new scope floor answer is starts = by-refusal (floor_refusal 
     begun None a none begins = absurd begins
     begun (Some relation) (Ok done) none begins =
         let may = may-begin old relation floor none in
-        subst IsInStep (sym begins.1) (floor-in-step old relation floor may.free may.room is)
+        subst IsInStep (sym begins.1) (floor-in-step old relation floor may.free may.unmade may.room is)
     begun (Some relation) (Err why) none begins = subst IsInStep (sym begins.1) is
 
     by-refusal : (o : Option StartFault) → floor_refusal old scope floor ≡ o

@@ -17,14 +17,25 @@ use Rattle.law_image.specs.Values.{Value, IsValue}
 use Rattle.archive.specs.Pieces.{InWriting}
 use Rattle.group.specs.declared.answers.PumpFault.{PumpFault}
 use Rattle.group.specs.declared.answers.PumpFault.TheVariants as pump
+use Rattle.log_base.specs.Rolls.{InRoll}
 use Rattle.log_entries.specs.declared.entry.Archive.{Archive}
+use Rattle.log_entries.specs.declared.entry.Base.{Base}
 use Rattle.log_entries.specs.declared.entry.RelationFloor.{RelationFloor}
 use Rattle.log_entries.specs.Spelling.{entry_bytes}
-use Rattle.log_writer.specs.Turns.{Stage, Writing, Syncing, Opening, Settling, Done, stage_after, chain_turn}
+use Rattle.log_roots.specs.Turning.{RootTurnState}
+use Rattle.log_roots.specs.Turning as turning
+use Rattle.log_writer.specs.Turns.{Part, Stage, Writing, Syncing, Opening, Settling, Done, stage_after, chain_turn}
+use Rattle.log_writer.specs.Whole.{WholeState}
 use Rattle.log_writer.specs.Writer.{WriterState, IsOnItsWay, with_stage}
 use Rattle.log_writer.specs.Writer as writers
 use Rattle.commits.specs.Values.{CommitsValue, with_floors}
-use Rattle.log_store.specs.Values.{LogStoreValue, IsInStep, IsBeside, IsStageBeside}
+use Rattle.log_recovery.specs.Live.{part_of}
+use Rattle.log_store.specs.Gates.{waits_at}
+use Rattle.log_store.specs.Live.{is_base, with_live}
+use Rattle.log_store.specs.Named.{NamedValue}
+use Rattle.log_store.specs.Reclaiming.{AdvancesReclaim, StepsReclaim, at_turn, begins_roll, behind, behind_extents, behind_roll, behind_turn, with_base}
+use Rattle.log_store.specs.Reclaiming.{with_reclaim_as}
+use Rattle.log_store.specs.Values.{LogStoreValue, ReclaimValue, IsInStep, IsBeside, IsReclaimBeside, IsStageBeside}
 use Rattle.log_store.specs.Pumps.{with_failure}
 use Rattle.log_store.specs.Jobs.{PumpsJob, StepsJob, StepsAt, StepsReady, AdvancesEntry, Advances, BeginsEntry, at_stage, with_entry}
 use Rattle.log_store.specs.Jobs.{after_call}
@@ -39,6 +50,9 @@ use Rattle.log_store.specs.declared.job.JobStage.TheVariants as stages
 use Rattle.log_store.specs.declared.job.JobWork.{JobWork}
 use Rattle.log_store.specs.declared.job.JobWork.TheVariants.{Floor}
 use Rattle.log_store.specs.declared.job.JobWork.TheVariants as kinds
+use Rattle.log_store.specs.declared.reclaim.ReclaimStage.{ReclaimStage}
+use Rattle.log_store.specs.declared.reclaim.ReclaimStage.TheVariants.{Rolling, Turning}
+use Rattle.log_store.specs.declared.reclaim.ReclaimStage.TheVariants as reclaims
 use Rattle.law_refinement.specs.Laws.{job_breaks_in}
 use Rattle.law_commits.specs.Standing.{StandsInMemory}
 use Rattle.law_commits.proofs.Beside.{raises}
@@ -46,9 +60,12 @@ use Rattle.law_log_store.specs.Standing.{StandsOnHeap, StopsBy, StopsOnHeap}
 use Rattle.law_log_store.specs.Calls.{JobStepsTo, floors_by, floors_after}
 use Rattle.law_log_store.proofs.Archiving.{run-breaks}
 use Rattle.law_log_store.proofs.Jobs.{job-steps}
+use Rattle.law_log_store.proofs.Reclaimed.{reclaim-breaks}
 use Rattle.law_log_steps.specs.Store.{AreFresh, gate_at, gate_for, gate_on, gate_of, gate_behind, gate_left, raising_with, raising_of, HasMade}
-use Rattle.law_log_steps.specs.Store.{HasAllMade, Reaches, JobReaches, HasMarks, IsLeft, IsStoreOf}
+use Rattle.law_log_steps.specs.Store.{HasAllMade, Reaches, JobReaches, BaseReaches, ReclaimReaches, HasMarks, EndsInHeap, IsLeft, IsStoreOf}
 use Rattle.law_log_steps.specs.Laws.{floor_events, floor_ends, job_events_in, Runs}
+use Rattle.law_log_steps.proofs.InStep.{job-holds}
+use Rattle.law_log_steps.proofs.Pumping.{mark-more}
 
 -- what memory says of a machine it says of it with another floor in the making and another gate
 pub making-memory : (v : CommitsValue) (m : Machine Value) (raising : Option Raising) (gate : Gate) → StandsInMemory v m
@@ -154,7 +171,7 @@ module _ (tells : Bool) (floor : RelationFloor) (kept : FloorsValue) (w : Writer
         ∙ ap (λ (v : LogStoreValue). gate_of v.turn v.job) (sym is);
     left = λ fails. absurd (let no : false ≡ true = sym works ∙ fails in cc);
     fresh = subst AreFresh (sym (ap (λ (v : LogStoreValue). v.commits) is)) fresh;
-    marks = subst HasMarks (sym is) (record { reclaimed = marks.reclaimed; job = tt });
+    marks = subst HasMarks (sym is) (record { reclaimed = marks.reclaimed; base = marks.base; job = tt; reclaim = marks.reclaim });
   }
 
   -- the entry is the log's
@@ -171,7 +188,7 @@ module _ (tells : Bool) (floor : RelationFloor) (kept : FloorsValue) (w : Writer
     gate = λ still. sym (ap (λ (t : Option WriterState). gate_of t None) at_rest) ∙ ap (λ (v : LogStoreValue). gate_of v.turn v.job) (sym is);
     left = λ fails. absurd (let no : false ≡ true = sym works ∙ fails in cc);
     fresh = subst AreFresh (sym (ap (λ (v : LogStoreValue). v.commits) is)) fresh;
-    marks = subst HasMarks (sym is) (record { reclaimed = marks.reclaimed; job = tt });
+    marks = subst HasMarks (sym is) (record { reclaimed = marks.reclaimed; base = marks.base; job = tt; reclaim = marks.reclaim });
   }
 
   -- the machine after a call
@@ -183,6 +200,12 @@ module _ (tells : Bool) (floor : RelationFloor) (kept : FloorsValue) (w : Writer
   after did.GateClosed = m
   after did.HeapSynced = gated m (Due OfFloor)
   after did.GateWritten = gated m (MayBeOpen OfFloor)
+  after did.WroteExtent = m
+  after did.WroteRoll = m
+  after did.RollSynced = m
+  after did.RootWritten = m
+  after did.RootSynced = m
+  after did.TurnWritten = m
   after did.JobDone = floor_published m r
 
   goes : (what : JobDid) → Advances tells floor-job w old (Ok what) new → Gone tells m (floor_events what r) (after what) new
@@ -222,7 +245,7 @@ module _ (tells : Bool) (floor : RelationFloor) (kept : FloorsValue) (w : Writer
     gate = λ still. absurd (let no : true ≡ false = still in cc);
     left = λ fails. inl (next-is ∙ sym (λ i. gate_left (at_rest i) (is-job i)) ∙ ap (λ (v : LogStoreValue). gate_left v.turn v.job) (sym is));
     fresh = subst AreFresh (sym (ap (λ (v : LogStoreValue). v.commits) is)) fresh;
-    marks = subst HasMarks (sym is) (record { reclaimed = marks.reclaimed; job = marks.job });
+    marks = subst HasMarks (sym is) (record { reclaimed = marks.reclaimed; base = marks.base; job = marks.job; reclaim = marks.reclaim });
   }
 
   abbrev Breaks : Gate → Type 0
@@ -281,6 +304,12 @@ module _ (tells : Bool) (floor : RelationFloor) (kept : FloorsValue) (w : Writer
   went did.GateClosed gone = record { after = after did.GateClosed; gone = gone; published = refl; queue = refl; floors-are = refl; failed = works }
   went did.HeapSynced gone = record { after = after did.HeapSynced; gone = gone; published = refl; queue = refl; floors-are = refl; failed = works }
   went did.GateWritten gone = record { after = after did.GateWritten; gone = gone; published = refl; queue = refl; floors-are = refl; failed = works }
+  went did.WroteExtent gone = record { after = after did.WroteExtent; gone = gone; published = refl; queue = refl; floors-are = refl; failed = works }
+  went did.WroteRoll gone = record { after = after did.WroteRoll; gone = gone; published = refl; queue = refl; floors-are = refl; failed = works }
+  went did.RollSynced gone = record { after = after did.RollSynced; gone = gone; published = refl; queue = refl; floors-are = refl; failed = works }
+  went did.RootWritten gone = record { after = after did.RootWritten; gone = gone; published = refl; queue = refl; floors-are = refl; failed = works }
+  went did.RootSynced gone = record { after = after did.RootSynced; gone = gone; published = refl; queue = refl; floors-are = refl; failed = works }
+  went did.TurnWritten gone = record { after = after did.TurnWritten; gone = gone; published = refl; queue = refl; floors-are = refl; failed = works }
   went did.JobDone gone = record { after = after did.JobDone; gone = gone; published = refl; queue = refl; floors-are = refl; failed = works }
 
   floor-goes : (answer : Result JobDid PumpFault) → Advances tells floor-job w old answer new → Calls tells m new (Floor floor kept) answer
@@ -347,7 +376,7 @@ module _ (tells : Bool) (work : JobWork) (stage : JobStage) (old new : LogStoreV
           gate = λ still. absurd (let no : true ≡ false = still in cc);
           left = λ fails. left;
           fresh = subst (λ (v : LogStoreValue). AreFresh v.commits) (sym is) fresh;
-          marks = subst HasMarks (sym is) (record { reclaimed = marks.reclaimed; job = reaches });
+          marks = subst HasMarks (sym is) (record { reclaimed = marks.reclaimed; base = marks.base; job = reaches; reclaim = marks.reclaim });
         };
         published = refl;
         queue = refl;
@@ -358,7 +387,7 @@ module _ (tells : Bool) (work : JobWork) (stage : JobStage) (old new : LogStoreV
 -- a call of the entry's chain of an archive
 module _ (tells : Bool) (archive : Archive) (archives : List Archive) (w : WriterState) (old new : LogStoreValue) (m : Machine Value) (on : IsOnItsWay w.stage)
     (works : m.failed ≡ false) (at_rest : old.turn ≡ None) (memory : StandsInMemory old.commits m) (fresh : AreFresh old.commits) (marks : HasMarks old)
-    (group : m.group ≡ old.commits.group) (raising : m.raising ≡ None) (gate : m.gate ≡ Shut)
+    (unmade : old.reclaim ≡ None) (group : m.group ≡ old.commits.group) (raising : m.raising ≡ None) (gate : m.gate ≡ Shut)
     (is-job : old.job ≡ Some (record { work = kinds.Archive archive archives; stage = Entering w })) where
   abbrev work-here : JobWork
   work-here = kinds.Archive archive archives
@@ -375,7 +404,7 @@ module _ (tells : Bool) (archive : Archive) (archives : List Archive) (w : Write
       stays tells work-here (Entering w) old new m works memory fresh marks group raising tt is-job (ap (λ (v : LogStoreValue). v.commits) is)
       (ap (λ (v : LogStoreValue). raising_of v.job) is)
       (subst (λ (v : LogStoreValue). HasAllMade v.commits.floors v.job) (sym is) tt)
-      (subst HasMarks (sym is) (record { reclaimed = marks.reclaimed; job = reaches-here }))
+      (subst HasMarks (sym is) (record { reclaimed = marks.reclaimed; base = marks.base; job = reaches-here; reclaim = marks.reclaim }))
       (gate ∙ sym (ap (λ (t : Option WriterState). gate_of t (Some (record entering-job { stage = Entering next }))) at_rest)
       ∙ ap (λ (v : LogStoreValue). gate_of v.turn v.job) (sym is))
 
@@ -385,7 +414,12 @@ module _ (tells : Bool) (archive : Archive) (archives : List Archive) (w : Write
       stays tells work-here (Entering w) old new m works memory fresh marks group raising tt is-job (ap (λ (v : LogStoreValue). v.commits) is)
       (ap (λ (v : LogStoreValue). raising_of v.job) is)
       (subst (λ (v : LogStoreValue). HasAllMade v.commits.floors v.job) (sym is) tt)
-      (subst HasMarks (sym is) (record { reclaimed = (let low = marks.reclaimed in omega (arith, low, reaches-here)); job = tt }))
+      (subst HasMarks (sym is) (record {
+        reclaimed = (let low = marks.reclaimed in omega (arith, low, reaches-here));
+        base = marks.base;
+        job = tt;
+        reclaim = subst (ReclaimReaches archive.upto) (sym unmade) tt;
+      }))
       (gate ∙ sym (ap (λ (t : Option WriterState). gate_of t None) at_rest) ∙ ap (λ (v : LogStoreValue). gate_of v.turn v.job) (sym is))
 
   entry-stays : (k : Stage) → IsOnItsWay k → new ≡ record (after_call old entering-job w k) { disk = new.disk } → Gone tells m [] m new
@@ -403,6 +437,12 @@ module _ (tells : Bool) (archive : Archive) (archives : List Archive) (w : Write
   same-floors did.GateClosed = refl
   same-floors did.HeapSynced = refl
   same-floors did.GateWritten = refl
+  same-floors did.WroteExtent = refl
+  same-floors did.WroteRoll = refl
+  same-floors did.RollSynced = refl
+  same-floors did.RootWritten = refl
+  same-floors did.RootSynced = refl
+  same-floors did.TurnWritten = refl
   same-floors did.JobDone = refl
 
   archive-goes : (answer : Result JobDid PumpFault) → Advances tells entering-job w old answer new → Calls tells m new work-here answer
@@ -452,7 +492,9 @@ module _ (tells : Bool) (work : JobWork) (writer : InWriting) (old new : LogStor
       (subst (λ (v : LogStoreValue). HasAllMade v.commits.floors v.job) (sym is) made)
       (subst HasMarks (sym is) (record {
         reclaimed = marks.reclaimed;
+        base = marks.base;
         job = reaches tells work (stages.Writing writer) old new m works memory fresh marks group raising made is-job;
+        reclaim = marks.reclaim;
       }))
       (quiet-gate k calm ∙ ap (λ (v : LogStoreValue). gate_of v.turn v.job) (sym is))
 
@@ -497,13 +539,80 @@ module _ (tells : Bool) (work : JobWork) (writer : InWriting) (old new : LogStor
       broke None = refl
       broke (Some x) = by-stage x.stage
 
+-- ---- what a call of a reclaim leaves
+
+-- memory forgets nothing, and the group and the job are as far as they were
+record LeavesStore (old new : LogStoreValue) : Type 0 where
+  commits : new.commits ≡ old.commits
+  turn : new.turn ≡ old.turn
+  job : new.job ≡ old.job
+  marks : HasMarks new
+
+module _ (v : LogStoreValue) (r : ReclaimValue) (marks : HasMarks v) (reaches : BaseReaches v.named.upto r) where
+  -- it is further, and makes the same
+  further-leaves : (after : ReclaimValue) → after.base ≡ r.base → after.named ≡ r.named → LeavesStore v (with_reclaim_as v after)
+  further-leaves after base named = record {
+    commits = refl;
+    turn = refl;
+    job = refl;
+    marks = record {
+      reclaimed = marks.reclaimed;
+      base = marks.base;
+      job = marks.job;
+      reclaim = record {
+        base = ap (λ (b : Base). b.upto) base ∙ reaches.base;
+        named = ap (λ (n : NamedValue). n.upto) named ∙ reaches.named;
+      };
+    };
+  }
+
+  -- the base is the log's
+  based-leaves : LeavesStore v (with_base v r)
+  based-leaves = record {
+    commits = refl;
+    turn = refl;
+    job = refl;
+    marks = record {
+      reclaimed = (let low = marks.reclaimed in let same = reaches.named in omega (arith, low, same));
+      base = (let low = marks.reclaimed in let same = reaches.base in omega (arith, low, same));
+      job = subst (λ (n : ℕ). JobReaches n v.job) (sym reaches.named) marks.job;
+      reclaim = tt;
+    };
+  }
+
+  roll-leaves : (roll : Option InRoll) → LeavesStore v (with_reclaim_as v (begins_roll v.roots r roll))
+  roll-leaves None = further-leaves (begins_roll v.roots r None) refl refl
+  roll-leaves (Some roll) = further-leaves (begins_roll v.roots r (Some roll)) refl refl
+
+  extents-leave : (anchors base : WholeState) (xs ys : List Part) → LeavesStore v (with_reclaim_as v (behind_extents v.roots r anchors base xs ys))
+  extents-leave anchors base (x ∷ xs) ys = further-leaves (behind_extents v.roots r anchors base (x ∷ xs) ys) refl refl
+  extents-leave anchors base [] (y ∷ ys) = further-leaves (behind_extents v.roots r anchors base [] (y ∷ ys)) refl refl
+  extents-leave anchors base [] [] = roll-leaves r.roll
+
+  pieces-leave : (roll : InRoll) (bs : List ℕ) → LeavesStore v (with_reclaim_as v (behind_roll v.roots r roll bs))
+  pieces-leave roll [] = further-leaves (behind_roll v.roots r roll []) refl refl
+  pieces-leave roll (b ∷ bs) = further-leaves (behind_roll v.roots r roll (b ∷ bs)) refl refl
+
+  turn-leaves : (t : RootTurnState) (k : turning.Stage) → LeavesStore v (behind_turn v r t k)
+  turn-leaves t turning.Writing = further-leaves (at_turn r t turning.Syncing) refl refl
+  turn-leaves t turning.Syncing = further-leaves (at_turn r t turning.Turning) refl refl
+  turn-leaves t turning.Turning = further-leaves (at_turn r t turning.Settling) refl refl
+  turn-leaves t turning.Settling = based-leaves
+  turn-leaves t turning.Done = record { commits = refl; turn = refl; job = refl; marks = marks }
+
+  behind-leaves : (k : ReclaimStage) → LeavesStore v (behind v r k)
+  behind-leaves (reclaims.Writing anchors base) = extents-leave anchors base anchors.left base.left
+  behind-leaves (Rolling roll) = pieces-leave roll roll.left
+  behind-leaves (Turning t) = turn-leaves t t.stage
+
 -- ---- a step of a job
 
 -- the store stands for where the machine went
 runs-so : (tells : Bool) (old new : LogStoreValue) (m : Machine Value) (events : List (Event Value)) (floors : ℕ → ℕ) (failed : Bool)
     → IsStoreOf tells old m → Went tells m events floors failed new
-    → (IsTrue tells → MatchBool failed (StopsOnHeap new m.published m.queue floors) (StandsOnHeap new m.published m.queue floors)) → Runs tells m events new
-runs-so tells old new m events floors failed is went disk = record {
+    → (IsTrue tells → MatchBool failed (StopsOnHeap new m.published m.queue floors) (StandsOnHeap new m.published m.queue floors)) → EndsInHeap new
+    → Runs tells m events new
+runs-so tells old new m events floors failed is went disk ends = record {
   after = went.after;
   run = went.gone.run;
   stands = record {
@@ -519,6 +628,7 @@ runs-so tells old new m events floors failed is went disk = record {
     };
     fresh = went.gone.fresh;
     marks = went.gone.marks;
+    ends = ends;
     disk = λ told. subst (λ (b : Bool). OnDiskAs b went.after.published went.after.queue went.after.floors)
         (sym (went.gone.memory.failed ∙ went.failed))
         (subst (λ (h : History Value). OnDiskAs failed h went.after.queue went.after.floors) (sym went.published)
@@ -541,11 +651,18 @@ module _ (tells : Bool) (old new : LogStoreValue) (answer : Result JobDid PumpFa
     works-here : m.failed ≡ false
     works-here = sym is.memory.failed ∙ works
 
+    ends-on : EndsInHeap new
+    ends-on = (job-holds tells old new answer (step, is.ends) pumps).1
+
     steps-to : IsTrue tells → JobStepsTo answer old new m.published m.queue m.floors
     steps-to told =
         job-steps tells old new answer m.published m.queue m.floors told works step
         (subst (λ (b : Bool). MatchBool b (StopsOnHeap old m.published m.queue m.floors) (StandsOnHeap old m.published m.queue m.floors)) works
         (is.disk told)) pumps (sound told)
+
+    stands-here : IsTrue tells → StandsOnHeap old m.published m.queue m.floors
+    stands-here told =
+        subst (λ (b : Bool). MatchBool b (StopsOnHeap old m.published m.queue m.floors) (StandsOnHeap old m.published m.queue m.floors)) works (is.disk told)
 
     same : new ≡ old → Runs tells m [] new
     same new-is = record { after = m; run = refl; stands = subst (λ (v : LogStoreValue). IsStoreOf tells v m) (sym new-is) is }
@@ -555,12 +672,12 @@ module _ (tells : Bool) (old new : LogStoreValue) (answer : Result JobDid PumpFa
     called job is-job (Ok what) calls steps-to =
         subst (λ (o : Option Raising). Runs tells m (floor_ends what o) new) (sym (is.writing.raising ∙ ap raising_of is-job))
         (runs-so tells old new m (floor_ends what (raising_with job.work)) (floors_by job.work what m.floors) false is calls
-        (λ told. subst (λ (j : Option Job). StandsOnHeap new m.published m.queue (floors_after j what m.floors)) is-job (steps-to told)))
+        (λ told. subst (λ (j : Option Job). StandsOnHeap new m.published m.queue (floors_after j what m.floors)) is-job (steps-to told)) ends-on)
     called job is-job (Err why) calls steps-to =
         subst (λ (f : PumpFault). Runs tells m (job_events_in m (Err f)) new) (sym calls.0)
         (subst (λ (es : List (Event Value)). Runs tells m es new) (ap (λ (b : Bool). cond b [] (job_breaks_in m.gate)) (sym works-here))
         (runs-so tells old new m (job_breaks_in m.gate) m.floors true is calls.1
-        (λ told. (subst (λ (f : PumpFault). JobStepsTo (Err f) old new m.published m.queue m.floors) calls.0 (steps-to told)).stops)))
+        (λ told. (subst (λ (f : PumpFault). JobStepsTo (Err f) old new m.published m.queue m.floors) calls.0 (steps-to told)).stops) ends-on))
 
     raising-is : (job : Job) → old.job ≡ Some job → m.raising ≡ raising_with job.work
     raising-is job is-job = is.writing.raising ∙ ap raising_of is-job
@@ -574,15 +691,24 @@ module _ (tells : Bool) (old new : LogStoreValue) (answer : Result JobDid PumpFa
     marks-are : (job : Job) → old.job ≡ Some job → Reaches old.named.upto job.work
     marks-are job is-job = subst (λ (j : Option Job). JobReaches old.named.upto j) is-job is.marks.job
 
+    -- beside a job no reclaim runs
+    none-made : (job : Job) → old.job ≡ Some job → old.reclaim ≡ None
+    none-made job is-job = by-reclaim old.reclaim step.reclaim
+      where
+        by-reclaim : (o : Option ReclaimValue) → IsReclaimBeside old.job old.live.chains old.room o → o ≡ None
+        by-reclaim None beside = refl
+        by-reclaim (Some r) beside = absurd (let alone : old.job ≡ None = beside.alone in let no : Some job ≡ None = sym is-job ∙ alone in cc)
+
     -- a call of an entry's chain, by the work of its job
     goes-by : (v : LogStoreValue) (work : JobWork) (w : WriterState) → IsOnItsWay w.stage → v.turn ≡ None → StandsInMemory v.commits m → AreFresh v.commits
-        → HasMarks v → m.group ≡ v.commits.group → m.raising ≡ raising_with work → HasMade v.commits.floors work → m.gate ≡ gate_for work w.stage
+        → HasMarks v → v.reclaim ≡ None → m.group ≡ v.commits.group → m.raising ≡ raising_with work → HasMade v.commits.floors work
+        → m.gate ≡ gate_for work w.stage
         → v.job ≡ Some (record { work = work; stage = Entering w }) → Advances tells (record { work = work; stage = Entering w }) w v answer new
         → Calls tells m new work answer
-    goes-by v (Floor floor kept) w on at_rest memory fresh marks group raising made gate is-job advances =
+    goes-by v (Floor floor kept) w on at_rest memory fresh marks unmade group raising made gate is-job advances =
         floor-goes tells floor kept w v new m on works-here at_rest memory fresh marks is.machine group raising made gate is-job answer advances
-    goes-by v (kinds.Archive archive archives) w on at_rest memory fresh marks group raising made gate is-job advances =
-        archive-goes tells archive archives w v new m on works-here at_rest memory fresh marks group raising gate is-job answer advances
+    goes-by v (kinds.Archive archive archives) w on at_rest memory fresh marks unmade group raising made gate is-job advances =
+        archive-goes tells archive archives w v new m on works-here at_rest memory fresh marks unmade group raising gate is-job answer advances
 
     -- an entry begins, and its first call is made
     begun : (job : Job) (waited : Bool) → old.job ≡ Some job → job.stage ≡ Ready waited → old.turn ≡ None → (there : LogStoreValue)
@@ -594,11 +720,25 @@ module _ (tells : Bool) (old new : LogStoreValue) (answer : Result JobDid PumpFa
           content = entry_bytes (entry_of job.work);
           stage = Writing [] (chain_turn b.numbers b.link (entry_bytes (entry_of job.work))).parts;
         } in
-        let target : LogStoreValue = record (at_stage old job (Entering writer)) { room = b.room } in
-        goes-by target job.work writer tt at_rest is.memory is.fresh (record { reclaimed = is.marks.reclaimed; job = marks-are job is-job }) is.writing.group
+        let target : LogStoreValue =
+        record (at_stage old job (Entering writer)) { room = b.room; live = with_live old.live b.numbers (part_of (entry_of job.work)) } in
+        goes-by target job.work writer tt at_rest is.memory is.fresh (record {
+          reclaimed = is.marks.reclaimed;
+          base = (
+              let low = is.marks.base in
+              let same = mark-more old.live.chains (record { numbers = b.numbers; part = part_of (entry_of job.work) }) (no-base job.work) in
+              omega (arith, low, same)
+              );
+          job = marks-are job is-job;
+          reclaim = is.marks.reclaim;
+        }) (none-made job is-job) is.writing.group
         (raising-is job is-job) (made-is job is-job) (gate-is job is-job at_rest ∙ ap (gate_on job.work) e ∙ sym (begun-gate job.work writer.stage refl)) refl
         (subst (λ (x : LogStoreValue). AdvancesEntry tells x.job x answer new) b.new_is advances)
       where
+        no-base : (work : JobWork) → is_base (part_of (entry_of work)) ≡ false
+        no-base (Floor floor kept) = refl
+        no-base (kinds.Archive archive archives) = refl
+
         begun-gate : (work : JobWork) (k : Stage) → gate_at OfFloor k ≡ Shut → gate_for work k ≡ Shut
         begun-gate (Floor floor kept) k shut = shut
         begun-gate (kinds.Archive archive archives) k shut = refl
@@ -625,13 +765,14 @@ module _ (tells : Bool) (old new : LogStoreValue) (answer : Result JobDid PumpFa
                 ∙ ap (λ (v : LogStoreValue). gate_of v.turn v.job) (sym busy.1);
             left = λ fails. absurd (let no : false ≡ true = sym works-here ∙ fails in cc);
             fresh = subst (λ (v : LogStoreValue). AreFresh v.commits) (sym busy.1) is.fresh;
-            marks = subst HasMarks (sym busy.1) (record { reclaimed = is.marks.reclaimed; job = marks-are job is-job });
+            marks = subst HasMarks (sym busy.1)
+                (record { reclaimed = is.marks.reclaimed; base = is.marks.base; job = marks-are job is-job; reclaim = is.marks.reclaim });
           };
           published = refl;
           queue = refl;
           floors-are = refl;
           failed = works-here;
-        }) (λ told. subst (λ (a : Result JobDid PumpFault). JobStepsTo a old new m.published m.queue m.floors) busy.0 (steps-to told)))
+        }) (λ told. subst (λ (a : Result JobDid PumpFault). JobStepsTo a old new m.published m.queue m.floors) busy.0 (steps-to told)) ends-on)
 
     -- what is so of a job is so of it with the stage that it has
     at-stage : (job : Job) (k : JobStage) → job.stage ≡ k → (P : Job → Type 0) → P job → P (record { work = job.work; stage = k })
@@ -658,7 +799,8 @@ module _ (tells : Bool) (old new : LogStoreValue) (answer : Result JobDid PumpFa
     by-stage job is-job (Entering w) e so =
         let beside = subst (λ (k : JobStage). IsStageBeside old.turn k) e (subst (λ (j : Option Job). IsBeside old.turn j) is-job step.beside) in
         called job is-job answer
-        (goes-by old job.work w beside.1 beside.0 is.memory is.fresh is.marks is.writing.group (raising-is job is-job) (made-is job is-job)
+        (goes-by old job.work w beside.1 beside.0 is.memory is.fresh is.marks (none-made job is-job) is.writing.group (raising-is job is-job)
+        (made-is job is-job)
         (gate-is job is-job beside.0 ∙ ap (gate_on job.work) e) (is-job ∙ ap (λ (k : JobStage). Some (record { work = job.work; stage = k })) e)
         (at-stage job (Entering w) e (λ (j : Job). Advances tells j w old answer new) so)) steps-to
 
@@ -668,16 +810,126 @@ module _ (tells : Bool) (old new : LogStoreValue) (answer : Result JobDid PumpFa
         (subst (λ (es : List (Event Value)). Runs tells m es new) (no-idle m.raising) (same so.1))
     by-job (Some job) is-job so = by-stage job is-job job.stage refl so
 
+    -- ---- a step of a reclaim
+
+    alone : (r : ReclaimValue) → old.reclaim ≡ Some r → old.job ≡ None
+    alone r runs = (subst (IsReclaimBeside old.job old.live.chains old.room) runs step.reclaim).alone
+
+    reaches-so : (r : ReclaimValue) → old.reclaim ≡ Some r → BaseReaches old.named.upto r
+    reaches-so r runs = subst (ReclaimReaches old.named.upto) runs is.marks.reclaim
+
+    -- where no job runs the gate is that of the group
+    group-breaks : old.job ≡ None → job_breaks_in m.gate ≡ Broke ∷ []
+    group-breaks none =
+        ap job_breaks_in (is.writing.gate works-here) ∙ ap (λ (j : Option Job). job_breaks_in (gate_of old.turn j)) none ∙ by-group old.turn
+      where
+        by-stage-of : (k : Stage) → job_breaks_in (gate_at OfGroup k) ≡ Broke ∷ []
+        by-stage-of (Writing d rest) = refl
+        by-stage-of Syncing = refl
+        by-stage-of Opening = refl
+        by-stage-of Settling = refl
+        by-stage-of Done = refl
+
+        by-group : (t : Option WriterState) → job_breaks_in (gate_of t None) ≡ Broke ∷ []
+        by-group None = refl
+        by-group (Some w) = by-stage-of w.stage
+
+    reclaim-runs : (r : ReclaimValue) → old.reclaim ≡ Some r → (a : Result JobDid PumpFault) → AdvancesReclaim tells r old a new
+        → (IsTrue tells → JobStepsTo a old new m.published m.queue m.floors) → Runs tells m (job_events_in m a) new
+    reclaim-runs r runs (Ok what) advances stepped =
+        let there = behind-leaves old r is.marks (reaches-so r runs) r.stage in
+        let commits : new.commits ≡ old.commits = ap (λ (v : LogStoreValue). v.commits) advances.answer.1 ∙ there.commits in
+        let turn : new.turn ≡ old.turn = ap (λ (v : LogStoreValue). v.turn) advances.answer.1 ∙ there.turn in
+        let job : new.job ≡ old.job = ap (λ (v : LogStoreValue). v.job) advances.answer.1 ∙ there.job in
+        let none = alone r runs in
+        subst (λ (o : Option Raising). Runs tells m (floor_ends what o) new) (sym (is.writing.raising ∙ ap raising_of none)) (record {
+          after = m;
+          run = refl;
+          stands = record {
+            memory = subst (λ (c : CommitsValue). StandsInMemory c m) (sym commits) is.memory;
+            machine = is.machine;
+            writing = record {
+              most = is.writing.most;
+              group = is.writing.group ∙ ap (λ (c : CommitsValue). c.group) (sym commits);
+              raising = is.writing.raising ∙ ap raising_of (sym job);
+              made = subst (λ (c : CommitsValue). HasAllMade c.floors new.job) (sym commits)
+                  (subst (λ (j : Option Job). HasAllMade old.commits.floors j) (sym job) is.writing.made);
+              gate = λ on. is.writing.gate on ∙ (λ i. gate_of (sym turn i) (sym job i));
+              left = λ fails. absurd (let no : false ≡ true = sym works-here ∙ fails in cc);
+            };
+            fresh = subst AreFresh (sym commits) is.fresh;
+            marks = subst HasMarks (sym advances.answer.1) (record {
+              reclaimed = there.marks.reclaimed;
+              base = there.marks.base;
+              job = there.marks.job;
+              reclaim = there.marks.reclaim;
+            });
+            ends = ends-on;
+            disk = λ told. subst (λ (b : Bool). MatchBool b (StopsOnHeap new m.published m.queue m.floors) (StandsOnHeap new m.published m.queue m.floors))
+                (sym (ap (λ (c : CommitsValue). c.failed) commits ∙ works))
+                (subst (λ (j : Option Job). StandsOnHeap new m.published m.queue (floors_after j what m.floors)) none (stepped told));
+          };
+        })
+    reclaim-runs r runs (Err why) advances stepped =
+        let is-new = advances.answer.1 in
+        let none = alone r runs in
+        let broke : Run IsValue m (Broke ∷ []) (steps.broken m) = (steps.broken m, (works-here, refl), refl) in
+        subst (λ (f : PumpFault). Runs tells m (job_events_in m (Err f)) new) (sym advances.answer.0)
+        (subst (λ (es : List (Event Value)). Runs tells m es new) (ap (λ (b : Bool). cond b [] (job_breaks_in m.gate)) (sym works-here))
+        (subst (λ (es : List (Event Value)). Runs tells m es new) (sym (group-breaks none)) (record {
+          after = steps.broken m;
+          run = broke;
+          stands = record {
+            memory = subst (λ (v : LogStoreValue). StandsInMemory v.commits (steps.broken m)) (sym is-new)
+                (broken-memory old.commits m m.gate is.memory);
+            machine = run-machine IsValue m (steps.broken m) (Broke ∷ []) is.machine broke;
+            writing = record {
+              most = is.writing.most;
+              group = is.writing.group ∙ ap (λ (v : LogStoreValue). v.commits.group) (sym is-new);
+              raising = is.writing.raising ∙ ap (λ (v : LogStoreValue). raising_of v.job) (sym is-new);
+              made = subst (λ (v : LogStoreValue). HasAllMade v.commits.floors v.job) (sym is-new) is.writing.made;
+              gate = λ still. absurd (let no : true ≡ false = still in cc);
+              left = λ fails. inr (record {
+                gate = is.writing.gate works-here ∙ ap (λ (v : LogStoreValue). gate_of v.turn v.job) (sym is-new);
+                stops = λ told. reclaim-breaks tells old new m.published m.queue m.floors told works (stands-here told) r runs why advances;
+              });
+            };
+            fresh = subst (λ (v : LogStoreValue). AreFresh v.commits) (sym is-new) is.fresh;
+            marks = subst HasMarks (sym is-new)
+                (record { reclaimed = is.marks.reclaimed; base = is.marks.base; job = is.marks.job; reclaim = is.marks.reclaim });
+            ends = ends-on;
+            disk = λ told. subst (λ (b : Bool). MatchBool b (StopsOnHeap new m.published m.queue m.floors) (StandsOnHeap new m.published m.queue m.floors))
+                (sym (ap (λ (v : LogStoreValue). v.commits.failed) is-new))
+                (subst (λ (f : PumpFault). JobStepsTo (Err f) old new m.published m.queue m.floors) advances.answer.0 (stepped told)).stops;
+          };
+        })))
+
+    reclaim-stands : (r : ReclaimValue) → old.reclaim ≡ Some r → StepsReclaim tells r old answer new → Runs tells m (job_events_in m answer) new
+    reclaim-stands r runs so = by-gate (waits_at old.turn r.stage) so
+      where
+        by-gate : (b : Bool) → MatchBool b ((answer ≡ Err pump.Busy) × (new ≡ old)) (AdvancesReclaim tells r old answer new)
+            → Runs tells m (job_events_in m answer) new
+        by-gate true busy = subst (λ (a : Result JobDid PumpFault). Runs tells m (job_events_in m a) new) (sym busy.0) (same busy.1)
+        by-gate false advances = reclaim-runs r runs answer advances steps-to
+
+    by-reclaim : (o : Option ReclaimValue) → old.reclaim ≡ o
+        → MatchOption o (StepsJob tells old.job old answer new) (λ r. StepsReclaim tells r old answer new) → Runs tells m (job_events_in m answer) new
+    by-reclaim None none so = by-job old.job refl so
+    by-reclaim (Some r) runs so = reclaim-stands r runs so
+
   pub job-stands : PumpsJob tells old answer new → Runs tells m (job_events_in m answer) new
   job-stands pumps = by-failed old.commits.failed refl pumps
     where
+      Steps : Type 0
+      Steps = MatchOption old.reclaim (StepsJob tells old.job old answer new) (λ r. StepsReclaim tells r old answer new)
+
       by-failed : (b : Bool) → old.commits.failed ≡ b → PumpsJob tells old answer new → Runs tells m (job_events_in m answer) new
       by-failed true failed is-so =
-          let rests = subst (λ (b : Bool). MatchBool b ((answer ≡ Err pump.Failed) × (new ≡ old)) (StepsJob tells old.job old answer new)) failed is-so in
+          let rests = subst (λ (b : Bool). MatchBool b ((answer ≡ Err pump.Failed) × (new ≡ old)) Steps) failed is-so in
           let fails : m.failed ≡ true = sym is.memory.failed ∙ failed in
           subst (λ (a : Result JobDid PumpFault). Runs tells m (job_events_in m a) new) (sym rests.0)
           (subst (λ (es : List (Event Value)). Runs tells m es new) (ap (λ (b : Bool). cond b [] (job_breaks_in m.gate)) (sym fails))
           (record { after = m; run = refl; stands = subst (λ (v : LogStoreValue). IsStoreOf tells v m) (sym rests.1) is }))
       by-failed false works is-so =
-          by-job works is-so old.job refl
-          (subst (λ (b : Bool). MatchBool b ((answer ≡ Err pump.Failed) × (new ≡ old)) (StepsJob tells old.job old answer new)) works is-so)
+          by-reclaim works is-so old.reclaim refl
+          (subst (λ (b : Bool). MatchBool b ((answer ≡ Err pump.Failed) × (new ≡ old)) Steps) works is-so)

@@ -1,5 +1,5 @@
 -- Calls that change only which transactions are open and which commits are awaited.
-use Rattle.std.proofs.Common.{◌≡◌, ℕ, Bool, true, false, List, Result, Ok, Err, refl, arith, ap, sym, subst, ◌∙◌, inl, inr}
+use Rattle.std.proofs.Common.{◌≡◌, ℕ, ◌^◌, Bool, true, false, List, Result, Ok, Err, refl, arith, ap, sym, subst, ◌∙◌, inl, inr}
 use Rattle.std.proofs.Common.{Option}
 use Rattle.std.specs.Prelude.{MatchBool}
 use Rattle.history.specs.Histories.{History}
@@ -14,8 +14,11 @@ use Rattle.group.specs.declared.answers.BeginFault.{BeginFault}
 use Rattle.group.specs.declared.answers.BeginFault.TheVariants as fault
 use Rattle.group.specs.declared.answers.Redeemed.{Redeemed}
 use Rattle.commits.specs.Values.{CommitsValue, is_own}
+use Rattle.log_base.specs.Bases.{mark_of}
+use Rattle.log_extents.specs.Chains.{IsNumberOf}
+use Rattle.log_store.specs.Live.{LiveValue}
 use Rattle.log_store.specs.Named.{NamedValue}
-use Rattle.log_store.specs.Values.{LogStoreValue}
+use Rattle.log_store.specs.Values.{LogStoreValue, ReclaimValue}
 use Rattle.log_store.specs.Calls as calls
 use Rattle.log_store.specs.Calls.{with_commits}
 use Rattle.log_store.specs.declared.job.Job.{Job}
@@ -28,7 +31,8 @@ use Rattle.law_commits.proofs.Answering.{redeem-step}
 use Rattle.law_log_store.specs.Standing.{StandsOnHeap, StopsBy, StopsOnHeap}
 use Rattle.law_log_store.specs.Calls.{KeepsDisk}
 use Rattle.law_log_store.proofs.Calls.{AreNamesAlone, begin-alone, abort-alone, redeem-alone, begin-keeps, abort-keeps, redeem-keeps}
-use Rattle.law_log_steps.specs.Store.{OnDisk, AreFresh, gate_of, gate_left, raising_of, HasAllMade, JobReaches, HasMarks, IsLeft, IsWriting, IsStoreOf}
+use Rattle.law_log_steps.specs.Store.{OnDisk, AreFresh, gate_of, gate_left, raising_of, HasAllMade, JobReaches, ReclaimReaches, HasMarks, IsLeft, IsWriting}
+use Rattle.law_log_steps.specs.Store.{EndsInHeap, IsStoreOf}
 use Rattle.law_log_steps.specs.Laws.{BeginsTo, Goes}
 
 -- what the disk stands for is kept
@@ -54,7 +58,7 @@ pub record HasSameGroup (m n : Machine Value) : Type 0 where
 pub same-group : (m : Machine Value) → HasSameGroup m m
 same-group m = record { most = refl; group = refl; raising = refl; gate = refl; failed = refl }
 
--- the store writes the same: its group and its job are as far as they were
+-- the store writes the same: its group, its job and its reclaim are as far as they were, and its log is the same
 pub record WritesSame (old new : LogStoreValue) : Type 0 where
   pub group : new.commits.group ≡ old.commits.group
   pub floors : new.commits.floors ≡ old.commits.floors
@@ -62,6 +66,9 @@ pub record WritesSame (old new : LogStoreValue) : Type 0 where
   pub named : new.named ≡ old.named
   pub turn : new.turn ≡ old.turn
   pub job : new.job ≡ old.job
+  pub reclaim : new.reclaim ≡ old.reclaim
+  pub live : new.live ≡ old.live
+  pub next : new.room.next ≡ old.room.next
 
 pub writes-all-same : (old new : LogStoreValue) → new ≡ old → WritesSame old new
 writes-all-same old new is = record {
@@ -71,6 +78,9 @@ writes-all-same old new is = record {
   named = ap (λ (v : LogStoreValue). v.named) is;
   turn = ap (λ (v : LogStoreValue). v.turn) is;
   job = ap (λ (v : LogStoreValue). v.job) is;
+  reclaim = ap (λ (v : LogStoreValue). v.reclaim) is;
+  live = ap (λ (v : LogStoreValue). v.live) is;
+  next = ap (λ (v : LogStoreValue). v.room.next) is;
 }
 
 -- what memory has forgotten is archived still
@@ -82,9 +92,20 @@ marks-on old new is writes = record {
       let upto = ap (λ (n : NamedValue). n.upto) writes.named in
       omega (arith, low, same, upto)
       );
+  base = (
+      let low = is.base in
+      let same = writes.reclaimed in
+      let mark = ap (λ (l : LiveValue). mark_of l.chains) writes.live in
+      omega (arith, low, same, mark)
+      );
   job = subst (λ (n : NamedValue). JobReaches n.upto new.job) (sym writes.named)
       (subst (λ (j : Option Job). JobReaches old.named.upto j) (sym writes.job) is.job);
+  reclaim = subst (λ (n : NamedValue). ReclaimReaches n.upto new.reclaim) (sym writes.named)
+      (subst (λ (r : Option ReclaimValue). ReclaimReaches old.named.upto r) (sym writes.reclaim) is.reclaim);
 }
+
+pub ends-on : (old new : LogStoreValue) → EndsInHeap old → WritesSame old new → EndsInHeap new
+ends-on old new ends writes = subst (IsNumberOf (2 ^ 20)) (sym writes.next) ends
 
 -- where what a stop may leave is kept too
 pub writes-on : (tells : Bool) (old new : LogStoreValue) (m n : Machine Value) → IsWriting tells old m → WritesSame old new → HasSameGroup m n
@@ -147,6 +168,7 @@ store-keeps tells old new m n is keeps alone new_is stands machine alike = recor
       (λ fails stops. stops-alike new m n alike (keeps.stops false m.published m.queue m.floors stops));
   fresh = subst AreFresh (sym alone.new_is) is.fresh;
   marks = marks-on old new is.marks writes;
+  ends = ends-on old new is.ends writes;
   disk = λ told.
       disk-alike new m n alike
       (on-disk old new m.published m.queue m.floors keeps (ap (λ (c : CommitsValue). c.failed) alone.new_is) (is.disk told));
@@ -160,6 +182,9 @@ store-keeps tells old new m n is keeps alone new_is stands machine alike = recor
       named = ap (λ (v : LogStoreValue). v.named) new_is;
       turn = ap (λ (v : LogStoreValue). v.turn) new_is;
       job = ap (λ (v : LogStoreValue). v.job) new_is;
+      reclaim = ap (λ (v : LogStoreValue). v.reclaim) new_is;
+      live = ap (λ (v : LogStoreValue). v.live) new_is;
+      next = ap (λ (v : LogStoreValue). v.room.next) new_is;
     }
 
 -- ---- transactions

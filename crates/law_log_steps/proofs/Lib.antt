@@ -8,3 +8,4 @@ pub mod InStep
 pub mod Jobs
 pub mod FloorStarts
 pub mod ArchiveStarts
+pub mod ReclaimStarts

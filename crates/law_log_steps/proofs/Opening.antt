@@ -43,12 +43,15 @@ use Rattle.law_log_opening.proofs.Named.{alike-from, alike-none, mark-same}
 use Rattle.law_refinement.specs.Standing.{Name, name_of, name_at, HasWrites, HasForgotten}
 use Rattle.law_refinement.proofs.HeapForgets.{heap-forgot}
 use Rattle.law_commits.specs.Standing.{HasNames, StandsInMemory}
-use Rattle.log_store.specs.Values.{LogStoreValue}
+use Rattle.log_base.specs.Bases as bases
+use Rattle.log_base.proofs.RunsLeft.{mark-is}
+use Rattle.log_store.specs.Values.{LogStoreValue, ReclaimValue}
 use Rattle.log_store.specs.Opens.{Opens, commits_on, head_as}
 use Rattle.log_store.proofs.Places.{has-place}
 use Rattle.law_log_store.specs.Standing.{IsImageOf}
+use Rattle.law_log_store.proofs.Headers.{image-size}
 use Rattle.law_log_store.proofs.Opening.{facts-are, members-same, open-stands, read as read-is, same as same-log}
-use Rattle.law_log_steps.specs.Store.{gate_of, raising_of, HasAllMade, JobReaches, IsStoreOf}
+use Rattle.law_log_steps.specs.Store.{gate_of, raising_of, HasAllMade, JobReaches, ReclaimReaches, EndsInHeap, IsStoreOf}
 use Rattle.log_store.specs.declared.job.Job.{Job}
 use Rattle.law_log_steps.proofs.Resting.{stands-opened}
 
@@ -136,7 +139,7 @@ module _ (tells : Bool) (old : DiskState) (mark : ℕ) (v : LogStoreValue) (root
   abbrev commits : CommitsValue
   commits = commits_on mark r.heap.members r.heap.end.floors r.heap.end.mark
 
-  abbrev read : IsHeapRead roots.extents (root_of roots) (image_of old.areas).heap r.heap
+  abbrev read : IsHeapRead roots.extents (root_of image.read) (image_of old.areas).heap r.heap
   read = read-is tells old mark v roots h floors tells_so are_sound image opens
 
   chains-same : read.chains ≡ l.chains
@@ -260,7 +263,8 @@ module _ (tells : Bool) (old : DiskState) (mark : ℕ) (v : LogStoreValue) (root
   memory = record {
     names = names;
     rising =
-        let place = has-place roots.extents (root_of roots) (image_of old.areas).heap r.heap image.status.has.in_range.size read in place.order.rising;
+        let size = image-size roots (image_of old.areas) h floors image in
+        let place = has-place roots.extents (root_of image.read) (image_of old.areas).heap r.heap size read in place.order.rising;
     versions = versions_held;
     forgot = forgot;
     recent = λ snapshot there. absurd (Contains-nil snapshot there);
@@ -269,6 +273,14 @@ module _ (tells : Bool) (old : DiskState) (mark : ℕ) (v : LogStoreValue) (root
     floors = floors-are;
     failed = refl;
   }
+
+  -- the mark of the base that memory has
+  base-mark : bases.mark_of v.live.chains ≡ mark_of read.chains
+  base-mark =
+      ap (λ (x : LogStoreValue). bases.mark_of x.live.chains) opens.new_is
+      ∙ ap bases.mark_of read.live_are
+      ∙ mark-is image.heap.is_log.names read.chains
+      ∙ mark-same image.heap.is_log.names read.chains
 
   pub is-opened : IsStoreOf tells v (opened_by 1024 h floors)
   is-opened =
@@ -291,6 +303,18 @@ module _ (tells : Bool) (old : DiskState) (mark : ℕ) (v : LogStoreValue) (root
             let reclaimed : v.commits.reclaimed ≡ r.heap.end.mark = ap (λ (c : CommitsValue). c.reclaimed) same in
             let upto : v.named.upto ≡ r.heap.end.archived = ap (λ (x : LogStoreValue). x.named.upto) opens.new_is in
             omega (arith, low, mark, archived, reclaimed, upto);
+        base =
+            let reclaimed : v.commits.reclaimed ≡ r.heap.end.mark = ap (λ (c : CommitsValue). c.reclaimed) same in
+            let mark = read.end_is.says.mark_is in
+            omega (arith, reclaimed, mark, base-mark);
         job = subst (λ (j : Option Job). JobReaches v.named.upto j) (sym (ap (λ (x : LogStoreValue). x.job) opens.new_is)) tt;
+        reclaim = subst (λ (x : Option ReclaimValue). ReclaimReaches v.named.upto x) (sym (ap (λ (x : LogStoreValue). x.reclaim) opens.new_is)) tt;
       })
+      (subst EndsInHeap (sym opens.new_is) (
+      let size = image-size roots (image_of old.areas) h floors image in
+      let place = has-place roots.extents (root_of image.read) (image_of old.areas).heap r.heap size read in
+      let high = place.room.free.high in
+      let most = place.room.high in
+      (place.room.free.low, omega (arith, high, most))
+      ))
       (subst (λ (c : CommitsValue). StandsInMemory c (opened_by 1024 h floors)) (sym same) memory)

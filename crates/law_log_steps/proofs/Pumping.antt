@@ -18,10 +18,17 @@ use Rattle.log_writer.specs.Turns.{Stage, Writing, Syncing, Opening, Settling, D
 use Rattle.log_writer.specs.Writer.{WriterState, IsOnItsWay}
 use Rattle.log_writer.specs.Writer as writers
 use Rattle.commits.specs.Values.{CommitsValue, WaitingValue, mark_after}
-use Rattle.commits.specs.Steps.{members, published}
+use Rattle.commits.specs.Steps.{group_last, members, published}
 use Rattle.commits.specs.Steps as commit_steps
 use Rattle.log_store.specs.Named.{NamedValue}
-use Rattle.log_store.specs.Values.{LogStoreValue, IsBeside, IsStageBeside, IsInStep}
+use Rattle.log_base.specs.Bases.{mark_at, mark_of}
+use Rattle.log_recovery.specs.Live.{LiveChainValue}
+use Rattle.log_recovery.specs.declared.live.LivePart.{LivePart}
+use Rattle.log_recovery.specs.declared.live.LivePart.TheVariants.{Commits}
+use Rattle.log_recovery.specs.declared.live.LivePart.TheVariants as parts
+use Rattle.log_store.specs.Gates.{waits_to_open}
+use Rattle.log_store.specs.Live.{is_base}
+use Rattle.log_store.specs.Values.{LogStoreValue, ReclaimValue, IsBeside, IsStageBeside, IsInStep}
 use Rattle.log_store.specs.declared.job.Job.{Job}
 use Rattle.log_store.specs.declared.job.JobStage.{JobStage}
 use Rattle.log_store.specs.declared.job.JobStage.TheVariants.{Ready, Entering}
@@ -45,9 +52,10 @@ use Rattle.law_log_store.proofs.Beginning.{grouped-is}
 use Rattle.law_log_store.proofs.Pumping.{pump-steps, failed-rests}
 use Rattle.law_log_store.proofs.Submitting.{group-within}
 use Rattle.law_log_steps.specs.Store.{HaveMark, AreFresh, gate_at, gate_on, gate_by, gate_of, gate_behind, gate_left, raising_of, HasAllMade, JobReaches}
-use Rattle.law_log_steps.specs.Store.{HasMarks, IsStoreOf}
+use Rattle.law_log_steps.specs.Store.{ReclaimReaches, HasMarks, EndsInHeap, IsStoreOf}
 use Rattle.law_refinement.specs.Laws.{begins_in, breaks_in}
 use Rattle.law_log_steps.specs.Laws.{group_ends, events_in, Runs}
+use Rattle.law_log_steps.proofs.InStep.{pump-holds}
 
 -- ---- marks
 
@@ -368,9 +376,11 @@ has-writer old begun none some b = record {
 
 -- ---- what a step of a group leaves of a job
 
--- neither the job that runs, nor the floors and the marks
+-- neither the job that runs, nor the reclaim, nor the floors and the marks
 pub record LeavesJob (old new : LogStoreValue) : Type 0 where
   pub job : new.job ≡ old.job
+  pub reclaim : new.reclaim ≡ old.reclaim
+  pub base : mark_of new.live.chains ≡ mark_of old.live.chains
   pub floors : new.commits.floors ≡ old.commits.floors
   pub reclaimed : new.commits.reclaimed ≡ old.commits.reclaimed
   pub named : new.named ≡ old.named
@@ -378,6 +388,8 @@ pub record LeavesJob (old new : LogStoreValue) : Type 0 where
 same-leaves : (old new : LogStoreValue) → new ≡ old → LeavesJob old new
 same-leaves old new is = record {
   job = ap (λ (v : LogStoreValue). v.job) is;
+  reclaim = ap (λ (v : LogStoreValue). v.reclaim) is;
+  base = ap (λ (v : LogStoreValue). mark_of v.live.chains) is;
   floors = ap (λ (v : LogStoreValue). v.commits.floors) is;
   reclaimed = ap (λ (v : LogStoreValue). v.commits.reclaimed) is;
   named = ap (λ (v : LogStoreValue). v.named) is;
@@ -386,6 +398,8 @@ same-leaves old new is = record {
 leaves-on : (old mid new : LogStoreValue) → LeavesJob old mid → LeavesJob mid new → LeavesJob old new
 leaves-on old mid new first next = record {
   job = next.job ∙ first.job;
+  reclaim = next.reclaim ∙ first.reclaim;
+  base = next.base ∙ first.base;
   floors = next.floors ∙ first.floors;
   reclaimed = next.reclaimed ∙ first.reclaimed;
   named = next.named ∙ first.named;
@@ -396,11 +410,11 @@ advance-leaves : (tells : Bool) (w : WriterState) (old new : LogStoreValue) (ans
 advance-leaves tells w old new answer advances = by-answer answer advances.answer
   where
     call-leaves : (k : Stage) → LeavesJob old (record (after_call old w k) { disk = new.disk })
-    call-leaves (Writing done rest) = record { job = refl; floors = refl; reclaimed = refl; named = refl }
-    call-leaves Syncing = record { job = refl; floors = refl; reclaimed = refl; named = refl }
-    call-leaves Opening = record { job = refl; floors = refl; reclaimed = refl; named = refl }
-    call-leaves Settling = record { job = refl; floors = refl; reclaimed = refl; named = refl }
-    call-leaves Done = record { job = refl; floors = refl; reclaimed = refl; named = refl }
+    call-leaves (Writing done rest) = record { job = refl; reclaim = refl; base = refl; floors = refl; reclaimed = refl; named = refl }
+    call-leaves Syncing = record { job = refl; reclaim = refl; base = refl; floors = refl; reclaimed = refl; named = refl }
+    call-leaves Opening = record { job = refl; reclaim = refl; base = refl; floors = refl; reclaimed = refl; named = refl }
+    call-leaves Settling = record { job = refl; reclaim = refl; base = refl; floors = refl; reclaimed = refl; named = refl }
+    call-leaves Done = record { job = refl; reclaim = refl; base = refl; floors = refl; reclaimed = refl; named = refl }
 
     by-answer : (a : Result Did PumpFault)
         → MatchResult a (λ what. (what ≡ did_of (writers.did w.stage) old.commits.group) × (new ≡ record (after_call old w w.stage) { disk = new.disk }))
@@ -410,7 +424,19 @@ advance-leaves tells w old new answer advances = by-answer answer advances.answe
         leaves-on old called new (call-leaves w.stage) (same-leaves called new is.1)
     by-answer (Err why) is =
         let failed : LogStoreValue = record (with_failure old) { disk = new.disk } in
-        leaves-on old failed new (record { job = refl; floors = refl; reclaimed = refl; named = refl }) (same-leaves failed new is.1)
+        leaves-on old failed new (record { job = refl; reclaim = refl; base = refl; floors = refl; reclaimed = refl; named = refl })
+        (same-leaves failed new is.1)
+
+-- the mark of the log's base is the same behind one chain more
+pub mark-more : (chains : List LiveChainValue) (c : LiveChainValue) → is_base c.part ≡ false → mark_of (chains ++ c ∷ []) ≡ mark_of chains
+mark-more (d ∷ ds) c none = refl
+mark-more [] c none = by-part c.part none
+  where
+    by-part : (part : LivePart) → is_base part ≡ false → mark_at part ≡ 0
+    by-part (Commits time) none = refl
+    by-part (parts.Archived archive) none = refl
+    by-part (parts.Floor floor) none = refl
+    by-part (parts.Base base) none = absurd (let no : true ≡ false = none in cc)
 
 pub step-leaves : (tells : Bool) (old new : LogStoreValue) (answer : Result Did PumpFault) → TakesStep tells old old.turn answer new → LeavesJob old new
 step-leaves tells old new answer takes = by-turn old.turn takes
@@ -437,6 +463,9 @@ step-leaves tells old new answer takes = by-turn old.turn takes
     by-group begun (Some w) b advances =
         leaves-on old begun new (record {
           job = ap (λ (v : LogStoreValue). v.job) b.new_is;
+          reclaim = ap (λ (v : LogStoreValue). v.reclaim) b.new_is;
+          base = ap (λ (v : LogStoreValue). mark_of v.live.chains) b.new_is
+              ∙ mark-more old.live.chains (record { numbers = b.numbers; part = Commits (group_last (commit_steps.grouped 1024 old.commits)) }) refl;
           floors = ap (λ (v : LogStoreValue). v.commits.floors) b.new_is ∙ grouped-floors old.commits;
           reclaimed = ap (λ (v : LogStoreValue). v.commits.reclaimed) b.new_is ∙ grouped-mark old.commits;
           named = ap (λ (v : LogStoreValue). v.named) b.new_is;
@@ -454,9 +483,13 @@ step-leaves tells old new answer takes = by-turn old.turn takes
     by-queue true idle = same idle.1
     by-queue false so = by-job (bars_groups old.job) so
 
+    by-gate : (w : WriterState) (b : Bool) → MatchBool b ((answer ≡ Err pump.Busy) × (new ≡ old)) (Advances tells w old answer new) → LeavesJob old new
+    by-gate w true busy = same busy.1
+    by-gate w false so = advance-leaves tells w old new answer so
+
     by-turn : (t : Option WriterState) → TakesStep tells old t answer new → LeavesJob old new
     by-turn None so = by-queue (length old.commits.queue == 0) so
-    by-turn (Some w) so = advance-leaves tells w old new answer so
+    by-turn (Some w) so = by-gate w (waits_to_open old.reclaim w.stage) so
 
 module _ (tells : Bool) (old new : LogStoreValue) (answer : Result Did PumpFault) (m : Machine Value) (step : IsInStep old)
     (sound : IsTrue tells → AreSound new.disk.areas) (is : IsStoreOf tells old m) where
@@ -524,15 +557,21 @@ module _ (tells : Bool) (old new : LogStoreValue) (answer : Result Did PumpFault
         )
     by-queue false some at_rest so = by-job (bars_groups old.job) refl at_rest (grind (arith, nat_tests)) so
 
-    by-turn : (t : Option WriterState) → old.turn ≡ t → TakesStep tells old t answer new → StepBy answer old new m
-    by-turn None at_rest next = by-queue (length old.commits.queue == 0) refl at_rest next
-    by-turn (Some w) standing next =
+    -- the gate may wait for a reclaim that turns
+    by-gate : (w : WriterState) → old.turn ≡ Some w → (b : Bool)
+        → MatchBool b ((answer ≡ Err pump.Busy) × (new ≡ old)) (Advances tells w old answer new) → StepBy answer old new m
+    by-gate w standing true busy = subst (λ (a : Result Did PumpFault). StepBy a old new m) (sym busy.0) busy.1
+    by-gate w standing false next =
         let has : stores.HasTurn old.commits.group (Some w) = subst (stores.HasTurn old.commits.group) standing step.turn in
         as-standing answer old new m (begins-none m (omega (arith, has.0, is.writing.group)))
         (call-memory tells w old new answer m has.1 (record { stands = is.memory; fresh = is.fresh }) is.machine (group-within old step) next)
         (call-runs tells w old new m has.1 works-here is.writing.group has.0
         (is.writing.gate works-here ∙ ap (λ (t : Option WriterState). gate_of t old.job) standing)
         (subst (λ (t : Option WriterState). IsBeside t old.job) standing step.beside) answer standing next)
+
+    by-turn : (t : Option WriterState) → old.turn ≡ t → TakesStep tells old t answer new → StepBy answer old new m
+    by-turn None at_rest next = by-queue (length old.commits.queue == 0) refl at_rest next
+    by-turn (Some w) standing next = by-gate w standing (waits_to_open old.reclaim w.stage) next
 
     -- no job begins or ends
     same-job : new.job ≡ old.job
@@ -552,9 +591,15 @@ module _ (tells : Bool) (old new : LogStoreValue) (answer : Result Did PumpFault
               let upto = ap (λ (n : NamedValue). n.upto) left.named in
               omega (arith, low, same, upto)
               );
+          base = (let low = is.marks.base in let same = left.reclaimed in let mark = left.base in omega (arith, low, same, mark));
           job = subst (λ (n : NamedValue). JobReaches n.upto new.job) (sym left.named)
               (subst (λ (j : Option Job). JobReaches old.named.upto j) (sym same-job) is.marks.job);
+          reclaim = subst (λ (n : NamedValue). ReclaimReaches n.upto new.reclaim) (sym left.named)
+              (subst (λ (r : Option ReclaimValue). ReclaimReaches old.named.upto r) (sym left.reclaim) is.marks.reclaim);
         }
+
+    ends-on : EndsInHeap new
+    ends-on = (pump-holds tells old new answer (step, is.ends) pumps).1
 
     by-answer : (a : Result Did PumpFault) → StepBy a old new m → (IsTrue tells → StepsTo a old new m.published m.queue m.floors)
         → Runs tells m (events_in m a) new
@@ -579,6 +624,7 @@ module _ (tells : Bool) (old new : LogStoreValue) (answer : Result Did PumpFault
             };
             fresh = memory.fresh;
             marks = marks-on;
+            ends = ends-on;
             disk = λ told. subst (λ (b : Bool). MatchBool b (StopsOnHeap new (m.published ++ take (count_in what) m.queue) (drop
                 (count_in what) m.queue) m.floors)
                 (StandsOnHeap new (m.published ++ take (count_in what) m.queue) (drop (count_in what) m.queue) m.floors)) (sym works-on) (steps-to told);
@@ -609,6 +655,7 @@ module _ (tells : Bool) (old new : LogStoreValue) (answer : Result Did PumpFault
             };
             fresh = memory.fresh;
             marks = marks-on;
+            ends = ends-on;
             disk = λ told. subst (λ (b : Bool). MatchBool b (StopsOnHeap new m.published m.queue m.floors) (StandsOnHeap new m.published m.queue m.floors))
                 (sym (steps-to told).failed) (steps-to told).stops;
           };

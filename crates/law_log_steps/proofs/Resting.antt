@@ -1,5 +1,5 @@
 -- What a stop may leave between two calls, and what an opened store stands for.
-use Rattle.std.proofs.Common.{◌≡◌, ◌⊎◌, ℕ, Bool, true, false, List, [], ◌++◌, take, Option, None, Some, refl, ap, sym, subst, inl}
+use Rattle.std.proofs.Common.{◌≡◌, ◌⊎◌, ℕ, ◌≤◌, Bool, true, false, List, [], ◌++◌, take, Option, None, Some, refl, arith, ap, sym, subst, inl}
 use Rattle.std.proofs.Common.{inr}
 use Rattle.std.specs.Prelude.{IsTrue, MatchBool}
 use Rattle.history.specs.Histories.{History}
@@ -17,7 +17,9 @@ use Rattle.law_log_layout.specs.HeapLog.{HeapLog, IsLogOf, HoldsLog}
 use Rattle.law_log_layout.specs.Turns.{MayBe, MayBecome}
 use Rattle.commits.specs.Values.{CommitsValue, WaitingValue}
 use Rattle.commits.specs.Steps.{grouped}
-use Rattle.log_store.specs.Values.{LogStoreValue, IsInStep}
+use Rattle.log_base.specs.Bases.{mark_of}
+use Rattle.log_room.specs.Rooms.{RoomValue}
+use Rattle.log_store.specs.Values.{LogStoreValue, ReclaimValue, IsInStep}
 use Rattle.log_store.specs.Values as stores
 use Rattle.log_store.specs.declared.job.JobWork.{JobWork}
 use Rattle.log_store.specs.declared.job.Job.{Job}
@@ -31,7 +33,7 @@ use Rattle.law_log_store.specs.Opened.{IsOpenedOn}
 use Rattle.law_log_store.proofs.Going.{standing-stops}
 use Rattle.law_log_store.proofs.Pumping.{either-old, either-new, grouped-stays}
 use Rattle.law_log_store.proofs.Opened as rooms
-use Rattle.law_log_steps.specs.Store.{HaveMark, gate_of, raising_of, HasAllMade, JobReaches, HasMarks, IsWriting, IsStoreOf}
+use Rattle.law_log_steps.specs.Store.{HaveMark, gate_of, raising_of, HasAllMade, JobReaches, ReclaimReaches, HasMarks, EndsInHeap, IsWriting, IsStoreOf}
 
 module _ (tells : Bool) (v : LogStoreValue) (m : Machine Value) (image : Image) (told : IsTrue tells) (step : IsInStep v) (is : IsStoreOf tells v m) where
   abbrev Old : Type 0
@@ -92,11 +94,12 @@ module _ (tells : Bool) (v : LogStoreValue) (m : Machine Value) (image : Image) 
 -- a store that stands for a history, with nothing behind it, stands for a machine that is opened on it
 pub stands-opened : (tells : Bool) (v : LogStoreValue) (h : History Value) (floors : ℕ → ℕ) (reading : Reading) → StandsFor reading h floors
     → StandsOnHeap v h [] floors
-    → v.commits.failed ≡ false → v.commits.queue ≡ [] → IsWriting tells v (opened_by 1024 h floors) → HasMarks v
+    → v.commits.failed ≡ false → v.commits.queue ≡ [] → IsWriting tells v (opened_by 1024 h floors) → HasMarks v → EndsInHeap v
     → StandsInMemory v.commits (opened_by 1024 h floors) → IsStoreOf tells v (opened_by 1024 h floors)
-stands-opened tells v h floors reading stands on works none writing marks memory = record {
+stands-opened tells v h floors reading stands on works none writing marks ends memory = record {
   memory = memory;
   marks = marks;
+  ends = ends;
   machine = opened_by-machine IsValue 1024 h floors stands.opens.history (floor-range reading h floors stands);
   writing = writing;
   fresh = subst (λ (ws : List WaitingValue). HaveMark v.commits.reclaimed ws) (sym none) tt;
@@ -106,8 +109,9 @@ stands-opened tells v h floors reading stands on works none writing marks memory
 pub opened-stands : (tells : Bool) (v : LogStoreValue) (image : Image) (l : HeapLog) (reading : Reading) (h : History Value) (floors : ℕ → ℕ)
     → v.disk.areas ≡ settled_on image → AreSound v.disk.areas → ReadsRoots image.status v.roots → IsLogOf v.roots.extents (root_of v.roots) l reading
     → HoldsLog l image.heap image.archive → StandsFor reading h floors → IsOpenedOn v l reading → v.commits.failed ≡ false
+    → v.commits.reclaimed ≤ mark_of v.live.chains
     → StandsInMemory v.commits (opened_by 1024 h floors) → IsStoreOf tells v (opened_by 1024 h floors)
-opened-stands tells v image l reading h floors same sound reads is held stands on works memory =
+opened-stands tells v image l reading h floors same sound reads is held stands on works marks memory =
     stands-opened tells v h floors reading stands (rooms.opened-stands v image l reading h floors same sound reads is held stands on) works on.queue
     (record {
       most = refl;
@@ -117,4 +121,15 @@ opened-stands tells v image l reading h floors same sound reads is held stands o
       gate = λ works. λ i. gate_of (sym on.turn i) (sym on.job i);
       left = λ fails. absurd (let no : false ≡ true = fails in cc);
     })
-    (record { reclaimed = on.marks; job = subst (λ (j : Option Job). JobReaches v.named.upto j) (sym on.job) tt }) memory
+    (record {
+      reclaimed = on.marks;
+      base = marks;
+      job = subst (λ (j : Option Job). JobReaches v.named.upto j) (sym on.job) tt;
+      reclaim = subst (λ (r : Option ReclaimValue). ReclaimReaches v.named.upto r) (sym on.reclaim) tt;
+    }) (
+    let next : v.room.next ≡ l.next = ap (λ (r : RoomValue). r.next) on.room in
+    let low = is.next.0 in
+    let high = is.next.1 in
+    let most = reads.has.in_range.size.most in
+    (omega (arith, next, low), omega (arith, next, high, most))
+    ) memory

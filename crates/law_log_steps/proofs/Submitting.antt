@@ -35,7 +35,7 @@ use Rattle.law_log_store.specs.Standing.{StandsOnHeap, StopsBy, StopsOnHeap}
 use Rattle.law_log_store.specs.Calls.{queued_by}
 use Rattle.law_log_store.proofs.Calls.{submit-steps, failed-queues-none}
 use Rattle.law_log_steps.specs.Store.{OnDisk, AreFresh, IsStoreOf}
-use Rattle.law_log_steps.proofs.Keeping.{HasSameGroup, WritesSame, writes-all-same, marks-on, writes-on}
+use Rattle.law_log_steps.proofs.Keeping.{HasSameGroup, WritesSame, writes-all-same, ends-on, marks-on, writes-on}
 use Rattle.law_log_steps.specs.Laws.{Goes}
 use Rattle.law_log_steps.proofs.Pumping.{marks-after}
 
@@ -212,6 +212,9 @@ same-writes v new txn label now (Ok (submitted.Queued ticket)) is = record {
   named = ap (λ (x : LogStoreValue). x.named) is.2;
   turn = ap (λ (x : LogStoreValue). x.turn) is.2;
   job = ap (λ (x : LogStoreValue). x.job) is.2;
+  reclaim = ap (λ (x : LogStoreValue). x.reclaim) is.2;
+  live = ap (λ (x : LogStoreValue). x.live) is.2;
+  next = ap (λ (x : LogStoreValue). x.room.next) is.2;
 }
 same-writes v new txn label now (Err why) is = writes-all-same v new is.1
 
@@ -269,6 +272,7 @@ module _ (tells : Bool) (old new : LogStoreValue) (txn : TxnValue) (label now : 
               ((none.1).stops false m.published m.queue m.floors stops))));
           fresh = works.fresh is.fresh;
           marks = marks-on old new is.marks writes;
+          ends = ends-on old new is.ends writes;
           disk = λ told. subst (λ (h : History Value). OnDisk new h n.queue n.floors) (sym left.published)
               (subst (λ (q : History Value). OnDisk new m.published q n.floors) (sym queue)
               (subst (λ (floors : ℕ → ℕ). OnDisk new m.published (m.queue ++ queued) floors) (sym left.floors) (disk-then told may works.failed)));
@@ -287,6 +291,9 @@ module _ (tells : Bool) (old new : LogStoreValue) (txn : TxnValue) (label now : 
         named = same.named;
         turn = same.turn;
         job = same.job;
+        reclaim = same.reclaim;
+        live = same.live;
+        next = same.next;
       }
 
       by-failed : is_own old.commits txn ≡ true → (b : Bool) → old.commits.failed ≡ b

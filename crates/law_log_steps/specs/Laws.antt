@@ -1,5 +1,5 @@
 -- The calls of a store whose log lies in the heap are steps of the machine.
-use Rattle.std.specs.Prelude.{ℕ, ◌≡◌, ◌<◌, ◌^◌, Bool, true, false, IsTrue, IsSome, Option, None, Some, List, [], ◌∷◌, ◌++◌, Result, Ok, Err, MatchBool}
+use Rattle.std.specs.Prelude.{ℕ, ◌≡◌, ◌<◌, ◌≤◌, ◌^◌, Bool, true, false, IsTrue, IsSome, Option, None, Some, List, [], ◌∷◌, ◌++◌, Result, Ok, Err, MatchBool}
 use Rattle.std.specs.Prelude.{if◌then◌else◌}
 use Rattle.history.specs.Fronts.{OnFront}
 use Rattle.history.specs.Histories.{History}
@@ -26,11 +26,13 @@ use Rattle.group.specs.declared.answers.Redeemed.{Redeemed}
 use Rattle.group.specs.declared.answers.Submitted.{Submitted}
 use Rattle.group.specs.declared.answers.SubmitFault.{SubmitFault}
 use Rattle.commits.specs.Values.{is_own}
+use Rattle.log_base.specs.Bases.{mark_of}
 use Rattle.log_store.specs.Values.{LogStoreValue, IsInStep}
 use Rattle.log_store.specs.Calls as calls
 use Rattle.log_store.specs.Submits.{Submits}
 use Rattle.log_store.specs.Pumps.{Pumps}
 use Rattle.log_store.specs.Archives.{StartsArchive}
+use Rattle.log_store.specs.Reclaims.{StartsReclaim}
 use Rattle.log_store.specs.Jobs.{StartsFloor, PumpsJob}
 use Rattle.log_store.specs.declared.job.JobDid.{JobDid}
 use Rattle.log_store.specs.declared.job.JobDid.TheVariants as job_did
@@ -55,13 +57,14 @@ use Rattle.law_log_steps.specs.Store.{IsStoreOf}
 
 -- ---- opening, and stops
 
--- A store that is opened on an image all of which is synced, and whose memory stands for a machine opened on its history, stands for that.
+-- A store that is opened on an image all of which is synced, and whose memory stands for a machine opened on its history, and has forgotten no more than the
+-- base of the log stands for, stands for that.
 abbrev pub OpenedStands : Type 0
 OpenedStands =
     (tells : Bool) (v : LogStoreValue) (image : Image) (l : HeapLog) (reading : Reading) (h : History Value) (floors : ℕ → ℕ)
     → v.disk.areas ≡ settled_on image → AreSound v.disk.areas → ReadsRoots image.status v.roots → IsLogOf v.roots.extents (root_of v.roots) l reading
     → HoldsLog l image.heap image.archive → StandsFor reading h floors → IsOpenedOn v l reading → v.commits.failed ≡ false
-    → StandsInMemory v.commits (opened_by 1024 h floors) → IsStoreOf tells v (opened_by 1024 h floors)
+    → v.commits.reclaimed ≤ mark_of v.live.chains → StandsInMemory v.commits (opened_by 1024 h floors) → IsStoreOf tells v (opened_by 1024 h floors)
 
 -- so a store that was opened on an image which stands for a history
 abbrev pub OpenStands : Type 0
@@ -157,7 +160,7 @@ pub record Runs (tells : Bool) (m : Machine Value) (events : List (Event Value))
 
 -- ---- jobs
 
--- the machine's events in a step of a job that raises this floor: those of an archive are none of the machine's
+-- the machine's events in a step of a job that raises this floor: those of an archive or a reclaim are none of the machine's
 abbrev pub floor_events : JobDid → Raising → List (Event Value)
 floor_events job_did.Idle r = []
 floor_events job_did.WroteRun r = []
@@ -166,6 +169,12 @@ floor_events job_did.WroteEntry r = []
 floor_events job_did.GateClosed r = []
 floor_events job_did.HeapSynced r = GateDue OfFloor ∷ []
 floor_events job_did.GateWritten r = GateWritten OfFloor ∷ []
+floor_events job_did.WroteExtent r = []
+floor_events job_did.WroteRoll r = []
+floor_events job_did.RollSynced r = []
+floor_events job_did.RootWritten r = []
+floor_events job_did.RootSynced r = []
+floor_events job_did.TurnWritten r = []
 floor_events job_did.JobDone r = FloorPublished r ∷ []
 
 abbrev pub floor_ends : JobDid → Option Raising → List (Event Value)
@@ -210,6 +219,12 @@ abbrev pub ArchiveStartStands : Type 0
 ArchiveStartStands =
     (tells : Bool) (old new : LogStoreValue) (upto : ℕ) (answer : Result (Unit {0}) StartFault) (m : Machine Value) → IsInStep old → IsStoreOf tells old m
     → StartsArchive old upto answer new → IsStoreOf tells new m
+
+-- so does a reclaim
+abbrev pub ReclaimStartStands : Type 0
+ReclaimStartStands =
+    (tells : Bool) (old new : LogStoreValue) (answer : Result (Unit {0}) StartFault) (m : Machine Value) → IsInStep old → IsStoreOf tells old m
+    → StartsReclaim old answer new → IsStoreOf tells new m
 
 -- ---- steps of a group, as runs
 

@@ -1,5 +1,5 @@
 -- The state of the machine that a store whose log lies in the heap stands for.
-use Rattle.std.specs.Prelude.{ℕ, ◌≡◌, ◌⊎◌, ◌≤◌, Bool, true, false, IsTrue, MatchBool, List, Option, None, Some}
+use Rattle.std.specs.Prelude.{ℕ, ◌≡◌, ◌⊎◌, ◌≤◌, ◌^◌, Bool, true, false, IsTrue, MatchBool, List, Option, None, Some}
 use Rattle.std.specs.List.{AllByRecursion}
 use Rattle.history.specs.Histories.{History}
 use Rattle.history.specs.Floors.{Raising}
@@ -9,7 +9,9 @@ use Rattle.law_image.specs.Values.{Value, IsValue}
 use Rattle.log_writer.specs.Turns.{Stage, Writing, Syncing, Opening, Settling, Done}
 use Rattle.log_writer.specs.Writer.{WriterState}
 use Rattle.commits.specs.Values.{CommitsValue, WaitingValue}
-use Rattle.log_store.specs.Values.{LogStoreValue}
+use Rattle.log_base.specs.Bases.{mark_of}
+use Rattle.log_extents.specs.Chains.{IsNumberOf}
+use Rattle.log_store.specs.Values.{LogStoreValue, ReclaimValue}
 use Rattle.log_store.specs.declared.job.Job.{Job}
 use Rattle.log_store.specs.declared.job.JobStage.{JobStage}
 use Rattle.log_store.specs.declared.job.JobStage.TheVariants.{Ready, Entering}
@@ -122,10 +124,25 @@ abbrev pub JobReaches : ℕ → Option Job → Type 0
 JobReaches upto None = Unit {0}
 JobReaches upto (Some job) = Reaches upto job.work
 
--- What memory has forgotten is archived, and an archive in the making goes further.
+-- a base in the making goes as far as this mark, and so does what the log then names in the archive
+pub record BaseReaches (upto : ℕ) (r : ReclaimValue) : Type 0 where
+  pub base : r.base.upto ≡ upto
+  pub named : r.named.upto ≡ upto
+
+abbrev pub ReclaimReaches : ℕ → Option ReclaimValue → Type 0
+ReclaimReaches upto None = Unit {0}
+ReclaimReaches upto (Some r) = BaseReaches upto r
+
+-- What memory has forgotten is archived, and in the base of the log, if it has one. An archive in the making goes further, and a base in the making as far.
 pub record HasMarks (v : LogStoreValue) : Type 0 where
   pub reclaimed : v.commits.reclaimed ≤ v.named.upto
+  pub base : v.commits.reclaimed ≤ mark_of v.live.chains
   pub job : JobReaches v.named.upto v.job
+  pub reclaim : ReclaimReaches v.named.upto v.reclaim
+
+-- the log ends in an extent of a heap
+abbrev pub EndsInHeap : LogStoreValue → Type 0
+EndsInHeap v = IsNumberOf (2 ^ 20) v.room.next
 
 -- The machine's group is the store's, of at most 1,024 commits, and its floor in the making that of the job that runs. Its gate is where the chain is that is
 -- in the writing.
@@ -144,4 +161,5 @@ pub record IsStoreOf (tells : Bool) (v : LogStoreValue) (m : Machine Value) : Ty
   pub writing : IsWriting tells v m
   pub fresh : AreFresh v.commits
   pub marks : HasMarks v
+  pub ends : EndsInHeap v
   pub disk : IsTrue tells → OnDisk v m.published m.queue m.floors

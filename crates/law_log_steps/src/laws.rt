@@ -1,6 +1,6 @@
 //! Laws of the calls of a store whose log lies in the heap.
 ghost use Rattle.law_log_steps.specs.Laws.{AbortStands, ArchiveStartStands, BeginStands, FloorStartStands, JobPumpStands, OpenedStands, OpenStands};
-ghost use Rattle.law_log_steps.specs.Laws.{LeavesFronts, PumpStands, RedeemStands, RestsOnFront, StopOpens, StopReopens, SubmitStands};
+ghost use Rattle.law_log_steps.specs.Laws.{LeavesFronts, PumpStands, ReclaimStartStands, RedeemStands, RestsOnFront, StopOpens, StopReopens, SubmitStands};
 
 /// A store that is opened on an image that stands for a history stands for a machine that is opened on it.
 pub fn opened_stands()
@@ -55,7 +55,8 @@ pub fn pump_stands()
 {}
 
 /// A step of a job goes on with the raising of its floor: the floor stands once its last call is made, and nothing else of the
-/// machine's changes; or the job waits for a group, or the machine fails. A step of an archive changes nothing of the machine's.
+/// machine's changes; or the job waits for a group, or the machine fails. A step of an archive or a reclaim changes nothing of the
+/// machine's.
 pub fn job_stands()
     ensures { JobPumpStands }
 {}
@@ -69,4 +70,9 @@ pub fn floor_starts()
 /// An archive that begins, or is refused, changes nothing of the machine's.
 pub fn archive_starts()
     ensures { ArchiveStartStands }
+{}
+
+/// Nor does a reclaim that begins, or is refused.
+pub fn reclaim_starts()
+    ensures { ReclaimStartStands }
 {}

@@ -20,20 +20,16 @@ use Rattle.log_store.specs.Archives.{archive_as, records_to, run_to, with_archiv
 use Rattle.log_store.specs.Values.{LogStoreValue, IsInStep, promised_to}
 use Rattle.log_store.specs.declared.job.Job.{Job}
 use Rattle.law_log_layout.specs.HeapLog.{HeapLog}
+use Rattle.law_log_store.specs.Reclaiming.{taken_of}
 use Rattle.law_log_store.specs.Calls.{HoldsUnarchived, HasRoomFor}
 use Rattle.law_log_store.specs.Standing.{StandsOnHeap, HasTurn, HasJob, IsAtRest, IsRoomOf, IsNextArchive, IsWritten, LeavesOne, TakesLast}
 use Rattle.law_log_store.proofs.Joining.{in-heap}
+use Rattle.law_log_store.proofs.Archiving.{none-held}
 use Rattle.law_log_store.proofs.Jobs.{is-upto}
 use Rattle.law_log_store.proofs.Plans.{walked-plan, walked-in-range}
 use Rattle.law_log_store.proofs.Queues.{told-many}
+use Rattle.law_log_store.proofs.Reclaims.{none-made}
 use Rattle.law_log_store.proofs.Used.{used-are}
-
--- nothing is held at a place within the content
-none-held : (at : ℕ) (content : List ℕ) → at ≤ length content → HoldsPart at [] content
-none-held at content within = record { inside = omega (arith, within); is = empty }
-  where
-    empty : slice_range content at (at + 0) ≡ []
-    empty = (let none : at + 0 - at ≡ 0 = omega arith in ap (λ (n : ℕ). take n (drop at content)) none)
 
 -- of no contents no extents are promised
 no-extents : (contents : List (List ℕ)) → length contents ≡ 0 → extents_of contents ≡ 0
@@ -41,8 +37,8 @@ no-extents [] none = refl
 no-extents (c ∷ cs) none = absurd (omega (arith, none))
 
 module _ (v : LogStoreValue) (upto : ℕ) (h queue : History Value) (floors : ℕ → ℕ) (step : IsInStep v) (none : v.job ≡ None)
-    (room : HasRoomFor v upto h queue) (later : v.named.upto < upto) (by_last : upto ≤ last h) (in_range : IsRun (run_to v upto))
-    (holds : HoldsUnarchived v h floors) (s : StandsOnHeap v h queue floors) where
+    (no-reclaim : v.reclaim ≡ None) (room : HasRoomFor v upto h queue) (later : v.named.upto < upto) (by_last : upto ≤ last h)
+    (in_range : IsRun (run_to v upto)) (holds : HoldsUnarchived v h floors) (s : StandsOnHeap v h queue floors) where
   abbrev made : List ArchiveRecord
   made = records_to v upto
 
@@ -102,7 +98,8 @@ module _ (v : LogStoreValue) (upto : ℕ) (h queue : History Value) (floors : �
       let promised = step.promised in
       omega (arith, promised, no-contents, free)
 
-  room-promised : (l : HeapLog) → IsRoomOf v.roots.extents l v.room → IsRoomOf v.roots.extents l (record v.room { promised = v.room.promised + 1 })
+  room-promised : (l : HeapLog) → IsRoomOf v.roots.extents l (taken_of v.reclaim) v.room
+      → IsRoomOf v.roots.extents l (taken_of v.reclaim) (record v.room { promised = v.room.promised + 1 })
   room-promised l is = record { many = is.many; next = is.next; free = is.free; log = is.log }
 
   module _ (new : LogStoreValue) (b : BeginsArchive v run writer new) where
@@ -126,7 +123,7 @@ module _ (v : LogStoreValue) (upto : ℕ) (h queue : History Value) (floors : �
             })
 
     resting : IsAtRest v s.l → IsAtRest begun s.l
-    resting rest = record { log = rest.log; room = room-promised s.l rest.room }
+    resting rest = record { log = rest.log; room = room-promised s.l rest.room; live = rest.live }
 
     by-turn : (t : Option WriterState) → HasTurn v queue s.l s.reading s.made h t → HasTurn begun queue s.l s.reading made h t
     by-turn None has = resting (subst (λ (j : Option Job). HasJob v s.l s.reading s.made j) none has)
@@ -139,7 +136,9 @@ module _ (v : LogStoreValue) (upto : ℕ) (h queue : History Value) (floors : �
       shares = o.shares;
       at = o.at;
       room = room-promised _ o.room;
+      live = o.live;
       alone = tt;
+      beside = o.beside;
     }
 
     pub archive-begins : StandsOnHeap new h queue floors
@@ -159,6 +158,7 @@ module _ (v : LogStoreValue) (upto : ℕ) (h queue : History Value) (floors : �
         contents = s.commits.contents;
         may = s.commits.may;
       };
+      facts = s.facts;
       anchors = record { len = s.anchors.len; fit = s.anchors.fit };
       turn = by-turn v.turn s.turn;
       job = next;
@@ -166,4 +166,5 @@ module _ (v : LogStoreValue) (upto : ℕ) (h queue : History Value) (floors : �
       named = s.named;
       reach = s.reach;
       spare = spare;
+      reclaim = none-made v.roots (begun).job v.named.end v.disk.areas.heap v.disk.areas.archive s.l s.reading v.reclaim no-reclaim;
     })

@@ -1,7 +1,7 @@
 -- The run of an archive is written, call by call, beside whatever group is in the writing.
-use Rattle.std.proofs.Common.{◌≡◌, ℕ, ◌+◌, ◌*◌, ◌≤◌, Bool, true, false, IsTrue, List, [], ◌∷◌, ◌++◌, length, take, drop, Option, None, Some, Result}
+use Rattle.std.proofs.Common.{◌≡◌, ℕ, ◌+◌, ◌-◌, ◌*◌, ◌≤◌, Bool, true, false, IsTrue, List, [], ◌∷◌, ◌++◌, length, take, drop, Option, None, Some, Result}
 use Rattle.std.proofs.Common.{Ok, Err, refl, arith, ap, sym, subst, ◌∙◌, ◌⊎◌, inl, inr, length-append, append_assoc, append-nil, take-append-drop}
-use Rattle.std.specs.Prelude.{flat_map, MatchResult}
+use Rattle.std.specs.Prelude.{flat_map, slice_range, MatchResult}
 use Rattle.std.specs.List.{AllByRecursion}
 use Rattle.history.specs.Histories.{History, last}
 use Rattle.disk.specs.Areas.{AreaState, Areas, Image, AreSound, IsSound, LeavesImage, loosened, synced, written}
@@ -39,22 +39,33 @@ use Rattle.log_store.specs.declared.job.JobStage.TheVariants.{Writing, Ready, En
 use Rattle.log_store.specs.declared.job.JobWork.{JobWork}
 use Rattle.log_store.specs.declared.job.JobWork.TheVariants.{Floor}
 use Rattle.log_store.specs.declared.job.JobWork.TheVariants as works
-use Rattle.law_log_store.specs.Standing.{StandsOnHeap, HasTurn, HasJob, HasStage, IsAtRest, KeepsRoots, IsImageOf, IsBehind, IsNextArchive, MayEnter}
+use Rattle.law_log_store.specs.Standing.{StandsOnHeap, HasTurn, HasJob, HasStage, IsAtRest, IsImageOf, IsNextArchive, MayEnter}
 use Rattle.law_log_store.specs.Standing.{MayAllEnter, IsWritten, HasWritten, HasAllWritten, IsAhead, LeavesOne, TakesLast, MayStand, MayStandAt, MayStandBy}
 use Rattle.law_log_store.specs.Standing.{StopsBy, floors_with}
+use Rattle.law_log_store.specs.Named.{IsBehind}
+use Rattle.law_log_store.specs.Reclaiming.{HasRoots}
 use Rattle.law_log_store.specs.Calls.{HasFailed, floors_by, floors_after}
 use Rattle.law_log_store.proofs.Going.{standing-stops}
+use Rattle.law_log_store.proofs.Reclaims.{beside-job, none-made}
 use Rattle.law_log_store.proofs.Spans.{stored-ends}
+
+-- nothing is held at a place within the content
+pub none-held : (at : ℕ) (content : List ℕ) → at ≤ length content → HoldsPart at [] content
+none-held at content within = record { inside = omega (arith, within); is = empty }
+  where
+    empty : slice_range content at (at + 0) ≡ []
+    empty = (let none : at + 0 - at ≡ 0 = omega arith in ap (λ (n : ℕ). take n (drop at content)) none)
 
 -- ---- what the log names is kept
 
-names-long : (xs : List Head) → length (flat_map name_bytes xs) ≡ 16 * length xs
+pub names-long : (xs : List Head) → length (flat_map name_bytes xs) ≡ 16 * length xs
 unfolding u64_bytes
 names-long [] = refl
 names-long (a ∷ xs) = let rest = names-long xs in omega (arith, rest)
 
 -- by a write behind it, in full or in part
-kept-behind : (most root place at n : ℕ) (l : HeapLog) (reading : Reading) (old new : AreaState) → IsLogOf most root l reading → IsBehind place l → place ≤ at
+pub kept-behind : (most root place at n : ℕ) (l : HeapLog) (reading : Reading) (old new : AreaState) → IsLogOf most root l reading → IsBehind place l
+    → place ≤ at
     → IsSound old → IsLoosened at n old new → KeepsArchive l old → KeepsArchive l new
 kept-behind most root place at n l reading old new is behind past sound loose keeps = record {
   rolls = three IsStoredRoll (λ (r : PlacedRoll). r.roll.start + r.roll.len ≤ place)
@@ -87,7 +98,7 @@ all-synced-runs [] a sound keeps = tt
 all-synced-runs (s ∷ runs) a sound keeps =
     (kept_by_sync s.entry.start (run_bytes s.records) a sound keeps.0, all-synced-runs runs a sound keeps.1)
 
-kept-synced : (l : HeapLog) (a : AreaState) → IsSound a → KeepsArchive l a → KeepsArchive l (synced a)
+pub kept-synced : (l : HeapLog) (a : AreaState) → IsSound a → KeepsArchive l a → KeepsArchive l (synced a)
 kept-synced l a sound keeps = record { rolls = all-synced-rolls l.rolls a sound keeps.rolls; runs = all-synced-runs l.runs a sound keeps.runs }
 
 -- ---- the run
@@ -118,6 +129,15 @@ all-written a made writer archive none is =
     nothing [] none = refl
     nothing (b ∷ bs) none = absurd (omega (arith, none))
 
+-- what holds by the stage of a chain in a store that works holds in one that has failed
+pub be-become : (failed : Bool) (stage : Stage) (Old New : Type 0) → MayBe stage Old New → MayStandAt failed stage Old New
+be-become false stage Old New is = is
+be-become true (chains.Writing done rest) Old New is = is
+be-become true chains.Syncing Old New is = is
+be-become true chains.Opening Old New is = inl is
+be-become true chains.Settling Old New is = is
+be-become true chains.Done Old New is = is
+
 -- ---- a store whose archive area has changed
 
 module _ (v : LogStoreValue) (h queue : History Value) (floors : ℕ → ℕ) (s : StandsOnHeap v h queue floors) (job : Job) (writer : InWriting)
@@ -129,6 +149,9 @@ module _ (v : LogStoreValue) (h queue : History Value) (floors : ℕ → ℕ) (s
   so-far =
       subst (λ (k : JobStage). HasWritten job.work s.made k v.disk.areas.archive) e
       (subst (λ (j : Option Job). HasAllWritten s.made j v.disk.areas.archive) is-job s.written)
+
+  none-runs : v.reclaim ≡ None
+  none-runs = beside-job v.roots v.job v.named.end v.disk.areas.heap v.disk.areas.archive s.l s.reading job v.reclaim is-job s.reclaim
 
   -- it is behind all that the log names
   is-behind : IsBehind v.named.end s.l
@@ -147,7 +170,7 @@ module _ (v : LogStoreValue) (h queue : History Value) (floors : ℕ → ℕ) (s
     status-same = ap (λ (a : Areas). a.status) same
 
     rests : IsAtRest v s.l → IsAtRest moved s.l
-    rests rest = record { log = subst (KeepsLog s.l) (sym heap-same) rest.log; room = rest.room }
+    rests rest = record { log = subst (KeepsLog s.l) (sym heap-same) rest.log; room = rest.room; live = rest.live }
 
     calm-stage : (k : JobStage) → is_entering k ≡ false → IsAtRest v s.l → HasStage moved s.l s.reading s.made job.work k
     calm-stage (Writing w) calm rest = rests rest
@@ -173,7 +196,9 @@ module _ (v : LogStoreValue) (h queue : History Value) (floors : ℕ → ℕ) (s
       shares = is.shares;
       at = subst (λ (heap : AreaState). IsAt (heap_parts s.l) (turn_of s.l.next (placed_group w.numbers w.link is.group)) w.stage heap) (sym heap-same) is.at;
       room = is.room;
+      live = is.live;
       alone = calm-beside w stage calm;
+      beside = is.beside;
     }
 
     by-spare : LeavesOne v.roots.extents v.room ⊎ TakesLast v.roots.extents v.room h queue v.job
@@ -194,7 +219,7 @@ module _ (v : LogStoreValue) (h queue : History Value) (floors : ℕ → ℕ) (s
       is_log = s.is_log;
       stands = s.stands;
       archive = archive;
-      status = subst (KeepsRoots v.roots) (sym status-same) s.status;
+      status = subst (HasRoots v.roots v.reclaim) (sym status-same) s.status;
       sound = sound;
       commits = record {
         ordered = s.commits.ordered;
@@ -203,6 +228,7 @@ module _ (v : LogStoreValue) (h queue : History Value) (floors : ℕ → ℕ) (s
         contents = s.commits.contents;
         may = s.commits.may;
       };
+      facts = s.facts;
       anchors = s.anchors;
       turn = by-turn v.turn s.turn;
       job = may-come;
@@ -210,6 +236,7 @@ module _ (v : LogStoreValue) (h queue : History Value) (floors : ℕ → ℕ) (s
       named = s.named;
       reach = reach;
       spare = by-spare s.spare;
+      reclaim = none-made v.roots (moved).job v.named.end disk.areas.heap disk.areas.archive s.l s.reading v.reclaim none-runs;
     }
 
   -- ---- a piece is written
@@ -273,15 +300,6 @@ module _ (v : LogStoreValue) (h queue : History Value) (floors : ℕ → ℕ) (s
       (has-written (Writing writer) (loose-areas).archive (record { front = is.front; whole = is.whole; place = is.place; held = is.held })) s.reach)
 
   -- ---- what a step leads to
-
-  -- what holds by the stage of a chain in a store that works holds in one that has failed
-  be-become : (failed : Bool) (stage : Stage) (Old New : Type 0) → MayBe stage Old New → MayStandAt failed stage Old New
-  be-become false stage Old New is = is
-  be-become true (chains.Writing done rest) Old New is = is
-  be-become true chains.Syncing Old New is = is
-  be-become true chains.Opening Old New is = inl is
-  be-become true chains.Settling Old New is = is
-  be-become true chains.Done Old New is = is
 
   failed-stops : (failed : Bool) (Old Grouped : Type 0) (Entered : JobWork → Type 0) (after : InWriting) → v.commits.failed ≡ false
       → MayStand v.commits.failed v.turn v.job Old Grouped Entered

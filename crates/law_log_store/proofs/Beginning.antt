@@ -38,7 +38,9 @@ use Rattle.log_sizes.specs.Counted.{values_in}
 use Rattle.log_room.specs.Rooms.{RoomValue, TakesChain}
 use Rattle.log_room.specs.Contents.{joined, extents_of}
 use Rattle.commits.specs.Values.{CommitsValue, WaitingValue, versions_after}
-use Rattle.commits.specs.Steps.{grouped}
+use Rattle.commits.specs.Steps.{group_last, grouped}
+use Rattle.log_recovery.specs.declared.live.LivePart.TheVariants.{Commits}
+use Rattle.log_store.specs.Live.{LiveValue, with_live}
 use Rattle.log_store.specs.Values.{LogStoreValue, IsInStep}
 use Rattle.log_store.specs.Values as stores
 use Rattle.log_store.specs.Pumps.{Begins, bars_at, bars_groups, group_size, group_content}
@@ -48,13 +50,17 @@ use Rattle.log_store.specs.declared.job.JobStage.TheVariants.{Ready, Entering}
 use Rattle.log_store.specs.declared.job.JobStage.TheVariants as stages
 use Rattle.log_store.proofs.InStep.{beside_group}
 use Rattle.law_log_store.specs.Members.{AreTold, AreContents, members_over}
-use Rattle.law_log_store.specs.Standing.{StandsOnHeap, HasTurn, HasJob, HasStage, IsAtRest, IsOnWay, IsRoomOf, LeavesOne, TakesLast, HasAnchors, counted}
+use Rattle.law_log_store.specs.Reclaiming.{taken_of}
+use Rattle.law_log_store.specs.Standing.{StandsOnHeap, HasTurn, HasJob, HasStage, IsAtRest, IsLiveOf, IsOnWay, IsRoomOf, LeavesOne, TakesLast}
+use Rattle.law_log_store.specs.Standing.{HasAnchors, counted}
 use Rattle.law_log_store.specs.Laws.{AreNext}
 use Rattle.law_log_store.proofs.Members.{members-told}
 use Rattle.law_log_store.proofs.Joining.{in-heap, group-joins}
 use Rattle.law_log_store.proofs.Queues.{taken-and-rest, length-taken, told-many, told-front, contents-front, contents-rest}
 use Rattle.law_log_store.proofs.Anchors.{anchors-front}
 use Rattle.law_log_store.proofs.Flags.{IsTaken, is-taken}
+use Rattle.law_log_store.proofs.Lives.{one-more-lives, group-part}
+use Rattle.law_log_store.proofs.Reclaims.{taken-apart}
 
 -- ---- extents that are counted
 
@@ -96,15 +102,16 @@ grouped-is v none some =
     ap (λ (n : ℕ). cond ((n == 0) && nat_lt 0 (length v.queue)) it v) none ∙ ap (λ (b : Bool). cond b it v) (is_lt some)
 
 -- the room with a chain's extents taken
-module _ (most : ℕ) (l : HeapLog) (old room-then : RoomValue) (count promised : ℕ) (numbers : List ℕ) (link : ℕ) (is : IsRoomOf most l old)
-    (next : IsNumberOf most l.next) (apart : AreDistinct (l.next ∷ live_numbers l)) (takes : TakesChain old count promised numbers link room-then) where
-  pub taken : IsTaken most l numbers link room-then.used
+module _ (most : ℕ) (l : HeapLog) (base : List ℕ) (old room-then : RoomValue) (count promised : ℕ) (numbers : List ℕ) (link : ℕ)
+    (is : IsRoomOf most l base old) (next : IsNumberOf most l.next) (apart : AreDistinct (l.next ∷ live_numbers l))
+    (own : AreDistinct base × IsNew l.next base) (takes : TakesChain old count promised numbers link room-then) where
+  pub taken : IsTaken most l base numbers link room-then.used
   taken =
       let same : l.next ∷ takes.others ≡ numbers = ap (λ (n : ℕ). n ∷ takes.others) (sym is.next) ∙ sym takes.numbers_are in
       let flags : all_used old.used (takes.others ++ link ∷ []) ≡ room-then.used = ap (λ (r : RoomValue). r.used) (sym takes.new_is) in
-      subst (λ (ns : List ℕ). IsTaken most l ns link room-then.used) same
-      (subst (λ (used : List Bool). IsTaken most l (l.next ∷ takes.others) link used) flags
-      (is-taken most l old.used takes.others link is.many next apart is.free takes.least))
+      subst (λ (ns : List ℕ). IsTaken most l base ns link room-then.used) same
+      (subst (λ (used : List Bool). IsTaken most l base (l.next ∷ takes.others) link used) flags
+      (is-taken most l base old.used takes.others link is.many next apart own is.free takes.least))
 
   module _ (c : PlacedChain) (numbers-are : c.numbers ≡ numbers) (link-is : c.link ≡ link) (counts : counted_of c.numbers c.entry ≡ c.numbers)
       (few : count ≤ promised) (enough : promised ≤ old.promised) where
@@ -128,13 +135,14 @@ module _ (most : ℕ) (l : HeapLog) (old room-then : RoomValue) (count promised 
         let spare = leaves (omega (arith, more, promised-is)) in
         omega (arith, spare, log-is, promised-is, few, enough)
 
-    pub room-is : IsRoomOf most (with_chain l c) room-then
+    pub room-is : IsRoomOf most (with_chain l c) base room-then
     room-is = record {
       many = taken.many;
       next = ap (λ (r : RoomValue). r.next) takes.new_is ∙ sym link-is;
       free = λ m.
           subst (λ (ns : List ℕ). IsFree room-then.used m ↔ (IsNumberOf most m × IsNew m ns))
-          ((λ i. sym link-is i ∷ live_numbers l ++ sym numbers-are i) ∙ ap (λ (ns : List ℕ). c.link ∷ ns) (sym (live-more l c))) (taken.free m);
+          ((λ i. base ++ (sym link-is i ∷ live_numbers l ++ sym numbers-are i)) ∙ ap (λ (ns : List ℕ). base ++ c.link ∷ ns) (sym (live-more l c)))
+          (taken.free m);
       log = let more = counted-more l c counts in let was = is.log in omega (arith, log-is, was, more, many-more);
     }
 
@@ -165,6 +173,11 @@ module _ (old : LogStoreValue) (h queue : History Value) (floors : ℕ → ℕ) 
   all-contents =
       subst (λ (n : ℕ). AreContents (versions_after versions (take n old.commits.queue)) old.contents (drop n old.commits.queue) (drop n queue)) none
       s.commits.contents
+
+  -- the extents that are taken for a base
+  own-taken : AreDistinct (taken_of old.reclaim) × IsNew s.l.next (taken_of old.reclaim)
+  own-taken =
+      taken-apart old.roots old.job old.named.end old.disk.areas.heap old.disk.areas.archive s.l s.reading old.reclaim s.reclaim
 
   -- commits wait, so one extent is left
   leaves : LeavesOne old.roots.extents old.room
@@ -233,15 +246,15 @@ module _ (old : LogStoreValue) (h queue : History Value) (floors : ℕ → ℕ) 
     enough : extents_of contents ≤ old.room.promised
     enough = let split = extents-split size old.contents in let promised = step.promised in omega (arith, split, promised)
 
-    is-room : IsRoomOf old.roots.extents (with_chain s.l chain) b.room
+    is-room : IsRoomOf old.roots.extents (with_chain s.l chain) (taken_of old.reclaim) b.room
     is-room =
-        room-is old.roots.extents s.l old.room b.room (count_of (length (group_content old))) (extents_of contents) b.numbers b.link rest.room s.is_log.next
-        s.is_log.apart b.takes chain refl refl refl few enough
+        room-is old.roots.extents s.l (taken_of old.reclaim) old.room b.room (count_of (length (group_content old))) (extents_of contents) b.numbers
+        b.link rest.room s.is_log.next s.is_log.apart own-taken b.takes chain refl refl refl few enough
 
-    is-taken-so : IsTaken old.roots.extents s.l b.numbers b.link b.room.used
+    is-taken-so : IsTaken old.roots.extents s.l (taken_of old.reclaim) b.numbers b.link b.room.used
     is-taken-so =
-        taken old.roots.extents s.l old.room b.room (count_of (length (group_content old))) (extents_of contents) b.numbers b.link rest.room s.is_log.next
-        s.is_log.apart b.takes
+        taken old.roots.extents s.l (taken_of old.reclaim) old.room b.room (count_of (length (group_content old))) (extents_of contents) b.numbers
+        b.link rest.room s.is_log.next s.is_log.apart own-taken b.takes
 
     may-join : MayJoin old.roots.extents s.l chain
     may-join = record {
@@ -261,8 +274,8 @@ module _ (old : LogStoreValue) (h queue : History Value) (floors : ℕ → ℕ) 
       log =
           let one = one-or-none (nat_lt (archive_mark then.log) (told_time then.log)) in
           let log = is-room.log in
-          let spare = spare-then old.roots.extents s.l old.room b.room (count_of (length (group_content old))) (extents_of contents) b.numbers b.link rest.room
-          s.is_log.next s.is_log.apart b.takes chain refl refl refl few enough leaves in
+          let spare = spare-then old.roots.extents s.l (taken_of old.reclaim) old.room b.room (count_of (length (group_content old)))
+          (extents_of contents) b.numbers b.link rest.room s.is_log.next s.is_log.apart own-taken b.takes chain refl refl refl few enough leaves in
           omega (arith, one, log, spare);
       anchors =
           (bounds-same (reclaimed_upto then) then (standing-ordered then (h ++ next) floors stands-then) ((3 * old.roots.extents) / 16)).1 sizes-fit;
@@ -278,11 +291,21 @@ module _ (old : LogStoreValue) (h queue : History Value) (floors : ℕ → ℕ) 
       stage = Writing [] (chain_turn b.numbers b.link (group_content old)).parts;
     }
 
+    abbrev lives : LiveValue
+    lives = with_live old.live b.numbers (Commits (group_last (grouped 1024 old.commits)))
+
+    -- its chain is the last of those in memory
+    is-live : IsLiveOf (with_chain s.l chain) lives
+    is-live =
+        one-more-lives s.l old.live chain b.numbers (Commits (group_last (grouped 1024 old.commits))) refl
+        (ap (λ (commits : CommitsValue). Commits (group_last commits)) (grouped-is old.commits none some) ∙ group-part versions waiting next told) rest.live
+
     abbrev target : LogStoreValue
     target = record old {
       commits = record old.commits { group = size };
       contents = drop size old.contents;
       room = b.room;
+      live = lives;
       turn = Some writer;
     }
 
@@ -291,6 +314,7 @@ module _ (old : LogStoreValue) (h queue : History Value) (floors : ℕ → ℕ) 
       commits = commits;
       contents = drop size old.contents;
       room = b.room;
+      live = lives;
       turn = Some writer;
     }) (grouped-is old.commits none some)
 
@@ -309,7 +333,9 @@ module _ (old : LogStoreValue) (h queue : History Value) (floors : ℕ → ℕ) 
         written = tt;
       };
       room = is-room;
+      live = is-live;
       alone = beside_group writer old.job unbarred;
+      beside = is-taken-so.beside;
     }
 
     -- its chain is in the writing, and the store works as before
@@ -339,14 +365,16 @@ module _ (old : LogStoreValue) (h queue : History Value) (floors : ℕ → ℕ) 
         contents = contents-rest size versions old.contents old.commits.queue queue all-contents;
         may = s.commits.may;
       };
+      facts = s.facts;
       anchors = subst (HasAnchors old.roots.extents s.reading queue) (ap (λ (r : RoomValue). r.anchors) (sym (let t = b.takes in t.new_is))) s.anchors;
       turn = on-way;
       job = s.job;
       written = s.written;
       named = s.named;
       reach = s.reach;
-      spare = inl (leaves-then old.roots.extents s.l old.room b.room (count_of (length (group_content old))) (extents_of contents) b.numbers b.link rest.room
-          s.is_log.next s.is_log.apart b.takes chain refl refl refl few enough leaves);
+      spare = inl (leaves-then old.roots.extents s.l (taken_of old.reclaim) old.room b.room (count_of (length (group_content old)))
+          (extents_of contents) b.numbers b.link rest.room s.is_log.next s.is_log.apart own-taken b.takes chain refl refl refl few enough leaves);
+      reclaim = s.reclaim;
     })
 
 -- A group that has begun.

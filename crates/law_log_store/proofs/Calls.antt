@@ -67,6 +67,7 @@ module _ (v : LogStoreValue) (opened : List (Option ℕ)) (heads : List CommitHe
       contents = s.commits.contents;
       may = s.commits.may;
     };
+    facts = s.facts;
     anchors = s.anchors;
     turn = by-turn v.turn s.turn;
     job = s.job;
@@ -74,15 +75,16 @@ module _ (v : LogStoreValue) (opened : List (Option ℕ)) (heads : List CommitHe
     named = s.named;
     reach = s.reach;
     spare = s.spare;
+    reclaim = s.reclaim;
   }
     where
       by-stage : (work : JobWork) (k : JobStage) → HasStage v s.l s.reading s.made work k → HasStage named s.l s.reading s.made work k
-      by-stage work (Writing writer) is = record { log = is.log; room = is.room }
-      by-stage work (Ready waited) is = record { log = is.log; room = is.room }
-      by-stage work (Entering w) is = record { content = is.content; joins = is.joins; shares = is.shares; at = is.at; room = is.room }
+      by-stage work (Writing writer) is = record { log = is.log; room = is.room; live = is.live }
+      by-stage work (Ready waited) is = record { log = is.log; room = is.room; live = is.live }
+      by-stage work (Entering w) is = record { content = is.content; joins = is.joins; shares = is.shares; at = is.at; room = is.room; live = is.live }
 
       by-job : (j : Option Job) → HasJob v s.l s.reading s.made j → HasJob named s.l s.reading s.made j
-      by-job None is = record { log = is.log; room = is.room }
+      by-job None is = record { log = is.log; room = is.room; live = is.live }
       by-job (Some job) is = by-stage job.work job.stage is
 
       by-turn : (t : Option WriterState) → HasTurn v queue s.l s.reading s.made h t → HasTurn named queue s.l s.reading s.made h t
@@ -96,7 +98,9 @@ module _ (v : LogStoreValue) (opened : List (Option ℕ)) (heads : List CommitHe
         shares = is.shares;
         at = is.at;
         room = is.room;
+        live = is.live;
         alone = is.alone;
+        beside = is.beside;
       }
 
   names-keep : KeepsDisk v named

@@ -21,7 +21,7 @@ use Rattle.law_image.proofs.Standing.{last-is, last-range}
 use Rattle.law_layout.specs.Records.{old_bytes}
 use Rattle.group.specs.declared.answers.PumpFault.{PumpFault}
 use Rattle.group.specs.declared.answers.PumpFault.TheVariants as fault
-use Rattle.log_extents.specs.Chains.{count_of}
+use Rattle.log_extents.specs.Chains.{count_of, AreDistinct, IsNew}
 use Rattle.log_entries.specs.Lengths.{length-archive, length-floor}
 use Rattle.log_entries.specs.Ranges.{IsEntry}
 use Rattle.log_entries.specs.Spelling.{entry_bytes}
@@ -30,9 +30,11 @@ use Rattle.log_writer.specs.Turns.{Turn, Stage, Writing, Syncing, Opening, Settl
 use Rattle.log_writer.specs.Writer.{WriterState, turn, with_stage}
 use Rattle.log_writer.specs.Writer as writers
 use Rattle.log_room.specs.Rooms.{RoomValue}
+use Rattle.log_recovery.specs.Live.{part_of}
+use Rattle.log_store.specs.Live.{with_live}
 use Rattle.log_store.specs.Values.{LogStoreValue, IsInStep}
 use Rattle.log_store.specs.Jobs.{Advances, BeginsEntry, at_stage, with_entry, after_call}
-use Rattle.log_store.specs.Jobs.{entry_of, did_of, named_with, with_work}
+use Rattle.log_store.specs.Jobs.{commits_with, entry_of, did_of, named_with, with_work}
 use Rattle.log_store.specs.Runs.{disk_answer}
 use Rattle.log_store.specs.declared.job.Job.{Job}
 use Rattle.log_store.specs.declared.job.JobDid.{JobDid}
@@ -44,15 +46,21 @@ use Rattle.law_log_layout.specs.HeapLog.{HeapLog, PlacedChain, heap_parts, AreAn
 use Rattle.law_log_layout.specs.HeapLog.{HeapStandsFor}
 use Rattle.law_log_layout.specs.Laws.{KeepsArchive}
 use Rattle.law_log_layout.specs.Turns.{IsAt, MayBecome}
-use Rattle.law_log_store.specs.Standing.{StandsOnHeap, HasTurn, IsAtRest, IsEntering, IsRoomOf, HasAnchors, KeepsRoots, IsImageOf}
-use Rattle.law_log_store.specs.Standing.{HasCommits, MayStand, MayStandBy, MayEnter, placed_entry, log_with, floors_with, reading_with, HasWritten, IsNamedBy}
-use Rattle.law_log_store.specs.Standing.{LeavesOne, TakesLast, IsUpTo}
+use Rattle.law_log_store.specs.Standing.{StandsOnHeap, HasTurn, IsAtRest, IsEntering, IsLiveOf, IsRoomOf, HasAnchors, IsImageOf}
+use Rattle.law_log_store.specs.Standing.{HasCommits, MayStand, MayStandBy, MayEnter, placed_entry, log_with, floors_with, reading_with, HasWritten}
+use Rattle.law_log_store.specs.Standing.{AreFactsOf, LeavesOne, TakesLast, IsUpTo}
+use Rattle.law_log_store.specs.Named.{IsNamedBy}
+use Rattle.law_log_store.specs.Reclaiming.{HasRoots, taken_of}
 use Rattle.law_log_store.specs.Calls.{HasFailed, floors_after}
 use Rattle.law_log_store.proofs.Flags.{IsTaken}
 use Rattle.law_log_store.proofs.Beginning.{room-is, taken, spare-then, leaves-then, one-or-none}
 use Rattle.law_log_store.proofs.Going.{entered, entry-way-at, entry-way, entry-turn, runs-kept, same-archive, same-status, status-left, map-within}
+use Rattle.law_log_store.proofs.Headers.{Turns, image-of, root-left}
 use Rattle.law_log_store.proofs.Joining.{in-heap}
+use Rattle.law_log_store.proofs.Lives.{one-more-lives}
 use Rattle.law_log_store.proofs.Naming.{named-same, named-more}
+use Rattle.law_log_store.proofs.Reclaims.{none-made, taken-apart}
+use Rattle.law_log_store.proofs.HeapFacts.{facts-stay}
 
 -- ---- an entry
 
@@ -105,7 +113,7 @@ module _ (old begun : LogStoreValue) (h queue : History Value) (floors : ℕ →
     (step : IsInStep old) (job : Job) (promised : 1 ≤ old.room.promised) (may : MayEnter s.l s.reading h floors job.work s.made)
     (written : (w : WriterState) → HasWritten job.work s.made (Entering w) old.disk.areas.archive)
     (spare : LeavesOne old.roots.extents old.room ⊎ TakesLast old.roots.extents old.room h queue (Some job)) (at_rest : old.turn ≡ None)
-    (b : BeginsEntry old job begun) where
+    (none : old.reclaim ≡ None) (b : BeginsEntry old job begun) where
   abbrev pub writer : WriterState
   writer = record {
     numbers = b.numbers;
@@ -137,16 +145,22 @@ module _ (old begun : LogStoreValue) (h queue : History Value) (floors : ℕ →
   small (Floor floor kept) = tt
   small (works.Archive a archives) = tt
 
-  chain-room : IsRoomOf old.roots.extents (with_chain s.l chain) b.room
+  -- the extents that are taken for a base
+  own-taken : AreDistinct (taken_of old.reclaim) × IsNew s.l.next (taken_of old.reclaim)
+  own-taken =
+      taken-apart old.roots old.job old.named.end old.disk.areas.heap old.disk.areas.archive s.l s.reading old.reclaim s.reclaim
+
+  chain-room : IsRoomOf old.roots.extents (with_chain s.l chain) (taken_of old.reclaim) b.room
   chain-room =
-      room-is old.roots.extents s.l old.room b.room 1 1 b.numbers b.link rest.room s.is_log.next s.is_log.apart b.takes chain refl refl (counts job.work) few
+      room-is old.roots.extents s.l (taken_of old.reclaim) old.room b.room 1 1 b.numbers b.link rest.room s.is_log.next s.is_log.apart own-taken
+      b.takes chain refl refl (counts job.work) few
       promised
 
-  is-room : IsRoomOf old.roots.extents log-begun b.room
+  is-room : IsRoomOf old.roots.extents log-begun (taken_of old.reclaim) b.room
   is-room = record { many = (chain-room).many; next = (chain-room).next; free = (chain-room).free; log = (chain-room).log }
 
-  is-taken : IsTaken old.roots.extents s.l b.numbers b.link b.room.used
-  is-taken = taken old.roots.extents s.l old.room b.room 1 1 b.numbers b.link rest.room s.is_log.next s.is_log.apart b.takes
+  is-taken : IsTaken old.roots.extents s.l (taken_of old.reclaim) b.numbers b.link b.room.used
+  is-taken = taken old.roots.extents s.l (taken_of old.reclaim) old.room b.room 1 1 b.numbers b.link rest.room s.is_log.next s.is_log.apart own-taken b.takes
 
   may-join : MayJoin old.roots.extents s.l chain
   may-join = record {
@@ -186,7 +200,8 @@ module _ (old begun : LogStoreValue) (h queue : History Value) (floors : ℕ →
           → KeepsHalf old.roots.extents b.room.log reading-begun
       by-spare (inl leaves) =
           let one = one-or-none (nat_lt (archive_mark (reading-begun).log) (told_time (reading-begun).log)) in
-          let more = spare-then old.roots.extents s.l old.room b.room 1 1 b.numbers b.link rest.room s.is_log.next s.is_log.apart b.takes chain refl refl
+          let more = spare-then old.roots.extents s.l (taken_of old.reclaim) old.room b.room 1 1 b.numbers b.link rest.room s.is_log.next
+          s.is_log.apart own-taken b.takes chain refl refl
           (counts job.work) few promised leaves in
           omega (arith, one, more)
       by-spare (inr takes) = let fits = takes.fits in last-fits job.work (takes.entry).1 may (omega (arith, log-more, fits))
@@ -196,7 +211,8 @@ module _ (old begun : LogStoreValue) (h queue : History Value) (floors : ℕ →
     where
       by-spare : LeavesOne old.roots.extents old.room ⊎ TakesLast old.roots.extents old.room h queue (Some job) → LeavesOne old.roots.extents b.room
       by-spare (inl leaves) =
-          leaves-then old.roots.extents s.l old.room b.room 1 1 b.numbers b.link rest.room s.is_log.next s.is_log.apart b.takes chain refl refl
+          leaves-then old.roots.extents s.l (taken_of old.reclaim) old.room b.room 1 1 b.numbers b.link rest.room s.is_log.next s.is_log.apart
+          own-taken b.takes chain refl refl
           (counts job.work) few promised leaves
       by-spare (inr takes) = λ some.
           let t = b.takes in
@@ -220,8 +236,12 @@ module _ (old begun : LogStoreValue) (h queue : History Value) (floors : ℕ →
         (small job.work, tt);
   }
 
+  -- its chain is the last of those in memory
+  chain-live : IsLiveOf (with_chain s.l chain) (with_live old.live b.numbers (part_of (entry_of job.work)))
+  chain-live = one-more-lives s.l old.live chain b.numbers (part_of (entry_of job.work)) refl refl rest.live
+
   abbrev pub target : LogStoreValue
-  target = record (at_stage old job (Entering writer)) { room = b.room }
+  target = record (at_stage old job (Entering writer)) { room = b.room; live = with_live old.live b.numbers (part_of (entry_of job.work)) }
 
   pub on-way : IsEntering target s.l s.reading s.made job.work writer
   on-way = record {
@@ -230,6 +250,7 @@ module _ (old begun : LogStoreValue) (h queue : History Value) (floors : ℕ →
     shares = keeps-shares;
     at = record { live = (rest.log).parts; ends = (rest.log).ends; parts_are = refl; written = tt };
     room = is-room;
+    live = record { chains = (chain-live).chains; anchors = (chain-live).anchors };
   }
 
   pub target-leaves : LeavesOne old.roots.extents (target).room
@@ -252,6 +273,7 @@ module _ (old begun : LogStoreValue) (h queue : History Value) (floors : ℕ →
       contents = s.commits.contents;
       may = s.commits.may;
     };
+    facts = s.facts;
     anchors = subst (HasAnchors old.roots.extents s.reading queue) (ap (λ (r : RoomValue). r.anchors) (sym (let t = b.takes in t.new_is))) s.anchors;
     turn = subst (λ (t : Option WriterState). HasTurn target queue s.l s.reading s.made h t) (sym at_rest) on-way;
     job = may;
@@ -259,12 +281,14 @@ module _ (old begun : LogStoreValue) (h queue : History Value) (floors : ℕ →
     named = s.named;
     reach = s.reach;
     spare = inl leaves-one;
+    reclaim =
+        none-made old.roots (target).job old.named.end old.disk.areas.heap old.disk.areas.archive s.l s.reading old.reclaim none;
   }
 
 -- ---- an entry on its way
 
 module _ (v : LogStoreValue) (h queue : History Value) (floors : ℕ → ℕ) (s : StandsOnHeap v h queue floors) (job : Job) (w : WriterState)
-    (at_rest : v.turn ≡ None) (may : MayEnter s.l s.reading h floors job.work s.made)
+    (at_rest : v.turn ≡ None) (none : v.reclaim ≡ None) (may : MayEnter s.l s.reading h floors job.work s.made)
     (written : HasWritten job.work s.made (Entering w) v.disk.areas.archive) (leaves : LeavesOne v.roots.extents v.room)
     (o : IsEntering v s.l s.reading s.made job.work w) where
   abbrev chain-here : PlacedChain
@@ -277,7 +301,7 @@ module _ (v : LogStoreValue) (h queue : History Value) (floors : ℕ → ℕ) (s
 
   -- one call further
   next-stands : (u : LogStoreValue) → u ≡ record (at_stage v job (Entering (with_stage w (stage_after w.stage)))) { disk = u.disk } → AreSound u.disk.areas
-      → u.disk.areas.archive ≡ v.disk.areas.archive → KeepsRoots v.roots u.disk.areas.status
+      → u.disk.areas.archive ≡ v.disk.areas.archive → HasRoots v.roots v.reclaim u.disk.areas.status
       → IsAt (heap_parts s.l) (turn_of s.l.next chain-here) (stage_after w.stage) u.disk.areas.heap → StandsOnHeap u h queue floors
   next-stands u is sound same status at = subst (λ (x : LogStoreValue). StandsOnHeap x h queue floors) (sym is) (record {
     l = s.l;
@@ -295,20 +319,24 @@ module _ (v : LogStoreValue) (h queue : History Value) (floors : ℕ → ℕ) (s
       contents = s.commits.contents;
       may = s.commits.may;
     };
+    facts = s.facts;
     anchors = s.anchors;
     turn = subst (λ (t : Option WriterState). HasTurn (record (at_stage v job (Entering (with_stage w (stage_after w.stage)))) { disk = u.disk }) queue s.l
-        s.reading s.made h t) (sym at_rest) (record { content = o.content; joins = o.joins; shares = o.shares; at = at; room = o.room });
+        s.reading s.made h t) (sym at_rest) (record { content = o.content; joins = o.joins; shares = o.shares; at = at; room = o.room; live = o.live });
     job = may;
     written = written-at job.work w (with_stage w (stage_after w.stage)) u.disk.areas.archive
         (subst (λ (a : AreaState). HasWritten job.work s.made (Entering w) a) (sym same) written);
     named = s.named;
     reach = subst (λ (a : AreaState). v.named.end ≤ a.firm) (sym same) s.reach;
     spare = inl leaves;
+    reclaim =
+        none-made v.roots (Some (record job { stage = Entering (with_stage w (stage_after w.stage)) })) v.named.end u.disk.areas.heap u.disk.areas.archive s.l
+        s.reading v.reclaim none;
   })
 
   -- the entry is the log's
   entered-stands : (u : LogStoreValue) → u ≡ record (with_entry v job) { disk = u.disk } → AreSound u.disk.areas
-      → u.disk.areas.archive ≡ v.disk.areas.archive → KeepsRoots v.roots u.disk.areas.status
+      → u.disk.areas.archive ≡ v.disk.areas.archive → HasRoots v.roots v.reclaim u.disk.areas.status
       → IsAt (heap_parts s.l) (turn_of s.l.next chain-here) Done u.disk.areas.heap → StandsOnHeap u h queue (floors_with job.work floors)
   entered-stands u is sound same status at =
       let done = entry-way-at v h queue floors s job.work w may written o Done u.disk.areas sound same at in
@@ -323,14 +351,18 @@ module _ (v : LogStoreValue) (h queue : History Value) (floors : ℕ → ℕ) (s
         status = status;
         sound = sound;
         commits = same-commits job.work;
+        facts = same-facts job.work;
         anchors = same-anchors job.work;
         turn = subst (λ (t : Option WriterState). HasTurn (record (with_entry v job) { disk = u.disk }) queue (log_with job.work s.made s.l w)
-            (reading_with job.work s.made s.reading) s.made h t) (sym at_rest) (record { log = done.rests refl; room = o.room });
+            (reading_with job.work s.made s.reading) s.made h t) (sym at_rest) (record { log = done.rests refl; room = o.room; live = o.live });
         job = tt;
         written = tt;
         named = named-with job.work may;
         reach = subst (λ (a : AreaState). (named_with job.work v.named).end ≤ a.firm) (sym same) (reach-with job.work may written);
         spare = inl leaves;
+        reclaim =
+            none-made v.roots None (named_with job.work v.named).end u.disk.areas.heap u.disk.areas.archive (log_with job.work s.made s.l w)
+            (reading_with job.work s.made s.reading) v.reclaim none;
       })
     where
       same-commits : (work : JobWork) → HasCommits (record (with_work work v) { job = None; disk = u.disk }) h queue
@@ -348,6 +380,15 @@ module _ (v : LogStoreValue) (h queue : History Value) (floors : ℕ → ℕ) (s
         contents = s.commits.contents;
         may = s.commits.may;
       }
+
+      same-facts : (work : JobWork) → AreFactsOf (commits_with work v.commits).versions (reading_with work s.made s.reading) h
+      same-facts (Floor floor kept) =
+          facts-stay v.commits.versions s.reading (reading_with (Floor floor kept) s.made s.reading) h
+          (reclaim_mark-append 0 s.reading.log (slots.Floor (Some floor.relation) floor.floor ∷ [])) (λ key. refl) s.facts
+      same-facts (works.Archive a archives) =
+          let heap = in-heap v.roots.extents (root_of v.roots) s.l s.reading s.is_log in
+          facts-stay v.commits.versions s.reading (reading_with (works.Archive a archives) s.made s.reading) h
+          (same-reclaimed s.reading h floors s.stands heap (length s.reading.runs - a.runs) a.upto s.made) (λ key. refl) s.facts
 
       same-anchors : (work : JobWork) → HasAnchors v.roots.extents (reading_with work s.made s.reading) queue v.room.anchors
       same-anchors (Floor floor kept) = record { len = s.anchors.len; fit = s.anchors.fit }
@@ -374,12 +415,14 @@ module _ (v : LogStoreValue) (h queue : History Value) (floors : ℕ → ℕ) (s
       let on = entry-way v h queue floors s job.work w may written o in
       let root = root_of v.roots in
       let then = floors_with job.work floors in
-      let status = s.status image.status (status-left (turn w) w.stage result v.disk.areas areas image s.sound call left) in
-      map-within w.stage (HeapStandsFor v.roots.extents root image.heap image.archive h floors)
+      root-left v.roots v.disk.areas s.sound v.reclaim image (MayBecome w.stage (IsImageOf v.roots image h floors) (IsImageOf v.roots image h then)) s.status
+      (status-left (turn w) w.stage result v.disk.areas areas image s.sound call left)
+      (λ from. map-within w.stage (HeapStandsFor v.roots.extents root image.heap image.archive h floors)
       (HeapStandsFor v.roots.extents root image.heap image.archive h then) (IsImageOf v.roots image h floors) (IsImageOf v.roots image h then)
-      (λ heap. record { status = status; heap = heap }) (λ heap. record { status = status; heap = heap })
+      (λ heap. image-of v.roots image root h floors from heap) (λ heap. image-of v.roots image root h then from heap)
       (on.within result areas image
-      (subst (λ (t : Turn). IsCallOf t w.stage result v.disk.areas areas) (entry-turn v h queue floors s job.work w may written o) call) left)
+      (subst (λ (t : Turn). IsCallOf t w.stage result v.disk.areas areas) (entry-turn v h queue floors s job.work w may written o) call) left))
+      (λ turns. absurd (subst Turns none turns))
 
   module _ (tells : Bool) (tell : IsTrue tells) (job-is : v.job ≡ Some (record job { stage = Entering w })) (new : LogStoreValue)
       (sound : AreSound new.disk.areas) where
@@ -392,8 +435,8 @@ module _ (v : LogStoreValue) (h queue : History Value) (floors : ℕ → ℕ) (s
       same-bytes : new.disk.areas.archive ≡ v.disk.areas.archive
       same-bytes = same-archive (turn w) w.stage v.disk.areas new.disk.areas call
 
-      status-kept : KeepsRoots v.roots new.disk.areas.status
-      status-kept = subst (KeepsRoots v.roots) (sym (same-status (turn w) w.stage v.disk.areas new.disk.areas call)) s.status
+      status-kept : HasRoots v.roots v.reclaim new.disk.areas.status
+      status-kept = subst (HasRoots v.roots v.reclaim) (sym (same-status (turn w) w.stage v.disk.areas new.disk.areas call)) s.status
 
       at-next : IsAt (heap_parts s.l) (turn_of s.l.next chain-here) (stage_after w.stage) new.disk.areas.heap
       at-next = let on = entry-way v h queue floors s job.work w may written o in on.leads new.disk.areas (chain-call (Ok tt) new.disk.areas call)

@@ -1,4 +1,4 @@
--- The extents that a chain takes, each the least free one, and the flags behind them.
+-- The extents that a chain or a base takes, each the least free one, and the flags behind them.
 use Rattle.std.proofs.Common.{◌≡◌, ◌≢◌, ℕ, ◌-◌, ◌<◌, ◌≤◌, ◌↔◌, Bool, true, false, List, [], ◌∷◌, ◌++◌, length, get_or, slice_set, refl, arith, sym, subst, ◌∙◌}
 use Rattle.std.proofs.Common.{inl, inr}
 use Rattle.std.specs.List.{AllByRecursion}
@@ -47,17 +47,17 @@ free-still used n m low free apart = record {
 
 -- ---- and many more
 
-abbrev AreLow : List ℕ → Type 0
+abbrev pub AreLow : List ℕ → Type 0
 AreLow ns = AllByRecursion (λ (n : ℕ). 0 < n) ns
 
-free-before : (used : List Bool) (ns : List ℕ) (m : ℕ) → AreLow ns → IsFree (all_used used ns) m → IsFree used m × IsNew m ns
+pub free-before : (used : List Bool) (ns : List ℕ) (m : ℕ) → AreLow ns → IsFree (all_used used ns) m → IsFree used m × IsNew m ns
 free-before used [] m low free = (free, tt)
 free-before used (n ∷ ns) m low free =
     let rest = free-before (with_use used n true) ns m low.1 free in
     let one = free-one used n m low.0 rest.0 in
     (one.0, (one.1, rest.1))
 
-free-behind : (used : List Bool) (ns : List ℕ) (m : ℕ) → AreLow ns → IsFree used m → IsNew m ns → IsFree (all_used used ns) m
+pub free-behind : (used : List Bool) (ns : List ℕ) (m : ℕ) → AreLow ns → IsFree used m → IsNew m ns → IsFree (all_used used ns) m
 free-behind used [] m low free new = free
 free-behind used (n ∷ ns) m low free new = free-behind (with_use used n true) ns m low.1 (free-still used n m low.0 free new.0) new.1
 
@@ -67,7 +67,7 @@ all-used-length used (n ∷ ns) = all-used-length (with_use used n true) ns ∙ 
 
 -- ---- each the least free one
 
-least-are : (used : List Bool) (ns : List ℕ) → AreLeastFree used ns → AllByRecursion (IsFree used) ns × AreDistinct ns
+pub least-are : (used : List Bool) (ns : List ℕ) → AreLeastFree used ns → AllByRecursion (IsFree used) ns × AreDistinct ns
 least-are used [] least = (tt, tt)
 least-are used (n ∷ ns) least =
     let rest = least-are (with_use used n true) ns least.1 in
@@ -81,7 +81,7 @@ least-are used (n ∷ ns) least =
         let rest = go ms all.1 in
         ((one.0, rest.0), ((λ same. one.1 (sym same)), rest.1))
 
-are-low : (used : List Bool) (ns : List ℕ) → AllByRecursion (IsFree used) ns → AreLow ns
+pub are-low : (used : List Bool) (ns : List ℕ) → AllByRecursion (IsFree used) ns → AreLow ns
 are-low used [] all = tt
 are-low used (n ∷ ns) all = ((all.0).low, are-low used ns all.1)
 
@@ -111,27 +111,28 @@ all-front : (P : ℕ → Type 0) (xs : List ℕ) (y : ℕ) → AllByRecursion P 
 all-front P [] y all = (tt, all.0)
 all-front P (x ∷ xs) y all = let rest = all-front P xs y all.1 in ((all.0, rest.0), rest.1)
 
-all-mapped : (P Q : ℕ → Type 0) (xs : List ℕ) → ((x : ℕ) → P x → Q x) → AllByRecursion P xs → AllByRecursion Q xs
+pub all-mapped : (P Q : ℕ → Type 0) (xs : List ℕ) → ((x : ℕ) → P x → Q x) → AllByRecursion P xs → AllByRecursion Q xs
 all-mapped P Q [] f all = tt
 all-mapped P Q (x ∷ xs) f all = (f x all.0, all-mapped P Q xs f all.1)
 
 -- ---- a chain's extents
 
--- A chain that begins where the log ends lies in these extents, and the log then ends at a free one.
-pub record IsTaken (most : ℕ) (l : HeapLog) (numbers : List ℕ) (link : ℕ) (used : List Bool) : Type 0 where
+-- A chain that begins where the log ends lies in these extents, and the log then ends at a free one. None of them is taken for a base.
+pub record IsTaken (most : ℕ) (l : HeapLog) (base numbers : List ℕ) (link : ℕ) (used : List Bool) : Type 0 where
   pub some : 0 < length numbers
   pub in_range : AllByRecursion (IsNumberOf most) numbers
   pub link_is : IsNumberOf most link
   pub head : first_or 0 numbers ≡ l.next
   pub apart : AreDistinct (link ∷ live_numbers l ++ numbers)
+  pub beside : AreDistinct (base ++ link ∷ numbers)
   pub many : length used ≡ most
-  pub free : (number : ℕ) → IsFree used number ↔ (IsNumberOf most number × IsNew number (link ∷ live_numbers l ++ numbers))
+  pub free : (number : ℕ) → IsFree used number ↔ (IsNumberOf most number × IsNew number (base ++ (link ∷ live_numbers l ++ numbers)))
 
-pub is-taken : (most : ℕ) (l : HeapLog) (used : List Bool) (others : List ℕ) (link : ℕ) → length used ≡ most → IsNumberOf most l.next
-    → AreDistinct (l.next ∷ live_numbers l)
-    → ((number : ℕ) → IsFree used number ↔ (IsNumberOf most number × IsNew number (l.next ∷ live_numbers l))) → AreLeastFree used (others ++ link ∷ [])
-    → IsTaken most l (l.next ∷ others) link (all_used used (others ++ link ∷ []))
-is-taken most l used others link many next distinct free least = record {
+pub is-taken : (most : ℕ) (l : HeapLog) (base : List ℕ) (used : List Bool) (others : List ℕ) (link : ℕ) → length used ≡ most → IsNumberOf most l.next
+    → AreDistinct (l.next ∷ live_numbers l) → AreDistinct base × IsNew l.next base
+    → ((number : ℕ) → IsFree used number ↔ (IsNumberOf most number × IsNew number (base ++ l.next ∷ live_numbers l))) → AreLeastFree used (others ++ link ∷ [])
+    → IsTaken most l base (l.next ∷ others) link (all_used used (others ++ link ∷ []))
+is-taken most l base used others link many next distinct own free least = record {
   some = omega arith;
   in_range = (next, all-mapped (IsFree used) (IsNumberOf most) others (λ m f. (facts m f).0) split.0);
   link_is = (facts link split.1).0;
@@ -141,6 +142,8 @@ is-taken most l used others link many next distinct free least = record {
     distinct-join live (l.next ∷ others) distinct.1 (news others split.0, parts.0)
         (distinct.0, all-mapped (IsFree used) (λ (m : ℕ). IsNew m live) others (λ m f. ((facts m f).1).1) split.0),
   );
+  beside = distinct-join base (link ∷ l.next ∷ others) own.0 ((((facts link split.1).1).0, parts.1), (news others split.0, parts.0))
+      (beside-base link split.1, (own.1, all-mapped (IsFree used) (λ (m : ℕ). IsNew m base) others (λ m f. beside-base m f) split.0));
   many = all-used-length used taken ∙ many;
   free = λ m. (
     λ f.
@@ -148,13 +151,17 @@ is-taken most l used others link many next distinct free least = record {
         let known = facts m before.0 in
         let last = new-back m others (link ∷ []) before.1 in (
           known.0,
-          (last.0, AllByRecursion-append (λ (n : ℕ). n ≢ m) live (l.next ∷ others) (known.1).1 ((known.1).0, new-front m others (link ∷ []) before.1)),
+          AllByRecursion-append (λ (n : ℕ). n ≢ m) base (link ∷ live ++ l.next ∷ others) (beside-base m before.0)
+              (last.0, AllByRecursion-append (λ (n : ℕ). n ≢ m) live (l.next ∷ others) (known.1).1 ((known.1).0, new-front m others (link ∷ []) before.1)),
         ),
     λ is.
-        let first = new-front m live (l.next ∷ others) (is.1).1 in
-        let second = new-back m live (l.next ∷ others) (is.1).1 in
-        free-behind used taken m low ((free m).1 (is.0, (second.0, first)))
-        (AllByRecursion-append (λ (n : ℕ). n ≢ m) others (link ∷ []) second.1 ((is.1).0, tt)),
+        let mine = new-front m base (link ∷ live ++ l.next ∷ others) is.1 in
+        let rest = new-back m base (link ∷ live ++ l.next ∷ others) is.1 in
+        let first = new-front m live (l.next ∷ others) rest.1 in
+        let second = new-back m live (l.next ∷ others) rest.1 in
+        free-behind used taken m low
+        ((free m).1 (is.0, AllByRecursion-append (λ (n : ℕ). n ≢ m) base (l.next ∷ live) mine (second.0, first)))
+        (AllByRecursion-append (λ (n : ℕ). n ≢ m) others (link ∷ []) second.1 (rest.0, tt)),
   );
 }
   where
@@ -177,7 +184,10 @@ is-taken most l used others link many next distinct free least = record {
     parts = distinct-front others link both.1
 
     facts : (m : ℕ) → IsFree used m → IsNumberOf most m × IsNew m (l.next ∷ live)
-    facts m f = (free m).0 f
+    facts m f = let known = (free m).0 f in (known.0, new-back m base (l.next ∷ live) known.1)
+
+    beside-base : (m : ℕ) → IsFree used m → IsNew m base
+    beside-base m f = let known = (free m).0 f in new-front m base (l.next ∷ live) known.1
 
     news : (ms : List ℕ) → AllByRecursion (IsFree used) ms → IsNew l.next ms
     news [] all = tt

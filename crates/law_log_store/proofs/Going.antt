@@ -7,23 +7,22 @@ use Rattle.history.specs.Histories.{History, MayAllFollow, HasRisingTimes, last,
 use Rattle.history.proofs.Histories.{may_follow-behind, may_follow-front, last_after-append, rising-from_following}
 use Rattle.disk.specs.Areas.{AreaState, Areas, Image, AreSound, LeavesImage, MayLeave}
 use Rattle.disk.specs.Parts.{KeepsPart}
-use Rattle.disk.specs.declared.area.Area.TheVariants.{Heap}
+use Rattle.disk.specs.declared.area.Area.TheVariants.{Heap, Status}
 use Rattle.disk.specs.declared.area.DeviceFault.{DeviceFault}
-use Rattle.disk.proofs.Stops.{left_by_write, left_by_sync}
+use Rattle.disk.proofs.Stops.{MayLeave-read, left_by_write, left_by_sync}
 use Rattle.law_image.specs.Values.{Value, IsValue}
 use Rattle.law_image.specs.Reading.{ArchiveRecord, Commits, Reading}
 use Rattle.law_image.specs.Reading as readings
 use Rattle.law_image.specs.HeapPlans.{IsMergePlan, with_merged}
 use Rattle.law_image.specs.Plans.{with_group}
-use Rattle.law_image.specs.StandsFor.{StandsFor, archived_upto}
+use Rattle.law_image.specs.StandsFor.{StandsFor, archived_upto, reclaimed_upto}
 use Rattle.law_image.proofs.GroupStep.{group-stands_for, length-map}
-use Rattle.law_image.proofs.Logs.{archive_mark-append}
+use Rattle.law_image.proofs.Logs.{archive_mark-append, reclaim_mark-append}
 use Rattle.law_layout.specs.Runs.{StoredRun, run_bytes}
 use Rattle.history.proofs.Filters.{AllByRecursion-append}
 use Rattle.deltas.specs.Extents.{extent_start}
-use Rattle.log_extents.specs.Chains.{first_or, chain_of}
+use Rattle.log_extents.specs.Chains.{first_or, chain_of, AreDistinct, IsNumberOf}
 use Rattle.log_entries.specs.declared.entry.Archive.{Archive}
-use Rattle.log_entries.specs.declared.entry.Member.{Member}
 use Rattle.log_entries.specs.declared.entry.Entry.{Entry}
 use Rattle.log_entries.specs.Ranges.{run_of}
 use Rattle.log_entries.specs.declared.entry.Entry.TheVariants.{Group}
@@ -35,15 +34,19 @@ use Rattle.law_log_layout.specs.HeapLog.{HeapLog, PlacedChain, heap_parts, membe
 use Rattle.law_log_layout.specs.HeapLog.{HeapStandsFor}
 use Rattle.law_log_layout.specs.Laws.{KeepsArchive, IsEntryWay}
 use Rattle.law_log_layout.specs.Turns.{IsAt, MayBe, MayBecome}
-use Rattle.law_log_layout.proofs.Parts.{all-left, closed-left}
+use Rattle.law_log_layout.specs.Behind.{IsBesideBase}
+use Rattle.law_log_layout.specs.Reclaims.{with_new_base, based_reading}
+use Rattle.law_log_layout.proofs.Beside.{chain-is-among}
+use Rattle.law_log_layout.proofs.ReclaimGoes.{log-stands}
 use Rattle.law_log_layout.proofs.GroupJoins.{room, group-is_log}
 use Rattle.law_log_layout.proofs.EntryJoins.{floor-is_log, run-is_log}
-use Rattle.law_log_layout.proofs.GroupGoes.{group-goes, entry-goes, rolls-left, runs-left}
+use Rattle.law_log_layout.proofs.GroupGoes.{group-goes, entry-goes}
 use Rattle.group.specs.declared.answers.PumpFault.{PumpFault}
 use Rattle.group.specs.declared.answers.PumpFault.TheVariants as faults
 use Rattle.log_roots.specs.Roots.{root_of}
 use Rattle.commits.specs.Steps.{members}
-use Rattle.log_store.specs.Values.{LogStoreValue, IsStageBeside, IsBeside}
+use Rattle.commits.specs.Values.{versions_after}
+use Rattle.log_store.specs.Values.{LogStoreValue, ReclaimValue, IsStageBeside, IsBeside}
 use Rattle.log_store.specs.Jobs.{entry_of}
 use Rattle.log_store.specs.declared.job.Job.{Job}
 use Rattle.log_store.specs.declared.job.JobStage.{JobStage}
@@ -54,16 +57,22 @@ use Rattle.log_store.specs.declared.job.JobWork.TheVariants.{Floor}
 use Rattle.log_store.specs.declared.job.JobWork.TheVariants as works
 use Rattle.log_store.specs.Pumps.{Advances, at_next, after_call, with_published, with_failure, did_of, disk_answer}
 use Rattle.log_store.specs.declared.pump.Did.{Did}
-use Rattle.law_log_store.specs.Standing.{StandsOnHeap, HasTurn, HasJob, HasStage, IsAtRest, IsEntering, IsOnWay, HasAnchors, KeepsRoots, IsImageOf}
+use Rattle.law_log_store.specs.Standing.{StandsOnHeap, HasTurn, HasJob, HasStage, IsAtRest, IsEntering, IsOnWay, HasAnchors, IsImageOf}
 use Rattle.law_log_store.specs.Standing.{MayStand, MayStandAt, MayStandOn, MayStandBy, StopsOnHeap, MayEnter, MayAllEnter, placed_entry, floors_with}
-use Rattle.law_log_store.specs.Standing.{reading_with, log_with, run_made, runs_after, HasWritten, HasAllWritten, IsAhead, LeavesOne, TakesLast}
+use Rattle.law_log_store.specs.Standing.{AreFactsOf, reading_with, log_with, run_made, runs_after, HasWritten, HasAllWritten, IsAhead, LeavesOne, TakesLast}
+use Rattle.law_log_store.specs.Reclaiming.{HasReclaim, HasRoots, plan_of, root_then, taken_of, written_of}
 use Rattle.law_log_store.specs.Laws.{LeadsTo, GoesOn}
+use Rattle.law_log_store.proofs.Headers.{IsFrom, Turns, image-of, root-left}
 use Rattle.law_log_store.proofs.Joining.{in-heap}
+use Rattle.law_log_store.proofs.Moved.{IsOnDisk, left-by-chain, on-disk, root-number, turns-alone}
 use Rattle.law_log_store.proofs.Plans.{merge-plan-stays}
+use Rattle.law_log_store.proofs.Reclaims.{none-some, taken-are}
+use Rattle.law_log_store.proofs.Turned.{archive-based, base-published, based-is, log-based, parts-based, way-based}
 use Rattle.law_log_store.proofs.Spans.{all-front, apart-with, behind-same, row-with}
 use Rattle.law_log_store.proofs.Naming.{archives-same, named-same}
 use Rattle.law_log_store.proofs.Queues.{taken-and-rest, told-front, told-ordered, told-rest, values-told}
 use Rattle.law_log_store.proofs.Anchors.{anchors-rest}
+use Rattle.law_log_store.proofs.HeapFacts.{facts-later, facts-told}
 
 -- the calls of a chain in the writing are those of a chain behind the log
 turn-is : (l : HeapLog) (w : WriterState) (e : Entry) → w.content ≡ entry_bytes e → first_or 0 w.numbers ≡ l.next
@@ -143,7 +152,7 @@ none-dropped zero xs none = none
 none-dropped (suc n) [] none = refl
 none-dropped (suc n) (x ∷ xs) none = absurd cc
 
-rises-on : (t : ℕ) (h : History Value) → HasRisingTimes t h → t ≤ last_after t h
+pub rises-on : (t : ℕ) (h : History Value) → HasRisingTimes t h → t ≤ last_after t h
 rises-on t [] up = omega arith
 rises-on t (c ∷ cs) up = let rest = rises-on c.time cs up.2 in omega (arith, up.0, rest)
 
@@ -152,6 +161,54 @@ pub later : (h next : History Value) → MayAllFollow IsValue h next → last h 
 later h next may =
     let rising = rising-from_following IsValue h next may in
     omega (arith, last_after-append 0 h next, rises-on (last h) next rising)
+
+-- ---- images
+
+-- An image whose status area is left of a store's says that the root counts, or on the way to the root of a base, which is on the disk then, that that does.
+pub at-roots : (v : LogStoreValue) (h queue : History Value) (floors : ℕ → ℕ) (s : StandsOnHeap v h queue floors) (image : Image) (Goal : Type 0)
+    → MayLeave v.disk.areas.status image.status → (IsFrom v.roots image (root_of v.roots) → Goal)
+    → ((d : IsOnDisk v.roots.extents s.l s.reading v.reclaim v.disk.areas.heap v.disk.areas.archive) → v.job ≡ None
+    → IsFrom v.roots image (first_or 0 ((d.base).n).numbers) → Goal)
+    → Goal
+at-roots v h queue floors s image Goal left from then = root-left v.roots v.disk.areas s.sound v.reclaim image Goal s.status left from turned
+  where
+    turned : Turns v.reclaim → IsNumberOf v.roots.extents (root_then v.reclaim) × (IsFrom v.roots image (root_then v.reclaim) → Goal)
+    turned turns =
+        let d = on-disk v.roots v.job v.named.end v.disk.areas.heap v.disk.areas.archive s.l s.reading v.reclaim turns s.reclaim in (
+          subst (IsNumberOf v.roots.extents) d.root_is (root-number v.roots.extents s.l s.reading d.plan d.base),
+          λ from. then d (turns-alone v.roots v.job v.named.end v.disk.areas.heap v.disk.areas.archive s.l s.reading v.reclaim turns s.reclaim)
+              (subst (IsFrom v.roots image) (sym d.root_is) from),
+        )
+
+-- what is left of a log at rest stands for what it tells, from the root that counts
+pub rest-root : (v : LogStoreValue) (h queue : History Value) (floors : ℕ → ℕ) (s : StandsOnHeap v h queue floors) (image : Image) → IsAtRest v s.l
+    → MayLeave v.disk.areas.heap image.heap → MayLeave v.disk.areas.archive image.archive → IsFrom v.roots image (root_of v.roots)
+    → IsImageOf v.roots image h floors
+rest-root v h queue floors s image rest heap archive from =
+    image-of v.roots image (root_of v.roots) h floors from
+    (log-stands v.roots.extents (root_of v.roots) s.l s.reading h floors v.disk.areas image.heap image.archive s.is_log s.stands rest.log s.archive heap
+    archive)
+
+-- and from the root of a base that is on the disk
+pub rest-base : (v : LogStoreValue) (h queue : History Value) (floors : ℕ → ℕ) (s : StandsOnHeap v h queue floors) (image : Image) → IsAtRest v s.l
+    → (d : IsOnDisk v.roots.extents s.l s.reading v.reclaim v.disk.areas.heap v.disk.areas.archive) → MayLeave v.disk.areas.heap image.heap
+    → MayLeave v.disk.areas.archive image.archive → IsFrom v.roots image (first_or 0 ((d.base).n).numbers) → IsImageOf v.roots image h floors
+rest-base v h queue floors s image rest d heap archive from =
+    let b = d.base in
+    let may = b.may in
+    let then = based-is v.roots.extents (root_of v.roots) s.l s.reading h floors d.plan s.is_log s.stands b in
+    image-of v.roots image (first_or 0 (b.n).numbers) h floors from
+    (log-stands v.roots.extents (first_or 0 (b.n).numbers) (with_new_base s.l b.n b.back) (based_reading s.reading b.names b.n b.back) h floors
+    v.disk.areas image.heap image.archive then.0 then.1
+    (log-based d.plan.makes s.l b.n b.front b.back v.disk.areas.heap may.split b.stand rest.log d.parts)
+    (archive-based s.l b.n b.more b.back v.disk.areas.archive b.rolls_are s.archive d.roll) heap archive)
+
+pub rest-left : (v : LogStoreValue) (h queue : History Value) (floors : ℕ → ℕ) (s : StandsOnHeap v h queue floors) (image : Image) → IsAtRest v s.l
+    → LeavesImage v.disk.areas image → IsImageOf v.roots image h floors
+rest-left v h queue floors s image rest left =
+    at-roots v h queue floors s image (IsImageOf v.roots image h floors) left.status
+    (λ from. rest-root v h queue floors s image rest left.heap left.archive from)
+    (λ d alone from. rest-base v h queue floors s image rest d left.heap left.archive from)
 
 -- ---- a group on its way
 
@@ -175,6 +232,19 @@ module _ (v : LogStoreValue) (h queue : History Value) (floors : ℕ → ℕ) (s
 
   way : IsEntryWay v.roots.extents (root_of v.roots) s.l (with_chain s.l chain) chain h (h ++ next) floors floors w.stage v.disk.areas
   way = way-at w.stage v.disk.areas s.sound s.archive o.at
+
+  -- the same way behind the log that a base begins, once that is on the disk
+  pub way-then : (d : IsOnDisk v.roots.extents s.l s.reading v.reclaim v.disk.areas.heap v.disk.areas.archive)
+      → IsEntryWay v.roots.extents (first_or 0 ((d.base).n).numbers) (with_new_base s.l (d.base).n (d.base).back)
+      (with_chain (with_new_base s.l (d.base).n (d.base).back) chain) chain h (h ++ next) floors floors w.stage v.disk.areas
+  way-then d =
+      let b = d.base in
+      let may = b.may in
+      way-based v.roots.extents (root_of v.roots) s.l s.reading h floors d.plan s.is_log s.stands b next w.numbers w.link o.group o.is_group o.joins o.shares
+      (subst (λ (ns : List ℕ). AreDistinct (ns ++ w.link ∷ w.numbers)) d.taken_is o.beside) w.stage v.disk.areas s.sound
+      (archive-based s.l b.n b.more b.back v.disk.areas.archive b.rolls_are s.archive d.roll)
+      (parts-based d.plan.makes s.l b.n b.front b.back v.disk.areas.heap may.split b.stand
+      (chain-is-among (heap_parts s.l) (turn_of s.l.next chain) w.stage v.disk.areas.heap o.at).0 d.parts) o.at
 
   pub same-turn : turn w ≡ turn_of s.l.next chain
   same-turn = turn-is s.l w (Group o.group) o.content (let j = o.joins in j.head)
@@ -200,9 +270,10 @@ module _ (v : LogStoreValue) (h queue : History Value) (floors : ℕ → ℕ) (s
 
   -- one call further
   pub next-stands : (u : LogStoreValue) → u ≡ record (at_next v w) { disk = u.disk } → AreSound u.disk.areas
-      → u.disk.areas.archive ≡ v.disk.areas.archive → KeepsRoots v.roots u.disk.areas.status
-      → IsAt (heap_parts s.l) (turn_of s.l.next chain) (stage_after w.stage) u.disk.areas.heap → StandsOnHeap u h queue floors
-  next-stands u is sound same status at = subst (λ (x : LogStoreValue). StandsOnHeap x h queue floors) (sym is) (record {
+      → u.disk.areas.archive ≡ v.disk.areas.archive → HasRoots v.roots v.reclaim u.disk.areas.status
+      → IsAt (heap_parts s.l) (turn_of s.l.next chain) (stage_after w.stage) u.disk.areas.heap
+      → HasReclaim v.roots v.job v.named.end u.disk.areas.heap u.disk.areas.archive s.l s.reading v.reclaim → StandsOnHeap u h queue floors
+  next-stands u is sound same status at made = subst (λ (x : LogStoreValue). StandsOnHeap x h queue floors) (sym is) (record {
     l = s.l;
     reading = s.reading;
     made = s.made;
@@ -218,6 +289,7 @@ module _ (v : LogStoreValue) (h queue : History Value) (floors : ℕ → ℕ) (s
       contents = s.commits.contents;
       may = s.commits.may;
     };
+    facts = s.facts;
     anchors = s.anchors;
     turn = record {
       group = o.group;
@@ -228,13 +300,16 @@ module _ (v : LogStoreValue) (h queue : History Value) (floors : ℕ → ℕ) (s
       shares = o.shares;
       at = at;
       room = o.room;
+      live = o.live;
       alone = alone-at (stage_after w.stage) v.job o.alone;
+      beside = o.beside;
     };
     job = s.job;
     written = subst (HasAllWritten s.made v.job) (sym same) s.written;
     named = s.named;
     reach = subst (λ (a : AreaState). v.named.end ≤ a.firm) (sym same) s.reach;
     spare = s.spare;
+    reclaim = made;
   })
 
   -- the group is published
@@ -244,6 +319,19 @@ module _ (v : LogStoreValue) (h queue : History Value) (floors : ℕ → ℕ) (s
   -- an archive whose run is in the making may come next still
   mark-then : archived_upto then ≡ archived_upto s.reading
   mark-then = archive_mark-append 0 s.reading.log (Commits (map (λ (m : readings.Member). m.head) (map member_told o.group)) ∷ [])
+
+  -- nor does it change the reclaim mark
+  reclaimed-then : reclaimed_upto then ≡ reclaimed_upto s.reading
+  reclaimed-then = reclaim_mark-append 0 s.reading.log (Commits (map (λ (m : readings.Member). m.head) (map member_told o.group)) ∷ [])
+
+  -- memory has what the heap has of the group
+  facts-then : AreFactsOf (versions_after v.commits.versions (members v.commits)) then (h ++ next)
+  facts-then =
+      let front = may_follow-front IsValue h next (drop v.commits.group queue) may-split in
+      facts-later s.reading then h next floors s.stands stands-then refl reclaimed-then (rising-from_following IsValue h next front) v.commits.versions
+      (versions_after v.commits.versions (members v.commits))
+      (λ key. facts-told v.commits.versions (members v.commits) next key
+      (told-front v.commits.group v.commits.versions v.commits.queue queue s.commits.told)) s.facts
 
   enters-later : last h ≤ last (h ++ next) → (j : Option Job) → MayAllEnter s.l s.reading h floors s.made j
       → MayAllEnter (with_chain s.l chain) then (h ++ next) floors s.made j
@@ -286,10 +374,11 @@ module _ (v : LogStoreValue) (h queue : History Value) (floors : ℕ → ℕ) (s
   })
 
   pub published-stands : (u : LogStoreValue) → u ≡ record (with_published v) { disk = u.disk } → AreSound u.disk.areas
-      → u.disk.areas.archive ≡ v.disk.areas.archive → KeepsRoots v.roots u.disk.areas.status
+      → u.disk.areas.archive ≡ v.disk.areas.archive → HasRoots v.roots v.reclaim u.disk.areas.status
       → IsAt (heap_parts s.l) (turn_of s.l.next chain) Done u.disk.areas.heap
+      → HasReclaim v.roots v.job v.named.end u.disk.areas.heap u.disk.areas.archive s.l s.reading v.reclaim
       → StandsOnHeap u (h ++ next) (drop v.commits.group queue) floors
-  published-stands u is sound same status at =
+  published-stands u is sound same status at made =
       let front = may_follow-front IsValue h next (drop v.commits.group queue) may-split in
       let archive : KeepsArchive s.l u.disk.areas.archive = subst (KeepsArchive s.l) (sym same) s.archive in
       let done = way-at Done u.disk.areas sound archive at in
@@ -311,18 +400,39 @@ module _ (v : LogStoreValue) (h queue : History Value) (floors : ℕ → ℕ) (s
           contents = s.commits.contents;
           may = may_follow-behind IsValue h next (drop v.commits.group queue) may-split;
         };
+        facts = facts-then;
         anchors = anchors-rest s.reading h next floors (map member_told o.group) s.stands stands-then front o.told v.roots.extents v.room.anchors
             (drop v.commits.group queue)
             (subst (λ (l : History Value). HasAnchors v.roots.extents s.reading l v.room.anchors) (sym (taken-and-rest v.commits.group queue)) s.anchors);
         turn =
             at-rest (record (with_published v) { disk = u.disk }) (with_chain s.l chain) then s.made w v.job o.alone
-            (record { log = done.rests refl; room = o.room });
+            (record { log = done.rests refl; room = o.room; live = o.live });
         job = enters-later (later h next front) v.job s.job;
         written = subst (HasAllWritten s.made v.job) (sym same) s.written;
         named = named-same v.named s.l chain s.reading then refl refl mark-then s.named;
         reach = subst (λ (a : AreaState). v.named.end ≤ a.firm) (sym same) s.reach;
         spare = spare-later s.spare;
+        reclaim = made-later v.reclaim o.beside made;
       })
+    where
+      -- a base may take the place of the front still
+      made-later : (reclaim : Option ReclaimValue) → AreDistinct (taken_of reclaim ++ w.link ∷ w.numbers)
+          → HasReclaim v.roots v.job v.named.end u.disk.areas.heap u.disk.areas.archive s.l s.reading reclaim
+          → HasReclaim v.roots v.job v.named.end u.disk.areas.heap u.disk.areas.archive (with_chain s.l chain) then reclaim
+      made-later None beside is = tt
+      made-later (Some r) beside is =
+          let b = is.base in
+          let apart : IsBesideBase chain (written_of r.makes b.n) =
+          subst (λ (ns : List ℕ). AreDistinct (ns ++ w.link ∷ w.numbers))
+          (taken-are v.roots v.job v.named.end u.disk.areas.heap u.disk.areas.archive s.l s.reading r is) beside in
+          record {
+            alone = is.alone;
+            base =
+                base-published v.roots.extents (root_of v.roots) s.l s.reading h floors (plan_of r) s.is_log s.stands b next w.numbers w.link o.group
+                o.is_group o.joins o.shares apart;
+            made = is.made;
+            ends = is.ends;
+          }
 
 -- ---- an entry on its way
 
@@ -393,6 +503,47 @@ module _ (v : LogStoreValue) (h queue : History Value) (floors : ℕ → ℕ) (s
 
 -- ---- stops
 
+-- what is left where a group is on its way, before its next call
+module _ (v : LogStoreValue) (h queue : History Value) (floors : ℕ → ℕ) (s : StandsOnHeap v h queue floors) (w : WriterState)
+    (o : IsOnWay v queue s.l s.reading h w) (image : Image) where
+  abbrev grouped-then : History Value
+  grouped-then = h ++ take v.commits.group queue
+
+  abbrev Either : Type 0
+  Either = MayBe w.stage (IsImageOf v.roots image h floors) (IsImageOf v.roots image grouped-then floors)
+
+  claims : (root : ℕ) → IsFrom v.roots image root
+      → MayBe w.stage (HeapStandsFor v.roots.extents root image.heap image.archive h floors)
+      (HeapStandsFor v.roots.extents root image.heap image.archive grouped-then floors)
+      → Either
+  claims root from is =
+      map-before w.stage (HeapStandsFor v.roots.extents root image.heap image.archive h floors)
+      (HeapStandsFor v.roots.extents root image.heap image.archive grouped-then floors) (IsImageOf v.roots image h floors)
+      (IsImageOf v.roots image grouped-then floors) (λ heap. image-of v.roots image root h floors from heap)
+      (λ heap. image-of v.roots image root grouped-then floors from heap) is
+
+  -- of the status area nothing need be known
+  abbrev with-status : Image
+  with-status = record image { status = v.disk.areas.status.bytes }
+
+  leaves-so : MayLeave v.disk.areas.heap image.heap → MayLeave v.disk.areas.archive image.archive → LeavesImage v.disk.areas with-status
+  leaves-so heap archive = record { status = MayLeave-read v.disk.areas.status (s.sound Status); heap = heap; archive = archive }
+
+  pub group-root : MayLeave v.disk.areas.heap image.heap → MayLeave v.disk.areas.archive image.archive → IsFrom v.roots image (root_of v.roots) → Either
+  group-root heap archive from =
+      let on = way v h queue floors s w o in claims (root_of v.roots) from (on.before with-status (leaves-so heap archive))
+
+  pub group-base : (d : IsOnDisk v.roots.extents s.l s.reading v.reclaim v.disk.areas.heap v.disk.areas.archive) → MayLeave v.disk.areas.heap image.heap
+      → MayLeave v.disk.areas.archive image.archive → IsFrom v.roots image (first_or 0 ((d.base).n).numbers) → Either
+  group-base d heap archive from =
+      let on = way-then v h queue floors s w o d in
+      claims (first_or 0 ((d.base).n).numbers) from (on.before with-status (leaves-so heap archive))
+
+  pub group-left : LeavesImage v.disk.areas image → Either
+  group-left left =
+      at-roots v h queue floors s image Either left.status (λ from. group-root left.heap left.archive from)
+      (λ d alone from. group-base d left.heap left.archive from)
+
 pub standing-stops : (v : LogStoreValue) (h queue : History Value) (floors : ℕ → ℕ) → v.commits.failed ≡ false → StandsOnHeap v h queue floors
     → StopsOnHeap v h queue floors
 standing-stops v h queue floors works s image left = by-turn v.turn s.turn
@@ -401,55 +552,40 @@ standing-stops v h queue floors works s image left = by-turn v.turn s.turn
     at-work stage Old New may = subst (λ (b : Bool). MatchBool b (MayBecome stage Old New) (MayBe stage Old New)) (sym works) may
 
     resting : IsAtRest v s.l → IsImageOf v.roots image h floors
-    resting rest = record {
-      status = s.status image.status left.status;
-      heap = record {
-        log = s.l;
-        reading = s.reading;
-        is_log = s.is_log;
-        stands = s.stands;
-        held = record {
-          parts = all-left (heap_parts s.l) v.disk.areas.heap image.heap (rest.log).parts left.heap;
-          ends = closed-left (extent_start s.l.next) v.disk.areas.heap image.heap (rest.log).ends left.heap;
-          rolls = rolls-left s.l.rolls v.disk.areas.archive image.archive s.archive.rolls left.archive;
-          runs = runs-left s.l.runs v.disk.areas.archive image.archive s.archive.runs left.archive;
-        };
-      };
-    }
+    resting rest = rest-left v h queue floors s image rest left
 
-    by-stage : (work : JobWork) (k : JobStage) → MayEnter s.l s.reading h floors work s.made → HasWritten work s.made k v.disk.areas.archive
-        → HasStage v s.l s.reading s.made work k
+    -- no base turns beside a job
+    by-stage : (work : JobWork) (k : JobStage) → ¬ (v.job ≡ None) → MayEnter s.l s.reading h floors work s.made
+        → HasWritten work s.made k v.disk.areas.archive → HasStage v s.l s.reading s.made work k
         → MayStandOn v.commits.failed k (IsImageOf v.roots image h floors) (IsImageOf v.roots image h (floors_with work floors))
-    by-stage work (stages.Writing writer) may written rest = resting rest
-    by-stage work (Ready waited) may written rest = resting rest
-    by-stage work (Entering w) may written o =
+    by-stage work (stages.Writing writer) busy may written rest = resting rest
+    by-stage work (Ready waited) busy may written rest = resting rest
+    by-stage work (Entering w) busy may written o =
         let on = entry-way v h queue floors s work w may written o in
         let root = root_of v.roots in
         let then = floors_with work floors in
         at-work w.stage (IsImageOf v.roots image h floors) (IsImageOf v.roots image h then)
-        (map-before w.stage (HeapStandsFor v.roots.extents root image.heap image.archive h floors)
+        (at-roots v h queue floors s image (MayBe w.stage (IsImageOf v.roots image h floors) (IsImageOf v.roots image h then)) left.status
+        (λ from. map-before w.stage (HeapStandsFor v.roots.extents root image.heap image.archive h floors)
         (HeapStandsFor v.roots.extents root image.heap image.archive h then) (IsImageOf v.roots image h floors) (IsImageOf v.roots image h then)
-        (λ heap. record { status = s.status image.status left.status; heap = heap })
-        (λ heap. record { status = s.status image.status left.status; heap = heap }) (on.before image left))
+        (λ heap. image-of v.roots image root h floors from heap) (λ heap. image-of v.roots image root h then from heap) (on.before image left))
+        (λ d alone from. absurd (busy alone)))
 
-    by-job : (j : Option Job) → MayAllEnter s.l s.reading h floors s.made j → HasAllWritten s.made j v.disk.areas.archive → HasJob v s.l s.reading s.made j
+    by-job : (j : Option Job) → v.job ≡ j → MayAllEnter s.l s.reading h floors s.made j → HasAllWritten s.made j v.disk.areas.archive
+        → HasJob v s.l s.reading s.made j
         → MayStandBy v.commits.failed j (IsImageOf v.roots image h floors) (λ work. IsImageOf v.roots image h (floors_with work floors))
-    by-job None may written rest = resting rest
-    by-job (Some job) may written has = by-stage job.work job.stage may written has
+    by-job None is may written rest = resting rest
+    by-job (Some job) is may written has =
+        by-stage job.work job.stage (λ none. none-some v.job job none is) may written has
 
     by-turn : (t : Option WriterState) → HasTurn v queue s.l s.reading s.made h t
         → MayStand v.commits.failed t v.job (IsImageOf v.roots image h floors) (IsImageOf v.roots image (h ++ take v.commits.group queue) floors)
         (λ work. IsImageOf v.roots image h (floors_with work floors))
-    by-turn None has = by-job v.job s.job s.written has
+    by-turn None has = by-job v.job refl s.job s.written has
     by-turn (Some w) o =
-        let on = way v h queue floors s w o in
-        let root = root_of v.roots in
         let next = h ++ take v.commits.group queue in
         at-work w.stage (IsImageOf v.roots image h floors) (IsImageOf v.roots image next floors)
-        (map-before w.stage (HeapStandsFor v.roots.extents root image.heap image.archive h floors)
-        (HeapStandsFor v.roots.extents root image.heap image.archive next floors) (IsImageOf v.roots image h floors) (IsImageOf v.roots image next floors)
-        (λ heap. record { status = s.status image.status left.status; heap = heap })
-        (λ heap. record { status = s.status image.status left.status; heap = heap }) (on.before image left))
+        (group-left v h queue floors s w o image left)
 
 -- ---- a call
 
@@ -459,16 +595,30 @@ pub call-within : (w : WriterState) (old : LogStoreValue) (h queue : History Val
     → LeavesImage areas image
     → MayBecome w.stage (IsImageOf old.roots image h floors) (IsImageOf old.roots image (h ++ take old.commits.group queue) floors)
 call-within w old h queue floors standing s result areas image call left =
-    let o : IsOnWay old queue s.l s.reading h w = subst (λ (t : Option WriterState). HasTurn old queue s.l s.reading s.made h t) standing s.turn in
-    let on = way old h queue floors s w o in
-    let root = root_of old.roots in
-    let next = h ++ take old.commits.group queue in
-    let status = s.status image.status (status-left (turn w) w.stage result old.disk.areas areas image s.sound call left) in
-    map-within w.stage (HeapStandsFor old.roots.extents root image.heap image.archive h floors)
-    (HeapStandsFor old.roots.extents root image.heap image.archive next floors) (IsImageOf old.roots image h floors) (IsImageOf old.roots image next floors)
-    (λ heap. record { status = status; heap = heap }) (λ heap. record { status = status; heap = heap })
-    (on.within result areas image
-    (subst (λ (t : Turn). IsCallOf t w.stage result old.disk.areas areas) (same-turn old h queue floors s w o) call) left)
+    at-roots old h queue floors s image (MayBecome w.stage (IsImageOf old.roots image h floors) (IsImageOf old.roots image next floors))
+    (status-left (turn w) w.stage result old.disk.areas areas image s.sound call left)
+    (λ from. let on = way old h queue floors s w o in claims (root_of old.roots) from (on.within result areas image chain-call left))
+    (λ d alone from.
+    let on = way-then old h queue floors s w o d in claims (first_or 0 ((d.base).n).numbers) from (on.within result areas image chain-call left))
+  where
+    next : History Value
+    next = h ++ take old.commits.group queue
+
+    o : IsOnWay old queue s.l s.reading h w
+    o = subst (λ (t : Option WriterState). HasTurn old queue s.l s.reading s.made h t) standing s.turn
+
+    chain-call : IsCallOf (turn_of s.l.next (placed_group w.numbers w.link o.group)) w.stage result old.disk.areas areas
+    chain-call = subst (λ (t : Turn). IsCallOf t w.stage result old.disk.areas areas) (same-turn old h queue floors s w o) call
+
+    claims : (root : ℕ) → IsFrom old.roots image root
+        → MayBecome w.stage (HeapStandsFor old.roots.extents root image.heap image.archive h floors)
+        (HeapStandsFor old.roots.extents root image.heap image.archive next floors)
+        → MayBecome w.stage (IsImageOf old.roots image h floors) (IsImageOf old.roots image next floors)
+    claims root from is =
+        map-within w.stage (HeapStandsFor old.roots.extents root image.heap image.archive h floors)
+        (HeapStandsFor old.roots.extents root image.heap image.archive next floors) (IsImageOf old.roots image h floors)
+        (IsImageOf old.roots image next floors) (λ heap. image-of old.roots image root h floors from heap)
+        (λ heap. image-of old.roots image root next floors from heap) is
 
 pub call-goes : (tells : Bool) (w : WriterState) (old new : LogStoreValue) (answer : Result Did PumpFault) (h queue : History Value) (floors : ℕ → ℕ)
     → IsTrue tells → old.commits.failed ≡ false → old.turn ≡ Some w → StandsOnHeap old h queue floors
@@ -491,15 +641,22 @@ call-goes tells w old new answer h queue floors tell works standing s advances s
         same-bytes : new.disk.areas.archive ≡ old.disk.areas.archive
         same-bytes = same-archive (turn w) w.stage old.disk.areas new.disk.areas call
 
-        status : KeepsRoots old.roots new.disk.areas.status
+        status : HasRoots old.roots old.reclaim new.disk.areas.status
         status =
-            subst (KeepsRoots old.roots) (sym (same-status (turn w) w.stage old.disk.areas new.disk.areas call)) s.status
+            subst (HasRoots old.roots old.reclaim) (sym (same-status (turn w) w.stage old.disk.areas new.disk.areas call)) s.status
+
+        -- what is made of a base is left where it is
+        made : HasReclaim old.roots old.job old.named.end new.disk.areas.heap new.disk.areas.archive s.l s.reading old.reclaim
+        made =
+            left-by-chain old.roots old.job old.named.end (root_of old.roots) old.disk.areas new.disk.areas s.l s.reading
+            (placed_group w.numbers w.link o.group) s.is_log o.joins w.stage (Ok tt) s.sound o.at (chain-call (Ok tt) new.disk.areas call) old.reclaim
+            o.beside same-bytes s.reclaim
 
         at : IsAt (heap_parts s.l) (turn_of s.l.next (placed_group w.numbers w.link o.group)) (stage_after w.stage) new.disk.areas.heap
         at = let on = way old h queue floors s w o in on.leads new.disk.areas (chain-call (Ok tt) new.disk.areas call)
 
         further : new ≡ record (at_next old w) { disk = new.disk } → StandsOnHeap new h queue floors
-        further same = next-stands old h queue floors s w o new same sound same-bytes status at
+        further same = next-stands old h queue floors s w o new same sound same-bytes status at made
 
         by-case : (k : Stage) → w.stage ≡ k → new ≡ record (after_call old w k) { disk = new.disk } → LeadsTo k old.commits.group new h queue floors
         by-case (Writing done rest) e same = further same
@@ -508,7 +665,7 @@ call-goes tells w old new answer h queue floors tell works standing s advances s
         by-case Settling e same =
             published-stands old h queue floors s w o new same sound same-bytes status
             (subst (λ (k : Stage). IsAt (heap_parts s.l) (turn_of s.l.next (placed_group w.numbers w.link o.group)) k new.disk.areas.heap)
-            (ap stage_after e) at)
+            (ap stage_after e) at) made
         by-case Done e same = subst (λ (k : Stage). IsCallOf (turn w) k (Ok tt) old.disk.areas new.disk.areas) e call
 
     by-answer : (a : Result Did PumpFault) → IsCallOf (turn w) w.stage (disk_answer a) old.disk.areas new.disk.areas

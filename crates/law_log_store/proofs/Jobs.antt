@@ -2,7 +2,7 @@
 use Rattle.std.proofs.Common.{◌≡◌, ℕ, ◌+◌, ◌-◌, ◌/◌, ◌<◌, ◌≤◌, ◌^◌, nat_le, Bool, true, false, List, length, Option, None, Some, Result, Ok, Err, refl}
 use Rattle.std.proofs.Common.{arith}
 use Rattle.std.proofs.Common.{ap, sym, subst, ◌∙◌, ◌⊎◌, inl, inr}
-use Rattle.std.specs.Prelude.{IsTrue, MatchBool, MatchResult}
+use Rattle.std.specs.Prelude.{IsTrue, MatchBool, MatchOption, MatchResult}
 use Rattle.std.proofs.lemmas.Bool.Decides.{nat_tests}
 use Rattle.history.specs.Histories.{History, last}
 use Rattle.disk.specs.Areas.{AreaState, Areas, Image, AreSound, LeavesImage}
@@ -14,7 +14,8 @@ use Rattle.group.specs.declared.answers.PumpFault.{PumpFault}
 use Rattle.group.specs.declared.answers.PumpFault.TheVariants as fault
 use Rattle.log_writer.specs.Writer.{WriterState}
 use Rattle.log_room.specs.Rooms.{has_entry_room}
-use Rattle.log_store.specs.Values.{LogStoreValue, IsInStep, IsBeside, IsStageBeside, promised_at, promised_to}
+use Rattle.log_store.specs.Values.{LogStoreValue, ReclaimValue, IsInStep, IsBeside, IsStageBeside, promised_at, promised_to}
+use Rattle.log_store.specs.Reclaiming.{StepsReclaim}
 use Rattle.log_store.specs.Jobs.{PumpsJob, StepsJob, StepsAt, StepsReady, AdvancesEntry, Advances, BeginsEntry, at_stage, is_entering, with_floor}
 use Rattle.log_store.specs.Runs.{disk_answer}
 use Rattle.log_store.specs.declared.job.Job.{Job}
@@ -28,10 +29,13 @@ use Rattle.log_store.specs.declared.job.JobWork.TheVariants as works
 use Rattle.law_log_layout.specs.HeapLog.{HeapLog}
 use Rattle.law_log_store.specs.Standing.{StandsOnHeap, HasTurn, HasJob, HasStage, IsAtRest, IsEntering, IsRoomOf, IsImageOf, MayEnter, MayAllEnter, floors_with}
 use Rattle.law_log_store.specs.Standing.{HasWritten, HasAllWritten, IsAhead, LeavesOne, TakesLast}
+use Rattle.law_log_store.specs.Reclaiming.{taken_of}
 use Rattle.law_log_store.specs.Calls.{HasFailed, HasEntered, IsFront, floors_after, JobStepsTo}
 use Rattle.law_log_store.proofs.Entering as entering
 use Rattle.law_log_store.proofs.Pumping.{either-new, standing-is-front}
 use Rattle.law_log_store.proofs.Archiving.{loose-store, loose-stands, run-left, run-steps}
+use Rattle.law_log_store.proofs.Reclaimed.{reclaim-leaves, reclaim-steps}
+use Rattle.law_log_store.proofs.Reclaims.{beside-job, none-made}
 use Rattle.law_log_store.proofs.Used.{used-are}
 
 -- ---- a job that is ready
@@ -73,6 +77,7 @@ waits-stands v job waited w h queue floors standing is-job e s = record {
     contents = s.commits.contents;
     may = s.commits.may;
   };
+  facts = s.facts;
   anchors = s.anchors;
   turn = by-turn v.turn standing s.turn;
   job = subst (λ (j : Option Job). MayAllEnter s.l s.reading h floors s.made j) is-job s.job;
@@ -83,6 +88,8 @@ waits-stands v job waited w h queue floors standing is-job e s = record {
   named = s.named;
   reach = s.reach;
   spare = by-spare s.spare;
+  reclaim = none-made v.roots (Some (record job { stage = Ready true })) v.named.end v.disk.areas.heap v.disk.areas.archive s.l s.reading v.reclaim
+      (beside-job v.roots v.job v.named.end v.disk.areas.heap v.disk.areas.archive s.l s.reading job v.reclaim is-job s.reclaim);
 }
   where
     by-spare : LeavesOne v.roots.extents v.room ⊎ TakesLast v.roots.extents v.room h queue v.job
@@ -107,7 +114,9 @@ waits-stands v job waited w h queue floors standing is-job e s = record {
       shares = o.shares;
       at = o.at;
       room = o.room;
+      live = o.live;
       alone = tt;
+      beside = o.beside;
     }
 
 -- ---- the store's own
@@ -117,6 +126,10 @@ module _ (v : LogStoreValue) (h queue : History Value) (floors : ℕ → ℕ) (s
   has-job at_rest =
       subst (λ (j : Option Job). HasJob v s.l s.reading s.made j) is-job
       (subst (λ (t : Option WriterState). HasTurn v queue s.l s.reading s.made h t) at_rest s.turn)
+
+  -- no reclaim runs beside it
+  none-runs : v.reclaim ≡ None
+  none-runs = beside-job v.roots v.job v.named.end v.disk.areas.heap v.disk.areas.archive s.l s.reading job v.reclaim is-job s.reclaim
 
   may-enter : MayEnter s.l s.reading h floors job.work s.made
   may-enter = subst (λ (j : Option Job). MayAllEnter s.l s.reading h floors s.made j) is-job s.job
@@ -160,11 +173,14 @@ module _ (v : LogStoreValue) (h queue : History Value) (floors : ℕ → ℕ) (s
 
 module _ (tells : Bool) (old new : LogStoreValue) (answer : Result JobDid PumpFault) (h queue : History Value) (floors : ℕ → ℕ) (tell : IsTrue tells)
     (works : old.commits.failed ≡ false) (step : IsInStep old) (s : StandsOnHeap old h queue floors) (pumps : PumpsJob tells old answer new) where
-  steps : StepsJob tells old.job old answer new
-  steps = subst (λ (b : Bool). MatchBool b ((answer ≡ Err fault.Failed) × (new ≡ old)) (StepsJob tells old.job old answer new)) works pumps
+  abbrev Steps : Option ReclaimValue → Type 0
+  Steps reclaim = MatchOption reclaim (StepsJob tells old.job old answer new) (λ r. StepsReclaim tells r old answer new)
+
+  steps : Steps old.reclaim
+  steps = subst (λ (b : Bool). MatchBool b ((answer ≡ Err fault.Failed) × (new ≡ old)) (Steps old.reclaim)) works pumps
 
   pub job-steps : AreSound new.disk.areas → JobStepsTo answer old new h queue floors
-  job-steps sound = by-job old.job refl steps
+  job-steps sound = by-reclaim old.reclaim refl steps
     where
       by-answer : (job : Job) → old.job ≡ Some job → (a : Result JobDid PumpFault)
           → MatchResult a (λ what. StandsOnHeap new h queue (floors_after (Some job) what floors)) (λ why. (why ≡ fault.Failed) × HasFailed new h queue floors)
@@ -176,18 +192,20 @@ module _ (tells : Bool) (old new : LogStoreValue) (answer : Result JobDid PumpFa
       from-ready : (job : Job) (waited : Bool) → old.job ≡ Some job → job.stage ≡ Ready waited → old.turn ≡ None → (begun : LogStoreValue)
           → (b : BeginsEntry old job begun) → AdvancesEntry tells begun.job begun answer new → JobStepsTo answer old new h queue floors
       from-ready job waited is-job e at_rest begun b advances =
+          let none = none-runs old h queue floors s job is-job in
           let rest = at-ready old h queue floors s job is-job waited e at_rest in
           let promised = ready-promised old job waited step is-job e in
           let may = may-enter old h queue floors s job is-job in
           let written = ready-written old h queue floors s job is-job waited e in
           let spare = has-spare old h queue floors s job is-job in
-          let there = entering.target-stands old begun h queue floors s rest step job promised may written spare at_rest b in
-          let writer = entering.writer old begun h queue floors s rest step job promised may written spare at_rest b in
-          let target = entering.target old begun h queue floors s rest step job promised may written spare at_rest b in
-          let leaves = entering.target-leaves old begun h queue floors s rest step job promised may written spare at_rest b in
-          let way = entering.on-way old begun h queue floors s rest step job promised may written spare at_rest b in
+          let there = entering.target-stands old begun h queue floors s rest step job promised may written spare at_rest none b in
+          let writer = entering.writer old begun h queue floors s rest step job promised may written spare at_rest none b in
+          let target = entering.target old begun h queue floors s rest step job promised may written spare at_rest none b in
+          let leaves = entering.target-leaves old begun h queue floors s rest step job promised may written spare at_rest none b in
+          let way = entering.on-way old begun h queue floors s rest step job promised may written spare at_rest none b in
           by-answer job is-job answer
-          (entering.entry-steps target h queue floors there (record job { stage = Entering writer }) writer at_rest may (written writer) leaves way tells tell
+          (entering.entry-steps target h queue floors there (record job { stage = Entering writer }) writer at_rest none may (written writer) leaves
+          way tells tell
           refl new sound answer (subst (λ (x : LogStoreValue). AdvancesEntry tells x.job x answer new) b.new_is advances))
 
       by-turn : (job : Job) (waited : Bool) → old.job ≡ Some job → job.stage ≡ Ready waited → (t : Option WriterState) → old.turn ≡ t
@@ -204,9 +222,10 @@ module _ (tells : Bool) (old new : LogStoreValue) (answer : Result JobDid PumpFa
           by-answer job is-job answer (run-steps old h queue floors s job writer is-job e tells tell works new sound answer is)
       by-stage job is-job (Ready waited) e is = by-turn job waited is-job e old.turn refl is
       by-stage job is-job (Entering w) e is =
+          let none = none-runs old h queue floors s job is-job in
           let at_rest = none-beside old h queue floors s job is-job step w e in
           by-answer job is-job answer
-          (entering.entry-steps old h queue floors s job w at_rest (may-enter old h queue floors s job is-job)
+          (entering.entry-steps old h queue floors s job w at_rest none (may-enter old h queue floors s job is-job)
           (entering-written old h queue floors s job is-job w e) (entering-leaves old h queue floors s job is-job w e)
           (at-entering old h queue floors s job is-job w e at_rest) tells tell (entering-is old h queue floors s job is-job w e) new sound answer is)
 
@@ -217,9 +236,13 @@ module _ (tells : Bool) (old new : LogStoreValue) (answer : Result JobDid PumpFa
           (subst (λ (j : Option Job). StandsOnHeap old h queue (floors_after j did.Idle floors)) (sym none) s))
       by-job (Some job) is-job is = by-stage job is-job job.stage refl is
 
+      by-reclaim : (o : Option ReclaimValue) → old.reclaim ≡ o → Steps o → JobStepsTo answer old new h queue floors
+      by-reclaim None none is = by-job old.job refl is
+      by-reclaim (Some r) is-it is = reclaim-steps tells old new answer h queue floors tell works s r is-it sound is
+
   pub job-leaves : (image : Image) → LeavesImage old.disk.areas image ⊎ LeavesImage new.disk.areas image → IsFront old image h queue floors
   job-leaves image (inl left) = standing-is-front old h queue floors works s image step left
-  job-leaves image (inr left) = by-job old.job refl steps
+  job-leaves image (inr left) = by-reclaim old.reclaim refl steps
     where
       same : new.disk.areas ≡ old.disk.areas → IsFront old image h queue floors
       same is =
@@ -237,21 +260,22 @@ module _ (tells : Bool) (old new : LogStoreValue) (answer : Result JobDid PumpFa
       by-turn job waited is-job e None at_rest (inl none) = same (ap (λ (x : LogStoreValue). x.disk.areas) none.1)
       by-turn job waited is-job e None at_rest (inr enters) =
           let b = enters.1 in
+          let none = none-runs old h queue floors s job is-job in
           let rest = at-ready old h queue floors s job is-job waited e at_rest in
           let promised = ready-promised old job waited step is-job e in
           let may = may-enter old h queue floors s job is-job in
           let written = ready-written old h queue floors s job is-job waited e in
           let spare = has-spare old h queue floors s job is-job in
-          let there = entering.target-stands old enters.0 h queue floors s rest step job promised may written spare at_rest b in
-          let writer = entering.writer old enters.0 h queue floors s rest step job promised may written spare at_rest b in
-          let target = entering.target old enters.0 h queue floors s rest step job promised may written spare at_rest b in
-          let leaves = entering.target-leaves old enters.0 h queue floors s rest step job promised may written spare at_rest b in
-          let way = entering.on-way old enters.0 h queue floors s rest step job promised may written spare at_rest b in
+          let there = entering.target-stands old enters.0 h queue floors s rest step job promised may written spare at_rest none b in
+          let writer = entering.writer old enters.0 h queue floors s rest step job promised may written spare at_rest none b in
+          let target = entering.target old enters.0 h queue floors s rest step job promised may written spare at_rest none b in
+          let leaves = entering.target-leaves old enters.0 h queue floors s rest step job promised may written spare at_rest none b in
+          let way = entering.on-way old enters.0 h queue floors s rest step job promised may written spare at_rest none b in
           let advances : Advances tells (record job { stage = Entering writer }) writer target answer new =
           subst (λ (x : LogStoreValue). AdvancesEntry tells x.job x answer new) b.new_is enters.2 in
           entered job is-job
           (either-new writer.stage (IsImageOf old.roots image h floors) (IsImageOf old.roots image h (floors_with job.work floors))
-          (entering.entry-within target h queue floors there (record job { stage = Entering writer }) writer at_rest may (written writer) leaves way
+          (entering.entry-within target h queue floors there (record job { stage = Entering writer }) writer at_rest none may (written writer) leaves way
           (disk_answer answer) new.disk.areas image (advances.call tell) left))
       by-turn job waited is-job e (Some w) standing is = same (ap (λ (x : LogStoreValue). x.disk.areas) is.1)
 
@@ -262,9 +286,12 @@ module _ (tells : Bool) (old new : LogStoreValue) (answer : Result JobDid PumpFa
         promised = step.promised;
         few = step.few;
         many = step.many;
+        counted = step.counted;
         turn = step.turn;
         beside = step.beside;
         place = step.place;
+        live = step.live;
+        reclaim = step.reclaim;
       }
 
       by-left : (job : Job) (writer : InWriting) (is-job : old.job ≡ Some job) (e : job.stage ≡ Writing writer)
@@ -280,10 +307,11 @@ module _ (tells : Bool) (old new : LogStoreValue) (answer : Result JobDid PumpFa
           by-left job writer is-job e (run-left old h queue floors s job writer is-job e tells tell works new answer is image left)
       by-stage job is-job (Ready waited) e is = by-turn job waited is-job e old.turn refl is
       by-stage job is-job (Entering w) e is =
+          let none = none-runs old h queue floors s job is-job in
           let at_rest = none-beside old h queue floors s job is-job step w e in
           entered job is-job
           (either-new w.stage (IsImageOf old.roots image h floors) (IsImageOf old.roots image h (floors_with job.work floors))
-          (entering.entry-within old h queue floors s job w at_rest (may-enter old h queue floors s job is-job)
+          (entering.entry-within old h queue floors s job w at_rest none (may-enter old h queue floors s job is-job)
           (entering-written old h queue floors s job is-job w e) (entering-leaves old h queue floors s job is-job w e)
           (at-entering old h queue floors s job is-job w e at_rest) (disk_answer answer) new.disk.areas image (is.call tell) left))
 
@@ -291,12 +319,17 @@ module _ (tells : Bool) (old new : LogStoreValue) (answer : Result JobDid PumpFa
       by-job None none is = same (ap (λ (x : LogStoreValue). x.disk.areas) is.1)
       by-job (Some job) is-job is = by-stage job is-job job.stage refl is
 
+      by-reclaim : (o : Option ReclaimValue) → old.reclaim ≡ o → Steps o → IsFront old image h queue floors
+      by-reclaim None none is = by-job old.job refl is
+      by-reclaim (Some r) is-it is = reclaim-leaves tells old new answer h queue floors tell works step s r is-it image is left
+
 -- ---- a floor begins
 
 pub is-upto : (a b : ℕ) → IsTrue (nat_le a b) → a ≤ b
 is-upto a b within = let test : nat_le a b ≡ true = within in grind (arith, nat_tests)
 
-module _ (v : LogStoreValue) (relation time : ℕ) (h queue : History Value) (floors : ℕ → ℕ) (none : v.job ≡ None) (room : IsTrue (has_entry_room v.room))
+module _ (v : LogStoreValue) (relation time : ℕ) (h queue : History Value) (floors : ℕ → ℕ) (none : v.job ≡ None) (no-reclaim : v.reclaim ≡ None)
+    (room : IsTrue (has_entry_room v.room))
     (rises : floors relation < time) (upto : time ≤ last h) (range : relation < 2 ^ 16) (s : StandsOnHeap v h queue floors) where
   abbrev begun-floor : LogStoreValue
   begun-floor = with_floor v relation time
@@ -304,7 +337,7 @@ module _ (v : LogStoreValue) (relation time : ℕ) (h queue : History Value) (fl
   fits : v.room.log + v.room.promised + 1 ≤ length v.room.used / 2 - 2
   fits = is-upto (v.room.log + v.room.promised + 1) (length v.room.used / 2 - 2) room
 
-  room-promised : (l : HeapLog) → IsRoomOf v.roots.extents l v.room → IsRoomOf v.roots.extents l begun-floor.room
+  room-promised : (l : HeapLog) → IsRoomOf v.roots.extents l (taken_of v.reclaim) v.room → IsRoomOf v.roots.extents l (taken_of v.reclaim) begun-floor.room
   room-promised l is = record { many = is.many; next = is.next; free = is.free; log = is.log }
 
   leaves-one : LeavesOne v.roots.extents (begun-floor).room
@@ -329,6 +362,7 @@ module _ (v : LogStoreValue) (relation time : ℕ) (h queue : History Value) (fl
       contents = s.commits.contents;
       may = s.commits.may;
     };
+    facts = s.facts;
     anchors = record { len = s.anchors.len; fit = s.anchors.fit };
     turn = by-turn v.turn s.turn;
     job = (rises, upto, range);
@@ -336,10 +370,11 @@ module _ (v : LogStoreValue) (relation time : ℕ) (h queue : History Value) (fl
     named = s.named;
     reach = s.reach;
     spare = inl leaves-one;
+    reclaim = none-made v.roots (begun-floor).job v.named.end v.disk.areas.heap v.disk.areas.archive s.l s.reading v.reclaim no-reclaim;
   }
     where
       resting : IsAtRest v s.l → IsAtRest begun-floor s.l
-      resting rest = record { log = rest.log; room = room-promised s.l rest.room }
+      resting rest = record { log = rest.log; room = room-promised s.l rest.room; live = rest.live }
 
       by-turn : (t : Option WriterState) → HasTurn v queue s.l s.reading s.made h t → HasTurn begun-floor queue s.l s.reading s.made h t
       by-turn None has = resting (subst (λ (j : Option Job). HasJob v s.l s.reading s.made j) none has)
@@ -352,5 +387,7 @@ module _ (v : LogStoreValue) (relation time : ℕ) (h queue : History Value) (fl
         shares = o.shares;
         at = o.at;
         room = room-promised _ o.room;
+        live = o.live;
         alone = tt;
+        beside = o.beside;
       }

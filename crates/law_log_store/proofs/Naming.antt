@@ -17,7 +17,8 @@ use Rattle.log_entries.specs.Ranges.{run_of}
 use Rattle.log_recovery.specs.Read.{archives_named, all_archives}
 use Rattle.log_store.specs.Named.{NamedValue, with_archives}
 use Rattle.log_store.specs.declared.job.JobWork.TheVariants as works
-use Rattle.law_log_store.specs.Standing.{IsBehind, IsNextArchive, IsNamedBy, placed_entry, log_with, reading_with}
+use Rattle.law_log_store.specs.Named.{IsBehind, IsNamedBy}
+use Rattle.law_log_store.specs.Standing.{IsNextArchive, placed_entry, log_with, reading_with}
 use Rattle.law_log_store.proofs.Spans.{behind-same, behind-more}
 
 -- all archives that the log names

@@ -1,5 +1,5 @@
 -- A store that is opened stands for what it is opened on.
-use Rattle.std.proofs.Common.{◌≡◌, ℕ, ◌+◌, ◌*◌, ◌/◌, ◌≤◌, ◌-◌, Bool, true, false, List, [], ◌∷◌, ◌++◌, length, take, drop, replicate, ◌≢◌}
+use Rattle.std.proofs.Common.{◌≡◌, ℕ, ◌+◌, ◌*◌, ◌/◌, ◌≤◌, Bool, true, false, List, [], ◌∷◌, ◌++◌, length, take, drop, replicate, ◌≢◌}
 use Rattle.std.proofs.Common.{Option, inl, refl, arith, ap, sym, subst, ◌∙◌, length-append}
 use Rattle.std.specs.Prelude.{flat_map}
 use Rattle.std.specs.List.{AllByRecursion}
@@ -35,17 +35,21 @@ use Rattle.law_log_sizes.proofs.Orders.{standing-ordered}
 use Rattle.law_log_sizes.proofs.Told.{bounds-same}
 use Rattle.log_room.specs.Rooms.{RoomValue}
 use Rattle.commits.specs.Values.{WaitingValue, versions_after}
-use Rattle.log_store.specs.Values.{LogStoreValue}
+use Rattle.log_store.specs.Values.{LogStoreValue, ReclaimValue}
 use Rattle.log_store.proofs.Rooms.{numbers, numbers-count, numbers-in_range, last-keeps}
 use Rattle.law_log_store.specs.Members.{AreTold, AreContents}
-use Rattle.law_log_store.specs.Standing.{StandsOnHeap, HasTurn, HasJob, MayAllEnter, HasAllWritten, IsRoomOf, KeepsRoots}
+use Rattle.law_log_store.specs.Standing.{StandsOnHeap, HasTurn, HasJob, MayAllEnter, HasAllWritten, IsRoomOf}
+use Rattle.law_log_store.specs.Reclaiming.{HasRoots, taken_of}
 use Rattle.log_store.specs.declared.job.Job.{Job}
 use Rattle.law_log_store.specs.Opened.{live_uses, LeavesRoom, IsOpenedOn}
 use Rattle.law_log_store.proofs.Flags.{all-used-length, distinct-join}
+use Rattle.law_log_store.proofs.Headers.{roots-settled}
+use Rattle.law_log_store.proofs.Reclaims.{none-made}
+use Rattle.law_log_store.proofs.HeapFacts.{facts-opened}
 
 -- ---- numbers
 
-new-flip : (xs ys : List ℕ) → AreNew ys xs → AreNew xs ys
+pub new-flip : (xs ys : List ℕ) → AreNew ys xs → AreNew xs ys
 new-flip [] ys new = tt
 new-flip (x ∷ xs) ys new = (heads ys new, new-flip xs ys (tails ys new))
   where
@@ -192,8 +196,8 @@ opened-stands v image l reading h floors same sound reads is held stands opened 
     rolls = settled-rolls l.rolls image.archive held.rolls;
     runs = settled-runs l.runs image.archive held.runs;
   });
-  status = subst (λ (areas : Areas). KeepsRoots v.roots areas.status) (sym same)
-      (λ content left. subst (λ (bytes : List ℕ). ReadsRoots bytes v.roots) (sym (left.settled refl)) reads);
+  status = subst (λ (areas : Areas). HasRoots v.roots v.reclaim areas.status) (sym same)
+      (subst (λ (r : Option ReclaimValue). HasRoots v.roots r (settled_area image.status)) (sym opened.reclaim) (roots-settled v.roots image.status reads));
   sound = sound;
   commits = record {
     ordered = opened.ordered;
@@ -206,6 +210,7 @@ opened-stands v image l reading h floors same sound reads is held stands opened 
         (subst (λ (bs : List (List ℕ)). AreContents v.commits.versions bs [] []) (sym opened.contents) tt));
     may = tt;
   };
+  facts = facts-opened v.commits.versions reading h floors stands opened.facts;
   anchors = record { len = ap (λ (r : RoomValue). r.anchors) opened.room; fit = tt };
   turn = subst (λ (t : Option WriterState). HasTurn v [] l reading [] h t) (sym opened.turn)
       (subst (λ (j : Option Job). HasJob v l reading [] j) (sym opened.job) (record {
@@ -213,12 +218,15 @@ opened-stands v image l reading h floors same sound reads is held stands opened 
           parts = all-synced (heap_parts l) (settled_area image.heap) held.parts;
           ends = settled-closed (extent_start l.next) image.heap held.ends;
         });
-        room = subst (IsRoomOf v.roots.extents l) (sym opened.room)
-            ((leaves-room v.roots.extents (root_of v.roots) l reading h floors is stands).room);
+        room = subst (λ (r : Option ReclaimValue). IsRoomOf v.roots.extents l (taken_of r) v.room) (sym opened.reclaim)
+            (subst (IsRoomOf v.roots.extents l []) (sym opened.room)
+            ((leaves-room v.roots.extents (root_of v.roots) l reading h floors is stands).room));
+        live = opened.live;
       }));
   job = subst (λ (j : Option Job). MayAllEnter l reading h floors [] j) (sym opened.job) tt;
   written = subst (λ (j : Option Job). HasAllWritten [] j v.disk.areas.archive) (sym opened.job) tt;
   named = opened.named;
   reach = opened.reach;
   spare = inl (λ some. let none : v.room.promised ≡ 0 = ap (λ (r : RoomValue). r.promised) opened.room in absurd (omega (arith, some, none)));
+  reclaim = none-made v.roots v.job v.named.end v.disk.areas.heap v.disk.areas.archive l reading v.reclaim opened.reclaim;
 }

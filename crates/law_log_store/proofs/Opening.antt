@@ -1,5 +1,5 @@
 -- A store that was opened on an image which stands for a history stands for it.
-use Rattle.std.proofs.Common.{◌≡◌, ℕ, ◌+◌, ◌^◌, ◌<◌, ◌≤◌, max, Bool, true, List, [], ◌++◌, length, take, refl, arith, ap, sym, subst, ◌∙◌}
+use Rattle.std.proofs.Common.{◌≡◌, ℕ, ◌+◌, ◌^◌, ◌<◌, ◌≤◌, max, Bool, true, List, [], ◌++◌, length, map, take, refl, arith, ap, sym, subst, ◌∙◌}
 use Rattle.std.specs.Prelude.{IsTrue}
 use Rattle.history.specs.declared.key.Key.{Key}
 use Rattle.history.specs.declared.time.TimedWrite.{TimedWrite}
@@ -14,7 +14,7 @@ use Rattle.law_image.specs.Log.{archive_mark}
 use Rattle.law_image.specs.StandsFor.{archived_upto}
 use Rattle.law_log.specs.Chains.{told_from, reclaimed_by}
 use Rattle.chains.specs.KeyWrites as chains
-use Rattle.law_log_layout.specs.HeapLog.{PlacedChain, HeapLog, chains_told}
+use Rattle.law_log_layout.specs.HeapLog.{PlacedAnchors, PlacedChain, HeapLog, HeapStandsFor, IsLogOf, chains_told}
 use Rattle.law_log_sizes.specs.Sizes.{anchors_len, len_from, size_now}
 use Rattle.recovery.specs.declared.fault.OpenFault.{OpenFault}
 use Rattle.log_roots.specs.declared.roots.Roots.{Roots}
@@ -26,6 +26,7 @@ use Rattle.log_recovery.specs.Chains.{uses_of}
 use Rattle.log_recovery.specs.Rules.{LogState, mark_of, no_log, state_from}
 use Rattle.log_recovery.specs.Following.{IsEndOf}
 use Rattle.log_recovery.specs.Ends.{counted_in}
+use Rattle.log_recovery.specs.Live.{live_of}
 use Rattle.log_recovery.specs.Members.{values_of, members_of_all}
 use Rattle.log_recovery.specs.Opening as images
 use Rattle.log_recovery.specs.Image.{IsReadFrom}
@@ -41,8 +42,10 @@ use Rattle.log_store.specs.Named.{NamedValue}
 use Rattle.log_store.specs.Opens.{Opens, OpenRefuses, named_on}
 use Rattle.log_store.proofs.Places.{len-is}
 use Rattle.log_sizes.specs.Counted.{values_in}
-use Rattle.law_log_store.specs.Standing.{StandsOnHeap, IsBehind, IsImageOf, IsNamedBy, counted}
+use Rattle.law_log_store.specs.Named.{IsBehind, IsNamedBy}
+use Rattle.law_log_store.specs.Standing.{StandsOnHeap, IsImageOf, IsLiveOf, counted}
 use Rattle.law_log_store.specs.Opened.{live_uses, opened_room, IsOpenedOn}
+use Rattle.law_log_store.proofs.Headers.{image-size}
 use Rattle.law_log_store.proofs.Opened.{opened-stands}
 use Rattle.law_log_store.proofs.Reaching.{said-behind, said-within}
 
@@ -71,27 +74,28 @@ module _ (tells : Bool) (old : DiskState) (mark : ℕ) (v : LogStoreValue) (root
   reading = image.heap.reading
 
   few : roots.extents < 2 ^ 32
-  few = (let size = image.status.has.in_range.size in omega (arith, size.most))
+  few = (let size = image-size roots (image_of old.areas) h floors image in omega (arith, size.most))
 
   -- ---- what was read is the log by which the image stands
 
-  read-roots : r.roots ≡ roots
+  read-roots : r.roots ≡ image.read
   read-roots =
       let read : IsReadFrom (image_of old.areas) r = opens.read told in
-      one_reading (take 512 (image_of old.areas).status) r.roots roots read.roots.has image.status.has
+      one_reading (take 512 (image_of old.areas).status) r.roots image.read read.roots.has image.status.has
 
-  pub read : IsHeapRead roots.extents (root_of roots) heap r.heap
+  pub read : IsHeapRead roots.extents (root_of image.read) heap r.heap
   read =
       let all : IsReadFrom (image_of old.areas) r = opens.read told in
-      subst (λ (x : Roots). IsHeapRead x.extents (root_of x) heap r.heap) read-roots all.heap
+      subst (λ (most : ℕ). IsHeapRead most (root_of image.read) heap r.heap) image.size
+      (subst (λ (x : Roots). IsHeapRead x.extents (root_of x) heap r.heap) read-roots all.heap)
 
-  holds : images.Opens roots.extents (root_of roots) heap (length (image_of old.areas).archive) l.chains l.next l.anchors
+  holds : images.Opens roots.extents (root_of image.read) heap (length (image_of old.areas).archive) l.chains l.next l.anchors
   holds =
-      stands-opens roots.extents (root_of roots) l reading heap (image_of old.areas).archive h floors image.heap.is_log image.heap.held image.heap.stands
+      stands-opens roots.extents (root_of image.read) l reading heap (image_of old.areas).archive h floors image.heap.is_log image.heap.held image.heap.stands
 
   pub same : ((read.chains ≡ l.chains) × (r.heap.next ≡ l.next)) × (read.anchors ≡ l.anchors)
   same =
-      anchors-once roots.extents (root_of roots) heap few read.chains r.heap.next read.anchors l.chains l.next l.anchors read.holds.before.before
+      anchors-once roots.extents (root_of image.read) heap few read.chains r.heap.next read.anchors l.chains l.next l.anchors read.holds.before.before
       holds.heap_is.before.before
 
   olds-same : read.anchors.records ≡ reading.anchors
@@ -109,8 +113,11 @@ module _ (tells : Bool) (old : DiskState) (mark : ℕ) (v : LogStoreValue) (root
 
   -- ---- the room
 
-  roots-are : v.roots ≡ roots
+  roots-are : v.roots ≡ image.read
   roots-are = ap (λ (x : LogStoreValue). x.roots) opens.new_is ∙ read-roots
+
+  pub size-is : v.roots.extents ≡ roots.extents
+  size-is = ap (λ (x : Roots). x.extents) roots-are ∙ image.size
 
   space-is : r.heap.space ≡ live_uses roots.extents l
   space-is = read.space_is ∙ (λ i. all_used (uses_of roots.extents (same.0.0 i)) ((same.1 i).numbers))
@@ -120,14 +127,29 @@ module _ (tells : Bool) (old : DiskState) (mark : ℕ) (v : LogStoreValue) (root
 
   anchors-is : r.heap.members.sizes.len ≡ size_now reading
   anchors-is =
-      len-is roots.extents (root_of roots) heap r.heap image.status.has.in_range.size read
+      len-is roots.extents (root_of image.read) heap r.heap (image-size roots (image_of old.areas) h floors image) read
       ∙ (λ i. len_from (anchors_len (olds-same i)) (values_of (olds-same i)) (members-same i))
 
   room-is : v.room ≡ opened_room v.roots.extents l reading
   room-is =
       ap (λ (x : LogStoreValue). x.room) opens.new_is
-      ∙ (λ i. record { used = with_use (space-is i) ((same.0).1 i) true; next = (same.0).1 i; log = log-is i; promised = 0; anchors = anchors-is i })
-      ∙ sym (ap (λ (x : Roots). opened_room x.extents l reading) roots-are)
+      ∙ (λ i. record {
+        used = with_use (space-is i) ((same.0).1 i) true;
+        next = (same.0).1 i;
+        log = log-is i;
+        promised = 0;
+        anchors = anchors-is i;
+        reserved = 0;
+      })
+      ∙ sym (ap (λ (most : ℕ). opened_room most l reading) size-is)
+
+  -- ---- the chains in memory
+
+  lives : IsLiveOf l v.live
+  lives = record {
+    chains = ap (λ (x : LogStoreValue). x.live.chains) opens.new_is ∙ read.live_are ∙ ap (λ (cs : List PlacedChain). map live_of cs) same.0.0;
+    anchors = ap (λ (x : LogStoreValue). x.live.anchors) opens.new_is ∙ read.anchors_are ∙ ap (λ (a : PlacedAnchors). a.numbers) same.1;
+  }
 
   -- ---- the archive
 
@@ -191,27 +213,33 @@ module _ (tells : Bool) (old : DiskState) (mark : ℕ) (v : LogStoreValue) (root
   opened = record {
     ordered = opens.ordered;
     values = λ key. ap (λ (x : LogStoreValue). values_in x.commits.versions key) opens.new_is ∙ ap latest (facts-are key);
+    facts = λ key. ap (λ (x : LogStoreValue). chains.writes_of x.commits.versions key) opens.new_is ∙ facts-are key;
     queue = ap (λ (x : LogStoreValue). x.commits.queue) opens.new_is;
     group = ap (λ (x : LogStoreValue). x.commits.group) opens.new_is;
     contents = ap (λ (x : LogStoreValue). x.contents) opens.new_is;
     room = room-is;
+    live = lives;
     turn = ap (λ (x : LogStoreValue). x.turn) opens.new_is;
     job = ap (λ (x : LogStoreValue). x.job) opens.new_is;
+    reclaim = ap (λ (x : LogStoreValue). x.reclaim) opens.new_is;
     named = named;
     reach = reach;
     marks = marks;
   }
 
-  pub open-stands : (v.roots ≡ roots) × StandsOnHeap v h [] floors
+  pub open-stands : (v.roots.extents ≡ roots.extents) × StandsOnHeap v h [] floors
   open-stands = (
-    roots-are,
+    size-is,
     opened-stands v (image_of old.areas) l reading h floors (opens.settled told)
         (subst (λ (areas : Areas). AreSound areas) (sym (opens.settled told)) (settled-sound old.areas are_sound))
         (subst (images.ReadsRoots (image_of old.areas).status) (sym roots-are) image.status)
-        (subst (λ (x : Roots). Rattle.law_log_layout.specs.HeapLog.IsLogOf x.extents (root_of x) l reading) (sym roots-are) image.heap.is_log) image.heap.held
-        image.heap.stands opened,
+        (subst (λ (most : ℕ). IsLogOf most (root_of v.roots) l reading) (sym size-is)
+        (subst (λ (x : Roots). IsLogOf roots.extents (root_of x) l reading) (sym roots-are) image.heap.is_log)) image.heap.held image.heap.stands opened,
   )
 
 pub opens-any : (tells : Bool) (old new : DiskState) (why : OpenFault) (roots : Roots) (h : History Value) (floors : ℕ → ℕ) → IsTrue tells
     → IsImageOf roots (image_of old.areas) h floors → OpenRefuses tells old why new → SaysNothing why
-opens-any tells old new why roots h floors told image refuses = sound (image_of old.areas) roots h floors image.status image.heap why (refuses.fault told)
+opens-any tells old new why roots h floors told image refuses =
+    sound (image_of old.areas) image.read h floors image.status
+    (subst (λ (most : ℕ). HeapStandsFor most (root_of image.read) old.areas.heap.bytes old.areas.archive.bytes h floors) (sym image.size) image.heap) why
+    (refuses.fault told)

@@ -22,6 +22,7 @@ use Rattle.log_store.specs.declared.job.JobStage.{JobStage}
 use Rattle.log_store.specs.declared.job.JobStage.TheVariants.{Ready, Entering}
 use Rattle.log_store.specs.declared.job.JobStage.TheVariants as stages
 use Rattle.log_store.specs.Pumps.{Pumps, TakesStep, bars_groups, BeginsOrWaits, BeginsGroup, AdvancesGroup, Advances, after_call, with_failure, did_of}
+use Rattle.log_store.specs.Gates.{waits_to_open}
 use Rattle.log_store.specs.Pumps.{disk_answer}
 use Rattle.log_store.specs.declared.pump.Did.{Did}
 use Rattle.log_store.specs.declared.pump.Did.TheVariants as did
@@ -99,9 +100,15 @@ pump-steps tells old new answer h queue floors tell works step sound s pumps =
         (subst (λ (x : LogStoreValue). StandsOnHeap x (h ++ take 0 queue) (drop 0 queue) floors) (sym is.1) (unpublished old h queue floors s))
     by-queue false some at_rest is = by-job (bars_groups old.job) refl at_rest (grind (arith, nat_tests)) is
 
+    -- its gate waits while the turn gate is written and not synced
+    by-gate : (w : WriterState) → old.turn ≡ Some w → (b : Bool)
+        → MatchBool b ((answer ≡ Err fault.Busy) × (new ≡ old)) (Advances tells w old answer new) → StepsTo answer old new h queue floors
+    by-gate w standing true is = subst (λ (a : Result Did PumpFault). StepsTo a old new h queue floors) (sym is.0) is.1
+    by-gate w standing false is = call-steps tells w old new old answer h queue floors tell works standing s is sound
+
     by-turn : (t : Option WriterState) → old.turn ≡ t → TakesStep tells old t answer new → StepsTo answer old new h queue floors
     by-turn None at_rest is = by-queue (length old.commits.queue == 0) refl at_rest is
-    by-turn (Some w) standing is = call-steps tells w old new old answer h queue floors tell works standing s is sound
+    by-turn (Some w) standing is = by-gate w standing (waits_to_open old.reclaim w.stage) is
 
 pub failed-rests : (tells : Bool) (old new : LogStoreValue) (answer : Result Did PumpFault) → old.commits.failed ≡ true → Pumps tells old answer new
     → (answer ≡ Err fault.Failed) × (new ≡ old)
@@ -211,6 +218,46 @@ standing-is-front v h queue floors works s image step left = by-turn v.turn refl
         subst (λ (n : ℕ). Fronts v h queue floors works s image n) (ap (λ (c : CommitsValue). c.group) (sym (grouped-stays v.commits some)))
         (front-before v h queue floors works s image left)
 
+-- so is an image of which that holds by the stages that a store has
+pub stood-is-front : (v : LogStoreValue) (h queue : History Value) (floors : ℕ → ℕ) → IsInStep v → (image : Image)
+    → MayStand false v.turn v.job (IsImageOf v.roots image h floors) (IsImageOf v.roots image (h ++ take v.commits.group queue) floors)
+    (λ work. IsImageOf v.roots image h (floors_with work floors))
+    → IsFront v image h queue floors
+stood-is-front v h queue floors step image is = by-turn v.turn refl is
+  where
+    entered : (Old New : Type 0) → Old ⊎ New → Old ⊎ IsImageOf v.roots image (h ++ take (grouped 1024 v.commits).group queue) floors ⊎ New
+    entered Old New (inl is) = inl is
+    entered Old New (inr is) = inr (inr is)
+
+    by-stage : (work : JobWork) (k : JobStage) → MayStandOn false k (IsImageOf v.roots image h floors) (IsImageOf v.roots image h (floors_with work floors))
+        → IsImageOf v.roots image h floors ⊎ IsImageOf v.roots image (h ++ take (grouped 1024 v.commits).group queue) floors
+        ⊎ IsImageOf v.roots image h (floors_with work floors)
+    by-stage work (stages.Writing writer) is = inl is
+    by-stage work (Ready waited) is = inl is
+    by-stage work (Entering w) is =
+        entered (IsImageOf v.roots image h floors) (IsImageOf v.roots image h (floors_with work floors))
+        (either-old w.stage (IsImageOf v.roots image h floors) (IsImageOf v.roots image h (floors_with work floors)) is)
+
+    by-job : (j : Option Job) → MayStandBy false j (IsImageOf v.roots image h floors) (λ work. IsImageOf v.roots image h (floors_with work floors))
+        → IsImageOf v.roots image h floors ⊎ IsImageOf v.roots image (h ++ take (grouped 1024 v.commits).group queue) floors ⊎ HasEntered v image h floors j
+    by-job None is = inl is
+    by-job (Some job) is = by-stage job.work job.stage is
+
+    grouped-one : (n : ℕ) → n ≡ v.commits.group → IsImageOf v.roots image h floors ⊎ IsImageOf v.roots image (h ++ take v.commits.group queue) floors
+        → IsImageOf v.roots image h floors ⊎ IsImageOf v.roots image (h ++ take n queue) floors ⊎ HasEntered v image h floors v.job
+    grouped-one n same (inl is) = inl is
+    grouped-one n same (inr is) = inr (inl (subst (λ (k : ℕ). IsImageOf v.roots image (h ++ take k queue) floors) (sym same) is))
+
+    by-turn : (t : Option WriterState) → v.turn ≡ t
+        → MayStand false t v.job (IsImageOf v.roots image h floors) (IsImageOf v.roots image (h ++ take v.commits.group queue) floors)
+        (λ work. IsImageOf v.roots image h (floors_with work floors))
+        → IsFront v image h queue floors
+    by-turn None at_rest is = by-job v.job is
+    by-turn (Some w) standing is =
+        let some = (subst (λ (t : Option WriterState). stores.HasTurn v.commits.group t) standing step.turn).0 in
+        grouped-one (grouped 1024 v.commits).group (ap (λ (c : CommitsValue). c.group) (grouped-stays v.commits some))
+        (either-old w.stage (IsImageOf v.roots image h floors) (IsImageOf v.roots image (h ++ take v.commits.group queue) floors) is)
+
 pub pump-leaves : (tells : Bool) (old new : LogStoreValue) (answer : Result Did PumpFault) (h queue : History Value) (floors : ℕ → ℕ) (image : Image)
     → IsTrue tells → old.commits.failed ≡ false → IsInStep old → StandsOnHeap old h queue floors → Pumps tells old answer new
     → LeavesImage old.disk.areas image ⊎ LeavesImage new.disk.areas image → IsFront old image h queue floors
@@ -249,9 +296,16 @@ pump-leaves tells old new answer h queue floors image tell works step s pumps le
     by-queue true none at_rest is l = old-front at_rest (subst (λ (x : LogStoreValue). LeavesImage x.disk.areas image) is.1 l)
     by-queue false some at_rest is l = by-job (bars_groups old.job) refl at_rest (grind (arith, nat_tests)) is l
 
+    by-gate : (w : WriterState) → old.turn ≡ Some w → (b : Bool)
+        → MatchBool b ((answer ≡ Err fault.Busy) × (new ≡ old)) (Advances tells w old answer new) → LeavesImage new.disk.areas image
+        → Fronts old h queue floors works s image old.commits.group
+    by-gate w standing true is l =
+        front-before old h queue floors works s image (subst (λ (x : LogStoreValue). LeavesImage x.disk.areas image) is.1 l)
+    by-gate w standing false is l = front-after old h queue floors works s image tells w new answer tell standing is l
+
     by-turn : (t : Option WriterState) → old.turn ≡ t → TakesStep tells old t answer new
         → LeavesImage old.disk.areas image ⊎ LeavesImage new.disk.areas image → IsFront old image h queue floors
     by-turn None at_rest is (inl l) = old-front at_rest l
     by-turn None at_rest is (inr l) = by-queue (length old.commits.queue == 0) refl at_rest is l
     by-turn (Some w) standing is (inl l) = standing-front w standing (front-before old h queue floors works s image l)
-    by-turn (Some w) standing is (inr l) = standing-front w standing (front-after old h queue floors works s image tells w new answer tell standing is l)
+    by-turn (Some w) standing is (inr l) = standing-front w standing (by-gate w standing (waits_to_open old.reclaim w.stage) is l)

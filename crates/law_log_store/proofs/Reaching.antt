@@ -17,7 +17,7 @@ use Rattle.log_entries.specs.Ranges.{run_of}
 use Rattle.law_log_layout.specs.HeapLog.{PlacedChain, PlacedRoll, HeapLog, Span, run_span, roll_span, AreSpansInRow, archives_in, rolls_in, runs_behind}
 use Rattle.law_log_layout.specs.HeapLog.{runs_from, name_bytes, HoldsRoll, IsStoredRoll}
 use Rattle.log_recovery.specs.Rules.{LogState, roll_part, row_end, state_behind, state_from}
-use Rattle.law_log_store.specs.Standing.{IsBehind}
+use Rattle.law_log_store.specs.Named.{IsBehind}
 use Rattle.law_log_store.proofs.Spans.{RunEnds}
 
 -- ---- rows

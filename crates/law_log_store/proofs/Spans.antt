@@ -19,7 +19,7 @@ use Rattle.law_log_layout.specs.HeapLog.{PlacedChain, PlacedRoll, HeapLog, Span,
 use Rattle.law_log_layout.specs.HeapLog.{archives_in, runs_behind, runs_from, with_chain}
 use Rattle.law_log_layout.specs.Entries.{runs_with}
 use Rattle.law_log_layout.proofs.GroupJoins.{none-more}
-use Rattle.law_log_store.specs.Standing.{IsBehind}
+use Rattle.law_log_store.specs.Named.{IsBehind}
 
 -- ---- lists
 

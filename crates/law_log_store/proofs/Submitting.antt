@@ -35,6 +35,7 @@ use Rattle.log_store.specs.declared.job.JobStage.{JobStage}
 use Rattle.log_store.specs.declared.job.JobStage.TheVariants.{Writing, Ready, Entering}
 use Rattle.log_store.specs.Submits.{anchors_behind, has_room, with_queued}
 use Rattle.law_log_store.specs.Members.{IsTold, AreContents}
+use Rattle.law_log_store.specs.Reclaiming.{taken_of}
 use Rattle.law_log_store.specs.Standing.{StandsOnHeap, HasTurn, HasJob, HasStage, IsRoomOf, LeavesOne, log_with}
 use Rattle.law_log_store.proofs.Queues.{taken-and-rest, told-many, told-more, contents-more, may-more, told-ordered, take-more, drop-more, versions-split}
 use Rattle.law_log_store.proofs.Queues.{values-told}
@@ -106,6 +107,7 @@ module _ (v : LogStoreValue) (label time : ℕ) (writes : List (KeyWrite Value))
     time = refl;
     label = refl;
     ordered = ordered-with_commit time (ordered v.commits) writes is-ordered;
+    facts = λ key. writes_of-with_commit time (ordered v.commits) writes key is-ordered may.write_set.rising;
     values = λ key. values-with_commit time label (ordered v.commits) writes key is-ordered may.in_range may.write_set.rising;
   }
 
@@ -134,7 +136,7 @@ module _ (v : LogStoreValue) (label time : ℕ) (writes : List (KeyWrite Value))
   anchors-fit : count_of (anchors_behind v writes) ≤ (3 * length v.room.used) / 16
   anchors-fit = is-upto (count_of (anchors_behind v writes)) ((3 * length v.room.used) / 16) tests.1
 
-  room-more : (l : HeapLog) → IsRoomOf v.roots.extents l v.room → IsRoomOf v.roots.extents l more.room
+  room-more : (l : HeapLog) → IsRoomOf v.roots.extents l (taken_of v.reclaim) v.room → IsRoomOf v.roots.extents l (taken_of v.reclaim) more.room
   room-more l is = record {
     many = is.many;
     next = is.next;
@@ -149,18 +151,19 @@ module _ (v : LogStoreValue) (label time : ℕ) (writes : List (KeyWrite Value))
       omega (arith, room-fits, heap, some)
 
   stage-more : (work : JobWork) (k : JobStage) → HasStage v s.l s.reading s.made work k → HasStage more s.l s.reading s.made work k
-  stage-more work (Writing writer) is = record { log = is.log; room = room-more s.l is.room }
-  stage-more work (Ready waited) is = record { log = is.log; room = room-more s.l is.room }
+  stage-more work (Writing writer) is = record { log = is.log; room = room-more s.l is.room; live = is.live }
+  stage-more work (Ready waited) is = record { log = is.log; room = room-more s.l is.room; live = is.live }
   stage-more work (Entering w) is = record {
     content = is.content;
     joins = is.joins;
     shares = is.shares;
     at = is.at;
     room = room-more (log_with work s.made s.l w) is.room;
+    live = is.live;
   }
 
   job-more : (j : Option Job) → HasJob v s.l s.reading s.made j → HasJob more s.l s.reading s.made j
-  job-more None is = record { log = is.log; room = room-more s.l is.room }
+  job-more None is = record { log = is.log; room = room-more s.l is.room; live = is.live }
   job-more (Some job) is = stage-more job.work job.stage is
 
   turn-more : (t : Option WriterState) → HasTurn v queue s.l s.reading s.made h t → HasTurn more (queue ++ commit ∷ []) s.l s.reading s.made h t
@@ -177,7 +180,9 @@ module _ (v : LogStoreValue) (label time : ℕ) (writes : List (KeyWrite Value))
         shares = is.shares;
         at = is.at;
         room = room-more (with_chain s.l (placed_group w.numbers w.link is.group)) is.room;
+        live = is.live;
         alone = is.alone;
+        beside = is.beside;
       }
 
   contents-are : AreContents (versions_after v.commits.versions (members more.commits)) more.contents (drop v.commits.group more.commits.queue)
@@ -213,6 +218,7 @@ module _ (v : LogStoreValue) (label time : ℕ) (writes : List (KeyWrite Value))
       contents = contents-are;
       may = may-more h queue commit s.commits.may may;
     };
+    facts = s.facts;
     anchors = record {
       len = len-is ∙ sym (len-more v.roots.extents (size_now s.reading) (values_now s.reading) queue commit);
       fit = fit-more v.roots.extents (size_now s.reading) (values_now s.reading) queue commit s.anchors.fit
@@ -225,4 +231,5 @@ module _ (v : LogStoreValue) (label time : ℕ) (writes : List (KeyWrite Value))
     named = s.named;
     reach = s.reach;
     spare = inl leaves-more;
+    reclaim = s.reclaim;
   }

@@ -29,7 +29,7 @@ use Rattle.vacuum.specs.Archives.{AreInMemory, key_records, since_of, records_of
 
 -- ---- the keys in memory
 
-abbrev keys_of : List KeyWrites → List Key
+abbrev pub keys_of : List KeyWrites → List Key
 keys_of m = map (λ (c : KeyWrites). c.key) m
 
 less : (a b : Key) → key_lt a b ≡ true → key_cmp a b ≡ Less
@@ -39,12 +39,12 @@ all-less : (k : Key) (m : List KeyWrites) → AllAbove k m → AllByRecursion (�
 all-less k [] up = tt
 all-less k (c ∷ cs) up = (less k c.key up.0, all-less k cs up.1)
 
-sorted-keys : (m : List KeyWrites) → IsOrdered m → IsStrictlySortedBy key_cmp (keys_of m)
+pub sorted-keys : (m : List KeyWrites) → IsOrdered m → IsStrictlySortedBy key_cmp (keys_of m)
 unfolding IsStrictlySortedBy
 sorted-keys [] ordered = tt
 sorted-keys (c ∷ cs) ordered = (all-less c.key cs ordered.0, sorted-keys cs ordered.1)
 
-no-writes : (key : Key) (m : List KeyWrites) → AreOthers key (keys_of m) → writes_of m key ≡ []
+pub no-writes : (key : Key) (m : List KeyWrites) → AreOthers key (keys_of m) → writes_of m key ≡ []
 no-writes key [] others = refl
 no-writes key (c ∷ cs) others = let other : same_key c.key key ≡ false = others.0 in rw other (no-writes key cs others.1)
 
@@ -60,7 +60,7 @@ module _ {R : Type 0} (say : Key → List Write → List R) where
       let other : same_key c.key d.key ≡ false = lt-other' c.key d.key up.0 in
       rw other (ap (λ l. say d.key (writes_of cs d.key) ++ l) (tail-same c cs ds up.1))
 
-  by-key : (m : List KeyWrites) → IsOrdered m → flat_map (λ (c : KeyWrites). say c.key c.writes) m ≡ flat_map (λ key. say key (writes_of m key)) (keys_of m)
+  pub by-key : (m : List KeyWrites) → IsOrdered m → flat_map (λ (c : KeyWrites). say c.key c.writes) m ≡ flat_map (λ key. say key (writes_of m key)) (keys_of m)
   by-key [] ordered = refl
   by-key (c ∷ cs) ordered =
       rw (same-self c.key) (ap (λ l. say c.key c.writes ++ l) (by-key cs ordered.1 ∙ sym (tail-same c cs cs ordered.0)))

@@ -1,12 +1,15 @@
 -- The calls of a store whose log lies in the heap, as its disk has them.
-use Rattle.std.specs.Prelude.{ℕ, ◌≡◌, ◌⊎◌, ◌<◌, ◌≤◌, ◌^◌, max, Option, None, Some, Bool, true, false, IsTrue, [], ◌∷◌, ◌++◌, take, drop, filter}
+use Rattle.std.specs.Prelude.{ℕ, ◌≡◌, ◌⊎◌, ◌<◌, ◌≤◌, ◌^◌, max, Option, None, Some, Bool, true, false, IsTrue, [], ◌∷◌, ◌++◌, map, take, drop, filter}
 use Rattle.std.specs.Prelude.{Result, Ok, Err}
 use Rattle.history.specs.declared.key.Key.{Key}
-use Rattle.history.specs.Versions.{versions, ends_after}
+use Rattle.history.specs.Versions.{versions, ends_after, stands_at}
 use Rattle.history.specs.Histories.{History, MayAllFollow, last, versions_of}
 use Rattle.disk.specs.Areas.{Image, AreSound, LeavesImage}
 use Rattle.commits.specs.Steps.{grouped}
 use Rattle.law_image.specs.Values.{Value, IsValue}
+use Rattle.law_image.specs.Reading.{Reading}
+use Rattle.law_image.specs.Facts.{heap_versions}
+use Rattle.law_image.specs.StandsFor.{head_of}
 use Rattle.snapshot.specs.Txn.{TxnValue}
 use Rattle.group.specs.Tickets.{TicketValue}
 use Rattle.group.specs.declared.answers.BeginFault.{BeginFault}
@@ -31,6 +34,9 @@ use Rattle.floors.specs.Floors.{floor_at}
 use Rattle.vacuum.specs.Archives.{AreInMemory, unwritten}
 use Rattle.wire.specs.Spelling.{IsRun}
 use Rattle.log_store.specs.Archives.{BeginsArchive, records_to, run_to}
+use Rattle.log_store.specs.Reclaims.{IsReclaimBegun, reclaimed}
+use Rattle.log_base.specs.Laws.{is_named_between}
+use Rattle.log_base.specs.Names.{name_of, named_between}
 use Rattle.log_store.specs.declared.pump.Did.{Did}
 use Rattle.log_store.specs.declared.pump.Did.TheVariants as did
 use Rattle.law_log_store.specs.Standing.{StandsOnHeap, IsImageOf, StopsBy, StopsOnHeap, floors_with}
@@ -100,6 +106,12 @@ floors_by work job_did.WroteEntry floors = floors
 floors_by work job_did.GateClosed floors = floors
 floors_by work job_did.HeapSynced floors = floors
 floors_by work job_did.GateWritten floors = floors
+floors_by work job_did.WroteExtent floors = floors
+floors_by work job_did.WroteRoll floors = floors
+floors_by work job_did.RollSynced floors = floors
+floors_by work job_did.RootWritten floors = floors
+floors_by work job_did.RootSynced floors = floors
+floors_by work job_did.TurnWritten floors = floors
 floors_by work job_did.JobDone floors = floors_with work floors
 
 abbrev pub floors_after : Option Job → JobDid → (ℕ → ℕ) → ℕ → ℕ
@@ -127,11 +139,13 @@ JobLeaves =
     → IsTrue tells → old.commits.failed ≡ false → IsInStep old → StandsOnHeap old h queue floors → PumpsJob tells old answer new
     → LeavesImage old.disk.areas image ⊎ LeavesImage new.disk.areas image → IsFront old image h queue floors
 
--- a floor that begins where it may, and there is room, keeps what the disk stands for
+-- a floor that begins where it may, where no job runs, and there is room, keeps what the disk stands for
 abbrev pub FloorBegins : Type 0
 FloorBegins =
-    (v : LogStoreValue) (relation time : ℕ) (h queue : History Value) (floors : ℕ → ℕ) → v.job ≡ None → IsTrue (has_entry_room v.room)
-    → floors relation < time → time ≤ last h → relation < 2 ^ 16 → StandsOnHeap v h queue floors → StandsOnHeap (with_floor v relation time) h queue floors
+    (v : LogStoreValue) (relation time : ℕ) (h queue : History Value) (floors : ℕ → ℕ) → v.job ≡ None → v.reclaim ≡ None
+    → IsTrue (has_entry_room v.room)
+    → floors relation < time → time ≤ last h → relation < 2 ^ 16 → StandsOnHeap v h queue floors
+    → StandsOnHeap (with_floor v relation time) h queue floors
 
 -- What an archive needs of memory: it is in order, and of the versions that end after the archive mark and the floor of their relation it has those of the
 -- history. Its floors are those of the history.
@@ -145,12 +159,27 @@ pub record HoldsUnarchived (v : LogStoreValue) (h : History Value) (floors : ℕ
 abbrev pub HasRoomFor : LogStoreValue → ℕ → History Value → History Value → Type 0
 HasRoomFor v upto h queue = IsTrue (has_entry_room v.room) ⊎ (IsTrue (has_last_room v.room) × (queue ≡ []) × (upto ≡ last h))
 
--- an archive that begins where it may, and there is room, keeps what the disk stands for
+-- an archive that begins where it may, where no job runs, and there is room, keeps what the disk stands for
 abbrev pub ArchiveBegins : Type 0
 ArchiveBegins =
-    (v new : LogStoreValue) (upto : ℕ) (h queue : History Value) (floors : ℕ → ℕ) → IsInStep v → v.job ≡ None → HasRoomFor v upto h queue
+    (v new : LogStoreValue) (upto : ℕ) (h queue : History Value) (floors : ℕ → ℕ) → IsInStep v → v.job ≡ None → v.reclaim ≡ None
+    → HasRoomFor v upto h queue
     → v.named.upto < upto → upto ≤ last h → IsRun (run_to v upto) → HoldsUnarchived v h floors → StandsOnHeap v h queue floors
     → BeginsArchive v (run_to v upto) (unwritten v.named.end (records_to v upto)) new → StandsOnHeap new h queue floors
+
+-- What a reclaim needs of memory: it is in order, and of the versions that stand at the archive mark it has those of the heap. Of the commits that are later
+-- than the mark of the log's base, and no later than the archive mark, it has the names.
+pub record HoldsUnreclaimed (v : LogStoreValue) (reading : Reading) (h : History Value) : Type 0 where
+  pub in_memory : AreInMemory v.commits.versions
+  pub same : (key : Key) → filter (stands_at v.named.upto) (versions (writes_of v.commits.versions key))
+      ≡ filter (stands_at v.named.upto) (heap_versions reading key)
+  pub heads : map name_of (named_between (reclaimed v) v.named.upto v.commits.heads) ≡ filter (is_named_between (reclaimed v) v.named.upto) (map head_of h)
+
+-- a reclaim that begins where it may, where no job runs, keeps what the disk stands for
+abbrev pub ReclaimBegins : Type 0
+ReclaimBegins =
+    (v new : LogStoreValue) (h queue : History Value) (floors : ℕ → ℕ) (s : StandsOnHeap v h queue floors) → IsInStep v → v.job ≡ None → v.reclaim ≡ None
+    → 0 < v.named.upto → HoldsUnreclaimed v s.reading h → IsReclaimBegun v new → StandsOnHeap new h queue floors
 
 -- ---- calls in memory
 

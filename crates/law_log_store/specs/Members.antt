@@ -1,10 +1,11 @@
 -- The commits that wait, as the history has them, and the bytes that the store has made of them.
-use Rattle.std.specs.Prelude.{ℕ, ◌≡◌, List, [], ◌∷◌}
+use Rattle.std.specs.Prelude.{ℕ, ◌≡◌, List, [], ◌∷◌, ◌++◌}
 use Rattle.history.specs.declared.key.Key.{Key}
 use Rattle.history.specs.Histories.{Commit, History}
 use Rattle.history.specs.Queries.{values_after}
 use Rattle.law_image.specs.Values.{Value}
-use Rattle.chains.specs.KeyWrites.{KeyWrites, IsOrdered}
+use Rattle.chains.specs.KeyWrites.{KeyWrites, IsOrdered, writes_of}
+use Rattle.chains.specs.Writes.{written}
 use Rattle.log_entries.specs.declared.entry.Member.{Member}
 use Rattle.log_sizes.specs.Counted.{values_in}
 use Rattle.log_room.specs.Contents.{member_over, content_over}
@@ -16,6 +17,8 @@ pub record IsTold (before : List KeyWrites) (w : WaitingValue) (c : Commit Value
   pub label : w.label ≡ c.label
   pub ordered : IsOrdered w.after
   pub values : (key : Key) → values_in w.after key ≡ values_after (values_in before) c key
+  -- the versions after it have one write more of each key that it writes
+  pub facts : (key : Key) → writes_of w.after key ≡ writes_of before key ++ written c.time c.writes key
 
 -- and so do all, each behind those before it
 abbrev pub AreTold : List KeyWrites → List WaitingValue → History Value → Type 0

@@ -5,20 +5,21 @@ use Rattle.std.specs.List.{AllByRecursion}
 use Rattle.history.specs.declared.key.Key.{Key}
 use Rattle.history.specs.Floors.{raised}
 use Rattle.history.specs.Histories.{History, MayAllFollow, last}
-use Rattle.disk.specs.Areas.{AreaState, Image, AreSound, LeavesImage, MayLeave}
+use Rattle.history.specs.Time.{IsRisingAfter}
+use Rattle.disk.specs.Areas.{AreaState, Image, AreSound, LeavesImage}
 use Rattle.disk.specs.Parts.{HoldsPart, KeepsPart}
-use Rattle.wire.specs.declared.slot.Run.{Run}
 use Rattle.archive.specs.Pieces.{InWriting}
 use Rattle.law_image.specs.Values.{Value, IsValue}
 use Rattle.law_image.specs.Reading.{ArchiveRecord, Reading}
-use Rattle.law_image.specs.Facts.{values_now}
+use Rattle.law_image.specs.Facts.{heap_facts, values_now}
 use Rattle.law_image.specs.Plans.{IsGroupOf, stored_members, with_group, with_floor}
 use Rattle.law_image.specs.HeapPlans.{IsMergePlan, with_merged}
-use Rattle.law_image.specs.StandsFor.{StandsFor, archived_upto}
+use Rattle.law_image.specs.StandsFor.{StandsFor, archived_upto, reclaimed_upto}
 use Rattle.law_layout.specs.Runs.{StoredRun, IsStoredRun, run_bytes}
-use Rattle.chains.specs.KeyWrites.{IsOrdered}
+use Rattle.chains.specs.KeyWrites.{IsOrdered, KeyWrites, writes_of}
+use Rattle.chains.specs.Writes.{kept_after, last_time}
 use Rattle.law_refinement.specs.OnDisk as histories
-use Rattle.log_extents.specs.Chains.{count_of, IsNumberOf, IsNew}
+use Rattle.log_extents.specs.Chains.{count_of, IsNumberOf, IsNew, AreDistinct}
 use Rattle.log_entries.specs.declared.entry.Archive.{Archive}
 use Rattle.log_entries.specs.declared.entry.Member.{Member}
 use Rattle.log_entries.specs.declared.entry.Entry.TheVariants.{Group}
@@ -27,11 +28,12 @@ use Rattle.log_entries.specs.Spelling.{entry_bytes}
 use Rattle.log_writer.specs.Turns.{Stage}
 use Rattle.log_writer.specs.Writer.{WriterState}
 use Rattle.law_log_layout.specs.HeapLog.{PlacedChain, HeapLog, heap_parts, live_numbers, counted_of, IsLogOf, HeapStandsFor, KeepsShares, member_told}
-use Rattle.law_log_layout.specs.HeapLog.{PlacedRoll, MayJoin, archives_in, placed_group, turn_of, with_chain, with_runs}
+use Rattle.law_log_layout.specs.HeapLog.{MayJoin, placed_group, turn_of, with_chain, with_runs}
 use Rattle.law_log_layout.specs.Entries.{runs_with}
 use Rattle.law_log_layout.specs.Laws.{KeepsArchive, KeepsLog}
 use Rattle.law_log_layout.specs.Turns.{IsAt, MayBe, MayBecome}
 use Rattle.law_log_sizes.specs.Sizes.{len_from, lens_behind, size_now}
+use Rattle.log_recovery.specs.Live.{live_of}
 use Rattle.log_recovery.specs.Opening.{ReadsRoots}
 use Rattle.log_recovery.specs.Read.{all_archives}
 use Rattle.log_roots.specs.declared.roots.Roots.{Roots}
@@ -42,7 +44,7 @@ use Rattle.log_room.specs.Rooms.{RoomValue}
 use Rattle.commits.specs.Values.{versions_after}
 use Rattle.commits.specs.Steps.{members}
 use Rattle.log_store.specs.Jobs.{entry_of, is_entering}
-use Rattle.log_store.specs.Named.{NamedValue}
+use Rattle.log_store.specs.Live.{LiveValue}
 use Rattle.log_store.specs.Values.{LogStoreValue, IsBeside}
 use Rattle.log_store.specs.declared.job.Job.{Job}
 use Rattle.log_store.specs.declared.job.JobStage.{JobStage}
@@ -51,6 +53,8 @@ use Rattle.log_store.specs.declared.job.JobWork.{JobWork}
 use Rattle.log_store.specs.declared.job.JobWork.TheVariants.{Floor}
 use Rattle.log_store.specs.declared.job.JobWork.TheVariants as works
 use Rattle.law_log_store.specs.Members.{AreTold, AreContents}
+use Rattle.law_log_store.specs.Named.{IsBehind, IsNamedBy}
+use Rattle.law_log_store.specs.Reclaiming.{HasRoots, HasReclaim, taken_of}
 
 -- ---- memory
 
@@ -64,17 +68,24 @@ pub record HasCommits (v : LogStoreValue) (h queue : History Value) : Type 0 whe
       (drop v.commits.group queue)
   pub may : MayAllFollow IsValue h queue
 
+-- These versions have of each key what the heap has of it, from the reclaim mark on: their writes are the heap's facts then. They rise, and none is later than
+-- the last commit.
+pub record AreFactsOf (versions : List KeyWrites) (reading : Reading) (h : History Value) : Type 0 where
+  pub rising : (key : Key) → IsRisingAfter 0 (writes_of versions key)
+  pub early : (key : Key) → last_time (writes_of versions key) ≤ last h
+  pub same : (key : Key) → kept_after (reclaimed_upto reading) (writes_of versions key) ≡ heap_facts reading key
+
 -- ---- the room
 
 -- how many extents count as the log's: those of its chains, the base's aside, and the one where it ends
 abbrev pub counted : HeapLog → ℕ
 counted l = length (flat_map (λ (c : PlacedChain). counted_of c.numbers c.entry) l.chains) + 1
 
--- The room is that of this log. Its live extents and the one where it ends are in use, and no others.
-pub record IsRoomOf (most : ℕ) (l : HeapLog) (room : RoomValue) : Type 0 where
+-- The room is that of this log. Its live extents and the one where it ends are in use, those that are taken for a base, and no others.
+pub record IsRoomOf (most : ℕ) (l : HeapLog) (taken : List ℕ) (room : RoomValue) : Type 0 where
   pub many : length room.used ≡ most
   pub next : room.next ≡ l.next
-  pub free : (number : ℕ) → IsFree room.used number ↔ (IsNumberOf most number × IsNew number (l.next ∷ live_numbers l))
+  pub free : (number : ℕ) → IsFree room.used number ↔ (IsNumberOf most number × IsNew number (taken ++ l.next ∷ live_numbers l))
   pub log : room.log ≡ counted l
 
 -- where the commits that wait and the entry of a job are promised extents, one more is left
@@ -103,12 +114,6 @@ pub record HasAnchors (most : ℕ) (reading : Reading) (queue : History Value) (
   pub len : anchors ≡ len_from (size_now reading) (values_now reading) (stored_members (values_now reading) queue)
   pub fit : AllByRecursion (λ n. count_of n ≤ (3 * most) / 16) (lens_behind (size_now reading) (values_now reading) (stored_members (values_now reading) queue))
 
--- ---- the status area
-
--- whatever a stop may leave of it begins with the header of these roots
-abbrev pub KeepsRoots : Roots → AreaState → Type 0
-KeepsRoots roots a = (content : List ℕ) → MayLeave a content → ReadsRoots content roots
-
 -- ---- jobs
 
 -- the floors with what a job puts into the log
@@ -129,11 +134,6 @@ run_made a made = record { entry = run_of a; records = made }
 abbrev pub runs_after : JobWork → List ArchiveRecord → HeapLog → List StoredRun
 runs_after (Floor floor kept) made l = l.runs
 runs_after (works.Archive a archives) made l = runs_with l a (run_made a made)
-
--- This place of the archive is behind all that the log names there, also behind a run that another took the place of.
-pub record IsBehind (place : ℕ) (l : HeapLog) : Type 0 where
-  pub runs : AllByRecursion (λ (run : Run). run.start + run.len ≤ place) (flat_map (λ (c : PlacedChain). archives_in c.entry) l.chains)
-  pub rolls : AllByRecursion (λ (r : PlacedRoll). r.roll.start + r.roll.len ≤ place) l.rolls
 
 -- The archive may come next: its run is the plan of one that goes further than the archive mark, and no further than the last commit, and has its place behind
 -- all that the log names. Memory has the archives that are then named.
@@ -188,21 +188,20 @@ abbrev pub HasAllWritten : List ArchiveRecord → Option Job → AreaState → T
 HasAllWritten made None archive = Unit {0}
 HasAllWritten made (Some job) archive = HasWritten job.work made job.stage archive
 
--- Memory has what the log names in the archive.
-pub record IsNamedBy (named : NamedValue) (l : HeapLog) (reading : Reading) : Type 0 where
-  pub archives : named.archives ≡ all_archives l.chains
-  pub rolls : named.rolls ≡ map (λ (r : PlacedRoll). r.roll) l.rolls
-  pub upto : named.upto ≡ archived_upto reading
-  pub end : IsBehind named.end l
+-- Memory has the chains of this log, and the extents of its anchors.
+pub record IsLiveOf (l : HeapLog) (live : LiveValue) : Type 0 where
+  pub chains : live.chains ≡ map live_of l.chains
+  pub anchors : live.anchors ≡ l.anchors.numbers
 
 -- ---- the log, and the chain on its way behind it
 
 -- no chain is in the writing, and the log is at rest
 pub record IsAtRest (v : LogStoreValue) (l : HeapLog) : Type 0 where
   pub log : KeepsLog l v.disk.areas.heap
-  pub room : IsRoomOf v.roots.extents l v.room
+  pub room : IsRoomOf v.roots.extents l (taken_of v.reclaim) v.room
+  pub live : IsLiveOf l v.live
 
--- The group of the queue's first commits is on its way behind the log. The room is that of the log with it.
+-- The group of the queue's first commits is on its way behind the log. The room is that of the log with it, and memory has the chains of that.
 pub record IsOnWay (v : LogStoreValue) (queue : History Value) (l : HeapLog) (reading : Reading) (h : History Value) (w : WriterState) : Type 0 where
   pub group : List Member
   pub told : map member_told group ≡ stored_members (values_now reading) (take v.commits.group queue)
@@ -211,17 +210,20 @@ pub record IsOnWay (v : LogStoreValue) (queue : History Value) (l : HeapLog) (re
   pub joins : MayJoin v.roots.extents l (placed_group w.numbers w.link group)
   pub shares : KeepsShares v.roots.extents (with_chain l (placed_group w.numbers w.link group)) (with_group reading (map member_told group))
   pub at : IsAt (heap_parts l) (turn_of l.next (placed_group w.numbers w.link group)) w.stage v.disk.areas.heap
-  pub room : IsRoomOf v.roots.extents (with_chain l (placed_group w.numbers w.link group)) v.room
-  -- no entry of a job is
+  pub room : IsRoomOf v.roots.extents (with_chain l (placed_group w.numbers w.link group)) (taken_of v.reclaim) v.room
+  pub live : IsLiveOf (with_chain l (placed_group w.numbers w.link group)) v.live
+  -- no entry of a job is, and none of its extents is taken for a base
   pub alone : IsBeside (Some w) v.job
+  pub beside : AreDistinct (taken_of v.reclaim ++ w.link ∷ w.numbers)
 
--- A job's entry is on its way behind the log. The room is that of the log with it.
+-- A job's entry is on its way behind the log. The room is that of the log with it, and memory has the chains of that.
 pub record IsEntering (v : LogStoreValue) (l : HeapLog) (reading : Reading) (made : List ArchiveRecord) (work : JobWork) (w : WriterState) : Type 0 where
   pub content : w.content ≡ entry_bytes (entry_of work)
   pub joins : MayJoin v.roots.extents l (placed_entry w work)
   pub shares : KeepsShares v.roots.extents (log_with work made l w) (reading_with work made reading)
   pub at : IsAt (heap_parts l) (turn_of l.next (placed_entry w work)) w.stage v.disk.areas.heap
-  pub room : IsRoomOf v.roots.extents (log_with work made l w) v.room
+  pub room : IsRoomOf v.roots.extents (log_with work made l w) (taken_of v.reclaim) v.room
+  pub live : IsLiveOf (log_with work made l w) v.live
 
 -- where no group stands, the log is at rest or a job's entry is on its way
 abbrev pub HasStage : LogStoreValue → HeapLog → Reading → List ArchiveRecord → JobWork → JobStage → Type 0
@@ -247,9 +249,10 @@ pub record StandsOnHeap (v : LogStoreValue) (h queue : History Value) (floors : 
   pub is_log : IsLogOf v.roots.extents (root_of v.roots) l reading
   pub stands : StandsFor reading h floors
   pub archive : KeepsArchive l v.disk.areas.archive
-  pub status : KeepsRoots v.roots v.disk.areas.status
+  pub status : HasRoots v.roots v.reclaim v.disk.areas.status
   pub sound : AreSound v.disk.areas
   pub commits : HasCommits v h queue
+  pub facts : AreFactsOf v.commits.versions reading h
   pub anchors : HasAnchors v.roots.extents reading queue v.room.anchors
   pub turn : HasTurn v queue l reading made h v.turn
   pub job : MayAllEnter l reading h floors made v.job
@@ -258,13 +261,18 @@ pub record StandsOnHeap (v : LogStoreValue) (h queue : History Value) (floors : 
   -- the archive reaches as far as where the next run would begin
   pub reach : v.named.end ≤ v.disk.areas.archive.firm
   pub spare : LeavesOne v.roots.extents v.room ⊎ TakesLast v.roots.extents v.room h queue v.job
+  pub reclaim : HasReclaim v.roots v.job v.named.end v.disk.areas.heap v.disk.areas.archive l reading v.reclaim
 
 -- ---- stops
 
--- An image stands for a history with these floors: its status area has these roots, and heap and archive stand for it where that root counts.
+-- An image stands for a history with these floors: its status area begins with a header of as many extents as these roots have, whichever root counts there,
+-- and heap and archive stand for it from that root on.
 pub record IsImageOf (roots : Roots) (image : Image) (h : History Value) (floors : ℕ → ℕ) : Type 0 where
-  pub status : ReadsRoots image.status roots
-  pub heap : HeapStandsFor roots.extents (root_of roots) image.heap image.archive h floors
+  -- what the status area says
+  pub read : Roots
+  pub status : ReadsRoots image.status read
+  pub size : read.extents ≡ roots.extents
+  pub heap : HeapStandsFor roots.extents (root_of read) image.heap image.archive h floors
 
 -- Of two claims, which holds of what a stop may leave, by the stage of a chain. Of a store that has failed it is the stage whose call was refused.
 abbrev pub MayStandAt : Bool → Stage → Type 0 → Type 0 → Type 0

@@ -1,6 +1,6 @@
 //! Laws of the disk of a store whose log lies in the heap.
 ghost use Rattle.law_log_store.specs.Calls.{AbortKeeps, ArchiveBegins, BeginKeeps, FailedQueuesNone, FailedRests, FloorBegins, JobLeaves, JobSteps};
-ghost use Rattle.law_log_store.specs.Calls.{PumpLeaves, PumpSteps, RedeemKeeps, SubmitSteps};
+ghost use Rattle.law_log_store.specs.Calls.{PumpLeaves, PumpSteps, ReclaimBegins, RedeemKeeps, SubmitSteps};
 ghost use Rattle.law_log_store.specs.Opened.{OpenedStands, OpensAny, OpenStands, RoomOpens};
 ghost use Rattle.law_log_store.specs.Laws.{GroupBegins, GroupGoesOn, GroupJoins, StandingStops, SubmitKeeps};
 
@@ -57,7 +57,8 @@ pub fn pump_steps()
 /// A step of a job of a store that works: the run of an archive is written behind all that the log names, and is synced; its entry
 /// goes its way to the disk as a group does, and behind its last call the disk stands for what it says; or the job waits for a
 /// group, or nothing has changed for want of memory, or the store has failed. What a crash leaves before the step and after it
-/// stands for what is published, with what the entry says or without. An archive's says nothing else: it loses no version.
+/// stands for what is published, with what the entry says or without. An archive's says nothing else: it loses no version. Nor
+/// does a reclaim: whichever root a crash leaves, what it leaves stands for what is published, or for that with the whole group.
 pub fn job_steps()
     ensures steps { JobSteps }
     ensures leaves { JobLeaves }
@@ -72,6 +73,12 @@ pub fn floor_begins()
 /// relation, those that end by its time.
 pub fn archive_begins()
     ensures { ArchiveBegins }
+{}
+
+/// Nor does a reclaim that begins: its base and its anchors have free extents, and the base may take the place of the front. Of the
+/// versions that stand at the archive mark memory has to have those of the heap.
+pub fn reclaim_begins()
+    ensures { ReclaimBegins }
 {}
 
 /// Transactions that begin or are given up, and tickets that are shown, change nothing of that.

@@ -16,3 +16,4 @@ pub mod Deciding
 pub mod HeapRead
 pub mod Past
 pub mod Finishing
+pub mod Lives

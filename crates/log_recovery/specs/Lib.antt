@@ -3,6 +3,7 @@ pub mod Chains
 pub mod Rules
 pub mod Anchored
 pub mod Members
+pub mod Live
 pub mod Ends
 pub mod Following
 pub mod Opening

@@ -12,8 +12,7 @@ use Rattle.chains.specs.KeyWrites.{KeyWrites}
 use Rattle.disk.specs.declared.area.Area.TheVariants.{Status, Heap, Archive}
 use Rattle.recovery.specs.declared.fault.OpenFault.{OpenFault}
 use Rattle.recovery.specs.declared.fault.OpenFault.TheVariants.{NotAStore, Damaged, Device, NoMemory}
-use Rattle.recovery.specs.declared.recovered.LiveChain.{LiveChain}
-use Rattle.law_log.specs.Chains.{members_in, commits_in}
+use Rattle.law_log.specs.Chains.{members_in}
 use Rattle.log_extents.specs.Chains.{first_or}
 use Rattle.log_entries.specs.declared.entry.Member.{Member as MemberEntry}
 use Rattle.log_entries.specs.declared.entry.Entry.{Entry}
@@ -80,16 +79,6 @@ AreWritesOf olds versions = (key : Key) → chains.writes_of versions key ≡ ol
 -- the members of these chains
 abbrev pub members_of_all : ℕ → List PlacedChain → List Member
 members_of_all mark chains = flat_map (members_later mark) chains
-
--- the time of a chain's last commit, 0 if it has none, and its extents
-abbrev pub live_told : LiveChain → ℕ × List ℕ
-live_told live = (live.time, live.extents.items)
-
-abbrev pub last_in : Entry → ℕ
-last_in entry = last_time_after 0 (commits_in (chain_told [] entry))
-
-abbrev pub lives_of : List PlacedChain → List (ℕ × List ℕ)
-lives_of chains = map (λ (c : PlacedChain). (last_in c.entry, c.numbers)) chains
 
 -- why the members are not read
 abbrev pub IsMembersFault : ℕ → (Key → Option Value) → List PlacedChain → OpenFault → Type 0

@@ -14,7 +14,8 @@ use Rattle.log_recovery.specs.Anchored.{TakesAnchors, first_names}
 use Rattle.log_recovery.specs.Chains.{uses_of}
 use Rattle.log_recovery.specs.Rules.{mark_of}
 use Rattle.log_recovery.specs.Following.{IsEndOf}
-use Rattle.log_recovery.specs.Members.{live_told, lives_of, members_of_all, HasFacts}
+use Rattle.log_recovery.specs.Members.{members_of_all, HasFacts}
+use Rattle.log_recovery.specs.Live.{live_of}
 use Rattle.log_recovery.specs.Ends.{counted_in}
 use Rattle.log_recovery.specs.Opening.{KeepsRules, HoldsHeap}
 
@@ -51,7 +52,7 @@ pub record IsHeapRead (most root : ℕ) (heap : List ℕ) (read : LogHeap) : Typ
   pub anchors_are : read.anchors.items ≡ anchors.numbers
   -- the extents that count as the log's, with the one where it ends
   pub log_is : read.log ≡ length (counted_in chains) + 1
-  pub live_are : map live_told read.live.items ≡ lives_of chains
+  pub live_are : read.live.items ≡ map live_of chains
   pub archives_are : read.archives.items ≡ all_archives chains
   pub facts : HasFacts (mark_of chains) anchors.records (members_of_all (mark_of chains) chains) read.members
   pub sizes : AreSizesBehind anchors.records (members_of_all (mark_of chains) chains) read.members.sizes

@@ -1,12 +1,13 @@
 //! Reading the image of a store whose log lies in the heap.
 
-ghost use Rattle.std.specs.Prelude.{◌≡◌, ◌<◌, ◌^◌, IsTrue, IfOk, IfErr, OnOk, length};
+ghost use Rattle.std.specs.Prelude.{◌≡◌, ◌+◌, ◌<◌, ◌^◌, IsTrue, IfOk, IfErr, OnOk, length};
 ghost use Rattle.std.specs.List.{AllByRecursion};
 ghost use Rattle.wire.specs.Spelling.{IsRun};
 ghost use Rattle.disk.specs.Areas.{image_of, settled_on, LeavesNoMore};
 ghost use Rattle.recovery.specs.Answers.{after_reads};
 ghost use Rattle.recovery.specs.Refusals.{refusals_at_opening};
 ghost use Rattle.recovery.specs.Settling.{Settles, CountsMore, CountsAtMost};
+ghost use Rattle.log_recovery.specs.Live.{live_count};
 ghost use Rattle.log_recovery.specs.Opening.{IsImageFault};
 ghost use Rattle.log_recovery.specs.Image.{IsReadFrom};
 
@@ -31,6 +32,7 @@ pub struct LogRecovered {
 fn read_settled<D: Disk>(alloc: Global, disk: &mut D) -> Result<LogRecovered, OpenFault>
     ensures mark { IfOk result (λ read. read.heap.end.mark < 2 ^ 63) }
     ensures runs { IfOk result (λ read. AllByRecursion IsRun read.heap.end.runs.items) }
+    ensures counted { IfOk result (λ read. read.heap.log ≡ live_count read.heap.live.items + 1) }
     ensures found { IsTrue D.tells → IfOk result (IsReadFrom (image_of (D.state disk.old).areas)) }
     ensures fault { IsTrue D.tells → IfErr result (IsImageFault (image_of (D.state disk.old).areas)) }
     ensures reads { D.state disk.new ≡ after_reads result (D.state disk.old) }
@@ -65,6 +67,7 @@ fn read_settled<D: Disk>(alloc: Global, disk: &mut D) -> Result<LogRecovered, Op
 pub fn read_log<D: Disk>(alloc: Global, disk: &mut D) -> Result<LogRecovered, OpenFault>
     ensures mark { IfOk result (λ read. read.heap.end.mark < 2 ^ 63) }
     ensures runs { IfOk result (λ read. AllByRecursion IsRun read.heap.end.runs.items) }
+    ensures counted { IfOk result (λ read. read.heap.log ≡ live_count read.heap.live.items + 1) }
     ensures found { IsTrue D.tells → IfOk result (IsReadFrom (image_of (D.state disk.old).areas)) }
     ensures fault { IsTrue D.tells → IfErr result (IsImageFault (image_of (D.state disk.old).areas)) }
 

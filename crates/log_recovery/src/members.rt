@@ -7,21 +7,23 @@ ghost use Rattle.law_image.specs.Reading.{Member as MemberTold, OldRecord};
 ghost use Rattle.law_image.specs.Log.{AreRisingAfter, last_time_after};
 ghost use Rattle.law_image.specs.Facts.{AreStored};
 ghost use Rattle.law_log_layout.specs.HeapLog.{member_told};
-ghost use Rattle.log_entries.specs.Ranges.{IsMember, IsEntry};
+ghost use Rattle.log_entries.specs.Ranges.{IsMember};
 ghost use Rattle.log_extents.specs.Chains.{first_or};
 ghost use Rattle.law_log_sizes.specs.Sizes.{anchors_len};
 ghost use Rattle.log_sizes.specs.Counted.{AreSizes, AreSizesBehind};
 ghost use Rattle.log_recovery.specs.Chains.{HasEntry};
-ghost use Rattle.log_recovery.specs.Members.{later_of, later_in, heads_told, HasFacts, values_behind, values_of, members_of_all};
-ghost use Rattle.log_recovery.specs.Members.{AreAllStored, IsMembersFault, IsInMemoryFault, live_told, lives_of, last_in, AreWritesOf};
+ghost use Rattle.log_recovery.specs.Live.{live_of};
+ghost use Rattle.log_recovery.specs.Members.{later_of, heads_told, HasFacts, values_behind, values_of, members_of_all};
+ghost use Rattle.log_recovery.specs.Members.{AreAllStored, IsMembersFault, IsInMemoryFault, AreWritesOf};
 
 use crate::chain::LogChain;
+use crate::live::{EntryParts, LiveChain, take_apart};
 use crate::members_read::{CommitName, MembersRead};
 use chains::Frozen;
 use disk::Area;
-use log_entries::{Entry, Member};
+use log_entries::Member;
 use log_sizes::AnchorSizes;
-use recovery::{LiveChain, OpenFault, resolve};
+use recovery::{OpenFault, resolve};
 use std::alloc::{AllocError, Global};
 
 impl MembersRead {
@@ -104,55 +106,6 @@ impl MembersRead {
         }
         Ok(Some(read))
     }
-
-    // The members of a chain more.
-    fn with_entry(
-        self,
-        alloc: Global,
-        mark: u64,
-        entry: Entry,
-    ) -> Result<Option<MembersRead>, AllocError>
-        requires is { (most : ℕ) × IsEntry most entry }
-        requires rising { AreRisingAfter self.last (heads_told (later_in mark entry)) }
-        ensures last { IfOk result (λ o. IfSome o (λ next. next.last ≡ last_time_after self.last (heads_told (later_in mark entry)))) }
-        ensures read { (olds : List OldRecord) (before : List MemberTold) → HasFacts mark olds before self → IfOk result (λ o. MatchOption o (¬ AreStored
-            (values_behind (values_of olds) before) (later_in mark entry)) (λ next. AreStored (values_behind (values_of olds) before)
-            (later_in mark entry) × HasFacts mark olds (before ++ later_in mark entry) next)) }
-        ensures sizes { (olds : List OldRecord) (before : List MemberTold) → HasFacts mark olds before self → AreSizesBehind olds before self.sizes
-            → IfOk result (λ o. IfSome o (λ next. AreSizesBehind olds (before ++ later_in mark entry) next.sizes)) }
-    {
-        match entry {
-            Entry::Group(members) => self.with_group(alloc, mark, members.into_vec()),
-            Entry::Archived(_) => Ok(Some(self)),
-            Entry::Floor(_) => Ok(Some(self)),
-            Entry::Base(_) => Ok(Some(self)),
-        }
-    }
-}
-
-// The time of the last of these commits; 0 where there is none.
-fn last_of(members: &[Member]) -> u64
-    ensures { result ≡ last_time_after 0 (heads_told (map member_told members.now)) }
-{
-    let mut last = 0;
-    let mut rest = members;
-    while let Some((member, after)) = rest.split_first() {
-        last = member.time;
-        rest = after;
-    }
-    last
-}
-
-// The time of the last commit of a chain; 0 where it has none.
-fn last_commit(entry: &Entry) -> u64
-    ensures { result ≡ last_in entry.now }
-{
-    match entry {
-        Entry::Group(members) => last_of(members.as_slice()),
-        Entry::Archived(_) => 0,
-        Entry::Floor(_) => 0,
-        Entry::Base(_) => 0,
-    }
 }
 
 // The first extent of a chain.
@@ -165,11 +118,11 @@ fn head_of(numbers: &[u32]) -> u32
     }
 }
 
-/// The members of a log, and the extents of its chains.
+/// The members of a log, and its chains.
 #[derive(Drop)]
 pub struct LogMembers {
     pub read: MembersRead,
-    /// The chains of the log in their order, each with the time of its last commit; 0 where it has none.
+    /// The chains of the log in their order.
     pub live: Vec<LiveChain>,
 }
 
@@ -193,7 +146,7 @@ pub fn read_members(
         × HasFacts mark olds (members_of_all mark chains.items) log.read) }
     ensures sizes { (olds : List OldRecord) → AreWritesOf olds anchors → anchors_len olds ≡ len → IfOk result (λ log. AreSizesBehind olds
         (members_of_all mark chains.items) log.read.sizes) }
-    ensures live { IfOk result (λ log. map live_told log.live.items ≡ lives_of chains.items) }
+    ensures live { IfOk result (λ log. log.live.items ≡ map live_of chains.items) }
     ensures in_memory { IfErr result IsInMemoryFault }
     ensures fault { (olds : List OldRecord) → AreWritesOf olds anchors → IfErr result (IsMembersFault mark (values_of olds) chains.items) }
 {
@@ -206,15 +159,12 @@ pub fn read_members(
             entry,
             len: _,
         } = chain;
-        let time = last_commit(&entry);
-        let Some(next) = read.with_entry(alloc, mark, entry)? else {
+        let EntryParts { members, part } = take_apart(alloc, entry);
+        let Some(next) = read.with_group(alloc, mark, members)? else {
             return Err(OpenFault::Damaged(Area::Heap, u64::from(head_of(&numbers))));
         };
         read = next;
-        live.push(LiveChain {
-            time,
-            extents: numbers,
-        })?;
+        live.push(LiveChain { numbers, part })?;
     }
     Ok(LogMembers { read, live })
 }

@@ -1,6 +1,7 @@
 //! What the heap of an image says: the checks of opening, in their order.
 
-ghost use Rattle.std.specs.Prelude.{◌≡◌, ◌⊎◌, ◌↔◌, ℕ, List, ◌<◌, ◌≤◌, ◌^◌, IsTrue, IfOk, IfErr, IfSome, MatchOption, Some, is_some, length, option_to_list};
+ghost use Rattle.std.specs.Prelude.{◌≡◌, ◌⊎◌, ◌↔◌, ℕ, List, ◌+◌, ◌<◌, ◌≤◌, ◌^◌, IsTrue, IfOk, IfErr, IfSome};
+ghost use Rattle.std.specs.Prelude.{MatchOption, Some, is_some, length, option_to_list};
 ghost use Rattle.std.specs.List.{AllByRecursion};
 ghost use Rattle.wire.specs.Spelling.{IsRun};
 ghost use Rattle.chains.specs.KeyWrites.{latest};
@@ -14,12 +15,14 @@ ghost use Rattle.log_extents.specs.Chains.{IsNumberOf};
 ghost use Rattle.recovery.specs.Answers.{after_reads};
 ghost use Rattle.log_recovery.specs.Opening.{IsHeapFault};
 ghost use Rattle.log_recovery.specs.Read.{IsLogRead, IsAnchoredLog, IsHeapRead};
+ghost use Rattle.log_recovery.specs.Live.{live_count};
 ghost use Rattle.log_recovery.specs.Members.{IsInMemoryFault};
 
 use crate::all_archives::archives_of;
 use crate::anchors::{AnchorsRead, no_anchors, read_anchors};
 use crate::chain::LogChain;
 use crate::ending::{is_end_right, kept_log};
+use crate::live::LiveChain;
 use crate::members::read_members;
 use crate::members_read::MembersRead;
 use crate::rules::{LogEnd, RuleCheck, check_rules};
@@ -29,7 +32,7 @@ use crate::walk::read_chains;
 use disk::{Area, Disk};
 use log_entries::{AnchorName, Archive, Entry};
 use log_space::Space;
-use recovery::{LiveChain, OpenFault};
+use recovery::OpenFault;
 use std::alloc::Global;
 
 /// The chains of a log that keep the rules between them, and its end.
@@ -173,7 +176,7 @@ pub struct LogHeap {
     /// The extents of the anchors.
     pub anchors: Vec<u32>,
     pub end: LogEnd,
-    /// The chains of the log in their order, each with the time of its last commit; 0 where it has none.
+    /// The chains of the log in their order.
     pub live: Vec<LiveChain>,
     /// The archives that the log names, those of its base first, also where another took the place of their run.
     pub archives: Vec<Archive>,
@@ -207,6 +210,7 @@ fn finish_heap(
     ensures ends_early { IfOk result (λ heap. AllByRecursion EndsEarly (end_parts heap.end)) }
     ensures mark { IfOk result (λ heap. heap.end.mark < 2 ^ 63) }
     ensures runs { IfOk result (λ heap. AllByRecursion IsRun heap.end.runs.items) }
+    ensures counted { IfOk result (λ heap. heap.log ≡ live_count heap.live.items + 1) }
     ensures found { (bytes : List ℕ) → heap.len ≡ length bytes → IsAnchoredLog heap.most root bytes read → IfOk result (IsHeapRead heap.most root bytes) }
     ensures fault { (bytes : List ℕ) → heap.len ≡ length bytes → IsAnchoredLog heap.most root bytes read → IfErr result (IsHeapFault heap.most root bytes) }
     ensures in_memory { IfErr result IsInMemoryFault }
@@ -249,6 +253,7 @@ pub(crate) fn read_heap<D: Disk>(
     ensures ends_early { IfOk result (λ read. AllByRecursion EndsEarly (end_parts read.end)) }
     ensures mark { IfOk result (λ read. read.end.mark < 2 ^ 63) }
     ensures runs { IfOk result (λ read. AllByRecursion IsRun read.end.runs.items) }
+    ensures counted { IfOk result (λ read. read.log ≡ live_count read.live.items + 1) }
     ensures found { IsTrue D.tells → IfOk result (IsHeapRead heap.most root (D.state disk.old).areas.heap.bytes) }
     ensures fault { IsTrue D.tells → IfErr result (IsHeapFault heap.most root (D.state disk.old).areas.heap.bytes) }
     ensures reads { D.state disk.new ≡ after_reads result (D.state disk.old) }

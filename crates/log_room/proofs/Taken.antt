@@ -1,11 +1,11 @@
 -- Extents taken into use one after the other.
-use Rattle.std.proofs.Common.{◌≡◌, ℕ, zero, suc, ◌+◌, ◌-◌, ◌*◌, ◌/◌, ◌^◌, ◌<◌, ◌≤◌, Bool, true, false, List, [], ◌∷◌, ◌++◌, length, drop, get_or}
+use Rattle.std.proofs.Common.{◌≡◌, ℕ, zero, suc, ◌+◌, ◌-◌, ◌*◌, ◌/◌, ◌^◌, ◌<◌, ◌≤◌, Bool, true, false, List, [], ◌∷◌, ◌++◌, length, drop, replicate, get_or}
 use Rattle.std.proofs.Common.{refl, sym, ap, subst, ◌∙◌, arith}
-use Rattle.std.proofs.lemmas.List.{length-append}
+use Rattle.std.proofs.lemmas.List.{length-append, length-replicate}
 use Rattle.std.proofs.lemmas.List.Sums.{sum_by-cons}
 use Rattle.std.specs.List.{AllByRecursion}
 use Rattle.log_space.specs.Uses.{IsFree, with_use, all_used, one_if_used, used_count, IsLeastFree}
-use Rattle.log_space.proofs.Uses.{is_one_more, all_used_len}
+use Rattle.log_space.proofs.Uses.{is_one_more, all_used_len, none_used, used_in_turn}
 use Rattle.log_extents.specs.Chains.{count_of, first_or, IsNumberOf}
 use Rattle.log_room.specs.Rooms.{AreLeastFree, RoomValue, IsRoom, TakesChain, TakesLeast}
 
@@ -90,6 +90,7 @@ room_taken old count promised numbers link new room some within had takes =
       high = let high = room.high in omega (arith, high, len);
       next = subst (λ (n : ℕ). IsNumberOf n link) (sym len) (last_in_range old.used takes.others link takes.least);
       few = let few = room.few in omega (arith, few, more, taken_many, len_quarter);
+      share = let share = room.share in omega (arith, share, len_quarter);
       half = let half = room.half in omega (arith, half, within, had, len_half);
       anchors = subst (λ (n : ℕ). count_of old.anchors ≤ (3 * n) / 16) (sym len) room.anchors;
     })
@@ -135,9 +136,84 @@ chain_taken old count promised taken all numbers link used some all_are least po
           (least.new_is ∙ ap (λ (xs : List ℕ). all_used old.used xs) ends.taken_are);
     }
 
+-- ---- a base, and what stays of the log behind it
+
+-- other flags of as many extents
+other_flags : (old : RoomValue) (used : List Bool) (log reserved : ℕ) → IsRoom old → length used ≡ length old.used
+    → used_count used ≤ log + length old.used / 4 + reserved → reserved ≤ length old.used / 4 → log + old.promised ≤ length old.used / 2
+    → IsRoom (record { used = used; next = old.next; log = log; promised = old.promised; anchors = old.anchors; reserved = reserved })
+other_flags old used log reserved room len few share half = record {
+  low = let low = room.low in omega (arith, low, len);
+  high = let high = room.high in omega (arith, high, len);
+  next = subst (λ (n : ℕ). IsNumberOf n old.next) (sym len) room.next;
+  few = omega (arith, few, quarter);
+  share = omega (arith, share, quarter);
+  half = omega (arith, half, ap (λ (n : ℕ). n / 2) len);
+  anchors = subst (λ (n : ℕ). count_of old.anchors ≤ (3 * n) / 16) (sym len) room.anchors;
+}
+  where
+    quarter : length used / 4 ≡ length old.used / 4
+    quarter = ap (λ (n : ℕ). n / 4) len
+
+pub least-append : (used : List Bool) (ns ms : List ℕ) → AreLeastFree used ns → AreLeastFree (all_used used ns) ms → AreLeastFree used (ns ++ ms)
+least-append used [] ms first second = second
+least-append used (n ∷ ns) ms first second = (first.0, least-append (with_use used n true) ns ms first.1 second)
+
+-- some are taken, and then others
+pub both_taken : (old middle new : List Bool) (a b : ℕ) (first second : List ℕ) → TakesLeast old a first middle → TakesLeast middle b second new
+    → TakesLeast old (a + b) (first ++ second) new
+both_taken old middle new a b first second takes then =
+    let one = takes.many in
+    let other = then.many in
+    record {
+      many = omega (arith, one, other, length-append first second);
+      least = least-append old first second takes.least (subst (λ (u : List Bool). AreLeastFree u second) takes.new_is then.least);
+      new_is = then.new_is ∙ ap (λ (u : List Bool). all_used u second) takes.new_is ∙ sym (used_in_turn old first second);
+    }
+
+-- as many are in use then, of as many as there were
+pub taken_many : (old new : List Bool) (count : ℕ) (numbers : List ℕ) → TakesLeast old count numbers new
+    → (used_count new ≡ used_count old + count) × (length new ≡ length old)
+taken_many old new count numbers takes =
+    let many = takes.many in
+    let more = used_more old numbers takes.least in
+    let now = ap used_count takes.new_is in
+    (omega (arith, many, more, now), ap (λ (u : List Bool). length u) takes.new_is ∙ used_len old numbers)
+
+pub room_reserved : (old : RoomValue) (count : ℕ) (numbers : List ℕ) (used : List Bool) → IsRoom old → old.reserved ≡ 0 → count ≤ length old.used / 4
+    → TakesLeast old.used count numbers used
+    → IsRoom (record { used = used; next = old.next; log = old.log; promised = old.promised; anchors = old.anchors; reserved = count })
+room_reserved old count numbers used room none share takes =
+    let few = room.few in
+    let many = takes.many in
+    let more = used_more old.used numbers takes.least in
+    let now = ap used_count takes.new_is in
+    other_flags old used old.log count room (ap (λ (u : List Bool). length u) takes.new_is ∙ used_len old.used numbers)
+    (omega (arith, few, many, more, now, none)) share room.half
+
+pub room_based : (old : RoomValue) (cleared first second : List Bool) (anchors base : List ℕ) → IsRoom old → cleared ≡ replicate (length old.used) false
+    → first ≡ all_used cleared anchors → second ≡ all_used first base → used_count first ≤ used_count cleared + length anchors
+    → used_count second ≤ used_count first + length base → length anchors + length base ≤ length old.used / 4
+    → IsRoom (record { used = second; next = old.next; log = 0; promised = old.promised; anchors = old.anchors; reserved = 0 })
+room_based old cleared first second anchors base room none with_anchors with_base more most share =
+    let half = room.half in
+    let zero_used = ap used_count none ∙ none_used (length old.used) in
+    let len =
+    ap (λ (u : List Bool). length u) with_base ∙ used_len first base ∙ ap (λ (u : List Bool). length u) with_anchors ∙ used_len cleared anchors
+    ∙ ap (λ (u : List Bool). length u) none ∙ length-replicate (length old.used) false in
+    other_flags old second 0 0 room len (omega (arith, zero_used, more, most, share)) (omega arith) (omega (arith, half))
+
+pub room_kept : (old : RoomValue) (used : List Bool) (numbers : List ℕ) → IsRoom old → used ≡ all_used old.used numbers
+    → used_count used ≤ used_count old.used + length numbers → old.log + length numbers + old.promised ≤ length old.used / 2
+    → IsRoom (record { used = used; next = old.next; log = old.log + length numbers; promised = old.promised; anchors = old.anchors; reserved = old.reserved })
+room_kept old used numbers room kept most half =
+    let few = room.few in
+    other_flags old used (old.log + length numbers) old.reserved room (ap (λ (u : List Bool). length u) kept ∙ used_len old.used numbers)
+    (omega (arith, few, most)) room.share half
+
 -- ---- the numbers
 
-in_heap : (most : ℕ) (used : List Bool) (ns : List ℕ) → length used ≤ most → AreLeastFree used ns → AllByRecursion (IsNumberOf most) ns
+pub in_heap : (most : ℕ) (used : List Bool) (ns : List ℕ) → length used ≤ most → AreLeastFree used ns → AllByRecursion (IsNumberOf most) ns
 in_heap most used [] len least = tt
 in_heap most used (n ∷ ns) len least =
     let high = least.0.free.high in

@@ -1,3 +1,4 @@
+pub mod Reserves
 pub mod Rooms
 pub mod Contents
 pub mod Bases

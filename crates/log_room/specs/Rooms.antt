@@ -15,17 +15,20 @@ pub record RoomValue : Type 0 where
   pub promised : ℕ
   -- the bytes of the anchors of the state behind the commit order
   pub anchors : ℕ
+  -- the extents that are taken for the base that a reclaim makes, and for its anchors
+  pub reserved : ℕ
 
 -- how many extents the heap has
 abbrev pub most_of : RoomValue → ℕ
 most_of v = length v.used
 
--- Half of the heap is the log's, a quarter of it that of the base and the anchors that stand.
+-- Half of the heap is the log's, a quarter of it that of the base and the anchors that stand, and a quarter that of those in the making.
 pub record IsRoom (v : RoomValue) : Type 0 where
   pub low : 64 ≤ length v.used
   pub high : length v.used ≤ 2 ^ 20
   pub next : IsNumberOf (length v.used) v.next
-  pub few : used_count v.used ≤ v.log + length v.used / 4
+  pub few : used_count v.used ≤ v.log + length v.used / 4 + v.reserved
+  pub share : v.reserved ≤ length v.used / 4
   pub half : v.log + v.promised ≤ length v.used / 2
   pub anchors : count_of v.anchors ≤ (3 * length v.used) / 16
 

@@ -8,4 +8,4 @@ mod taking;
 
 pub use base_share::BaseParts;
 pub use content::{Content, Joined, count_for, drop_first, join, spell};
-pub use room::{HeapRoom, TakenChain};
+pub use room::{HeapRoom, Reserved, TakenChain};

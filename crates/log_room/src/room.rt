@@ -1,15 +1,16 @@
 //! The room in a heap: which extents the log has, and which it will take.
-ghost use Rattle.std.specs.Prelude.{◌≡◌, ◌≤◌, ◌<◌, ◌+◌, ◌*◌, ◌/◌, ◌^◌, ◌∷◌, ◌↔◌, true, IsTrue, IfOk, OnErr, MatchOption, length};
+ghost use Rattle.std.specs.Prelude.{ℕ, ◌≡◌, ◌≤◌, ◌<◌, ◌+◌, ◌*◌, ◌/◌, ◌^◌, ◌∷◌, ◌++◌, [], ◌↔◌, true, IsTrue, IfOk, OnErr, MatchOption, length};
 ghost use Rattle.std.specs.List.{AllByRecursion};
 ghost use Rattle.log_extents.specs.Chains.{count_of, IsNumberOf};
-ghost use Rattle.log_space.specs.Uses.{with_use};
+ghost use Rattle.log_space.specs.Uses.{with_use, IsLeastFree};
 ghost use Rattle.law_log_sizes.specs.Sizes.{len_behind};
 ghost use Rattle.log_sizes.specs.Counted.{values_in};
 ghost use Rattle.log_room.specs.Bases.{has_base_room, has_floor_room};
-ghost use Rattle.log_room.specs.Rooms.{fits, promised_to, has_entry_room, has_last_room, promised_entry, TakesChain, MayOpen};
+ghost use Rattle.log_room.specs.Rooms.{fits, promised_to, has_entry_room, has_last_room, promised_entry, TakesChain, MayOpen, IsRoom};
+ghost use Rattle.log_room.specs.Reserves.{Reserves, based_on, with_kept};
 
 use crate::base_share::BaseParts;
-use crate::taking::take_least;
+use crate::taking::{take_free, take_least};
 use chains::{Frozen, SharedValue};
 use history::KeyWrite;
 use log_sizes::AnchorSizes;
@@ -26,7 +27,8 @@ const LEFT_BY_ENTRIES: u32 = 2;
 /// One extent in so many is the base's.
 const BASE_SHARE: u32 = 16;
 
-/// The extents of a heap: which are in use, where the log ends, how many it has, and how many it will take for the commits that wait.
+/// The extents of a heap: which are in use, where the log ends, how many it has, how many it will take for the commits that wait, and how
+/// many are taken for a base in the making.
 #[derive(Drop)]
 pub struct HeapRoom {
     space: Space,
@@ -34,6 +36,8 @@ pub struct HeapRoom {
     log: u32,
     promised: u32,
     anchors: u64,
+    // How many extents are taken for the base that a reclaim makes, and for its anchors.
+    reserved: u32,
 }
 
 /// The fewest extents that a heap has, and the most.
@@ -62,14 +66,28 @@ pub struct TakenChain {
     pub link: u32,
 }
 
+/// The extents of anchors, and those of the base that names them.
+#[derive(Drop)]
+pub struct Reserved {
+    pub anchors: Vec<u32>,
+    pub base: Vec<u32>,
+}
+
 impl Model for HeapRoom {
     ghost use Rattle.log_room.specs.Rooms.{RoomValue, IsRoom};
 
     ghost Value = { RoomValue };
 
-    ghost view = { λ r. record { used = r.space; next = r.next; log = r.log; promised = r.promised; anchors = r.anchors } };
+    ghost view = { λ r. record { used = r.space; next = r.next; log = r.log; promised = r.promised; anchors = r.anchors; reserved = r.reserved } };
 
-    ghost invariant = { λ r. IsRoom (record { used = r.space; next = r.next; log = r.log; promised = r.promised; anchors = r.anchors }) };
+    ghost invariant = { λ r. IsRoom (record {
+      used = r.space;
+      next = r.next;
+      log = r.log;
+      promised = r.promised;
+      anchors = r.anchors;
+      reserved = r.reserved;
+    }) };
 }
 
 impl HeapRoom {
@@ -77,7 +95,7 @@ impl HeapRoom {
     /// that one, and the anchors of its last state have so many bytes.
     pub fn of_opened(mut space: Space, next: u32, log: u32, anchors: u64) -> HeapRoom
         requires { MayOpen space next log anchors }
-        ensures { result ≡ record { used = with_use space next true; next = next; log = log; promised = 0; anchors = anchors } }
+        ensures { result ≡ record { used = with_use space next true; next = next; log = log; promised = 0; anchors = anchors; reserved = 0 } }
     {
         let _claimed = space.claim(next);
         HeapRoom {
@@ -86,6 +104,7 @@ impl HeapRoom {
             log,
             promised: 0,
             anchors,
+            reserved: 0,
         }
     }
 
@@ -93,7 +112,7 @@ impl HeapRoom {
     pub fn opened(space: Space, next: u32, log: u32, anchors: u64) -> Option<HeapRoom>
         ensures { MatchOption result (¬ MayOpen space next log anchors)
             (λ room. MayOpen space next log anchors × (room ≡ record
-            { used = with_use space next true; next = next; log = log; promised = 0; anchors = anchors })) }
+            { used = with_use space next true; next = next; log = log; promised = 0; anchors = anchors; reserved = 0 })) }
     {
         if !may_open(&space, next, log, anchors) {
             return None;
@@ -101,9 +120,10 @@ impl HeapRoom {
         Some(HeapRoom::of_opened(space, next, log, anchors))
     }
 
-    /// How many extents the heap has.
+    /// How many extents the heap has. The shares of each are kept.
     pub fn len(&self) -> u32
-        ensures { result ≡ length self.now.used }
+        ensures is { result ≡ length self.now.used }
+        ensures room { IsRoom self.now }
     {
         self.space.len()
     }
@@ -210,5 +230,77 @@ impl HeapRoom {
                 Ok(TakenChain { numbers, link })
             }
         }
+    }
+
+    /// The free extent of the least number.
+    pub fn least_free(&self) -> u32
+        requires { self.now.reserved ≡ 0 }
+        ensures { IsLeastFree self.now.used result }
+    {
+        match self.space.least() {
+            Some(number) => number,
+            None => unreachable!(),
+        }
+    }
+
+    /// Takes so many extents for anchors and then so many for the base that names them, each the least free one. Memory comes first: without
+    /// it nothing has changed.
+    pub fn reserve(
+        &mut self,
+        alloc: Global,
+        anchors: usize,
+        base: usize,
+    ) -> Result<Reserved, AllocError>
+        requires none { self.old.reserved ≡ 0 }
+        requires share { anchors + base ≤ length self.old.used / 4 }
+        ensures many { IfOk result (λ taken. (length taken.anchors.items ≡ anchors) × (length taken.base.items ≡ base)) }
+        ensures ok { IfOk result (λ taken. Reserves self.old (anchors + base) (taken.anchors.items ++ taken.base.items) self.new) }
+        ensures in_range { IfOk result (λ taken. AllByRecursion (IsNumberOf (2 ^ 20)) taken.anchors.items
+            × AllByRecursion (IsNumberOf (2 ^ 20)) taken.base.items) }
+        ensures err { OnErr result (self.new ≡ self.old) }
+    {
+        let first = Vec::with_capacity(alloc, anchors)?;
+        let second = Vec::with_capacity(alloc, base)?;
+        let first = take_free(&mut self.space, first, anchors);
+        let second = take_free(&mut self.space, second, base);
+        self.reserved = (anchors + base) as u32;
+        Ok(Reserved {
+            anchors: first,
+            base: second,
+        })
+    }
+
+    /// The anchors and the base that a reclaim has made stand, in these extents, and of the log nothing is counted: `keep` counts the chains
+    /// that stay, and the extent where the log ends.
+    pub fn put_base(&mut self, anchors: &[u32], base: &[u32])
+        requires anchors { AllByRecursion (λ (number : ℕ). 0 < number) anchors.now }
+        requires base { AllByRecursion (λ (number : ℕ). 0 < number) base.now }
+        requires share { length anchors.now + length base.now ≤ length self.old.used / 4 }
+        ensures { self.new ≡ based_on self.old anchors.now base.now }
+    {
+        self.space.clear();
+        self.space.claim_all(anchors);
+        self.space.claim_all(base);
+        self.log = 0;
+        self.reserved = 0;
+    }
+
+    /// These extents of the log stay.
+    pub fn keep(&mut self, numbers: &[u32])
+        requires numbers { AllByRecursion (λ (number : ℕ). 0 < number) numbers.now }
+        requires half { self.old.log + length numbers.now + self.old.promised ≤ length self.old.used / 2 }
+        ensures { self.new ≡ with_kept self.old numbers.now }
+    {
+        self.space.claim_all(numbers);
+        self.log += numbers.len() as u32;
+    }
+
+    /// So does the one where the log ends.
+    pub fn keep_next(&mut self)
+        requires half { self.old.log + 1 + self.old.promised ≤ length self.old.used / 2 }
+        ensures { self.new ≡ with_kept self.old (self.old.next ∷ []) }
+    {
+        let next = self.next;
+        self.keep(&[next]);
     }
 }

@@ -1,5 +1,5 @@
 //! Extents taken into use one after the other.
-ghost use Rattle.std.specs.Prelude.{◌≡◌, ◌≤◌, ◌+◌, ◌∷◌, ℕ, List, IfOk, OnErr, length};
+ghost use Rattle.std.specs.Prelude.{◌≡◌, ◌≤◌, ◌+◌, ◌∷◌, [], ℕ, List, IfOk, OnErr, length, vec_capacity};
 ghost use Rattle.log_space.specs.Uses.{used_count};
 ghost use Rattle.log_room.specs.Rooms.{TakesLeast};
 
@@ -27,4 +27,22 @@ pub(crate) fn take_least(
         }
     }
     Ok(numbers)
+}
+
+/// So many of the free extents, which are in use now: each the least free one. They stand in the place that was made for them.
+pub(crate) fn take_free(space: &mut Space, place: Vec<u32>, count: usize) -> Vec<u32>
+    requires room { used_count space.old + count ≤ length space.old }
+    requires few { length space.old ≤ 1048576 }
+    requires none { place.items ≡ [] }
+    requires place { vec_capacity place ≡ count }
+    ensures { TakesLeast space.old count result.items space.new }
+{
+    let mut numbers = place;
+    for _ in 0..count {
+        match space.take() {
+            Some(number) => numbers.push_reserved(number),
+            None => unreachable!(),
+        }
+    }
+    numbers
 }

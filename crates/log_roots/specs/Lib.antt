@@ -1,2 +1,3 @@
 pub mod Roots
 pub mod Laws
+pub mod Turning

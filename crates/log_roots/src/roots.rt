@@ -1,6 +1,7 @@
 //! What the header of such a store says.
-ghost use Rattle.std.specs.Prelude.{◌≡◌, ◌↔◌, IsTrue};
+ghost use Rattle.std.specs.Prelude.{◌≡◌, ◌<◌, ◌≤◌, ◌↔◌, IsTrue};
 ghost use Rattle.log_roots.specs.Roots.{IsHeapSize, root_of, other_of, other_place, IsRoots};
+ghost use Rattle.log_roots.specs.Turning.{turned_to};
 
 use status::FRONT_LEN;
 
@@ -74,6 +75,28 @@ impl Roots {
             ROOT_0_PLACE
         } else {
             ROOT_1_PLACE
+        }
+    }
+
+    /// The roots once the other one, which is this number, counts.
+    pub fn turned_to(&self, root: u32) -> Roots
+        ensures is { result ≡ turned_to self.now root }
+        ensures counts { root_of result ≡ root }
+        ensures other { other_of result ≡ root_of self.now }
+        ensures in_range { IsRoots self.now → 0 < root → root ≤ self.now.extents → IsRoots result }
+    {
+        if self.turned {
+            Roots {
+                turned: false,
+                root_0: root,
+                ..*self
+            }
+        } else {
+            Roots {
+                turned: true,
+                root_1: root,
+                ..*self
+            }
         }
     }
 

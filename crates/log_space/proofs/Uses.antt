@@ -2,8 +2,9 @@
 use Rattle.std.proofs.Common.{◌≡◌, ◌≢◌, ℕ, refl, ◌-◌, ◌+◌, ◌<◌, ◌≤◌, ◌↔◌, Bool, true, false, List, [], ◌∷◌, ◌++◌, length, get_or}
 use Rattle.std.proofs.Common.{replicate, slice_set, sym, ◌∙◌, ap, subst, arith, inl, inr}
 use Rattle.std.specs.List.{All, AllByRecursion}
+use Rattle.std.specs.Prelude.{IsTrue, if◌then◌else◌}
 use Rattle.std.proofs.lemmas.Bool.{cases_lt, cases_eq}
-use Rattle.std.proofs.lemmas.List.{get_or_past, get_or-set_other, get_or-replicate, length-set, length-replicate}
+use Rattle.std.proofs.lemmas.List.{get_or_past, get_or-set_other, get_or-replicate, length-set, length-replicate, set-get_or}
 use Rattle.std.proofs.lemmas.List.Sums.{sum_by-le, sum_by-set}
 use Rattle.std.proofs.lemmas.List.Folds.{sum_by-replicate}
 use Rattle.std.proofs.lemmas.List.Elements.{All-from_get_or}
@@ -51,6 +52,28 @@ room_for_one used place free =
 
 pub is_one_more : (used : List Bool) (number : ℕ) → IsFree used number → IsOneMore used (with_use used number true)
 is_one_more used number free = record { count = one_more used (number - 1) free.is; len = length-set used (number - 1) true }
+
+-- what is in use already may be taken again
+pub claimed : (used : List Bool) (number : ℕ) → 0 < number → (is : Bool) → (IsTrue is ↔ IsFree used number)
+    → (if is then with_use used number true else used) ≡ with_use used number true
+claimed used number low true free = refl
+claimed used number low false free = by-flag (get_or used (number - 1) true) refl
+  where
+    by-flag : (flag : Bool) → get_or used (number - 1) true ≡ flag → used ≡ with_use used number true
+    by-flag true is = sym (set-get_or used (number - 1) true) ∙ ap (λ (b : Bool). slice_set used (number - 1) b) is
+    by-flag false is = absurd
+        (let no = free.1 (record { low = low; high = let lt = within used (number - 1) is in omega (arith, lt, low); is = is }) in cc)
+
+-- at most one more is in use
+pub at_most_one_more : (used : List Bool) (place : ℕ) → used_count (slice_set used place true) ≤ used_count used + 1
+at_most_one_more used place = by-flag (get_or used place true) refl
+  where
+    by-flag : (flag : Bool) → get_or used place true ≡ flag → used_count (slice_set used place true) ≤ used_count used + 1
+    by-flag true is =
+        let same : used_count (slice_set used place true) ≡ used_count used =
+        ap used_count (ap (λ (b : Bool). slice_set used place b) (sym is) ∙ set-get_or used place true) in
+        omega (arith, same)
+    by-flag false is = let one = one_more used place is in omega (arith, one)
 
 -- ---- one extent of a list
 

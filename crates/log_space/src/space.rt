@@ -1,7 +1,8 @@
 //! Which extents of a heap are in use, and which one a search finds.
 
 ghost use Rattle.std.specs.Prelude.{◌≡◌, ◌≢◌, ℕ, ◌≤◌, ◌<◌, ◌+◌, ◌-◌, length, IfOk, MatchOption, replicate, IsTrue, ◌↔◌, true, false, if◌then◌else◌};
-ghost use Rattle.log_space.specs.Uses.{IsFree, with_use, used_count, IsLeastFree, AreUsed, IsLeastPlace, HasNoFree};
+ghost use Rattle.std.specs.List.{AllByRecursion};
+ghost use Rattle.log_space.specs.Uses.{IsFree, with_use, all_used, used_count, IsLeastFree, AreUsed, IsLeastPlace, HasNoFree};
 
 use std::alloc::{AllocError, Global};
 use std::marker::Model;
@@ -78,6 +79,38 @@ impl Space {
         self.used[number as usize - 1] = true;
         self.count += 1;
         true
+    }
+
+    /// Takes the extents of these numbers into use, those too that are in use already.
+    pub fn claim_all(&mut self, numbers: &[u32])
+        requires { AllByRecursion (λ (number : ℕ). 0 < number) numbers.now }
+        ensures is { self.new ≡ all_used self.old numbers.now }
+        ensures most { used_count self.new ≤ used_count self.old + length numbers.now }
+    {
+        let mut rest = numbers;
+        while let Some((number, after)) = rest.split_first() {
+            let _was_free = self.claim(*number);
+            rest = after;
+        }
+    }
+
+    /// Frees all extents.
+    pub fn clear(&mut self)
+        ensures { self.new ≡ replicate (length self.old) false }
+    {
+        self.used.as_mut_slice().fill(false);
+        self.passed = 0;
+        self.count = 0;
+    }
+
+    /// The free extent of the least number; none if no extent is free.
+    pub fn least(&self) -> Option<u32>
+        ensures { MatchOption result ((number : ℕ) → ¬ IsFree self.now number) (IsLeastFree self.now) }
+    {
+        match least_place(&self.used, self.passed) {
+            None => None,
+            Some(place) => Some(place as u32 + 1),
+        }
     }
 
     /// Takes the free extent of the least number into use; none if no extent is free.

@@ -1,7 +1,7 @@
 -- A store stays in step.
-use Rattle.std.proofs.Common.{◌≡◌, ℕ, zero, suc, ◌==◌, ◌&&◌, ◌^◌, ◌<◌, ◌≤◌, nat_lt, min, Bool, true, false, cond, List, [], ◌∷◌, ◌++◌, length, map, take}
-use Rattle.std.proofs.Common.{drop, Option}
-use Rattle.std.proofs.Common.{sym, ap, subst, ◌∙◌, arith, Some, None}
+use Rattle.std.proofs.Common.{◌≡◌, ℕ, zero, suc, ◌==◌, ◌&&◌, ◌^◌, ◌+◌, ◌<◌, ◌≤◌, nat_lt, min, Bool, true, false, cond, List, [], ◌∷◌, ◌++◌, length, map}
+use Rattle.std.proofs.Common.{take, drop, Option}
+use Rattle.std.proofs.Common.{refl, sym, ap, subst, ◌∙◌, arith, Some, None}
 use Rattle.std.specs.List.{AllByRecursion}
 use Rattle.std.proofs.lemmas.Bool.Decides.{nat_tests}
 use Rattle.std.proofs.lemmas.List.{length-append, length-drop}
@@ -19,13 +19,19 @@ use Rattle.log_room.specs.Contents.{joined, extents_of, content_over, member_ove
 use Rattle.log_room.proofs.Joins.{extents_push, extents_split}
 use Rattle.log_room.proofs.Taken.{used_len}
 use Rattle.commits.specs.Values.{CommitsValue, ordered}
-use Rattle.commits.specs.Steps.{grouped, with_waiting, waiting_as}
-use Rattle.log_store.specs.Values.{LogStoreValue, HasBytes, HasTurn, IsStageBeside, IsBeside, IsInStep}
+use Rattle.commits.specs.Steps.{group_last, grouped, with_waiting, waiting_as}
+use Rattle.log_recovery.specs.Live.{counted_at, live_count}
+use Rattle.log_recovery.specs.declared.live.LivePart.{LivePart}
+use Rattle.log_recovery.specs.declared.live.LivePart.TheVariants.{Commits}
+use Rattle.log_recovery.proofs.Lives.{lives-more}
+use Rattle.log_store.specs.Live.{LiveValue, with_live, AreNumbers}
+use Rattle.log_store.specs.Values.{LogStoreValue, HasBytes, HasTurn, IsStageBeside, IsBeside, IsReclaimBeside, IsInStep}
 use Rattle.log_store.specs.Pumps.{group_size, group_content, bars_at, bars_groups, Begins}
 use Rattle.log_store.specs.declared.job.Job.{Job}
 use Rattle.log_store.specs.declared.job.JobStage.{JobStage}
 use Rattle.log_store.specs.declared.job.JobStage.TheVariants.{Ready, Entering}
 use Rattle.log_store.specs.declared.job.JobStage.TheVariants as stages
+use Rattle.log_store.proofs.Lives.{live-more, beside-more}
 
 -- ---- bytes
 
@@ -82,9 +88,12 @@ queued_in_step old label time count anchors writes content commits contents room
       omega (arith, was, more, all, same, now);
   few = few;
   many = subst (λ (r : RoomValue). length r.used ≤ 2 ^ 20) (sym room_is) is.many;
+  counted = ap (λ (r : RoomValue). r.log) room_is ∙ is.counted;
   turn = subst (λ (n : ℕ). HasTurn n old.turn) (sym (ap (λ (c : CommitsValue). c.group) commits_are)) is.turn;
   beside = is.beside;
   place = is.place;
+  live = is.live;
+  reclaim = subst (λ (r : RoomValue). IsReclaimBeside old.job old.live.chains r old.reclaim) (sym room_is) is.reclaim;
 }
   where
     len : length content ≡ commit_len (map (λ (r : Record). length (spelling r)) (records_over (ordered old.commits) writes))
@@ -126,22 +135,39 @@ pub beside_group : (w : WriterState) (job : Option Job) → bars_groups job ≡ 
 beside_group w None unbarred = tt
 beside_group w (Some job) unbarred = unbarred_beside w job.stage unbarred
 
-pub begun_in_step : (old new : LogStoreValue) → IsInStep old → old.turn ≡ None → bars_groups old.job ≡ false → 0 < length old.commits.queue → Begins old new
-    → IsInStep new
-begun_in_step old new is none unbarred some begins =
+-- a chain more counts with the extents that it takes
+pub counted_more : (live : LiveValue) (part : LivePart) (old new : RoomValue) (count promised : ℕ) (numbers : List ℕ) (link : ℕ)
+    → counted_at part numbers ≡ numbers → TakesChain old count promised numbers link new → old.log ≡ live_count live.chains + 1
+    → new.log ≡ live_count (with_live live numbers part).chains + 1
+counted_more live part old new count promised numbers link counts takes was =
+    let more = lives-more live.chains (record { numbers = numbers; part = part }) in
+    let long : length (counted_at part numbers) ≡ count = ap (λ (ns : List ℕ). length ns) counts ∙ takes.many in
+    let log : new.log ≡ old.log + count = ap (λ (r : RoomValue). r.log) takes.new_is in
+    omega (arith, more, long, log, was)
+
+pub begun_in_step : (old new : LogStoreValue) → IsInStep old → old.turn ≡ None → bars_groups old.job ≡ false → 0 < length old.commits.queue
+    → (begins : Begins old new) → AreNumbers begins.numbers → IsInStep new
+begun_in_step old new is none unbarred some begins in_range =
     subst IsInStep (sym begins.new_is) (record {
       contents = omega (arith, group, waits.1, size_within (length old.commits.queue), length-drop (group_size old) old.contents, queue);
       bytes = all-drop old.contents (group_size old) is.bytes;
       promised = ap (λ (r : _). r.promised) begins.takes.new_is
           ∙ (let was = is.promised in let both = extents_split old.contents (group_size old) in omega (arith, was, both));
       few = let was = is.few in let now = ap (λ (r : _). r.promised) begins.takes.new_is in omega (arith, was, now);
-      many = subst (λ (n : ℕ). n ≤ 2 ^ 20)
-          (sym (ap (λ (r : RoomValue). length r.used) begins.takes.new_is ∙ used_len old.room.used (begins.takes.others ++ begins.link ∷ []))) is.many;
+      many = subst (λ (n : ℕ). n ≤ 2 ^ 20) (sym used) is.many;
+      counted = counted_more old.live (Commits (group_last (grouped 1024 old.commits))) old.room begins.room (count_of (length (group_content old)))
+          (extents_of (take (group_size old) old.contents)) begins.numbers begins.link refl begins.takes is.counted;
       turn = (subst (λ (n : ℕ). 0 < n) (sym group) (size_some (length old.commits.queue) some), tt);
       beside = beside_group _ old.job unbarred;
       place = is.place;
+      live = live-more old.live begins.numbers (Commits (group_last (grouped 1024 old.commits))) is.live in_range refl;
+      reclaim = beside-more old.job old.live.chains (record { numbers = begins.numbers; part = Commits (group_last (grouped 1024 old.commits)) }) old.room
+          begins.room old.reclaim refl (ap (λ (r : RoomValue). r.reserved) begins.takes.new_is) used is.reclaim;
     })
   where
+    used : length begins.room.used ≡ length old.room.used
+    used = ap (λ (r : RoomValue). length r.used) begins.takes.new_is ∙ used_len old.room.used (begins.takes.others ++ begins.link ∷ [])
+
     waits : (old.commits.group ≡ 0) × (length old.contents ≡ length old.commits.queue)
     waits = all_wait old is none
 
@@ -157,12 +183,14 @@ begun_writer numbers link content =
     record { numbers = numbers; link = link; content = content; stage = Writing [] (chain_turn numbers link content).parts }
 
 -- what a group begins with
-pub begins_with : (old : LogStoreValue) (size count promised : ℕ) (bytes numbers : List ℕ) (link : ℕ) (room : RoomValue) (commits : CommitsValue)
-    (contents : List (List ℕ)) (w : WriterState) → size ≡ group_size old → bytes ≡ joined (take size old.contents) → count ≡ count_of (length bytes)
+unfoldable pub begins_with : (old : LogStoreValue) (size count promised : ℕ) (bytes numbers : List ℕ) (link : ℕ) (room : RoomValue) (commits : CommitsValue)
+    (contents : List (List ℕ)) (last : ℕ) (live : LiveValue) (w : WriterState) → size ≡ group_size old → bytes ≡ joined (take size old.contents)
+    → count ≡ count_of (length bytes)
     → promised ≡ extents_of (take size old.contents) → TakesChain old.room count promised numbers link room → commits ≡ grouped 1024 old.commits
-    → contents ≡ drop size old.contents → w ≡ begun_writer numbers link bytes
-    → Begins old (record old { commits = commits; contents = contents; room = room; turn = Some w })
-begins_with old size count promised bytes numbers link room commits contents w size_is bytes_are count_is promised_is takes commits_are contents_are w_is =
+    → contents ≡ drop size old.contents → last ≡ group_last commits → live ≡ with_live old.live numbers (Commits last) → w ≡ begun_writer numbers link bytes
+    → Begins old (record old { commits = commits; contents = contents; room = room; live = live; turn = Some w })
+begins_with old size count promised bytes numbers link room commits contents last live w size_is bytes_are count_is promised_is takes commits_are contents_are
+    last_is live_is w_is =
     record {
       numbers = numbers;
       link = link;
@@ -171,16 +199,23 @@ begins_with old size count promised bytes numbers link room commits contents w s
           (promised_is ∙ ap (λ (n : ℕ). extents_of (take n old.contents)) size_is)
           (subst (λ (n : ℕ). TakesChain old.room n promised numbers link room)
           (count_is ∙ ap (λ (xs : List ℕ). count_of (length xs)) content) takes);
-      new_is = ap (λ (c : CommitsValue). record old { commits = c; contents = contents; room = room; turn = Some w }) commits_are
-          ∙ ap (λ (cs : List (List ℕ)). record old { commits = grouped 1024 old.commits; contents = cs; room = room; turn = Some w })
-          (contents_are ∙ ap (λ (n : ℕ). drop n old.contents) size_is)
-          ∙ ap (λ (v : WriterState). record old {
-            commits = grouped 1024 old.commits;
-            contents = drop (group_size old) old.contents;
-            room = room;
-            turn = Some v;
-          }) (w_is ∙ ap (λ (xs : List ℕ). begun_writer numbers link xs) content);
+      new_is = λ i. record old {
+        commits = commits_are i;
+        contents = rest i;
+        room = room;
+        live = lives i;
+        turn = Some (writer i);
+      };
     }
   where
     content : bytes ≡ group_content old
     content = bytes_are ∙ ap (λ (n : ℕ). joined (take n old.contents)) size_is
+
+    rest : contents ≡ drop (group_size old) old.contents
+    rest = contents_are ∙ ap (λ (n : ℕ). drop n old.contents) size_is
+
+    lives : live ≡ with_live old.live numbers (Commits (group_last (grouped 1024 old.commits)))
+    lives = live_is ∙ ap (λ (n : ℕ). with_live old.live numbers (Commits n)) (last_is ∙ ap (λ (c : CommitsValue). group_last c) commits_are)
+
+    writer : w ≡ begun_writer numbers link (group_content old)
+    writer = w_is ∙ ap (λ (xs : List ℕ). begun_writer numbers link xs) content

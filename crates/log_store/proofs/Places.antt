@@ -1,6 +1,6 @@
 -- What is read of an image has a place in memory.
 use Rattle.std.specs.Prelude.{Err}
-use Rattle.std.proofs.Common.{◌≡◌, ◌≢◌, ℕ, ◌+◌, ◌*◌, ◌/◌, ◌<◌, ◌≤◌, ◌^◌, max, Bool, false, List, [], ◌∷◌, ◌++◌, length, map, replicate}
+use Rattle.std.proofs.Common.{◌≡◌, ◌≢◌, ℕ, ◌+◌, ◌*◌, ◌/◌, ◌<◌, ◌≤◌, ◌^◌, max, Bool, false, List, [], ◌∷◌, ◌++◌, length, drop, map, replicate}
 use Rattle.std.proofs.Common.{refl, arith, ap, sym, subst, ◌∙◌, length-append}
 use Rattle.std.proofs.lemmas.List.{length-replicate}
 use Rattle.std.specs.List.{AllByRecursion}
@@ -25,15 +25,19 @@ use Rattle.log_recovery.specs.declared.image.LogRecovered.{LogRecovered}
 use Rattle.log_recovery.specs.Chains.{AreWalked, numbers_of, uses_of}
 use Rattle.log_recovery.specs.Rules.{mark_of, no_log}
 use Rattle.log_recovery.specs.Ends.{IsEnd}
+use Rattle.log_recovery.specs.Live.{LiveChainValue, live_count}
 use Rattle.log_recovery.specs.Members.{name_told, heads_told, values_of, members_of_all}
 use Rattle.log_recovery.specs.Opening.{IsImageFault}
 use Rattle.log_recovery.specs.Read.{IsHeapRead}
 use Rattle.log_recovery.specs.Image.{IsReadFrom}
 use Rattle.log_recovery.proofs.Walking.{AreApart, walked_apart, all_joined}
 use Rattle.log_recovery.proofs.Deciding.{end_decides}
+use Rattle.log_recovery.proofs.Lives.{lives-count}
 use Rattle.log_recovery.proofs.Sized.{follow-all}
 use Rattle.log_room.specs.Rooms.{MayOpen}
+use Rattle.log_store.specs.Live.{IsNoBase, AreNumbers, HasNumbers}
 use Rattle.log_store.specs.Opens.{head_as, HasPlace, IsPartsFault}
+use Rattle.log_store.proofs.LivesRead.{wider, placed-numbers, none-behind-first}
 use Rattle.log_store.proofs.Rooms.{numbers-count, last-keeps}
 
 -- ---- the commit order
@@ -127,6 +131,9 @@ module _ (most root : ℕ) (heap : List ℕ) (read : LogHeap) (size : IsHeapSize
       let right = is.holds.before.before.anchors in
       subst (λ (n : ℕ). n ≤ bound) (sym right.placed.count) within.0
 
+  few-extents : most ≤ 2 ^ 20
+  few-extents = let high = size.most in omega (arith, high)
+
   pub has-place : HasPlace read
   has-place = record {
     room = record {
@@ -154,12 +161,31 @@ module _ (most root : ℕ) (heap : List ℕ) (read : LogHeap) (size : IsHeapSize
           let last = last-as 0 mark read.members.commits.items in
           omega (arith, same, marked, last);
     };
+    live = record {
+      numbers =
+          let keeps = is.holds.before.before.before in
+          subst (λ (cs : List LiveChainValue). AllByRecursion HasNumbers cs) (sym is.live_are)
+          (placed-numbers most chains few-extents (walked-placed most heap [] root chains read.next keeps.chains_hold.walked));
+      behind =
+          let keeps = is.holds.before.before.before in
+          subst (λ (cs : List LiveChainValue). AllByRecursion IsNoBase (drop 1 cs)) (sym is.live_are)
+          (none-behind-first [] chains (follow-all mark no_log chains keeps.rules));
+      anchors =
+          let right = is.holds.before.before.anchors in
+          subst (λ (ns : List ℕ). AreNumbers ns) (sym is.anchors_are) (wider most anchors.numbers few-extents right.placed.in_range);
+    };
   }
 
 pub place-of-image : (image : Image) (read : LogRecovered) → IsReadFrom image read → HasPlace read.heap
 place-of-image image read is =
     let has = is.roots.has in
     has-place read.roots.extents (Rattle.log_roots.specs.Roots.root_of read.roots) image.heap read.heap has.in_range.size is.heap
+
+-- the extents that count as the log's are those of its chains in memory, the base aside, and the one where it ends
+pub image-counts : (image : Image) (read : LogRecovered) → IsReadFrom image read → read.heap.log ≡ live_count read.heap.live.items + 1
+image-counts image read is =
+    let heap = is.heap in
+    heap.log_is ∙ ap (λ (n : ℕ). n + 1) (sym (lives-count heap.chains) ∙ ap live_count (sym heap.live_are))
 
 -- ---- why nothing is opened
 

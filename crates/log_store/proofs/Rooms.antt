@@ -72,7 +72,7 @@ base-some b = let long = length-append (logs.commits_slot b.names) (slots.Reclai
     omega (arith, long)
 
 -- so behind the first chain there is none
-none-after : (c : LogChain) (cs : List LogChain) → MayAllFollow (logs.reclaimed_by (c ∷ cs)) 0 [] (c ∷ cs) → AllByRecursion IsNoBase cs
+pub none-after : (c : LogChain) (cs : List LogChain) → MayAllFollow (logs.reclaimed_by (c ∷ cs)) 0 [] (c ∷ cs) → AllByRecursion IsNoBase cs
 none-after (OfBase b) cs may =
     none-behind b.upto 0 (told_behind b.upto [] (OfBase b)) cs (base-some b) may.1
 none-after (OfGroup members) cs may =

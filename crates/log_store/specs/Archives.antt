@@ -1,5 +1,5 @@
 -- The beginning of an archive.
-use Rattle.std.specs.Prelude.{ℕ, ◌≡◌, ◌+◌, ◌^◌, ◌<◌, ◌≤◌, ◌&&◌, nat_le, nat_lt, Bool, is_some, List, [], ◌∷◌, ◌++◌, length}
+use Rattle.std.specs.Prelude.{ℕ, ◌≡◌, ◌+◌, ◌^◌, ◌<◌, ◌≤◌, ◌&&◌, nat_le, nat_lt, Bool, List, [], ◌∷◌, ◌++◌, length}
 use Rattle.std.specs.Prelude.{Option, Some, None, Result, Ok, Err, MatchOption, if◌then◌else◌}
 use Rattle.law_image.specs.Reading.{ArchiveRecord}
 use Rattle.wire.specs.Spelling.{IsRun}
@@ -14,7 +14,7 @@ use Rattle.log_entries.specs.declared.entry.Archive.{Archive}
 use Rattle.log_room.specs.Rooms.{promised_entry, has_entry_room, has_last_room}
 use Rattle.log_room.specs.Bases.{has_base_room}
 use Rattle.commits.specs.Values.{last, last_assigned}
-use Rattle.log_store.specs.Values.{LogStoreValue}
+use Rattle.log_store.specs.Values.{LogStoreValue, is_busy}
 use Rattle.log_store.specs.Jobs.{base_parts}
 use Rattle.log_store.specs.declared.job.JobStage.TheVariants.{Writing}
 use Rattle.log_store.specs.declared.job.JobWork.TheVariants as works
@@ -33,7 +33,7 @@ has_archive_room v upto =
 abbrev pub archive_refusal : LogStoreValue → ℕ → Option StartFault
 archive_refusal v upto =
     if v.commits.failed then Some fault.Failed
-    else (if is_some v.job then Some fault.JobBusy
+    else (if is_busy v then Some fault.JobBusy
     else (if nat_le upto v.named.upto then Some fault.NothingToDo
     else (if nat_lt (last v.commits) upto then Some (fault.NotYet (last v.commits))
     else (if has_archive_room v upto then None else Some fault.HeapFull))))

@@ -11,6 +11,7 @@ use Rattle.recovery.specs.declared.fault.FormatFault.{FormatFault}
 use Rattle.recovery.specs.declared.fault.FormatFault.TheVariants as faults
 use Rattle.recovery.specs.Format.{CountsFirst, refusals_after}
 use Rattle.log_space.specs.Uses.{with_use}
+use Rattle.log_store.specs.Live.{none_live}
 use Rattle.log_store.specs.Named.{none_named}
 use Rattle.log_store.specs.Values.{LogStoreValue}
 
@@ -85,9 +86,11 @@ created_on mark extents disk = record {
     failed = false;
   };
   contents = [];
-  room = record { used = with_use (replicate extents false) 1 true; next = 1; log = 1; promised = 0; anchors = 0 };
+  room = record { used = with_use (replicate extents false) 1 true; next = 1; log = 1; promised = 0; anchors = 0; reserved = 0 };
+  live = none_live;
   turn = None;
   job = None;
+  reclaim = None;
   named = none_named;
   archive = record { runs = []; next = []; kept = [] };
   disk = disk;

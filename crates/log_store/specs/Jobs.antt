@@ -1,5 +1,5 @@
 -- The beginning of a job, and its steps to the disk.
-use Rattle.std.specs.Prelude.{ℕ, ◌≡◌, ◌⊎◌, ◌<◌, ◌^◌, nat_le, nat_lt, ◌&&◌, ◌||◌, Bool, true, false, IsTrue, [], is_some, Option, Some, None}
+use Rattle.std.specs.Prelude.{ℕ, ◌≡◌, ◌⊎◌, ◌<◌, ◌^◌, nat_le, nat_lt, ◌&&◌, ◌||◌, Bool, true, false, IsTrue, [], Option, Some, None}
 use Rattle.std.specs.Prelude.{Result, Ok, Err, MatchBool, MatchOption, MatchResult, List, length, if◌then◌else◌}
 use Rattle.disk.specs.Areas.{Areas}
 use Rattle.disk.specs.Calls.{Counts}
@@ -16,12 +16,15 @@ use Rattle.log_writer.specs.Writer as writers
 use Rattle.log_writer.specs.declared.writer.Wrote.{Wrote}
 use Rattle.log_writer.specs.declared.writer.Wrote.TheVariants as wrote
 use Rattle.log_room.specs.Rooms.{RoomValue, TakesChain, promised_entry, has_entry_room}
+use Rattle.log_recovery.specs.Live.{part_of}
 use Rattle.log_room.specs.Bases as bases
 use Rattle.log_room.specs.declared.base_share.BaseParts.{BaseParts}
 use Rattle.commits.specs.Values.{CommitsValue, last, with_floors}
 use Rattle.commits.specs.Calls.{oldest}
-use Rattle.log_store.specs.Values.{LogStoreValue}
+use Rattle.log_store.specs.Live.{with_live}
+use Rattle.log_store.specs.Values.{LogStoreValue, is_busy}
 use Rattle.log_store.specs.Pumps.{with_failure}
+use Rattle.log_store.specs.Reclaiming.{StepsReclaim}
 use Rattle.log_store.specs.declared.job.Job.{Job}
 use Rattle.log_store.specs.declared.job.JobDid.{JobDid}
 use Rattle.log_store.specs.declared.job.JobDid.TheVariants as did
@@ -55,7 +58,7 @@ refusal_for_use (Some snapshot) time room =
 -- why the floor of a relation is not raised to a time: the first reason in this order
 abbrev pub floor_refusal_of : LogStoreValue → ℕ → ℕ → Option StartFault
 floor_refusal_of v relation time =
-    if is_some v.job then Some fault.JobBusy
+    if is_busy v then Some fault.JobBusy
     else (if nat_le time (floor_at v.commits.floors relation) then Some fault.NothingToDo
     else (if nat_lt (last v.commits) time then Some (fault.NotYet (last v.commits))
     else refusal_for_use (oldest v.commits) time (has_floor_room v relation)))
@@ -145,12 +148,18 @@ IsNextAt old (Entering w) what new = (what ≡ writers.did w.stage) × (new ≡ 
 abbrev pub IsNextOf : Job → Wrote → Job → Type 0
 IsNextOf old what new = IsNextAt old old.stage what new
 
+-- a job has waited for a group
+abbrev pub waiting : Option Job → Option Job
+waiting None = None
+waiting (Some job) = Some (record job { stage = Ready true })
+
 -- the entry of a job that is ready is in the writing
 abbrev pub entering : Option Job → WriterState → Option Job
 entering None w = None
 entering (Some job) w = Some (record job { stage = Entering w })
 
--- the entry begins: it begins where the log ends, and the log goes on in the least free extent; nothing of it is written yet
+-- the entry begins: it begins where the log ends, and the log goes on in the least free extent; nothing of it is written yet, and its chain is the last of
+-- those in memory
 pub record BeginsEntry (old : LogStoreValue) (job : Job) (new : LogStoreValue) : Type 0 where
   pub numbers : List ℕ
   pub link : ℕ
@@ -161,7 +170,7 @@ pub record BeginsEntry (old : LogStoreValue) (job : Job) (new : LogStoreValue) :
     link = link;
     content = entry_bytes (entry_of job.work);
     stage = Writing [] (chain_turn numbers link (entry_bytes (entry_of job.work))).parts;
-  }))) { room = room }
+  }))) { room = room; live = with_live old.live numbers (part_of (entry_of job.work)) }
 
 -- what a call of the entry's chain did
 abbrev pub did_of : Wrote → JobDid
@@ -250,7 +259,7 @@ abbrev pub StepsJob : Bool → Option Job → LogStoreValue → Result JobDid Pu
 StepsJob tells None old result new = (result ≡ Ok did.Idle) × (new ≡ old)
 StepsJob tells (Some job) old result new = StepsAt tells job job.stage old result new
 
--- a failed store writes nothing; any other takes the next step of its job
+-- a failed store writes nothing; any other takes the next step of its reclaim, or of its job where no reclaim runs
 abbrev pub PumpsJob : Bool → LogStoreValue → Result JobDid PumpFault → LogStoreValue → Type 0
-PumpsJob tells old result new =
-    MatchBool old.commits.failed ((result ≡ Err pump.Failed) × (new ≡ old)) (StepsJob tells old.job old result new)
+PumpsJob tells old result new = MatchBool old.commits.failed ((result ≡ Err pump.Failed) × (new ≡ old))
+    (MatchOption old.reclaim (StepsJob tells old.job old result new) (λ r. StepsReclaim tells r old result new))

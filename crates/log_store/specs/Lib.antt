@@ -1,10 +1,14 @@
 pub mod Named
+pub mod Live
 pub mod Values
 pub mod Submits
+pub mod Gates
 pub mod Pumps
 pub mod Runs
+pub mod Reclaiming
 pub mod Jobs
 pub mod Archives
+pub mod Reclaims
 pub mod Calls
 pub mod Queries
 pub mod Formats

@@ -22,6 +22,7 @@ use Rattle.log_recovery.specs.declared.opening.LogHeap.{LogHeap}
 use Rattle.log_recovery.specs.declared.image.LogRecovered.{LogRecovered}
 use Rattle.log_recovery.specs.Image.{IsReadFrom}
 use Rattle.log_recovery.specs.Opening.{IsImageFault}
+use Rattle.log_store.specs.Live.{LiveValue, live_value, AreLive}
 use Rattle.log_store.specs.Named.{NamedValue}
 use Rattle.log_store.specs.Values.{LogStoreValue}
 use Rattle.log_store.specs.declared.opening.MemoryParts.{MemoryParts}
@@ -48,10 +49,15 @@ pub record AreInOrder (members : MembersRead) (reclaimed : ℕ) : Type 0 where
   pub rising : IsRisingAfter 0 (map head_as members.commits.items)
   pub last : members.last ≤ max reclaimed (last_time (map head_as members.commits.items))
 
--- what was read of a heap has a place in memory: it leaves room, and its members are in a commit order
+-- the chains of the log, and the extents of the anchors
+abbrev pub live_on : LogHeap → LiveValue
+live_on heap = record { chains = heap.live.items; anchors = heap.anchors.items }
+
+-- what was read of a heap has a place in memory: it leaves room, its members are in a commit order, and its chains have extents of the heap
 pub record HasPlace (heap : LogHeap) : Type 0 where
   pub room : MayOpen heap.space heap.next heap.log heap.members.sizes.len
   pub order : AreInOrder heap.members heap.end.mark
+  pub live : AreLive (live_on heap)
 
 -- all these members are published, and nothing waits
 abbrev pub commits_on : ℕ → MembersRead → FloorsValue → ℕ → CommitsValue
@@ -70,7 +76,14 @@ commits_on mark members floors reclaimed = record {
 
 -- the extents of live chains are in use, and the one where the log ends
 abbrev pub room_on : LogHeap → RoomValue
-room_on heap = record { used = with_use heap.space heap.next true; next = heap.next; log = heap.log; promised = 0; anchors = heap.members.sizes.len }
+room_on heap = record {
+  used = with_use heap.space heap.next true;
+  next = heap.next;
+  log = heap.log;
+  promised = 0;
+  anchors = heap.members.sizes.len;
+  reserved = 0;
+}
 
 -- what the log names in the archive
 abbrev pub named_on : LogHeap → NamedValue
@@ -86,9 +99,11 @@ pub record ArePartsOf (mark : ℕ) (read : LogRecovered) (parts : MemoryParts) :
   pub roots : parts.roots ≡ read.roots
   pub commits : parts.commits ≡ commits_on mark read.heap.members read.heap.end.floors read.heap.end.mark
   pub room : parts.room ≡ room_on read.heap
+  pub live : live_value parts.live ≡ live_on read.heap
   pub named : parts.named ≡ named_on read.heap
   pub archive : HasRuns read.heap.end.runs.items parts.archive
   pub ordered : IsOrdered read.heap.members.versions
+  pub are_live : AreLive (live_on read.heap)
 
 -- why it has nothing: memory was short, or what was read has no place in it
 abbrev pub IsPartsFault : LogRecovered → OpenFault → Type 0
@@ -104,8 +119,10 @@ opened_on mark read archive disk = record {
   commits = commits_on mark read.heap.members read.heap.end.floors read.heap.end.mark;
   contents = [];
   room = room_on read.heap;
+  live = live_on read.heap;
   turn = None;
   job = None;
+  reclaim = None;
   named = named_on read.heap;
   archive = archive;
   disk = disk;

@@ -13,11 +13,14 @@ use Rattle.log_writer.specs.declared.writer.Wrote.TheVariants as wrote
 use Rattle.log_extents.specs.Chains.{count_of}
 use Rattle.log_room.specs.Rooms.{RoomValue, TakesChain}
 use Rattle.log_room.specs.Contents.{joined, extents_of}
-use Rattle.commits.specs.Steps.{grouped, published, broken}
+use Rattle.commits.specs.Steps.{group_last, grouped, published, broken}
+use Rattle.log_recovery.specs.declared.live.LivePart.TheVariants.{Commits}
 use Rattle.log_store.specs.declared.job.Job.{Job}
 use Rattle.log_store.specs.declared.job.JobStage.{JobStage}
 use Rattle.log_store.specs.declared.job.JobStage.TheVariants.{Ready, Entering}
 use Rattle.log_store.specs.declared.job.JobStage.TheVariants as stages
+use Rattle.log_store.specs.Gates.{waits_to_open}
+use Rattle.log_store.specs.Live.{with_live}
 use Rattle.log_store.specs.Values.{LogStoreValue}
 use Rattle.log_store.specs.declared.pump.Did.{Did}
 use Rattle.log_store.specs.declared.pump.Did.TheVariants as did
@@ -30,7 +33,8 @@ group_size v = min 1024 (length v.commits.queue)
 abbrev pub group_content : LogStoreValue → List ℕ
 group_content v = joined (take (group_size v) v.contents)
 
--- A group begins: its chain begins where the log ends and takes as many extents as its bytes need, of which nothing is written yet.
+-- A group begins: its chain begins where the log ends and takes as many extents as its bytes need, of which nothing is written yet. It is the last of the
+-- chains in memory.
 pub record Begins (old new : LogStoreValue) : Type 0 where
   pub numbers : List ℕ
   pub link : ℕ
@@ -40,6 +44,7 @@ pub record Begins (old new : LogStoreValue) : Type 0 where
     commits = grouped 1024 old.commits;
     contents = drop (group_size old) old.contents;
     room = room;
+    live = with_live old.live numbers (Commits (group_last (grouped 1024 old.commits)));
     turn = Some (record {
       numbers = numbers;
       link = link;
@@ -113,10 +118,11 @@ bars_groups (Some job) = bars_at job.stage
 abbrev pub BeginsOrWaits : Bool → LogStoreValue → Result Did PumpFault → LogStoreValue → Type 0
 BeginsOrWaits tells old result new = MatchBool (bars_groups old.job) ((result ≡ Err fault.Busy) × (new ≡ old)) (BeginsGroup tells old result new)
 
--- a step: where no group stands, one begins if commits wait and no job bars it
+-- A step: where no group stands, one begins if commits wait and no job bars it. The gate of a group waits while the turn gate is written and not synced.
 abbrev pub TakesStep : Bool → LogStoreValue → Option WriterState → Result Did PumpFault → LogStoreValue → Type 0
 TakesStep tells old None result new = MatchBool (length old.commits.queue == 0) ((result ≡ Ok did.Idle) × (new ≡ old)) (BeginsOrWaits tells old result new)
-TakesStep tells old (Some w) result new = Advances tells w old result new
+TakesStep tells old (Some w) result new =
+    MatchBool (waits_to_open old.reclaim w.stage) ((result ≡ Err fault.Busy) × (new ≡ old)) (Advances tells w old result new)
 
 -- a failed store writes nothing; any other takes the next step
 abbrev pub Pumps : Bool → LogStoreValue → Result Did PumpFault → LogStoreValue → Type 0

@@ -1,5 +1,5 @@
 -- What a clause sees of a store whose log lies in the heap.
-use Rattle.std.specs.Prelude.{ℕ, ◌≡◌, ◌+◌, ◌^◌, ◌≤◌, ◌<◌, List, length, Option, None, Some}
+use Rattle.std.specs.Prelude.{ℕ, ◌≡◌, ◌+◌, ◌/◌, ◌^◌, ◌≤◌, ◌<◌, ◌||◌, Bool, List, ◌++◌, length, drop, is_some, Option, None, Some, MatchOption, if◌then◌else◌}
 use Rattle.std.specs.List.{AllByRecursion}
 use Rattle.disk.specs.Calls.{DiskState}
 use Rattle.timequery.specs.Archives.{ArchiveValue}
@@ -8,24 +8,47 @@ use Rattle.log_writer.specs.Writer.{WriterState, IsOnItsWay}
 use Rattle.log_room.specs.Rooms.{RoomValue}
 use Rattle.log_room.specs.Contents.{extents_of}
 use Rattle.commits.specs.Values.{CommitsValue}
+use Rattle.log_recovery.specs.Live.{LiveChainValue, live_count}
+use Rattle.log_store.specs.Live.{LiveValue, IsNoBase, AreNumbers, AreLive}
 use Rattle.log_store.specs.Named.{NamedValue}
 use Rattle.log_store.specs.declared.job.Job.{Job}
 use Rattle.log_store.specs.declared.job.JobStage.{JobStage}
 use Rattle.log_store.specs.declared.job.JobStage.TheVariants.{Writing, Ready, Entering}
 use Rattle.log_store.specs.declared.job.JobWork.{JobWork}
+use Rattle.log_entries.specs.declared.entry.Base.{Base}
+use Rattle.log_base.specs.Rolls.{InRoll}
+use Rattle.log_roots.specs.Turning as turning
+use Rattle.log_store.specs.declared.reclaim.ReclaimStage.{ReclaimStage}
+use Rattle.log_store.specs.declared.reclaim.ReclaimStage.TheVariants as reclaims
 use Rattle.log_store.specs.declared.job.JobWork.TheVariants.{Floor, Archive}
 
--- a store: its commits and transactions, the room in the heap, the chain in the writing, its archive, and its disk
+-- A reclaim that runs: how many chains of the log its base takes the place of, what that says and its extents, the extents of the anchors that it names and
+-- whether it makes them, what the log then names in the archive, the roll that it adds until that is in the writing, and how far it is.
+pub record ReclaimValue : Type 0 where
+  pub front : ℕ
+  pub base : Base
+  pub numbers : List ℕ
+  pub anchors : List ℕ
+  pub makes : Bool
+  pub named : NamedValue
+  pub roll : Option InRoll
+  pub stage : ReclaimStage
+
+-- a store: its commits and transactions, the room in the heap, the chains of the log, the chain in the writing, its archive, and its disk
 pub record LogStoreValue : Type 0 where
   pub roots : Roots
   pub commits : CommitsValue
   -- the bytes of the commits that wait in no begun group, in their order
   pub contents : List (List ℕ)
   pub room : RoomValue
+  -- the chains of the log, also the one in the writing
+  pub live : LiveValue
   -- the group's chain while it is in the writing
   pub turn : Option WriterState
   -- the job that runs
   pub job : Option Job
+  -- the reclaim that runs, where no other job does
+  pub reclaim : Option ReclaimValue
   -- what a base would name
   pub named : NamedValue
   pub archive : ArchiveValue
@@ -71,6 +94,37 @@ abbrev pub IsJobInPlace : Option Job → Type 0
 IsJobInPlace None = Unit {0}
 IsJobInPlace (Some job) = IsInPlace job.work
 
+-- a stage of a reclaim has a call still to be made
+abbrev pub IsStageOnWay : ReclaimStage → Type 0
+IsStageOnWay (reclaims.Writing anchors base) = Unit {0}
+IsStageOnWay (reclaims.Rolling roll) = Unit {0}
+IsStageOnWay (reclaims.Turning t) = turning.IsOnItsWay t.stage
+
+-- the extents that a reclaim has taken
+abbrev pub taken_by : ReclaimValue → List ℕ
+taken_by r = if r.makes then r.anchors ++ r.numbers else r.numbers
+
+-- A reclaim runs where no other job does. Its base and the anchors that it names keep their shares of the heap, of so many extents, and what it makes of them
+-- is taken. The base of the log, if it has one, is in the front.
+pub record IsReclaiming (job : Option Job) (chains : List LiveChainValue) (reserved most : ℕ) (r : ReclaimValue) : Type 0 where
+  pub alone : job ≡ None
+  pub front : r.front ≤ length chains
+  pub back : AllByRecursion IsNoBase (drop r.front chains)
+  pub taken : reserved ≡ length (taken_by r)
+  pub share : length r.anchors + length r.numbers ≤ most / 4
+  pub some : 0 < length r.numbers
+  pub numbers : AreNumbers r.numbers
+  pub anchors : AreNumbers r.anchors
+  pub on_its_way : IsStageOnWay r.stage
+
+-- and where none runs nothing is taken for one
+abbrev pub IsReclaimBeside : Option Job → List LiveChainValue → RoomValue → Option ReclaimValue → Type 0
+IsReclaimBeside job chains room reclaim = MatchOption reclaim (room.reserved ≡ 0) (IsReclaiming job chains room.reserved (length room.used))
+
+-- a job runs
+abbrev pub is_busy : LogStoreValue → Bool
+is_busy v = is_some v.job || is_some v.reclaim
+
 -- What holds of a store by itself.
 pub record IsInStep (v : LogStoreValue) : Type 0 where
   -- the contents are those of the commits that wait behind the group
@@ -80,6 +134,10 @@ pub record IsInStep (v : LogStoreValue) : Type 0 where
   pub promised : v.room.promised ≡ extents_of v.contents + promised_to v.job
   pub few : v.room.promised ≤ 2 ^ 20
   pub many : length v.room.used ≤ 2 ^ 20
+  -- of the log's share are the extents of its chains but the base's, and the one where it ends
+  pub counted : v.room.log ≡ live_count v.live.chains + 1
   pub turn : HasTurn v.commits.group v.turn
   pub beside : IsBeside v.turn v.job
   pub place : IsJobInPlace v.job
+  pub live : AreLive v.live
+  pub reclaim : IsReclaimBeside v.job v.live.chains v.room v.reclaim

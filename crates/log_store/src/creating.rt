@@ -3,6 +3,7 @@ ghost use Rattle.std.specs.Prelude.{IfOk, IfErr};
 ghost use Rattle.log_store.specs.Formats.{Creates, CreateRefuses};
 
 use crate::formatting::{format, new_roots};
+use crate::live::Live;
 use crate::named::Named;
 use crate::store::LogStore;
 use chains::Frozen;
@@ -42,6 +43,9 @@ impl<D: Disk> LogStore<D> {
         let Ok(archive) = StoreArchive::new(alloc, Vec::new(alloc)) else {
             return Err((FormatFault::NoMemory, disk));
         };
+        let Ok(live) = Live::none(alloc) else {
+            return Err((FormatFault::NoMemory, disk));
+        };
         let mut disk = disk;
         match format(&mut disk, extents) {
             Err(fault) => Err((fault, disk)),
@@ -58,8 +62,10 @@ impl<D: Disk> LogStore<D> {
                 ),
                 contents: VecDeque::new(alloc),
                 room: HeapRoom::of_opened(space, 1, 1, 0),
+                live,
                 turn: None,
                 job: None,
+                reclaim: None,
                 named: Named::none(alloc),
                 archive,
                 disk,

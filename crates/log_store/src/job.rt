@@ -55,7 +55,17 @@ pub enum JobDid {
     HeapSynced,
     /// The gate of its entry is open.
     GateWritten,
-    /// Its entry is the log's, and no job runs.
+    /// The next extent of a base's anchors is written, or of the base.
+    WroteExtent,
+    /// The next piece of a base's roll is written.
+    WroteRoll,
+    RollSynced,
+    /// The status area names the base as the root that does not count yet.
+    RootWritten,
+    RootSynced,
+    /// The turn gate is written: the root that names the base counts.
+    TurnWritten,
+    /// Its entry or its base is the log's, and no job runs.
     JobDone,
 }
 
@@ -66,17 +76,19 @@ pub enum StartFault {
     Failed,
     /// Floors are those of one relation each.
     WrongProfile,
-    /// A job runs.
+    /// A job runs, or a reclaim.
     JobBusy,
-    /// The floor of the relation is as late, or all versions that ended by then are archived.
+    /// The floor of the relation is as late, or all versions that ended by then are archived, or the base that stands says all that the
+    /// front of the log does.
     NothingToDo,
     /// The last commit that is published has this earlier time, in microseconds since 1970.
     NotYet(u64),
     /// An open transaction reads at this earlier time, in microseconds since 1970.
     InUse(u64),
-    /// The log's half of the heap has no extent for its entry, or a base none for the floor.
+    /// The log's half of the heap has no extent for its entry, or a base none for the floor; or the base or its anchors would pass their
+    /// share.
     HeapFull,
-    /// The run would end past byte 2^63 - 1 of the archive.
+    /// The run or the roll would end past byte 2^63 - 1 of the archive.
     ArchiveFull,
     NoMemory,
 }

@@ -5,10 +5,11 @@ ghost use Rattle.disk.specs.Calls.{Counts};
 ghost use Rattle.status.specs.SlotCalls.{answer_of};
 ghost use Rattle.log_entries.specs.Spelling.{entry_bytes};
 ghost use Rattle.log_extents.specs.Chains.{count_of};
+ghost use Rattle.log_recovery.specs.Live.{part_of};
 ghost use Rattle.log_store.specs.declared.job.JobStage.TheVariants.{Ready};
 ghost use Rattle.log_store.specs.Jobs.{PumpsJob, BeginsEntry, AdvancesEntry, IsWriting, IsReady, IsEntering, is_writing, is_ready, at_stage};
 ghost use Rattle.log_store.specs.Jobs.{entry_of, commits_with, named_with, archive_with, commits_by, named_by, archive_by, did_of};
-ghost use Rattle.log_store.specs.Jobs.{IsStageOnItsWay, IsEntryCallOf, IsNextOf, entering};
+ghost use Rattle.log_store.specs.Jobs.{IsStageOnItsWay, IsEntryCallOf, IsNextOf, waiting, entering};
 ghost use Rattle.log_store.specs.Runs.{CallsAt, WritesRun, did_at, behind};
 ghost use Rattle.log_store.specs.Values.{IsInPlace, IsJobInPlace};
 
@@ -19,6 +20,7 @@ use commits::Commits;
 use disk::{Area, DeviceFault, Disk};
 use group::PumpFault;
 use log_entries::{push_archive, push_floor};
+use log_recovery::LivePart;
 use log_writer::{ChainWriter, Wrote};
 use std::alloc::{AllocError, Global};
 use timequery::StoreArchive;
@@ -55,6 +57,16 @@ impl JobWork {
                 push_archive(&mut bytes, archive)?;
                 Ok(bytes)
             }
+        }
+    }
+
+    // What memory keeps of its entry.
+    fn part(&self) -> LivePart
+        ensures { result ≡ part_of (entry_of self.now) }
+    {
+        match self {
+            JobWork::Floor { floor, .. } => LivePart::Floor(*floor),
+            JobWork::Archive { archive, .. } => LivePart::Archived(*archive),
         }
     }
 
@@ -126,6 +138,15 @@ impl Job {
     }
 }
 
+// The job has waited for a group.
+fn wait(job: &mut Option<Job>)
+    ensures { job.new ≡ waiting job.old }
+{
+    if let Some(job) = job {
+        job.stage = JobStage::Ready { waited: true };
+    }
+}
+
 // The entry of a job that is ready is in the writing.
 fn enter(job: &mut Option<Job>, entry: ChainWriter)
     ensures { job.new ≡ entering job.old entry }
@@ -155,18 +176,23 @@ fn end_job(
 }
 
 impl<D: Disk> LogStore<D> {
-    /// The next step of the job that runs, which makes at most one write or sync of the disk. `Idle` is answered where none runs.
+    /// The next step of the job or the reclaim that runs, which makes at most one write or sync of the disk. `Idle` is answered where none
+    /// runs.
     ///
     /// # Errors
     ///
     /// `Failed` once a write or sync of the device was refused. Where its entry would begin: `Busy` while a group is in the writing, and
-    /// from then on no other group begins before that entry; `NoMemory`, with nothing done.
+    /// from then on no other group begins before that entry; `NoMemory`, with nothing done. Where a reclaim would turn the root: `Busy` while
+    /// the gate of a group is written and not synced.
     pub fn job_pump(&mut self) -> Result<JobDid, PumpFault>
         ensures is { PumpsJob D.tells self.old result self.new }
         ensures sound { IsTrue D.tells → AreSound self.new.disk.areas }
     {
         if self.commits.has_failed() {
             return Err(PumpFault::Failed);
+        }
+        if self.reclaim.is_some() {
+            return self.step_reclaim();
         }
         let Some(job) = &self.job else {
             return Ok(JobDid::Idle);
@@ -210,9 +236,7 @@ impl<D: Disk> LogStore<D> {
         requires { IsReady self.old.job }
         ensures { MatchOption self.old.job ⊥ (λ job. self.new ≡ at_stage self.old job (Ready true)) }
     {
-        if let Some(job) = &mut self.job {
-            job.stage = JobStage::Ready { waited: true };
-        }
+        wait(&mut self.job);
     }
 
     // The entry begins, of which nothing is written yet.
@@ -224,9 +248,12 @@ impl<D: Disk> LogStore<D> {
     {
         let Some(job) = &self.job else { unreachable!() };
         let bytes = job.work.entry(self.alloc)?;
+        let part = job.work.part();
+        let place = self.live.make_place(self.alloc, ENTRY_EXTENTS)?;
         let chain = self
             .room
             .take_chain(self.alloc, ENTRY_EXTENTS, ENTRY_EXTENTS)?;
+        self.live.put(place, &chain.numbers, part);
         let entry = ChainWriter::new(chain.numbers, chain.link, bytes);
         enter(&mut self.job, entry);
         Ok(())

@@ -5,6 +5,7 @@ ghost use Rattle.wire.specs.Spelling.{IsRun};
 ghost use Rattle.group.specs.CommitOrder.{IsRisingAfter, last_time};
 ghost use Rattle.log_store.specs.Opens.{head_as, AreEntriesFrom, AreInOrder, commits_on, IsPartsFault, ArePartsOf, Opens, OpenRefuses};
 
+use crate::live::{Live, are_live};
 use crate::named::Named;
 use crate::store::LogStore;
 use archive::RunEntry;
@@ -104,6 +105,7 @@ struct MemoryParts {
     roots: Roots,
     commits: Commits,
     room: HeapRoom,
+    live: Live,
     named: Named,
     archive: StoreArchive,
 }
@@ -120,7 +122,9 @@ fn parts_of(alloc: Global, mark: u64, read: LogRecovered) -> Result<MemoryParts,
         next,
         space,
         log,
+        anchors,
         end,
+        live,
         archives,
         members,
         ..
@@ -141,12 +145,17 @@ fn parts_of(alloc: Global, mark: u64, read: LogRecovered) -> Result<MemoryParts,
     let Some(room) = HeapRoom::opened(space, next, log, members.sizes.len) else {
         return Err(damaged);
     };
+    if !are_live(&live, &anchors) {
+        return Err(damaged);
+    }
+    let live = Live::new(live, anchors)?;
     let archive = StoreArchive::new(alloc, entries_of(alloc, &runs)?)?;
     match commits_of(alloc, mark, members, floors, reclaimed)? {
         Some(commits) => Ok(MemoryParts {
             roots,
             commits,
             room,
+            live,
             named: Named::new(archives, rolls, archived, runs_end.max(rolls_end)),
             archive,
         }),
@@ -178,8 +187,10 @@ impl<D: Disk> LogStore<D> {
                 commits: parts.commits,
                 contents: VecDeque::new(alloc),
                 room: parts.room,
+                live: parts.live,
                 turn: None,
                 job: None,
+                reclaim: None,
                 named: parts.named,
                 archive: parts.archive,
                 disk,

@@ -1,14 +1,17 @@
 //! The steps of a group to the disk.
 ghost use Rattle.std.specs.Prelude.{◌≡◌, ◌<◌, false, IsTrue, IsSome, OnErr, OnOk, length, None};
 ghost use Rattle.disk.specs.Areas.{AreSound};
+ghost use Rattle.log_store.specs.Gates.{bars_gate, turn_waits};
 ghost use Rattle.log_store.specs.Pumps.{Pumps, bars_groups, Begins, AdvancesGroup, did_of};
 
 use crate::job::JobStage;
+use crate::reclaim::Reclaim;
 use crate::store::LogStore;
 use commits::MOST_IN_GROUP;
 use disk::{DeviceFault, Disk};
 use group::PumpFault;
 use log_extents::count_extents;
+use log_recovery::LivePart;
 use log_room::{drop_first, join};
 use log_writer::{ChainWriter, Wrote};
 use std::alloc::AllocError;
@@ -42,6 +45,16 @@ fn did_of(what: Wrote, group: u32) -> Did
     }
 }
 
+// Whether the turn gate is written and not synced.
+fn bars_gate(reclaim: &Option<Reclaim>) -> bool
+    ensures { result ≡ bars_gate reclaim.now }
+{
+    match reclaim {
+        None => false,
+        Some(reclaim) => reclaim.is_turned(),
+    }
+}
+
 impl<D: Disk> LogStore<D> {
     /// One step of the group of commits that is being written; where none stands, one begins of the first 1,024 that wait. Each step makes
     /// one write or sync of the disk. `Idle` is answered where no group stands and no commit waits.
@@ -49,7 +62,7 @@ impl<D: Disk> LogStore<D> {
     /// # Errors
     ///
     /// `Failed` once a write or sync of the device was refused. With nothing done, where a group would begin: `Busy` while a job's entry is in
-    /// the writing, or waits to be; `NoMemory`.
+    /// the writing, or waits to be; `NoMemory`. Where its gate would open: `Busy` while a reclaim has turned the root and not synced that.
     pub fn pump(&mut self) -> Result<Did, PumpFault>
         ensures is { Pumps D.tells self.old result self.new }
         ensures sound { IsTrue D.tells → AreSound self.new.disk.areas }
@@ -67,6 +80,8 @@ impl<D: Disk> LogStore<D> {
             if self.begin_group().is_err() {
                 return Err(PumpFault::NoMemory);
             }
+        } else if self.waits_to_open() {
+            return Err(PumpFault::Busy);
         }
         self.advance()
     }
@@ -85,6 +100,16 @@ impl<D: Disk> LogStore<D> {
         }
     }
 
+    // Whether the next call would open the gate of the group's chain while the turn gate of a reclaim is written and not synced.
+    fn waits_to_open(&self) -> bool
+        ensures { result ≡ turn_waits self.now.turn self.now.reclaim }
+    {
+        match &self.turn {
+            None => false,
+            Some(turn) => turn.is_opening() && bars_gate(&self.reclaim),
+        }
+    }
+
     // A group begins, of which nothing is written yet.
     fn begin_group(&mut self) -> Result<(), AllocError>
         requires none { self.old.turn ≡ None }
@@ -96,9 +121,13 @@ impl<D: Disk> LogStore<D> {
         let size = MOST_IN_GROUP.min(self.commits.waiting());
         let group = join(self.alloc, &self.contents, size)?;
         let count = count_extents(group.bytes.len());
+        let place = self.live.make_place(self.alloc, count)?;
         let chain = self.room.take_chain(self.alloc, count, group.count)?;
         self.commits.begin_group(MOST_IN_GROUP);
         drop_first(&mut self.contents, size);
+        let last = self.commits.group_last();
+        self.live
+            .put(place, &chain.numbers, LivePart::Commits(last));
         self.turn = Some(ChainWriter::new(chain.numbers, chain.link, group.bytes));
         Ok(())
     }

@@ -1,8 +1,9 @@
 //! The beginning of a job.
-ghost use Rattle.std.specs.Prelude.{◌≡◌, ◌+◌, ◌≤◌, ◌<◌, ◌/◌, ◌^◌, IfNone, IfOk, OnOk, OnErr, None, length};
+ghost use Rattle.std.specs.Prelude.{◌≡◌, ◌+◌, ◌≤◌, ◌<◌, ◌/◌, ◌^◌, IfNone, IfOk, OnOk, OnErr, None, false, length};
 ghost use Rattle.wire.specs.Spelling.{IsRun};
 ghost use Rattle.log_store.specs.Archives.{StartsArchive, BeginsArchive, archive_refusal, has_archive_room, since_now};
 ghost use Rattle.log_store.specs.Jobs.{StartsFloor, floor_refusal_of, has_floor_room};
+ghost use Rattle.log_store.specs.Values.{is_busy};
 
 use crate::job::{Job, JobStage, JobWork, StartFault};
 use crate::store::LogStore;
@@ -51,6 +52,7 @@ impl<D: Disk> LogStore<D> {
     // The archive that makes this run begins.
     fn begin_archive(&mut self, run: Run, writer: RunWriter<ArchiveWalk>) -> Result<(), AllocError>
         requires none { self.old.job ≡ None }
+        requires no_reclaim { self.old.reclaim ≡ None }
         requires run { IsRun run }
         requires room { self.old.room.log + self.old.room.promised + 1 ≤ length self.old.room.used / 2 }
         ensures ok { OnOk result (BeginsArchive self.old run writer self.new) }
@@ -78,17 +80,26 @@ impl<D: Disk> LogStore<D> {
         Ok(())
     }
 
+    /// Whether a job or a reclaim runs.
+    pub(crate) fn is_busy(&self) -> bool
+        ensures is { result ≡ is_busy self.now }
+        ensures none { result ≡ false → (self.now.job ≡ None) × (self.now.reclaim ≡ None) }
+    {
+        self.job.is_some() || self.reclaim.is_some()
+    }
+
     // Why no archive up to a time begins, by what is known before its run is counted.
     fn archive_refusal(&self, upto: u64) -> Option<StartFault>
         ensures is { result ≡ archive_refusal self.now upto }
         ensures none { IfNone result (self.now.job ≡ None) }
+        ensures no_reclaim { IfNone result (self.now.reclaim ≡ None) }
         ensures in_range { IfNone result ((0 < upto) × (upto < 2 ^ 63)) }
         ensures room { IfNone result (self.now.room.log + self.now.room.promised + 1 ≤ length self.now.room.used / 2) }
     {
         if self.commits.has_failed() {
             return Some(StartFault::Failed);
         }
-        if self.job.is_some() {
+        if self.is_busy() {
             return Some(StartFault::JobBusy);
         }
         if upto <= self.named.upto() {
@@ -157,9 +168,10 @@ impl<D: Disk> LogStore<D> {
     fn floor_refusal(&self, relation: u16, floor: u64) -> Option<StartFault>
         ensures is { result ≡ floor_refusal_of self.now relation floor }
         ensures none { IfNone result (self.now.job ≡ None) }
+        ensures no_reclaim { IfNone result (self.now.reclaim ≡ None) }
         ensures room { IfNone result (self.now.room.log + self.now.room.promised + 1 ≤ length self.now.room.used / 2) }
     {
-        if self.job.is_some() {
+        if self.is_busy() {
             return Some(StartFault::JobBusy);
         }
         if floor <= self.commits.floors().at(relation) {

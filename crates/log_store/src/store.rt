@@ -5,7 +5,9 @@ ghost use Rattle.commits.specs.Values.{last, order_of};
 ghost use Rattle.log_store.specs.Calls.{Begins, Aborts, Redeems};
 
 use crate::job::Job;
+use crate::live::Live;
 use crate::named::Named;
+use crate::reclaim::Reclaim;
 use commits::Commits;
 use disk::Disk;
 use floors::Floors;
@@ -28,9 +30,12 @@ pub struct LogStore<D: Disk> {
     // The bytes of the commits that wait in no begun group, in their order.
     pub(crate) contents: VecDeque<Content>,
     pub(crate) room: HeapRoom,
+    pub(crate) live: Live,
     // The group's chain while it is in the writing.
     pub(crate) turn: Option<ChainWriter>,
     pub(crate) job: Option<Job>,
+    // Where no other job runs.
+    pub(crate) reclaim: Option<Reclaim>,
     // What a base would name.
     pub(crate) named: Named,
     pub(crate) archive: StoreArchive,
@@ -38,6 +43,7 @@ pub struct LogStore<D: Disk> {
 }
 
 impl<D: Disk> Model for LogStore<D> {
+    ghost use Rattle.log_store.specs.Live.{live_value};
     ghost use Rattle.log_store.specs.Values.{LogStoreValue, IsInStep};
 
     ghost Value = { LogStoreValue };
@@ -47,8 +53,10 @@ impl<D: Disk> Model for LogStore<D> {
       commits = s.commits;
       contents = s.contents.items;
       room = s.room;
+      live = live_value s.live;
       turn = s.turn;
       job = s.job;
+      reclaim = s.reclaim;
       named = s.named;
       archive = s.archive;
       disk = D.state s.disk;
@@ -59,8 +67,10 @@ impl<D: Disk> Model for LogStore<D> {
       commits = s.commits;
       contents = s.contents.items;
       room = s.room;
+      live = live_value s.live;
       turn = s.turn;
       job = s.job;
+      reclaim = s.reclaim;
       named = s.named;
       archive = s.archive;
       disk = D.state s.disk;
@@ -78,8 +88,10 @@ impl<D: Disk> LogStore<D> {
             commits: _,
             contents: _,
             room: _,
+            live: _,
             turn: _,
             job: _,
+            reclaim: _,
             named: _,
             archive: _,
             disk,

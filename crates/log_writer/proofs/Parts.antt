@@ -94,7 +94,7 @@ first : Part → List Part → Part
 first d [] = d
 first d (p ∷ ps) = p
 
-first-is : (p q : Part) (ps qs : List Part) → p ∷ ps ≡ q ∷ qs → p ≡ q
+pub first-is : (p q : Part) (ps qs : List Part) → p ∷ ps ≡ q ∷ qs → p ≡ q
 unfolding first
 first-is p q ps qs same = ap (first p) same
 

@@ -1,5 +1,5 @@
 -- What a clause sees of a chain in the writing.
-use Rattle.std.specs.Prelude.{ℕ, ◌≡◌, ◌<◌, ◌≤◌, ◌^◌, List, [], ◌∷◌, length, take, drop}
+use Rattle.std.specs.Prelude.{ℕ, ◌≡◌, ◌<◌, ◌≤◌, ◌^◌, Bool, true, false, List, [], ◌∷◌, length, take, drop}
 use Rattle.std.specs.List.{AllByRecursion}
 use Rattle.log_extents.specs.Chains.{count_of, IsNumberOf}
 use Rattle.log_writer.specs.Turns.{Part, Turn, chain_turn, Stage}
@@ -65,3 +65,19 @@ IsOnItsWay turns.Done = ⊥
 -- the chain at another stage
 abbrev pub with_stage : WriterState → Stage → WriterState
 with_stage w stage = record w { stage = stage }
+
+-- its gate is to be opened
+abbrev pub is_opening : Stage → Bool
+is_opening (turns.Writing done rest) = false
+is_opening turns.Syncing = false
+is_opening turns.Opening = true
+is_opening turns.Settling = false
+is_opening turns.Done = false
+
+-- its gate is open, and that is to be synced
+abbrev pub is_settling : Stage → Bool
+is_settling (turns.Writing done rest) = false
+is_settling turns.Syncing = false
+is_settling turns.Opening = false
+is_settling turns.Settling = true
+is_settling turns.Done = false

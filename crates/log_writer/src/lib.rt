@@ -1,6 +1,9 @@
-//! The writing of one chain of the log, behind the chains that are there: one device call at a time.
+//! The writing of a chain, one device call at a time: behind the chains of the log, or where no log names it yet.
 #![tactic(auto)]
 
+mod extents_writer;
+mod place;
 mod writer;
 
+pub use extents_writer::ExtentsWriter;
 pub use writer::{ChainWriter, Wrote};

@@ -9,6 +9,7 @@ ghost use Rattle.log_extents.specs.Chains.{count_of, IsNumberOf};
 ghost use Rattle.log_writer.specs.Turns.{IsCallOf, stage_after, Part};
 ghost use Rattle.log_writer.specs.Writer.{turn, did};
 
+use crate::place::extent_place;
 use deltas::EXTENT_LEN;
 use disk::{Area, DeviceFault, Disk};
 use log_extents::{BODY_LEN, OPEN_GATE, fill_extent};
@@ -169,14 +170,6 @@ impl ChainWriter {
     }
 }
 
-// The place of an extent in the heap, and so of its gate.
-fn extent_place(number: u32) -> u64
-    requires { 0 < number }
-    ensures { result ≡ extent_start number }
-{
-    EXTENT_LEN as u64 * u64::from(number - 1)
-}
-
 impl ChainWriter {
     ghost use Rattle.std.specs.Prelude.{◌≡◌, ◌<◌, ◌≤◌, ◌+◌, ◌∷◌, [], ℕ, List, drop, length, IsTrue, IfOk, IfErr};
     ghost use Rattle.deltas.specs.Extents.{extent_start};
@@ -261,5 +254,24 @@ impl ChainWriter {
         let (step, what) = self.make_call(disk)?;
         self.step = step;
         Ok(what)
+    }
+}
+
+impl ChainWriter {
+    ghost use Rattle.std.specs.Prelude.{◌≡◌};
+    ghost use Rattle.log_writer.specs.Writer.{is_opening, is_settling};
+
+    /// Whether the next call opens its gate.
+    pub fn is_opening(&self) -> bool
+        ensures { result ≡ is_opening self.now.stage }
+    {
+        matches!(self.step, Step::Opening)
+    }
+
+    /// Whether its gate is open, and the next call syncs that.
+    pub fn is_settling(&self) -> bool
+        ensures { result ≡ is_settling self.now.stage }
+    {
+        matches!(self.step, Step::Settling)
     }
 }

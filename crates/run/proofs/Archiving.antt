@@ -68,15 +68,15 @@ start-leads tells v v' xs upto r starts w is = (
 reclaims-so : (w : World) (r : Result (Unit {0}) StartFault) → ReclaimSays w.in_heap w.machine r → Reclaims w r (same w)
 reclaims-so w (Ok u) says = (says, refl)
 reclaims-so w (Err start.Failed) says = (says, refl)
-reclaims-so w (Err start.WrongProfile) says = (says, refl)
+reclaims-so w (Err start.WrongProfile) says = says
 reclaims-so w (Err start.JobBusy) says = refl
 reclaims-so w (Err start.NothingToDo) says = refl
 reclaims-so w (Err (start.InUse time)) says = (says, refl)
-reclaims-so w (Err start.StatusFull) says = refl
+reclaims-so w (Err start.StatusFull) says = (says, refl)
 reclaims-so w (Err start.HeapFull) says = refl
 reclaims-so w (Err start.NoMemory) says = refl
 reclaims-so w (Err (start.NotYet time)) says = says
-reclaims-so w (Err start.ArchiveFull) says = says
+reclaims-so w (Err start.ArchiveFull) says = (says, refl)
 reclaims-so w (Err start.NotGrowable) says = says
 
 reclaim-leads : (tells : Bool) (v v' : StoreValue) (xs : List Held) (r : Result (Unit {0}) StartFault) → StartsReclaim v r v'

@@ -202,6 +202,11 @@ floor-steps in_heap job_did.BodyWritten r = tt
 floor-steps in_heap job_did.BodySynced r = (tt, tt)
 floor-steps in_heap job_did.WroteEntry r = tt
 floor-steps in_heap job_did.GateClosed r = tt
+floor-steps in_heap job_did.WroteRoll r = tt
+floor-steps in_heap job_did.RollSynced r = tt
+floor-steps in_heap job_did.RootWritten r = tt
+floor-steps in_heap job_did.RootSynced r = tt
+floor-steps in_heap job_did.TurnWritten r = tt
 floor-steps in_heap job_did.GateWritten r = (tt, tt)
 floor-steps in_heap job_did.JobDone r = (tt, tt)
 

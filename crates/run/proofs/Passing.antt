@@ -346,15 +346,15 @@ archive-same w upto (Err start.NotGrowable) next does = absurd does
 pub reclaim-same : (w : World) (said : Result (Unit {0}) StartFault) (next : World) → Reclaims w said next → next ≡ same w
 reclaim-same w (Ok u) next does = does.1
 reclaim-same w (Err start.Failed) next does = does.1
-reclaim-same w (Err start.WrongProfile) next does = does.1
+reclaim-same w (Err start.WrongProfile) next does = absurd does
 reclaim-same w (Err start.JobBusy) next does = does
 reclaim-same w (Err start.NothingToDo) next does = does
 reclaim-same w (Err (start.InUse time)) next does = does.1
-reclaim-same w (Err start.StatusFull) next does = does
+reclaim-same w (Err start.StatusFull) next does = does.1
 reclaim-same w (Err start.HeapFull) next does = does
 reclaim-same w (Err start.NoMemory) next does = does
 reclaim-same w (Err (start.NotYet time)) next does = absurd does
-reclaim-same w (Err start.ArchiveFull) next does = absurd does
+reclaim-same w (Err start.ArchiveFull) next does = does.1
 reclaim-same w (Err start.NotGrowable) next does = absurd does
 
 pub grow-same : (w : World) (said : Result (Unit {0}) StartFault) (next : World) → Grows w said next → next ≡ same w

@@ -38,7 +38,8 @@ pub record IsKeptWith (tells : Bool) (image : Image) (done : List ℕ) (h : Hist
   pub kept : IsKeptAs tells image h floors
   pub acknowledged : AllByRecursion (HasCommitAt h) done
 
--- It survives: it has the header of the store at this moment or, once the gate of a piece may be open, that with 256 slots more.
+-- It survives: it has the header of the store at this moment or, once the gate of a piece may be open, that with 256 slots more; of a log, one of as many
+-- extents.
 -- It is kept as what is published then or, once the gate of the group may be open, as that with the whole group. It has every commit that was acknowledged.
 pub record Survives (tells : Bool) (at : Moment) (image : Image) : Type 0 where
   pub header : AnyHeader

@@ -236,19 +236,20 @@ Archives w upto (Err start.HeapFull) next = IsTrue w.in_heap × (next ≡ same w
 Archives w upto (Err start.NoMemory) next = next ≡ same w
 Archives w upto (Err start.NotGrowable) next = ⊥
 
--- Nor does a reclaim. It does not begin where an open transaction reads what it is to forget. Where the log is slots, no profile is without reclaims.
+-- Nor does a reclaim. It does not begin where an open transaction reads what it is to forget. No profile is without reclaims. Only where the log lies in the
+-- heap does it write to the archive, which may have no room for that.
 abbrev pub Reclaims : World → Result (Unit {0}) StartFault → World → Type 0
 Reclaims w (Ok u) next = (w.machine.failed ≡ false) × (next ≡ same w)
 Reclaims w (Err start.Failed) next = (w.machine.failed ≡ true) × (next ≡ same w)
-Reclaims w (Err start.WrongProfile) next = IsTrue w.in_heap × (next ≡ same w)
+Reclaims w (Err start.WrongProfile) next = ⊥
 Reclaims w (Err start.JobBusy) next = next ≡ same w
 Reclaims w (Err start.NothingToDo) next = next ≡ same w
 Reclaims w (Err (start.InUse time)) next = Contains w.machine.snapshots time × (next ≡ same w)
-Reclaims w (Err start.StatusFull) next = next ≡ same w
+Reclaims w (Err start.StatusFull) next = (w.in_heap ≡ false) × (next ≡ same w)
 Reclaims w (Err start.HeapFull) next = next ≡ same w
 Reclaims w (Err start.NoMemory) next = next ≡ same w
 Reclaims w (Err (start.NotYet time)) next = ⊥
-Reclaims w (Err start.ArchiveFull) next = ⊥
+Reclaims w (Err start.ArchiveFull) next = IsTrue w.in_heap × (next ≡ same w)
 Reclaims w (Err start.NotGrowable) next = ⊥
 
 -- A floor begins where the machine may raise it, or is refused as the machine says; which slots there are, what job runs and the store's profile the machine

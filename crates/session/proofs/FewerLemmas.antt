@@ -1,5 +1,6 @@
 -- Each step of a group or a job makes one device call, whatever the layout, and the calls that are left grow fewer.
 use Rattle.std.proofs.Common.{◌≡◌, ◌≢◌, ◌∙◌, Bool, true, false, ℕ, length, Option, Some, None, Result, Ok, Err, MatchBool, ap, subst, inl, inr}
+use Rattle.std.proofs.Common.{MatchOption}
 use Rattle.std.specs.Prelude.{◌==◌}
 use Rattle.disk.specs.Calls.{DiskState}
 use Rattle.group.specs.declared.answers.Did as slot_groups
@@ -7,7 +8,9 @@ use Rattle.group.specs.declared.answers.PumpFault.{PumpFault}
 use Rattle.group.specs.declared.answers.PumpFault.TheVariants as fault
 use Rattle.log_writer.specs.Writer.{WriterState}
 use Rattle.log_store.specs.Jobs as log_jobs
-use Rattle.log_store.specs.Values.{LogStoreValue}
+use Rattle.log_store.specs.Gates.{waits_at, waits_to_open}
+use Rattle.log_store.specs.Reclaiming.{StepsReclaim, AdvancesReclaim}
+use Rattle.log_store.specs.Values.{LogStoreValue, ReclaimValue}
 use Rattle.log_store.specs.declared.job.Job as log_job
 use Rattle.log_store.specs.declared.job.JobDid as log_steps
 use Rattle.log_store.specs.declared.job.JobDid.TheVariants as log_entry
@@ -50,10 +53,17 @@ waits-fewer : (tells b : Bool) (old new : LogStoreValue) (what : log_groups.Did)
 waits-fewer tells true old new what takes some = absurd (some (let is = takes.0 in cc))
 waits-fewer tells false old new what takes some = begun-fewer tells (log.bars_groups old.job) old new what takes some
 
+-- the gate of a group waits for a turn gate that is written and not synced
+gate-fewer : (tells b : Bool) (w : WriterState) (old new : LogStoreValue) (what : log_groups.Did)
+    → MatchBool b (Path (Result log_groups.Did PumpFault) (Ok what) (Err fault.Busy) × (new ≡ old)) (log.Advances tells w old (Ok what) new)
+    → IsFewer old.disk new.disk
+gate-fewer tells true w old new what takes = absurd (let is = takes.0 in cc)
+gate-fewer tells false w old new what takes = counted-fewer old.disk new.disk takes.counts
+
 step-fewer : (tells : Bool) (o : Option WriterState) (old new : LogStoreValue) (what : log_groups.Did) → log.TakesStep tells old o (Ok what) new
     → what ≢ log_group.Idle → IsFewer old.disk new.disk
 step-fewer tells None old new what takes some = waits-fewer tells (length old.commits.queue == 0) old new what takes some
-step-fewer tells (Some w) old new what takes some = counted-fewer old.disk new.disk takes.counts
+step-fewer tells (Some w) old new what takes some = gate-fewer tells (waits_to_open old.reclaim w.stage) w old new what takes
 
 log-fewer : (tells b : Bool) (old new : LogStoreValue) (what : log_groups.Did)
     → MatchBool b (Path (Result log_groups.Did PumpFault) (Ok what) (Err fault.Failed) × (new ≡ old)) (log.TakesStep tells old old.turn (Ok what) new)
@@ -90,11 +100,25 @@ job-fewer : (tells : Bool) (o : Option log_job.Job) (old new : LogStoreValue) (d
 job-fewer tells None old new done takes some = absurd (some (let is = takes.0 in cc))
 job-fewer tells (Some job) old new done takes some = job-step-fewer tells job.stage job old new done takes
 
+-- a turn gate waits for the gate of a group that is written and not synced
+turn-fewer : (tells b : Bool) (r : ReclaimValue) (old new : LogStoreValue) (done : log_steps.JobDid)
+    → MatchBool b (Path (Result log_steps.JobDid PumpFault) (Ok done) (Err fault.Busy) × (new ≡ old)) (AdvancesReclaim tells r old (Ok done) new)
+    → IsFewer old.disk new.disk
+turn-fewer tells true r old new done takes = absurd (let is = takes.0 in cc)
+turn-fewer tells false r old new done takes = counted-fewer old.disk new.disk takes.counts
+
+reclaim-fewer : (tells : Bool) (o : Option ReclaimValue) (old new : LogStoreValue) (done : log_steps.JobDid)
+    → MatchOption o (log_jobs.StepsJob tells old.job old (Ok done) new) (λ r. StepsReclaim tells r old (Ok done) new) → done ≢ log_entry.Idle
+    → IsFewer old.disk new.disk
+reclaim-fewer tells None old new done takes some = job-fewer tells old.job old new done takes some
+reclaim-fewer tells (Some r) old new done takes some = turn-fewer tells (waits_at old.turn r.stage) r old new done takes
+
 works-fewer : (tells b : Bool) (old new : LogStoreValue) (done : log_steps.JobDid)
-    → MatchBool b (Path (Result log_steps.JobDid PumpFault) (Ok done) (Err fault.Failed) × (new ≡ old)) (log_jobs.StepsJob tells old.job old (Ok done) new)
+    → MatchBool b (Path (Result log_steps.JobDid PumpFault) (Ok done) (Err fault.Failed) × (new ≡ old))
+    (MatchOption old.reclaim (log_jobs.StepsJob tells old.job old (Ok done) new) (λ r. StepsReclaim tells r old (Ok done) new))
     → done ≢ log_entry.Idle → IsFewer old.disk new.disk
 works-fewer tells true old new done pumps some = absurd (let is = pumps.0 in cc)
-works-fewer tells false old new done pumps some = job-fewer tells old.job old new done pumps some
+works-fewer tells false old new done pumps some = reclaim-fewer tells old.reclaim old new done pumps some
 
 -- ---- as either layout tells it
 

@@ -167,6 +167,11 @@ fn job_step_words(step: JobDid) -> &'static str
         JobDid::BodySynced => "body synced",
         JobDid::WroteEntry => "wrote entry",
         JobDid::GateClosed => "gate closed",
+        JobDid::WroteRoll => "wrote roll",
+        JobDid::RollSynced => "roll synced",
+        JobDid::RootWritten => "root written",
+        JobDid::RootSynced => "root synced",
+        JobDid::TurnWritten => "turn written",
         JobDid::GateWritten => "gate written",
         JobDid::JobDone => "job done",
     }

@@ -15,7 +15,6 @@ use Rattle.store.specs.Heads.{head_as}
 use Rattle.store.specs.Values as slots
 use Rattle.commits.specs.Values.{CommitsValue}
 use Rattle.log_recovery.specs.declared.members_read.CommitName.{CommitName}
-use Rattle.log_roots.specs.declared.roots.Roots.{Roots}
 use Rattle.log_store.specs.Opens as logs
 use Rattle.log_store.specs.Values.{LogStoreValue}
 use Rattle.any_store.specs.Formats.{IsFormatted}
@@ -82,7 +81,7 @@ size-as : (layout : Layout) (v : StoreValue) → IsOfHeader v (header_of layout)
 size-as (layouts.Slots slots) (Slots s) of = let all : total (new_header 3 slots) ≡ slots = omega arith in of.slots ∙ all
 size-as (layouts.Slots slots) (Log l) of = of
 size-as (layouts.Log extents) (Slots s) of = of
-size-as (layouts.Log extents) (Log l) of = ap (λ (r : Roots). r.extents) of
+size-as (layouts.Log extents) (Log l) of = of
 
 -- it has its size
 pub fresh-size : (tells : Bool) (layout : Layout) (old : Areas) (disk : DiskState) (mark : ℕ) (v : StoreValue)

@@ -30,6 +30,7 @@ use Rattle.commits.specs.Values.{WaitingValue}
 use Rattle.log_writer.specs.Turns.{Stage, Writing, Syncing, Opening, Settling, Done}
 use Rattle.log_writer.specs.Writer.{WriterState}
 use Rattle.log_writer.specs.Writer as writers
+use Rattle.log_store.specs.Gates.{waits_to_open}
 use Rattle.log_store.specs.Pumps as logs
 use Rattle.log_store.specs.Pumps.{did_of}
 use Rattle.log_store.specs.Values.{LogStoreValue, IsInStep, HasTurn}
@@ -188,6 +189,15 @@ begins-or-waits tells l l' r does is = by-job (logs.bars_groups l.job) does
     by-job true busy = let no : Path (Result LogDid PumpFault) (Err pump.Busy) (Ok log_did.Idle) = sym busy.0 ∙ is in absurd cc
     by-job false begun = begins-group tells l l' r begun is
 
+-- its gate may wait for a turn gate
+opens-or-waits : (tells : Bool) (w : WriterState) (l l' : LogStoreValue) (r : Result LogDid PumpFault) → logs.TakesStep tells l (Some w) r l'
+    → r ≡ Ok log_did.Idle → ⊥
+opens-or-waits tells w l l' r does is = by-gate (waits_to_open l.reclaim w.stage) does
+  where
+    by-gate : (b : Bool) → MatchBool b ((r ≡ Err pump.Busy) × (l' ≡ l)) (logs.Advances tells w l r l') → ⊥
+    by-gate true busy = let no : Path (Result LogDid PumpFault) (Err pump.Busy) (Ok log_did.Idle) = sym busy.0 ∙ is in absurd cc
+    by-gate false takes = advances tells w l l' r takes is
+
 -- as many commits wait as the machine's queue has
 many-wait : (reclaimed : ℕ) (before : List KeyWrites) (ws : List WaitingValue) (cs : History Value) → log_memory.AllWait reclaimed before ws cs
     → length ws ≡ length cs
@@ -228,7 +238,7 @@ log-idles tells l l' m r stands step pumps works = by-turn l.turn step.turn log_
     by-turn (Some w) turning does =
         let group = turning.0 in
         let within = step.contents in (
-          λ is. absurd (advances tells w l l' r does is),
+          λ is. absurd (opens-or-waits tells w l l' r does is),
           λ empty.
               let nothing : length m.queue ≡ 0 = ap (λ (h : History Value). length h) empty in
               absurd (omega (arith, many, nothing, group, within)),

@@ -53,7 +53,9 @@ use Rattle.log_room.proofs.content.Content.TheSendSync as content
 use Rattle.log_room.proofs.room.HeapRoom.TheSendSync as room
 use Rattle.log_writer.proofs.writer.ChainWriter.TheSendSync as chain_writer
 use Rattle.log_store.proofs.job.JobWork.TheSendSync as log_work
+use Rattle.log_store.proofs.live.Live.TheSendSync as live
 use Rattle.log_store.proofs.named.Named.TheSendSync as named
+use Rattle.log_store.proofs.reclaim.Reclaim.TheSendSync as log_reclaim
 use Rattle.log_store.specs.contracts.job.Job as LogJob
 use Rattle.log_store.specs.contracts.job.JobStage as LogStage
 use Rattle.log_store.specs.contracts.store.LogStore as LogStore
@@ -237,14 +239,20 @@ module _ (D : RattleType) (disk : devices.Ghosts D.Denot) (crossing : IsSend D) 
           (
             search (sendable, room.the_send),
             (
-              search (sendable, option.the_send, chain_writer.the_send),
+              search (sendable, live.the_send),
               (
-                search (sendable, option.the_send, log_job_send),
+                search (sendable, option.the_send, chain_writer.the_send),
                 (
-                  search (sendable, named.the_send),
+                  search (sendable, option.the_send, log_job_send),
                   (
-                    search (sendable, store_archive.the_send),
-                    (search (sendable, crossing), tt),
+                    search (sendable, option.the_send, log_reclaim.the_send),
+                    (
+                      search (sendable, named.the_send),
+                      (
+                        search (sendable, store_archive.the_send),
+                        (search (sendable, crossing), tt),
+                      ),
+                    ),
                   ),
                 ),
               ),

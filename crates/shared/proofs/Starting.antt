@@ -17,10 +17,13 @@ use Rattle.store.specs.Reclaims.{StartsReclaim, BeginsReclaim, below, refusal_fo
 use Rattle.store.specs.Growths.{StartsGrowth, BeginsPiece}
 use Rattle.store.specs.declared.job.StartFault.{StartFault}
 use Rattle.store.specs.declared.job.StartFault.TheVariants as fault
+use Rattle.commits.specs.Calls.{oldest as log_oldest}
 use Rattle.commits.specs.Values as commits
 use Rattle.log_store.specs.Archives as log_archives
 use Rattle.log_store.specs.Jobs as log_jobs
+use Rattle.log_store.specs.Reclaims as log_reclaims
 use Rattle.log_store.specs.Values.{LogStoreValue}
+use Rattle.log_store.specs.Values as log_values
 use Rattle.log_store.specs.declared.job.StartFault.{StartFault as LogFault}
 use Rattle.log_store.specs.declared.job.StartFault.TheVariants as log_fault
 use Rattle.any_store.specs.Jobs as jobs
@@ -28,6 +31,7 @@ use Rattle.any_store.specs.Jobs.{none_of, told_start}
 use Rattle.any_store.specs.Values as any
 use Rattle.any_store.specs.Values.{is_log}
 use Rattle.any_store.specs.declared.engine.Engine.TheVariants.{Slots, Log}
+use Rattle.law_commits.specs.Standing as log_standing
 use Rattle.law_refinement.specs.Standing.{StandsInMemory}
 use Rattle.law_refinement.proofs.FloorStarts.{in-use}
 use Rattle.law_refinement.proofs.Memory.{last-is}
@@ -87,7 +91,7 @@ slots-archive old new upto m r stands starts =
 log-archive : (old new : LogStoreValue) (upto : ℕ) (m : Machine Value) (r : Result (Unit {0}) LogFault) → old.commits.failed ≡ m.failed
     → commits.last old.commits ≡ last m.published → log_archives.StartsArchive old upto r new → ArchiveSays true m upto (told_start r)
 log-archive old new upto m r same last-of starts =
-    by-tests old.commits.failed refl (is_some old.job) (nat_le upto old.named.upto) (nat_lt (commits.last old.commits) upto) refl
+    by-tests old.commits.failed refl (log_values.is_busy old) (nat_le upto old.named.upto) (nat_lt (commits.last old.commits) upto) refl
     (log_archives.has_archive_room old upto) starts
   where
     said : (x : Result (Unit {0}) LogFault) → r ≡ x → ArchiveSays true m upto (told_start x) → ArchiveSays true m upto (told_start r)
@@ -163,7 +167,7 @@ slots-reclaim old new m r stands starts =
 
     by-room : m.failed ≡ false → (e : Bool) → MatchOption (cond e (Some fault.StatusFull) None) (BeginsReclaim old r new) (λ why. (r ≡ Err why) × (new ≡ old))
         → ReclaimSays false m r
-    by-room works true is = said (Err fault.StatusFull) is.0 works
+    by-room works true is = said (Err fault.StatusFull) is.0 (refl, works)
     by-room works false is = by-anchors works r is
 
     by-use : m.failed ≡ false → (o : Option ℕ) → below (oldest old.transactions) old.archived ≡ o
@@ -180,6 +184,52 @@ slots-reclaim old new m r stands starts =
     by-tests false works false true o used is = said (Err fault.NothingToDo) is.0 (sym stands.failed ∙ works)
     by-tests false works false false o used is = by-use (sym stands.failed ∙ works) o used is
 
+-- of one whose log lies in the heap
+log-reclaim : (old new : LogStoreValue) (m : Machine Value) (r : Result (Unit {0}) LogFault) → log_standing.StandsInMemory old.commits m
+    → log_reclaims.StartsReclaim old r new → ReclaimSays true m (told_start r)
+log-reclaim old new m r stands starts = by-tests old.commits.failed refl (log_values.is_busy old) (log_reclaims.has_nothing old) starts
+  where
+    said : (x : Result (Unit {0}) LogFault) → r ≡ x → ReclaimSays true m (told_start x) → ReclaimSays true m (told_start r)
+    said x is says = subst (λ (y : Result (Unit {0}) LogFault). ReclaimSays true m (told_start y)) (sym is) says
+
+    by-base : m.failed ≡ false → (x : Result (Unit {0}) LogFault) → log_reclaims.BeginsReclaim old x new → ReclaimSays true m (told_start x)
+    by-base works (Ok done) is = works
+    by-base works (Err log_fault.HeapFull) is = works
+    by-base works (Err log_fault.ArchiveFull) is = (refl, works)
+    by-base works (Err log_fault.NoMemory) is = works
+    by-base works (Err log_fault.Failed) is = absurd is.0
+    by-base works (Err log_fault.WrongProfile) is = absurd is.0
+    by-base works (Err log_fault.JobBusy) is = absurd is.0
+    by-base works (Err log_fault.NothingToDo) is = absurd is.0
+    by-base works (Err (log_fault.NotYet time)) is = absurd is.0
+    by-base works (Err (log_fault.InUse time)) is = absurd is.0
+
+    by-use : m.failed ≡ false → (o : Option ℕ) → log_oldest old.commits ≡ o
+        → MatchOption (log_reclaims.refusal_for_use o old.named.upto) (log_reclaims.BeginsReclaim old r new) (λ why. (r ≡ Err why) × (new ≡ old))
+        → ReclaimSays true m (told_start r)
+    by-use works None least is = by-base works r is
+    by-use works (Some s) least is = by-mark (nat_lt s old.named.upto) refl is
+      where
+        by-mark : (b : Bool) → nat_lt s old.named.upto ≡ b
+            → MatchOption (cond b (Some (log_fault.InUse s)) None) (log_reclaims.BeginsReclaim old r new) (λ why. (r ≡ Err why) × (new ≡ old))
+            → ReclaimSays true m (told_start r)
+        by-mark false high begun = by-base works r begun
+        by-mark true low refused =
+            let used : below (log_oldest old.commits) old.named.upto ≡ Some s =
+            ap (λ (o : Option ℕ). below o old.named.upto) least ∙ ap (λ (b : Bool). cond b (Some s) None) low in
+            said (Err (log_fault.InUse s)) refused.0 (works, (old.named.upto, in-use old.commits.opened m.snapshots old.named.upto s stands.snapshots used))
+
+    by-tests : (a : Bool) → old.commits.failed ≡ a → (b c : Bool)
+        → MatchOption (cond a (Some log_fault.Failed)
+        (cond b (Some log_fault.JobBusy)
+        (cond c (Some log_fault.NothingToDo) (log_reclaims.refusal_for_use (log_oldest old.commits) old.named.upto))))
+        (log_reclaims.BeginsReclaim old r new) (λ why. (r ≡ Err why) × (new ≡ old))
+        → ReclaimSays true m (told_start r)
+    by-tests true failed b c is = said (Err log_fault.Failed) is.0 (sym stands.failed ∙ failed)
+    by-tests false works true c is = said (Err log_fault.JobBusy) is.0 (sym stands.failed ∙ works)
+    by-tests false works false true is = said (Err log_fault.NothingToDo) is.0 (sym stands.failed ∙ works)
+    by-tests false works false false is = by-use (sym stands.failed ∙ works) (log_oldest old.commits) refl is
+
 -- what the beginning of a reclaim answers
 pub reclaim-says : (tells : Bool) (old new : any.StoreValue) (m : Machine Value) (r : Result (Unit {0}) StartFault) → Stands tells old m
     → jobs.StartsReclaim old r new → ReclaimSays (is_log old) m r
@@ -187,12 +237,7 @@ reclaim-says tells (Slots s) (Slots s') m r stands starts = slots-reclaim s s' m
 reclaim-says tells (Slots s) (Log l') m r stands starts = absurd starts
 reclaim-says tells (Log l) (Slots s') m r stands starts = absurd starts
 reclaim-says tells (Log l) (Log l') m r stands starts =
-    subst (λ (x : Result (Unit {0}) StartFault). ReclaimSays true m x) (sym starts.0)
-    (by-failure l.commits.failed (sym (in-memory tells (Log l) m stands).failed))
-  where
-    by-failure : (b : Bool) → m.failed ≡ b → ReclaimSays true m (Err (none_of b fault.WrongProfile))
-    by-failure true fails = fails
-    by-failure false works = (refl, works)
+    subst (λ (x : Result (Unit {0}) StartFault). ReclaimSays true m x) (sym starts.2) (log-reclaim l l' m starts.0 (in-memory tells (Log l) m stands) starts.1)
 
 -- ---- growths
 

@@ -86,14 +86,18 @@ Rests (vacuumed.Job (Ok job_did.BodyWritten)) = ⊥
 Rests (vacuumed.Job (Ok job_did.BodySynced)) = ⊥
 Rests (vacuumed.Job (Ok job_did.WroteEntry)) = ⊥
 Rests (vacuumed.Job (Ok job_did.GateClosed)) = ⊥
+Rests (vacuumed.Job (Ok job_did.WroteRoll)) = ⊥
+Rests (vacuumed.Job (Ok job_did.RollSynced)) = ⊥
+Rests (vacuumed.Job (Ok job_did.RootWritten)) = ⊥
+Rests (vacuumed.Job (Ok job_did.RootSynced)) = ⊥
+Rests (vacuumed.Job (Ok job_did.TurnWritten)) = ⊥
 Rests (vacuumed.Job (Ok job_did.GateWritten)) = ⊥
 Rests (vacuumed.Job (Err why)) = ⊥
 
--- A start is refused for good: what it waits for comes from no other call. A reclaim that the store's layout does not have is none of these: a vacuum then
--- archives alone.
+-- a start is refused for good: what it waits for comes from no other call
 abbrev pub IsForGood : StartFault → Type 0
 IsForGood start_fault.Failed = Unit {0}
-IsForGood start_fault.WrongProfile = ⊥
+IsForGood start_fault.WrongProfile = Unit {0}
 IsForGood start_fault.JobBusy = ⊥
 IsForGood start_fault.NothingToDo = ⊥
 IsForGood (start_fault.NotYet time) = Unit {0}

@@ -125,6 +125,11 @@ is_done (Ok job_did.BodyWritten) = false
 is_done (Ok job_did.BodySynced) = false
 is_done (Ok job_did.WroteEntry) = false
 is_done (Ok job_did.GateClosed) = false
+is_done (Ok job_did.WroteRoll) = false
+is_done (Ok job_did.RollSynced) = false
+is_done (Ok job_did.RootWritten) = false
+is_done (Ok job_did.RootSynced) = false
+is_done (Ok job_did.TurnWritten) = false
 is_done (Ok job_did.GateWritten) = false
 is_done (Err why) = false
 
@@ -278,8 +283,8 @@ abbrev pub ArchiveHappens : Machine Value → Kind → ℕ → Result (Unit {0})
 ArchiveHappens start kind upto result seen = OfSeen start seen (λ m. ArchiveSays kind.in_heap m upto result)
 
 -- A reclaim begins where the store works; or it has failed, another job runs, nothing was archived since the last one, a transaction reads what would go, the
--- first of whose snapshots is told, the log has no slot for it, or its anchors find no extents or no memory. Only a store whose log lies in the heap has no
--- reclaims.
+-- first of whose snapshots is told, the log has no slot for it, or its anchors find no extents or no memory. Only where the log lies in the heap does it write
+-- to the archive, which may have no room for that.
 abbrev pub ReclaimSays : Bool → Machine Value → Result (Unit {0}) StartFault → Type 0
 ReclaimSays in_heap m (Ok done) = m.failed ≡ false
 ReclaimSays in_heap m (Err start_fault.Failed) = m.failed ≡ true
@@ -287,12 +292,12 @@ ReclaimSays in_heap m (Err start_fault.JobBusy) = m.failed ≡ false
 ReclaimSays in_heap m (Err start_fault.NothingToDo) = m.failed ≡ false
 ReclaimSays in_heap m (Err (start_fault.InUse snapshot)) =
     (m.failed ≡ false) × ((upto : ℕ) × (floor_starts.in_use_refusal (floor_starts.in_use_below m.snapshots upto) ≡ Some (floor_starts.InUse snapshot)))
-ReclaimSays in_heap m (Err start_fault.StatusFull) = m.failed ≡ false
+ReclaimSays in_heap m (Err start_fault.StatusFull) = (in_heap ≡ false) × (m.failed ≡ false)
 ReclaimSays in_heap m (Err start_fault.HeapFull) = m.failed ≡ false
 ReclaimSays in_heap m (Err start_fault.NoMemory) = m.failed ≡ false
-ReclaimSays in_heap m (Err start_fault.WrongProfile) = IsTrue in_heap × (m.failed ≡ false)
+ReclaimSays in_heap m (Err start_fault.WrongProfile) = ⊥
 ReclaimSays in_heap m (Err (start_fault.NotYet time)) = ⊥
-ReclaimSays in_heap m (Err start_fault.ArchiveFull) = ⊥
+ReclaimSays in_heap m (Err start_fault.ArchiveFull) = IsTrue in_heap × (m.failed ≡ false)
 ReclaimSays in_heap m (Err start_fault.NotGrowable) = ⊥
 
 -- at a state that steps lead to it is so, and nothing of the machine's happens; that state was seen

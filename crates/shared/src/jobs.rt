@@ -25,8 +25,7 @@ impl<D: Disk, L: Opening> SharedStore<D, L> {
         self.locked.lock(rt).archive_start(rt, &self.cell, upto, me)
     }
 
-    /// Begins a reclaim: the heap and memory are to hold only what ended after the archive mark. A store
-    /// whose log lies in the heap answers `WrongProfile`.
+    /// Begins a reclaim: the heap and memory are to hold only what ended after the archive mark.
     pub fn reclaim_start<R: Wait>(&self, rt: &R, me: &mut Observer<L>) -> Result<(), StartFault>
         ensures happens { ReclaimHappens L.start L.kind result me.new }
         ensures later { IsLater me.old me.new }

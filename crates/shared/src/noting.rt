@@ -210,6 +210,11 @@ pub(crate) fn is_done(did: &Result<JobDid, PumpFault>) -> bool
         Ok(JobDid::BodySynced) => false,
         Ok(JobDid::WroteEntry) => false,
         Ok(JobDid::GateClosed) => false,
+        Ok(JobDid::WroteRoll) => false,
+        Ok(JobDid::RollSynced) => false,
+        Ok(JobDid::RootWritten) => false,
+        Ok(JobDid::RootSynced) => false,
+        Ok(JobDid::TurnWritten) => false,
         Ok(JobDid::GateWritten) => false,
         Err(_) => false,
     }

@@ -52,9 +52,7 @@ impl<D: Disk, L: Opening> SharedStore<D, L> {
     /// Archives all that has ended, and reclaims what is archived, again and again, until it is told to
     /// end and its job is done, the store has failed, or a start is refused for good: for want of a
     /// slot or of room. After each answer, with the lock given up, it calls `pause`. Where there is
-    /// nothing to do, or a transaction reads what would be reclaimed, it sleeps. A store whose log lies in
-    /// the heap has no reclaims: each is answered `WrongProfile`, and it archives alone, and sleeps as if
-    /// there were nothing to reclaim.
+    /// nothing to do, or a transaction reads what would be reclaimed, it sleeps.
     pub fn run_vacuum<R: Wait, F: FnMut(&R, &Vacuumed)>(
         &self,
         rt: &R,
@@ -125,8 +123,7 @@ fn after_vacuum(doing: Doing, moves: u64, answer: Vacuumed) -> Vacuuming
     }
 }
 
-// A start that is refused for now, or that the store's layout does not have, leads to the other job, and
-// the second such to sleep.
+// A start that is refused for now leads to the other job, and the second such to sleep.
 fn after_start(doing: Doing, moves: u64, started: Result<(), StartFault>) -> Vacuuming
     ensures leads { LeadsTo (Vacuumed.Start started) result }
     ensures again { TriesAgain doing (Vacuumed.Start started) result }
@@ -136,23 +133,12 @@ fn after_start(doing: Doing, moves: u64, started: Result<(), StartFault>) -> Vac
         (Ok(()), _) => Vacuuming::Goes(Doing::Reclaiming),
         (Err(StartFault::NoMemory), _) => Vacuuming::Goes(doing),
         (
-            Err(
-                StartFault::JobBusy
-                | StartFault::NothingToDo
-                | StartFault::InUse(_)
-                | StartFault::WrongProfile,
-            ),
+            Err(StartFault::JobBusy | StartFault::NothingToDo | StartFault::InUse(_)),
             Doing::Reclaims(seen),
         ) => Vacuuming::Waits(seen, Doing::Archives),
-        (
-            Err(
-                StartFault::JobBusy
-                | StartFault::NothingToDo
-                | StartFault::InUse(_)
-                | StartFault::WrongProfile,
-            ),
-            _,
-        ) => Vacuuming::Goes(Doing::Reclaims(moves)),
+        (Err(StartFault::JobBusy | StartFault::NothingToDo | StartFault::InUse(_)), _) => {
+            Vacuuming::Goes(Doing::Reclaims(moves))
+        }
         (Err(_), _) => Vacuuming::Over,
     }
 }

@@ -652,7 +652,7 @@ const HELP: &[(&str, &[&str])] = &[
             "archived N",
             "reclaimed N",
             "first refusal",
-            "wrong profile",
+            "heap full",
         ],
     ),
     (

@@ -1,11 +1,10 @@
 //! Archives: when they begin, their steps, their bytes, and what a stop leaves of one.
 use crate::images::{Left, disk_of};
-use crate::on_disk::{ONE_EXTENT, are_alike, new_store, opened, pumps};
+use crate::on_disk::{ONE_EXTENT, are_alike, finishes, is_log, new_store, opened, pumps};
 use crate::queries::is_value;
 use disk::{Disk, Fault, FaultDisk, MemDisk};
 use group::{PumpFault, SubmitFault, Submitted};
 use history::Key;
-use log_dump::read_dump;
 use log_store::{Did, JobDid, LogStore, StartFault};
 use std::alloc::Global;
 use std::process::Abort;
@@ -16,6 +15,8 @@ use std::test::Fail;
 enum Deed {
     /// An archive up to a time begins, or is refused.
     Archive(u64, Result<(), StartFault>),
+    /// A reclaim begins, or is refused.
+    Reclaim(Result<(), StartFault>),
     /// A floor of a relation at a time begins, or is refused.
     Floor(u16, u64, Result<(), StartFault>),
     /// A step of the job.
@@ -37,7 +38,7 @@ enum Deed {
     Reopen,
 }
 
-use Deed::{Archive, Commits, Finish, Floor, Full, Job, Kept, Pump, Put, Reopen, Tells};
+use Deed::{Archive, Commits, Finish, Floor, Full, Job, Kept, Pump, Put, Reclaim, Reopen, Tells};
 
 /// What record 7 has in the images, at times within each version and between.
 const VALUES: &[(u64, Option<&[u8]>)] = &[
@@ -105,18 +106,6 @@ fn puts<D: Disk>(
     }
 }
 
-// Steps of the job until it is done. None where one is refused.
-fn finishes<D: Disk>(store: &mut LogStore<D>) -> bool {
-    for _ in 0..16 {
-        match store.job_pump() {
-            Ok(JobDid::Idle) => return true,
-            Ok(_) => {}
-            Err(_) => return false,
-        }
-    }
-    false
-}
-
 // A commit of record 7 that is published.
 fn commits(rt: &impl Abort, alloc: Global, store: &mut LogStore<MemDisk>, field: &[u8], now: u64) {
     assert!(rt; puts(alloc, store, 7, field, now) == Some(true));
@@ -134,6 +123,7 @@ fn commits_all(rt: &impl Abort, alloc: Global, store: &mut LogStore<MemDisk>, co
 fn does(rt: &impl Abort, alloc: Global, store: &mut LogStore<MemDisk>, deed: Deed) -> bool {
     match deed {
         Archive(upto, answer) => store.archive_start(upto) == answer,
+        Reclaim(answer) => store.reclaim_start() == answer,
         Floor(relation, floor, answer) => store.start_floor(Some(relation), floor) == answer,
         Job(answer) => store.job_pump() == answer,
         Finish => finishes(store),
@@ -278,13 +268,6 @@ const SEVEN_RUNS_LOG: &[u8] =
       chain 11 commits extents 1\nmember 1 160 1 1970-01-01T00:00:00Z\nchain 12 archived 160 148 37 1 0\n\
       chain 13 commits extents 1\nmember 1 170 1 1970-01-01T00:00:00Z\nchain 14 archived 170 185 37 1 0\nnext 15\nused 14 of 64\n";
 
-fn is_log(alloc: Global, disk: &mut MemDisk, text: &[u8]) -> bool {
-    match read_dump(alloc, disk) {
-        Ok(dump) => dump.fault.is_none() && dump.text.as_slice() == text,
-        Err(_) => false,
-    }
-}
-
 #[test]
 fn a_run_leaves_out_what_ended_by_a_floor(rt: HostRuntime) -> Result<(), Fail> {
     let store = opened(&rt, rt.alloc(), disk_of(rt.alloc(), Left::FourGroups, &[])?);
@@ -344,7 +327,7 @@ fn an_entry_of_an_archive_and_a_group_wait_for_each_other(rt: HostRuntime) -> Re
 }
 
 /// Where the log has 28 of its 32 extents: the entries of floors and of archives below the last commit leave two, and that of an archive up to
-/// the last commit none.
+/// the last commit none. A reclaim makes room.
 const ALMOST_FULL: &[Deed] = &[
     Commits(27),
     Full,
@@ -358,6 +341,9 @@ const ALMOST_FULL: &[Deed] = &[
     Archive(27, Ok(())),
     Finish,
     Full,
+    Reclaim(Ok(())),
+    Finish,
+    Put(7, b"a", 0),
 ];
 
 /// Two floors leave no room for one below the last commit.
@@ -372,7 +358,7 @@ const TWO_FLOORS: &[Deed] = &[
     Finish,
 ];
 
-/// The extent of its entry is no commit's, from the beginning of the job on.
+/// The extent of its entry is no commit's, from the beginning of the job on. A reclaim makes room.
 const PROMISED: &[Deed] = &[
     Commits(26),
     Archive(26, Ok(())),
@@ -384,6 +370,9 @@ const PROMISED: &[Deed] = &[
     Full,
     Finish,
     Full,
+    Reclaim(Ok(())),
+    Finish,
+    Put(7, b"a", 0),
 ];
 
 const SHARES: &[&[Deed]] = &[ALMOST_FULL, TWO_FLOORS, PROMISED];

@@ -25,15 +25,6 @@ const TWICE: &[u8] =
       \x01\x01\0\x07\0\0\0\0\0\0\0\x02\x01a\x01b\x05\x02\0\0\0\0\0\0\0e\0\0\0\0\0\0\0\x01\0\x02\
       \x01\0\x07\0\0\0\0\0\0\0\x02\0\x01c";
 
-/// The header of a log whose base is extent 5, and that base, which has a floor too.
-const HEADER_5: &[u8] = b"NOOVER01\x04\0\0\0@\0\0\0\xc7\0\0\0\x03\0\0\0\x05\0\0\0";
-
-const BASE_5: &[u8] =
-    b"\xc7\0\0\0\x05\0\0\0\0\0\0\0\x88\0\0\0\x04\0\0\0\0\0\0\0\x08\x82\0\0\0\0\0\0\0\x02\0\0\0\x01\0\0\0\x01\0\0\0\x09J\0\
-      \0\0\0\0\0\00\0\0\0\0\0\0\0\x09z\0\0\0\0\0\0\0\x10\0\0\0\0\0\0\0\x06x\0\0\0\0\0\0\0\0\0\0\0\0\0\0\0J\0\0\0\0\0\0\
-      \0\x02\0\0\0\0\0\0\0\0\0\x06\x82\0\0\0\0\0\0\0z\0\0\0\0\0\0\0\0\0\0\0\0\0\0\0\0\0\0\0\0\0\0\0\0\0\x07\x82\0\0\0\0\
-      \0\0\0\x01\0";
-
 /// The second group with a delta where the whole value is shorter.
 const LONG_DELTA: &[u8] =
     b"\xc7\0\0\0\x02\0\0\0\0\0\0\0\x22\0\0\0\x03\0\0\0\0\0\0\0\x05\x02\0\0\0\0\0\0\0n\0\0\0\0\0\0\0\x01\0\x02\x01\0\
@@ -107,11 +98,8 @@ const CASES: &[Case] = &[
     ),
     Case(
         "a base with a floor",
-        Left::Floored,
-        &[
-            Change::Put(Area::Status, 0, HEADER_5),
-            Change::Put(Area::Heap, 32_768, BASE_5),
-        ],
+        Left::FloorsReclaimed,
+        &[],
         b"header extents 64 root 5\nchain 5 base 130 2 1 1\nroll 74 48\nroll 122 16\n\
           archived 120 0 74 2 0\narchived 130 122 0 0 0\nfloor 130 relation 1\nnext 4\nused 2 of 64\n",
         None,

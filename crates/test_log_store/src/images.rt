@@ -50,11 +50,19 @@ const SECOND_ARCHIVED: &[u8] =
 const FLOOR: &[u8] =
     b"\xc7\0\0\0\x01\0\0\0\0\0\0\0\x0b\0\0\0\x04\0\0\0\0\0\0\0\x07\x82\0\0\0\0\0\0\0\x01\0";
 
+const FLOORED_BASE: &[u8] =
+    b"\xc7\0\0\0\x05\0\0\0\0\0\0\0\x88\0\0\0\x04\0\0\0\0\0\0\0\x08\x82\0\0\0\0\0\0\0\x02\0\0\0\x01\0\0\0\x01\0\0\0\x09J\0\
+      \0\0\0\0\0\00\0\0\0\0\0\0\0\x09z\0\0\0\0\0\0\0\x10\0\0\0\0\0\0\0\x06x\0\0\0\0\0\0\0\0\0\0\0\0\0\0\0J\0\0\0\0\0\0\
+      \0\x02\0\0\0\0\0\0\0\0\0\x06\x82\0\0\0\0\0\0\0z\0\0\0\0\0\0\0\0\0\0\0\0\0\0\0\0\0\0\0\0\0\0\0\0\0\x07\x82\0\0\0\0\
+      \0\0\0\x01\0";
+
 const HEADER_A: &[u8] = b"NOOVER01\x04\0\0\0@\0\0\0\0\0\0\0\x01\0\0\0\0\0\0\0";
 
 const HEADER_B: &[u8] = b"NOOVER01\x04\0\0\0@\0\0\0\xc7\0\0\0\x01\0\0\0\x07\0\0\0";
 
 const HEADER_C: &[u8] = b"NOOVER01\x04\0\0\0@\0\0\0\0\0\0\0\x03\0\0\0\x07\0\0\0";
+
+const HEADER_E: &[u8] = b"NOOVER01\x04\0\0\0@\0\0\0\xc7\0\0\0\x03\0\0\0\x05\0\0\0";
 
 /// Where extents begin, by their numbers.
 const AT_1: u64 = 0;
@@ -197,6 +205,26 @@ const FLOORED: Image = Image {
     ],
 };
 
+/// The same, reclaimed: the base has the floor, and the anchors stay.
+const FLOORS_RECLAIMED: Image = Image {
+    heap: 57_344,
+    archive: 138,
+    parts: &[
+        Change::Put(Area::Status, 0, HEADER_E),
+        Change::Put(Area::Heap, AT_1, FLOOR),
+        Change::Put(Area::Heap, AT_2, ANCHORS),
+        Change::Put(Area::Heap, AT_3, SECOND_BASE),
+        Change::Put(Area::Heap, AT_4, EXTENT_4),
+        Change::Put(Area::Heap, AT_4, b"\0"),
+        Change::Put(Area::Heap, AT_5, FLOORED_BASE),
+        Change::Put(Area::Heap, AT_6, SECOND_ARCHIVED),
+        Change::Put(Area::Heap, AT_7, BASE),
+        Change::Put(Area::Archive, 0, RUN),
+        Change::Put(Area::Archive, 74, ROLL),
+        Change::Put(Area::Archive, 122, SECOND_ROLL),
+    ],
+};
+
 /// Which image it is.
 #[derive(Clone, Copy)]
 pub enum Left {
@@ -211,7 +239,10 @@ pub enum Left {
     ArchivedAgain,
     /// And reclaimed.
     ReclaimedAgain,
+    /// And a floor of relation 1 at 130.
     Floored,
+    /// And reclaimed.
+    FloorsReclaimed,
 }
 
 fn image_of(left: Left) -> Image {
@@ -223,6 +254,7 @@ fn image_of(left: Left) -> Image {
         Left::ArchivedAgain => ARCHIVED_AGAIN,
         Left::ReclaimedAgain => RECLAIMED_AGAIN,
         Left::Floored => FLOORED,
+        Left::FloorsReclaimed => FLOORS_RECLAIMED,
     }
 }
 

@@ -1,7 +1,7 @@
 //! One caller, over a store of either layout.
 use crate::queries::is_value;
 use any_store::{Did, JobDid, Layout, Redeemed, StartFault, Store, Submitted, format};
-use disk::{Disk, MemDisk};
+use disk::{Area, Disk, MemDisk};
 use history::Key;
 use std::alloc::Global;
 use std::process::Abort;
@@ -141,6 +141,19 @@ const ONE_ARCHIVE: &[JobDid] = &[
     JobDid::JobDone,
 ];
 
+/// And of a reclaim with anchors and a roll.
+const ONE_RECLAIM: &[JobDid] = &[
+    JobDid::WroteExtent,
+    JobDid::WroteExtent,
+    JobDid::HeapSynced,
+    JobDid::WroteRoll,
+    JobDid::RollSynced,
+    JobDid::RootWritten,
+    JobDid::RootSynced,
+    JobDid::TurnWritten,
+    JobDid::JobDone,
+];
+
 // The steps of the job that runs, and that none runs behind them.
 fn ends(rt: &impl Abort, store: &mut Store<MemDisk>, steps: &[JobDid]) {
     for did in steps {
@@ -150,12 +163,12 @@ fn ends(rt: &impl Abort, store: &mut Store<MemDisk>, steps: &[JobDid]) {
 }
 
 #[test]
-fn archives_and_floors_begin_where_the_log_lies_in_the_heap(rt: HostRuntime) -> Result<(), Fail> {
+fn jobs_begin_where_the_log_lies_in_the_heap(rt: HostRuntime) -> Result<(), Fail> {
     let mut disk = MemDisk::new(rt.alloc());
     log_store::format(&mut disk, 64)?;
     let mut store = opened(&rt, rt.alloc(), disk);
     commit_red(&rt, rt.alloc(), &mut store, ONE_CHAIN);
-    assert!(rt; store.reclaim_start() == Err(StartFault::WrongProfile));
+    assert!(rt; store.reclaim_start() == Err(StartFault::NothingToDo));
     assert!(rt; store.floor_start(100) == Err(StartFault::WrongProfile));
     assert!(rt; store.grow_start() == Err(StartFault::NotGrowable));
     assert!(rt; store.job_pump() == Ok(JobDid::Idle));
@@ -169,8 +182,17 @@ fn archives_and_floors_begin_where_the_log_lies_in_the_heap(rt: HostRuntime) -> 
     ends(&rt, &mut store, ONE_ARCHIVE);
     assert!(rt; store.archive_start(100) == Err(StartFault::NothingToDo));
     assert!(rt; store.floor_of_start(1, 100) == Err(StartFault::NothingToDo));
+    assert!(rt; store.job_area() == Area::Heap);
+    assert!(rt; store.reclaim_start() == Ok(()));
+    assert!(rt; store.job_area() == Area::Status);
+    assert!(rt; store.archive_start(100) == Err(StartFault::JobBusy));
+    ends(&rt, &mut store, ONE_RECLAIM);
+    assert!(rt; store.reclaim_start() == Err(StartFault::NothingToDo));
+    assert!(rt; is_red(&mut store));
     let mut store = opened(&rt, rt.alloc(), store.close());
+    assert!(rt; is_red(&mut store));
     assert!(rt; store.archive_start(100) == Err(StartFault::NothingToDo));
+    assert!(rt; store.reclaim_start() == Err(StartFault::NothingToDo));
     assert!(rt; store.floors().at(1) == 100 && store.floors().at(2) == 0);
     let _disk = store.close();
     Ok(())

@@ -16,6 +16,12 @@ mod on_disk;
 #[cfg(test)]
 mod queries;
 #[cfg(test)]
+mod reclaim_stops;
+#[cfg(test)]
+mod reclaimed_names;
+#[cfg(test)]
+mod reclaims;
+#[cfg(test)]
 mod refused;
 #[cfg(test)]
 mod relation_floors;

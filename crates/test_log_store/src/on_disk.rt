@@ -2,7 +2,8 @@
 use disk::{Area, Disk, MemDisk};
 use group::{Submitted, Ticket};
 use history::Key;
-use log_store::{Did, LogStore};
+use log_dump::read_dump;
+use log_store::{Did, JobDid, LogStore};
 use std::alloc::Global;
 use std::process::Abort;
 
@@ -40,6 +41,19 @@ pub fn queue<D: Disk>(
     fields: &[&[u8]],
     label: u64,
 ) -> Ticket {
+    queue_at(rt, alloc, store, records, fields, label, 100)
+}
+
+/// The same, at this time.
+pub fn queue_at<D: Disk>(
+    rt: &impl Abort,
+    alloc: Global,
+    store: &mut LogStore<D>,
+    records: &[u64],
+    fields: &[&[u8]],
+    label: u64,
+    now: u64,
+) -> Ticket {
     let mut txn = match store.begin() {
         Ok(txn) => txn,
         Err(fault) => panic!(rt; "{fault:?}"),
@@ -51,7 +65,7 @@ pub fn queue<D: Disk>(
         };
         assert!(rt; txn.put(alloc, key, fields).is_ok());
     }
-    match store.submit(txn, label, 100) {
+    match store.submit(txn, label, now) {
         Ok(Submitted::Queued(ticket)) => ticket,
         Ok(Submitted::ReadOnly(_)) => panic!(rt; "nothing was written"),
         Err(fault) => panic!(rt; "{fault:?}"),
@@ -64,6 +78,34 @@ pub fn pumps<D: Disk>(rt: &impl Abort, store: &mut LogStore<D>, steps: &[Did]) {
         assert!(rt; store.pump() == Ok(*did));
     }
     assert!(rt; store.pump() == Ok(Did::Idle));
+}
+
+/// The steps of the job that runs, and that none runs behind them.
+pub fn works<D: Disk>(rt: &impl Abort, store: &mut LogStore<D>, steps: &[JobDid]) {
+    for did in steps {
+        assert!(rt; store.job_pump() == Ok(*did));
+    }
+    assert!(rt; store.job_pump() == Ok(JobDid::Idle));
+}
+
+/// Steps of the job until none runs. Whether none is refused.
+pub fn finishes<D: Disk>(store: &mut LogStore<D>) -> bool {
+    for _ in 0..32 {
+        match store.job_pump() {
+            Ok(JobDid::Idle) => return true,
+            Ok(_) => {}
+            Err(_) => return false,
+        }
+    }
+    false
+}
+
+/// Whether this is the dump of the disk, and no check fails.
+pub fn is_log(alloc: Global, disk: &mut MemDisk, text: &[u8]) -> bool {
+    match read_dump(alloc, disk) {
+        Ok(dump) => dump.fault.is_none() && dump.text.as_slice() == text,
+        Err(_) => false,
+    }
 }
 
 /// Whether these bytes, 64 at the most, are there.

@@ -1,6 +1,6 @@
 //! What stores answer that are opened on images whose bytes are known, and what they write then.
 use crate::images::{Change, Left, disk_of};
-use crate::on_disk::{ONE_EXTENT, has_bytes, pumps, queue};
+use crate::on_disk::{ONE_EXTENT, has_bytes, has_run, is_log, pumps, queue, queue_at};
 use crate::queries::{are_rows, is_value};
 use disk::{Area, MemDisk};
 use history::Key;
@@ -148,36 +148,70 @@ fn a_commit_is_later_than_what_is_reclaimed(rt: HostRuntime) -> Result<(), Fail>
     Ok(())
 }
 
+/// What stands where the group of 140 goes, and where the log goes on behind it: before each pump, and behind all of them.
+const GATES: &[(Did, &[u8], &[u8])] = &[
+    (Did::WroteExtent, b"\xc7", b"\0"),
+    (Did::GateClosed, b"\0", b"\0"),
+    (Did::HeapSynced, b"\0", b"\0"),
+    (Did::GateWritten, b"\0", b"\xc7"),
+    (Did::Published(1), b"\0", b"\xc7"),
+];
+
+/// The extent of the group of 140, and the log with it.
+const EXTENT_6: &[u8] =
+    b"\xc7\0\0\0\x06\0\0\0\0\0\0\0!\0\0\0\x01\0\0\0\0\0\0\0\x05\x05\0\0\0\0\0\0\0\x8c\0\0\0\0\0\0\0\
+      \x01\0\x01\x01\0\x07\0\0\0\0\0\0\0\x01\x01d";
+
+const GONE_ON: &[u8] = b"header extents 64 root 7\nchain 7 base 120 0 0 0\nroll 74 48\n\
+      chain 4 commits extents 1\nmember 4 130 1 1970-01-01T00:00:00Z\nchain 5 archived 120 0 74 2 0\n\
+      chain 6 commits extents 1\nmember 5 140 1 1970-01-01T00:00:00Z\nnext 1\nused 4 of 64\n";
+
+// The first steps of the group of 140, so many, on a store that is opened over a base; and the disk behind them.
+fn pumped(rt: &impl Abort, alloc: Global, disk: MemDisk, count: usize) -> MemDisk {
+    let mut store = opened(rt, alloc, disk);
+    assert!(rt; store.last() == 130);
+    let ticket = queue_at(rt, alloc, &mut store, &[7], &[b"d"], 5, 140);
+    assert!(rt; ticket.time() == 140);
+    ticket.give_up();
+    for (did, _, _) in GATES.iter().take(count) {
+        assert!(rt; store.pump() == Ok(*did));
+    }
+    store.close()
+}
+
 #[test]
 fn a_group_closes_the_stale_gate_behind_it(rt: HostRuntime) -> Result<(), Fail> {
-    let mut store = opened(&rt, rt.alloc(), disk_of(rt.alloc(), Left::Reclaimed, &[])?);
-    let ticket = queue(&rt, rt.alloc(), &mut store, &[7], &[b"d"], 5);
-    assert!(rt; ticket.time() == 131);
-    ticket.give_up();
-    assert!(rt; store.pump() == Ok(Did::WroteExtent));
-    assert!(rt; store.pump() == Ok(Did::GateClosed));
-    assert!(rt; store.pump() == Ok(Did::HeapSynced));
-    let mut disk = store.close();
-    assert!(rt; has_bytes(&mut disk, Area::Heap, 0, b"\0"));
-    assert!(rt; has_bytes(&mut disk, Area::Heap, 40_960, b"\0\0\0\0\x06"));
+    for (count, (_, behind, head)) in GATES.iter().enumerate() {
+        let disk = disk_of(rt.alloc(), Left::Reclaimed, &[])?;
+        let mut disk = pumped(&rt, rt.alloc(), disk, count + 1);
+        assert!(rt; has_bytes(&mut disk, Area::Heap, 0, behind), "{count}");
+        assert!(rt; has_bytes(&mut disk, Area::Heap, 40_960, head), "{count}");
+    }
+    let disk = disk_of(rt.alloc(), Left::Reclaimed, &[])?;
+    let mut disk = pumped(&rt, rt.alloc(), disk, 5);
+    assert!(rt; has_bytes(&mut disk, Area::Heap, 40_960, EXTENT_6));
+    assert!(rt; has_run(&mut disk, 41_017, 49_152, 0));
+    assert!(rt; is_log(rt.alloc(), &mut disk, GONE_ON));
     let mut store = opened(&rt, rt.alloc(), disk);
-    assert!(rt; store.last() == 130);
-    queue(&rt, rt.alloc(), &mut store, &[7], &[b"d"], 5).give_up();
-    pumps(&rt, &mut store, ONE_EXTENT);
-    let mut disk = store.close();
-    assert!(rt; has_bytes(&mut disk, Area::Heap, 0, b"\0"));
-    assert!(rt;
-        has_bytes(
-            &mut disk,
-            Area::Heap,
-            40_960,
-            b"\xc7\0\0\0\x06\0\0\0\0\0\0\0!\0\0\0\x01\0\0\0\0\0\0\0\x05\x05\0\0\0\0\0\0\0\x83\0\0\0\0\0\0\0\
-      \x01\0\x01\x01\0\x07\0\0\0\0\0\0\0\x01\x01d",
-        )
-    );
-    let mut store = opened(&rt, rt.alloc(), disk);
-    assert!(rt; store.last() == 131);
-    assert!(rt; had(&rt, &mut store, 131, Some(b"d")));
+    assert!(rt; store.last() == 140);
+    assert!(rt; had(&rt, &mut store, 140, Some(b"d")));
     let _disk = store.close();
+    Ok(())
+}
+
+#[test]
+fn a_gate_that_is_cut_off_is_written_again(rt: HostRuntime) -> Result<(), Fail> {
+    let disk = disk_of(rt.alloc(), Left::Reclaimed, &[])?;
+    let disk = pumped(&rt, rt.alloc(), disk, 4);
+    let store = opened(&rt, rt.alloc(), disk.left(rt.alloc(), 0xc7, b"")?);
+    assert!(rt; store.last() == 140);
+    let _disk = store.close();
+    let mut disk = pumped(
+        &rt,
+        rt.alloc(),
+        disk.left(rt.alloc(), 0x37, b"")?,
+        GATES.len(),
+    );
+    assert!(rt; is_log(rt.alloc(), &mut disk, GONE_ON));
     Ok(())
 }

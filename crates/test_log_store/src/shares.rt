@@ -1,9 +1,9 @@
 //! The shares of the heap: which commits have room in one of 64 extents, and which are answered `HeapFull`.
-use crate::on_disk::{ONE_EXTENT, new_store, pumps};
+use crate::on_disk::{ONE_EXTENT, finishes, new_store, pumps, queue_at};
 use disk::MemDisk;
 use group::{SubmitFault, Submitted};
 use history::Key;
-use log_store::{Did, LogStore};
+use log_store::{Did, LogStore, StartFault};
 use snapshot::Txn;
 use std::alloc::Global;
 use std::process::Abort;
@@ -116,6 +116,58 @@ fn the_anchors_of_each_state_have_their_share(rt: HostRuntime) -> Result<(), Fai
     assert!(rt; is_queued(&rt, &mut store, txn));
     pumps(&rt, &mut store, ONE_EXTENT);
     assert!(rt; puts(&rt, rt.alloc(), &mut store, 232, 1, &fields));
+    let _disk = store.close();
+    Ok(())
+}
+
+// A commit of one extent, now this time.
+fn commits(rt: &impl Abort, alloc: Global, store: &mut LogStore<MemDisk>, now: u64) {
+    queue_at(rt, alloc, store, &[7], &[b"a"], 1, now).give_up();
+    pumps(rt, store, ONE_EXTENT);
+}
+
+fn archives(rt: &impl Abort, store: &mut LogStore<MemDisk>, upto: u64) {
+    assert!(rt; store.archive_start(upto) == Ok(()) && finishes(store));
+}
+
+fn reclaims(rt: &impl Abort, store: &mut LogStore<MemDisk>) {
+    assert!(rt; store.reclaim_start() == Ok(()) && finishes(store));
+}
+
+// Whether the floor of a relation is raised; else a base that has it has no room.
+fn raises(rt: &impl Abort, store: &mut LogStore<MemDisk>, relation: u16, floor: u64) -> bool {
+    match store.start_floor(Some(relation), floor) {
+        Ok(()) => {
+            assert!(rt; finishes(store));
+            true
+        }
+        Err(StartFault::HeapFull) => false,
+        Err(fault) => panic!(rt; "{fault:?}"),
+    }
+}
+
+#[test]
+fn floors_take_half_of_the_share_of_a_base(rt: HostRuntime) -> Result<(), Fail> {
+    let mut store = new_store(&rt, rt.alloc());
+    commits(&rt, rt.alloc(), &mut store, 100);
+    archives(&rt, &mut store, 100);
+    reclaims(&rt, &mut store);
+    for relation in 0..1_469 {
+        assert!(rt; raises(&rt, &mut store, relation, 100));
+        if relation % 16 == 0 {
+            reclaims(&rt, &mut store);
+        }
+    }
+    assert!(rt; !raises(&rt, &mut store, 1_469, 100));
+    reclaims(&rt, &mut store);
+    commits(&rt, rt.alloc(), &mut store, 110);
+    assert!(rt; !raises(&rt, &mut store, 3_000, 110));
+    assert!(rt; raises(&rt, &mut store, 0, 110));
+    archives(&rt, &mut store, 110);
+    reclaims(&rt, &mut store);
+    commits(&rt, rt.alloc(), &mut store, 120);
+    archives(&rt, &mut store, 120);
+    assert!(rt; raises(&rt, &mut store, 1, 120));
     let _disk = store.close();
     Ok(())
 }

@@ -92,12 +92,12 @@ const SWEEPS: &[Sweep] = &[
     },
 ];
 
-/// No reclaim or growth begins, and what was committed stays.
+/// Where nothing is archived no reclaim begins, and no growth at all. What was committed stays.
 const NO_JOBS: &[Step] = &[
     New(0),
     Says(ONE_COMMIT),
     Says(
-        "reclaim | refused: wrong profile
+        "reclaim | refused: nothing to do
 floor 100 | refused: wrong profile
 grow | refused: not growable
 job | idle
@@ -107,7 +107,7 @@ at 1 7 100 | value 61
 times 9 | times 100
 ",
     ),
-    Step::Vacuums("100", "archived 0\nrefused: wrong profile\n", 1),
+    Step::Vacuums("100", "archived 0\nreclaimed 1\n", 0),
     Does(Action::Grow { dir: "" }, "", "refused: not growable\n", 1),
     At("100", "value 61"),
 ];

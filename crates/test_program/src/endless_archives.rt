@@ -5,8 +5,6 @@ use crate::archiving::{LONG_VALUES, ROWS, TWO_LONG_RECORDS};
 use crate::endless::{ONE_COMMIT, ONE_FLOOR};
 use crate::examples::{Example, FOUR_COMMITS, each_goes};
 use crate::machine::Profiles::Endless;
-use crate::refusals::Then::Nothing;
-use crate::refusals::{Calls, Outcome, Refusals, UNOPENED, each_refusal_goes};
 use crate::refused_archives::{ALIKE, ANSWERS_ALIKE, FAILED, REFUSED_JOB};
 use crate::steps::Step;
 use crate::steps::Step::{Does, Dumps, Long, New, Parts, Says, Spells, Vacuums};
@@ -107,7 +105,6 @@ archive 131 | refused: not yet 130
     FACTS,
     Says(
         "archive 120 | refused: nothing to do
-reclaim | refused: wrong profile
 archive 130 | started
 archive 130 | refused: job busy
 archive 131 | refused: job busy
@@ -125,7 +122,7 @@ const EMPTY: &[Step] = &[
         (ONE_COMMIT, 1),
         ("archive 100 | started\njob | run synced\n", 1),
         (ENTRY_STEPS, 1),
-        ("job | idle\nreclaim | refused: wrong profile\n", 1),
+        ("job | idle\n", 1),
         (ONE_FLOOR, 1),
         (
             "job | idle
@@ -176,8 +173,14 @@ at 1 7 120 | value 63
 const FLOORED: &[Step] = &[
     New(0),
     Says(FOUR_COMMITS),
-    Says("floorof 1 115 | started\narchive 120 | refused: job busy\nfinish | idle\n"),
-    Vacuums("120", "archived 1\nrefused: wrong profile\n", 1),
+    Says(
+        "floorof 1 115 | started
+archive 120 | refused: job busy
+finish | idle
+archive 120 | started
+finish | idle
+",
+    ),
     Long(Area::Archive, 37),
     Spells(
         Area::Archive,
@@ -243,7 +246,7 @@ at 1 9 150 | value 65
     ]),
 ];
 
-/// No commit has room any more. An archive up to the last one has, where floors have none.
+/// No commit has room any more. An archive up to the last one has, where floors have none, and a reclaim makes room.
 const FULL: &[Step] = &[
     New(0),
     Parts(&[
@@ -263,31 +266,32 @@ archive 26 | refused: heap full
         ),
     ]),
     Vacuums("26", "refused: heap full\n", 1),
-    Vacuums("27", "archived 26\nrefused: wrong profile\n", 1),
     Says(
-        "archive 27 | refused: nothing to do
+        "archive 27 | started
+finish | idle
 begin u | snapshot 27
 put u 1 8 61 | ok
 submit u 9 0 | refused: heap full
-reclaim | refused: wrong profile
+reclaim | started
+begin u | snapshot 27
+put u 1 8 61 | ok
+submit u 9 0 | refused: heap full
+finish | idle
+begin u | snapshot 27
+put u 1 8 61 | ok
+submit u 9 0 | queued
+flush | idle
+redeem u | done 28
+floorof 4 27 | started
+finish | idle
 at 1 7 5 | value 61
 times 26 | times 27
+reopen | last 28 floors 3
+at 1 7 5 | value 61
+at 1 7 28 | value 61
+at 1 8 28 | value 61
 ",
     ),
-];
-
-/// The first half of a vacuum is done, and told; then it is refused.
-const HALF: &[Step] = &[
-    New(0),
-    Vacuums("1", "refused: not yet 0\n", 1),
-    Says(FOUR_COMMITS),
-    Vacuums("131", "refused: not yet 130\n", 1),
-    Vacuums("120", "archived 2\nrefused: wrong profile\n", 1),
-    Dumps(ARCHIVED_LOG, 0),
-    Says(ROWS),
-    Vacuums("120", "refused: nothing to do\n", 1),
-    Vacuums("130", "archived 0\nrefused: wrong profile\n", 1),
-    Says(ROWS),
 ];
 
 const EXAMPLES: &[Example] = &[
@@ -320,11 +324,6 @@ const EXAMPLES: &[Example] = &[
         name: "an_archive_of_all_has_room_in_a_full_log",
         profiles: Endless,
         steps: FULL,
-    },
-    Example {
-        name: "a_vacuum_archives_and_is_refused_then",
-        profiles: Endless,
-        steps: HALF,
     },
 ];
 
@@ -375,44 +374,6 @@ const REFUSED: &[Sweep] = &[Sweep {
     fronts: &[ANSWERS_ALIKE],
 }];
 
-/// Each call of a vacuum is refused in turn: those of opening, the seven of the archive, and those of reading the log for
-/// what it did.
-const VACUUM: &[Refusals] = &[Refusals {
-    name: "a_vacuum_stops_at_each_refused_call",
-    profiles: Endless,
-    before: STORE,
-    action: Action::Vacuum {
-        dir: "",
-        time: Some(120),
-    },
-    script: "",
-    write_reaches: false,
-    outcomes: &[
-        UNOPENED,
-        Outcome {
-            calls: Calls::Just(7),
-            said: ("refused: failed\n", ""),
-            more: false,
-            status: 1,
-            then: Nothing,
-        },
-        Outcome {
-            calls: Calls::Over(0),
-            said: ("refused: wrong profile\n", ""),
-            more: false,
-            status: 1,
-            then: Nothing,
-        },
-        Outcome {
-            calls: Calls::Just(1),
-            said: ("archived 2\nrefused: wrong profile\n", ""),
-            more: false,
-            status: 1,
-            then: Nothing,
-        },
-    ],
-}];
-
 #[test]
 fn endless_archives_are_made_step_by_step(rt: HostRuntime) -> Result<(), Fail> {
     each_goes(rt.alloc(), EXAMPLES)
@@ -436,9 +397,4 @@ fn an_endless_archive_is_stopped_between_calls(rt: HostRuntime) -> Result<(), Fa
 #[test]
 fn after_a_refused_step_of_an_endless_archive_reading_goes_on(rt: HostRuntime) -> Result<(), Fail> {
     each_sweep_goes(rt.alloc(), REFUSED, true)
-}
-
-#[test]
-fn an_endless_vacuum_stops_at_each_refused_call(rt: HostRuntime) -> Result<(), Fail> {
-    each_refusal_goes(rt.alloc(), VACUUM)
 }

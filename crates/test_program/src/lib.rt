@@ -27,6 +27,10 @@ mod endless;
 #[cfg(test)]
 mod endless_archives;
 #[cfg(test)]
+mod endless_reclaim_stops;
+#[cfg(test)]
+mod endless_reclaims;
+#[cfg(test)]
 mod examples;
 #[cfg(test)]
 mod files;

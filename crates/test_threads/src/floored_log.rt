@@ -41,12 +41,15 @@ fn next_step<D: Disk, L: Opening, R: Wait>(
     unreachable!()
 }
 
-/// Raises the floor of the relation to 120. There is none for all relations, and no reclaim.
+/// Raises the floor of the relation to 120. There is none for all relations, and a reclaim waits for an archive.
 fn raise<D: Disk, L: Opening, R: Wait + Abort>(rt: &R, store: &SharedStore<D, L>, me: Observer<L>) {
     let mut me = me;
     let wrong = Err(StartFault::WrongProfile);
     assert_eq!(rt; store.floor_start(rt, 120, &mut me), wrong);
-    assert_eq!(rt; store.reclaim_start(rt, &mut me), wrong);
+    assert_eq!(rt;
+        store.reclaim_start(rt, &mut me),
+        Err(StartFault::NothingToDo)
+    );
     assert_eq!(rt; store.floor_of_start(rt, 1, 120, &mut me), Ok(()));
     assert_eq!(rt;
         store.floor_of_start(rt, 2, 120, &mut me),

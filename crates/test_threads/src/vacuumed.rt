@@ -196,7 +196,7 @@ fn ask_earlier<L: Opening>(rt: &impl Abort, view: &SharedView<L>) {
 }
 
 /// A reclaim is refused as long as a transaction reads what would go, and tells from when on one does.
-fn wait_for_a_snapshot<D: Disk, L: Opening, R: Wait + Abort>(
+pub fn wait_for_a_snapshot<D: Disk, L: Opening, R: Wait + Abort>(
     rt: &R,
     alloc: Global,
     store: &SharedStore<D, L>,

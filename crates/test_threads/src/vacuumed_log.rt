@@ -1,10 +1,11 @@
-//! A vacuum where the log lies in the heap: it archives, is told that there are no reclaims, and goes on. Views answer the same.
+//! A vacuum where the log lies in the heap: it archives, reclaims, and goes on. Views answer the same.
 ghost use Rattle.std.specs.Prelude.{◌≡◌, [], length, true};
 ghost use Rattle.crossbeam_utils.specs.Seq.{cell_view};
 ghost use Rattle.shared.specs.Naming.{IsFresh};
 
 use crate::counted_disk::CountedDisk;
 use crate::noted::{Notes, Step, note, step_of};
+use crate::vacuumed::wait_for_a_snapshot;
 use crate::written::{has, has_none, has_rows, publish_four, pump_job, refuses};
 use any_store::{JobDid, Layout, QueryFault, StartFault};
 use disk::{Disk, MemDisk};
@@ -18,8 +19,8 @@ use std::sync::atomic::AtomicU64;
 use std::sync::{Arc, Wait};
 use std::test::Fail;
 
-/// An archive of all that has ended, and then nothing more to do. There are no reclaims.
-const STEPS: [(Step, u64); 11] = [
+/// An archive of all that has ended, a reclaim with one extent of anchors and one of the base, and then nothing more to do.
+const STEPS: [(Step, u64); 20] = [
     (Step::Start(Ok(())), 130),
     (Step::Job(Ok(JobDid::WroteRun)), 130),
     (Step::Job(Ok(JobDid::RunSynced)), 130),
@@ -28,13 +29,22 @@ const STEPS: [(Step, u64); 11] = [
     (Step::Job(Ok(JobDid::HeapSynced)), 130),
     (Step::Job(Ok(JobDid::GateWritten)), 130),
     (Step::Job(Ok(JobDid::JobDone)), 130),
-    (Step::Start(Err(StartFault::WrongProfile)), 130),
+    (Step::Start(Ok(())), 130),
+    (Step::Job(Ok(JobDid::WroteExtent)), 130),
+    (Step::Job(Ok(JobDid::WroteExtent)), 130),
+    (Step::Job(Ok(JobDid::HeapSynced)), 130),
+    (Step::Job(Ok(JobDid::WroteRoll)), 130),
+    (Step::Job(Ok(JobDid::RollSynced)), 130),
+    (Step::Job(Ok(JobDid::RootWritten)), 130),
+    (Step::Job(Ok(JobDid::RootSynced)), 130),
+    (Step::Job(Ok(JobDid::TurnWritten)), 130),
+    (Step::Job(Ok(JobDid::JobDone)), 130),
     (Step::Start(Err(StartFault::NothingToDo)), 130),
-    (Step::Start(Err(StartFault::WrongProfile)), 130),
+    (Step::Start(Err(StartFault::NothingToDo)), 130),
 ];
 
 /// Its last answer.
-const LAST: Vacuumed = Vacuumed::Start(Err(StartFault::WrongProfile));
+const LAST: Vacuumed = Vacuumed::Start(Err(StartFault::NothingToDo));
 
 /// The vacuum gave this answer. At the last one it is told to stop.
 fn note_vacuumed<D: Disk, L: Opening, R: Wait + Abort>(
@@ -45,13 +55,13 @@ fn note_vacuumed<D: Disk, L: Opening, R: Wait + Abort>(
     notes: &mut Notes<'_>,
     answer: &Vacuumed,
 ) {
-    if notes.count() == 10 {
+    if notes.count() == 19 {
         store.stop(rt);
     }
     note(rt, store, calls, me, notes, step_of(answer));
 }
 
-/// A vacuum archives, and goes on until it is told to end.
+/// A vacuum archives and reclaims, and goes on until it is told to end.
 fn vacuum_all<D: Disk, L: Opening, R: Wait + Abort>(
     rt: &R,
     store: &SharedStore<D, L>,
@@ -67,7 +77,7 @@ fn vacuum_all<D: Disk, L: Opening, R: Wait + Abort>(
     assert_eq!(rt; end, VacuumEnd::Told(Some(LAST)));
 }
 
-/// All versions are there, whatever is archived.
+/// All versions are there, whatever is archived and reclaimed.
 fn ask_store<D: Disk, L: Opening, R: Wait + Abort>(
     rt: &R,
     store: &SharedStore<D, L>,
@@ -102,7 +112,7 @@ fn archive_some<D: Disk, L: Opening, R: Wait + Abort>(
 }
 
 /// The whole example, on a store that was just opened.
-fn archives_alone<D: Disk + Drop, L: Opening, R: Wait + Abort>(
+fn archives_and_reclaims<D: Disk + Drop, L: Opening, R: Wait + Abort>(
     rt: &R,
     alloc: Global,
     opened: Opened<D>,
@@ -123,13 +133,15 @@ fn archives_alone<D: Disk + Drop, L: Opening, R: Wait + Abort>(
     };
     ask_store(rt, &store, &mut view);
     ask_store(rt, &store, &mut earlier);
+    wait_for_a_snapshot(rt, alloc, &store, &mut me);
+    ask_store(rt, &store, &mut earlier);
     store.end(view);
     store.end(earlier);
     let _disk = store.into_store(&mut share).close();
 }
 
 #[test]
-fn a_vacuum_of_a_log_in_the_heap_archives_alone(rt: HostRuntime) -> Result<(), Fail> {
+fn a_vacuum_of_a_log_in_the_heap_reclaims(rt: HostRuntime) -> Result<(), Fail> {
     let alloc = rt.alloc();
     let calls = Arc::new(alloc, AtomicU64::new(0))?;
     let disk = CountedDisk::new(MemDisk::new(alloc), Arc::try_clone(&calls)?);
@@ -138,7 +150,7 @@ fn a_vacuum_of_a_log_in_the_heap_archives_alone(rt: HostRuntime) -> Result<(), F
     };
     match Opened::new(&rt, alloc, 1, store) {
         Ok(opened) => {
-            archives_alone::<CountedDisk, Brand, _>(&rt, alloc, opened, &calls);
+            archives_and_reclaims::<CountedDisk, Brand, _>(&rt, alloc, opened, &calls);
             Ok(())
         }
         Err((AllocError, store)) => {

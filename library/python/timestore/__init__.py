@@ -169,6 +169,11 @@ class Step(IntEnum):
     ZEROS_SYNCED = 10
     ENTRY_WRITTEN = 12
     GATE_CLOSED = 13
+    ROLL_WRITTEN = 14
+    ROLL_SYNCED = 15
+    ROOT_WRITTEN = 16
+    ROOT_SYNCED = 17
+    TURN_WRITTEN = 18
 
 
 def library_version() -> str:
@@ -318,7 +323,10 @@ class Store(_CommonStore["Transaction", "View"]):
         return View(self, self._info.a, last)
 
     def times_of(self, label: int) -> list[int]:
-        """The times of the commits with a label, rising."""
+        """The times of the commits with a label, rising.
+
+        A store whose log lies in the heap, once it is opened again, tells none up to its last reclaim.
+        """
         return self._times(_library.ts_times_of, label)
 
     def archive(self, upto: Time) -> None:
@@ -331,10 +339,7 @@ class Store(_CommonStore["Transaction", "View"]):
         self._ask(_library.ts_archive, micros(upto))
 
     def reclaim(self) -> None:
-        """Gives up in the heap and in memory what is archived.
-
-        `WrongProfile` where the log lies in the heap.
-        """
+        """Gives up in the heap and in memory what is archived."""
         self.reclaim_start()
         self.job()
 

@@ -182,7 +182,7 @@ class NeedsArchive(Refused, code=-26):
 
 
 class WrongProfile(Refused, code=-27):
-    """This store has a floor for each relation, or one for all; or it has no reclaims."""
+    """This store has a floor for each relation, or one for all."""
 
 
 class NotGrowable(Refused, code=-28):

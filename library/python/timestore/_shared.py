@@ -124,7 +124,10 @@ class SharedStore(CommonStore["SharedTransaction", "SharedView"]):
         return SharedView(self, info.a, info.b)
 
     def times_of(self, label: int) -> list[int]:
-        """The times of the commits with a label, rising."""
+        """The times of the commits with a label, rising.
+
+        A store whose log lies in the heap, once it is opened again, tells none up to its last reclaim.
+        """
         return self._times(library.ts_shared_times_of, label)
 
     def archive(self, upto: Time) -> None:
@@ -135,10 +138,7 @@ class SharedStore(CommonStore["SharedTransaction", "SharedView"]):
         self._ask(library.ts_shared_archive, micros(upto))
 
     def reclaim(self) -> None:
-        """Gives up in the heap and in memory what is archived.
-
-        `WrongProfile` where the log lies in the heap.
-        """
+        """Gives up in the heap and in memory what is archived."""
         self._ask(library.ts_shared_reclaim)
 
     def floor_of(self, relation: int, time: Time) -> None:
@@ -163,7 +163,6 @@ class SharedStore(CommonStore["SharedTransaction", "SharedView"]):
 
         Memory keeps what ended less than `keep` seconds before the last commit. Where `grows`, 256
         slots more are made once something was refused with `StatusFull`, which is then done again.
-        A store whose log lies in the heap has no reclaims: there it archives alone.
         """
         times = (number_of(round(1e6 * seconds)) for seconds in (every, keep))
         policy = RawPolicy(*times, grows)
@@ -172,8 +171,7 @@ class SharedStore(CommonStore["SharedTransaction", "SharedView"]):
     def vacuumed(self) -> int | None:
         """How many archives, reclaims and growths that thread has made, None without one.
 
-        What it was refused last is raised, but not that it had nothing to do or was to wait, nor that
-        the store has no reclaims.
+        What it was refused last is raised, but not that it had nothing to do or was to wait.
         """
         code, info = self._ask(library.ts_shared_vacuumed)
         return None if code == NONE else info.a

@@ -135,8 +135,7 @@ refusals! {
     BadSlots = -24,
     /// The answer needs the archive.
     NeedsArchive = -26,
-    /// This store has a floor for each relation, or one for all; or its log lies in the heap, and it has no
-    /// reclaims.
+    /// This store has a floor for each relation, or one for all.
     WrongProfile = -27,
     /// The store would have more than 65,536 slots, or the first timestore made it.
     NotGrowable = -28,

@@ -224,7 +224,7 @@ impl SharedStore {
         })
     }
 
-    /// The times of the commits with a label, rising.
+    /// The times of the commits with a label, rising, as [`crate::Store::times_of`].
     pub fn times_of(&self, label: u64) -> Result<Vec<u64>> {
         // As many times as there is room for are written.
         self.0
@@ -237,7 +237,7 @@ impl SharedStore {
             .make(|s, info| unsafe { raw::ts_shared_archive(s, upto, info) })
     }
 
-    /// Gives up in the heap and in memory what is archived. `WrongProfile` where the log lies in the heap.
+    /// Gives up in the heap and in memory what is archived.
     pub fn reclaim(&self) -> Result<()> {
         self.0
             .make(|s, info| unsafe { raw::ts_shared_reclaim(s, info) })
@@ -268,7 +268,6 @@ impl SharedStore {
     }
 
     /// Starts a thread that archives and reclaims by a policy until the store is closed. `Busy` where one runs.
-    /// Where the log lies in the heap it archives alone.
     pub fn vacuum(&self, policy: Policy) -> Result<()> {
         let policy = raw::Policy {
             every: micros_of(policy.every),

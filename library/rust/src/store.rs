@@ -27,7 +27,7 @@ pub enum Step {
     GateWritten,
     /// So many commits are published, or the job is done.
     Published(u64),
-    /// Of a reclaim: an extent of what stands at its mark was written.
+    /// Of a reclaim: an extent of what stands at its mark, or of its base, was written.
     KeptWritten,
     /// Of a reclaim: these were synced. Where the log lies in the heap: a job's entry was, but for its gate.
     KeptSynced,
@@ -39,6 +39,16 @@ pub enum Step {
     EntryWritten,
     /// Where the log lies in the heap: the gate where the log will end was closed.
     GateClosed,
+    /// Of a reclaim there: a piece of the names of archived commits was written.
+    RollWritten,
+    /// Of a reclaim there: these were synced.
+    RollSynced,
+    /// Of a reclaim there: the status area names the new base, which does not count yet.
+    RootWritten,
+    /// Of a reclaim there: that was synced.
+    RootSynced,
+    /// Of a reclaim there: the base comes to count.
+    TurnWritten,
 }
 
 impl Step {
@@ -56,6 +66,11 @@ impl Step {
             10 => Step::ZerosSynced,
             12 => Step::EntryWritten,
             13 => Step::GateClosed,
+            14 => Step::RollWritten,
+            15 => Step::RollSynced,
+            16 => Step::RootWritten,
+            17 => Step::RootSynced,
+            18 => Step::TurnWritten,
             _ => Step::Idle,
         }
     }
@@ -222,7 +237,7 @@ impl Store {
         self.make(|h, info| unsafe { raw::ts_archive(h, upto, info) })
     }
 
-    /// Gives up in the heap and in memory what is archived. `WrongProfile` where the log lies in the heap.
+    /// Gives up in the heap and in memory what is archived.
     pub fn reclaim(&self) -> Result<()> {
         self.reclaim_start()?;
         self.job()
@@ -282,7 +297,8 @@ impl Store {
         self.make(|_, _| unsafe { raw::ts_file_job(file) })
     }
 
-    /// The times of the commits with a label, rising.
+    /// The times of the commits with a label, rising. A store whose log lies in the heap, once it is opened again,
+    /// tells no commit up to its last reclaim.
     pub fn times_of(&self, label: u64) -> Result<Vec<u64>> {
         // SAFETY: as many times as there is room for are written.
         self.times(|h, at, len, info| unsafe { raw::ts_times_of(h, label, at, len, info) })

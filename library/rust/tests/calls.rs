@@ -1,10 +1,26 @@
 //! The crate's calls.
 use std::path::PathBuf;
-use timestore::{Area, Error, Row, Store, When};
+use timestore::{Area, Error, Row, Step, Store, When};
 
 fn folder(name: &str) -> PathBuf {
     let path = std::env::temp_dir().join(format!("timestore-{}-{name}", std::process::id()));
     std::fs::create_dir(&path).unwrap();
+    path
+}
+
+// A new store whose log lies in the heap, of 64 extents.
+fn new_log_in_the_heap(name: &str) -> PathBuf {
+    let path = folder(name);
+    let mut header = [0; 512];
+    header[..8].copy_from_slice(b"NOOVER01");
+    (header[8], header[12], header[20]) = (4, 64, 1); // the profile, and where its log begins
+    for (file, bytes) in [
+        ("status", &header[..]),
+        ("heap", &[0; 8192][..]),
+        ("archive", &[][..]),
+    ] {
+        std::fs::write(path.join(file), bytes).unwrap();
+    }
     path
 }
 
@@ -76,6 +92,53 @@ fn an_archive_is_read_where_it_is_needed() {
     assert_eq!(view.at(1, 7, 9).unwrap(), None);
     assert_eq!(later.at(2, 7, 9).unwrap(), None);
     store.grow().unwrap();
+}
+
+// What stood when, whatever is archived and reclaimed.
+fn has_all(store: &Store) {
+    let view = store.view().unwrap();
+    for (time, text) in [(100, b"a"), (199, b"a"), (200, b"b"), (300, b"c")] {
+        assert_eq!(view.at(1, 7, time).unwrap(), Some(vec![text.to_vec()]));
+    }
+    assert_eq!(view.at(1, 7, 99).unwrap(), None);
+}
+
+#[test]
+fn a_log_in_the_heap_is_archived_and_reclaimed() {
+    let path = new_log_in_the_heap("endless");
+    {
+        let store = Store::open(&path).unwrap();
+        for (time, text) in [(100u64, b"a"), (200, b"b"), (300, b"c")] {
+            store
+                .transact(9, time, 1, |txn| txn.put(1, 7, &[text]))
+                .unwrap();
+        }
+        assert!(matches!(store.reclaim(), Err(Error::NothingToDo)));
+        store.archive(200).unwrap();
+        store.reclaim_start().unwrap();
+        assert!(matches!(store.reclaim_start(), Err(Error::JobBusy)));
+        for step in [
+            Step::KeptWritten,
+            Step::KeptWritten,
+            Step::KeptSynced,
+            Step::RollWritten,
+            Step::RollSynced,
+            Step::RootWritten,
+            Step::RootSynced,
+            Step::TurnWritten,
+            Step::Published(0),
+            Step::Idle,
+        ] {
+            assert_eq!(store.job_pump().unwrap(), step);
+        }
+        assert!(matches!(store.reclaim(), Err(Error::NothingToDo)));
+        has_all(&store);
+    }
+    let store = Store::open(&path).unwrap();
+    has_all(&store);
+    store.archive(300).unwrap();
+    store.reclaim().unwrap();
+    has_all(&store);
 }
 
 #[test]

@@ -11,11 +11,13 @@ use Rattle.log_recovery.specs.Members.{values_of, heads_told, members_of_all, Ar
 use Rattle.log_sizes.specs.Counted.{AreSizesBehind}
 use Rattle.log_recovery.specs.Ends.{EndsEarly, IsEndSeen}
 use Rattle.log_recovery.specs.Read.{all_archives}
+use Rattle.log_recovery.specs.Live.{live_count}
 use Rattle.log_recovery.specs.Opening.{FailsHeap, AtEnd}
 use Rattle.log_recovery.proofs.HeapRead.{mark_is_time, members_rise_behind, fault_of_members}
 use Rattle.log_recovery.proofs.Rows.{runs_in_row, rolls_in_row, runs_in_range}
 use Rattle.log_recovery.proofs.Walking.{all_joined}
 use Rattle.log_recovery.proofs.Finishing.{holds_anchors, three_decide, IsKept, kept_decides, kept_count}
+use Rattle.log_recovery.proofs.Lives.{lives-count}
 use Rattle.log_recovery.proofs.opening.finish_heap.Goals as goal
 
 pub is_end_right-ends_right-requires-clause-runs : goal.is_end_right-ends_right-requires-clause-runs
@@ -131,3 +133,12 @@ returns-clause-ends_early c =
 pub returns-clause-runs : goal.returns-clause-runs
 returns-clause-runs c =
     subst (AllByRecursion IsRun) (sym c.requires.end.runs_are) (runs_in_range c.args.heap.most [] c.args.read.log.chains.items tt c.requires.entries)
+
+pub returns-clause-counted : goal.returns-clause-counted
+returns-clause-counted c =
+    let chains = c.args.read.log.chains.items in
+    let kept_here = subst (λ (l : List PlacedChain). IsKept c.args.heap.most l c.args.read.log.end c.kept_log-kept.result) c.deref.ensures.value
+    c.kept_log-kept.ensures.kept in
+    ap (λ (n : ℕ). n + 1)
+    (kept_count c.args.heap.most chains c.args.read.log.end c.kept_log-kept.result c.in-Some.count kept_here c.in-Some.ensures.0
+    ∙ sym (lives-count chains) ∙ ap live_count (sym c.in-Ok.ensures.live))

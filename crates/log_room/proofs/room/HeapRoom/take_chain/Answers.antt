@@ -11,6 +11,7 @@ invariant_of-self-in-Some c =
       log = c.self.inside.log;
       promised = c.self.inside.promised;
       anchors = c.self.inside.anchors;
+      reserved = c.self.inside.reserved;
     } in
     let took = c.in_ok-numbers.ensures.ok in
     let chain = chain_taken old c.args.count c.args.promised took.0 c.in_ok-numbers.numbers.items c.pop.new.self.items c.in-Some.link c.take_least.new.space
@@ -26,6 +27,7 @@ returns-clause-ok c =
       log = c.self.inside.log;
       promised = c.self.inside.promised;
       anchors = c.self.inside.anchors;
+      reserved = c.self.inside.reserved;
     } in
     let took = c.in_ok-numbers.ensures.ok in
     subst (λ (v : RoomValue). TakesChain v c.args.count c.args.promised c.pop.new.self.items c.in-Some.link
@@ -42,6 +44,7 @@ returns-clause-in_range c =
       log = c.self.inside.log;
       promised = c.self.inside.promised;
       anchors = c.self.inside.anchors;
+      reserved = c.self.inside.reserved;
     } in
     let took = c.in_ok-numbers.ensures.ok in
     chain_in_range old c.args.count c.args.promised c.pop.new.self.items c.in-Some.link _ c.self.invariant

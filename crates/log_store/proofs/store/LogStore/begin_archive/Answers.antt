@@ -1,4 +1,5 @@
 use Rattle.std.proofs.Common.{Some, refl, subst}
+use Rattle.log_store.specs.Live.{live_value}
 use Rattle.log_store.specs.Archives.{archive_as, BeginsArchive}
 use Rattle.log_store.specs.Values.{LogStoreValue}
 use Rattle.log_store.specs.declared.job.JobStage.TheVariants.{Writing}
@@ -13,8 +14,10 @@ returns-clause-ok g c =
       commits = c.self.inside.commits;
       contents = c.self.inside.contents.items;
       room = c.self.inside.room;
+      live = live_value c.self.inside.live;
       turn = c.self.inside.turn;
       job = c.self.inside.job;
+      reclaim = c.self.inside.reclaim;
       named = c.self.inside.named;
       archive = c.self.inside.archive;
       disk = g.D.Disk.state c.self.inside.disk;

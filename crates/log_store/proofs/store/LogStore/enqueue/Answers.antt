@@ -2,6 +2,7 @@ use Rattle.std.proofs.Common.{◌∙◌, sym, ap, ℕ, List, ◌++◌, ◌∷◌
 use Rattle.chains.specs.KeyWrites.{KeyWrites}
 use Rattle.commits.specs.Values.{ordered}
 use Rattle.log_room.specs.Contents.{content_over, extents_over}
+use Rattle.log_store.specs.Live.{live_value}
 use Rattle.log_store.specs.Values.{LogStoreValue}
 use Rattle.log_store.proofs.InStep.{queued_in_step}
 use Rattle.log_store.proofs.store.LogStore.enqueue.Goals as goal
@@ -13,8 +14,10 @@ invariant_of-self-2 g c =
       commits = c.self.inside.commits;
       contents = c.self.inside.contents.items;
       room = c.self.inside.room;
+      live = live_value c.self.inside.live;
       turn = c.self.inside.turn;
       job = c.self.inside.job;
+      reclaim = c.self.inside.reclaim;
       named = c.self.inside.named;
       archive = c.self.inside.archive;
       disk = g.D.Disk.state c.self.inside.disk;

@@ -2,6 +2,7 @@ use Rattle.std.proofs.Common.{ℕ, refl, subst}
 use Rattle.timequery.specs.Asked.{alone}
 use Rattle.timequery.specs.Asked as asked
 use Rattle.timequery.proofs.Carried.{carried}
+use Rattle.log_store.specs.Live.{live_value}
 use Rattle.log_store.specs.Queries.{in_log_store, AnswersScanRows}
 use Rattle.log_store.specs.Values.{LogStoreValue}
 use Rattle.log_store.proofs.store.LogStore.scan_between.Goals as goal
@@ -19,8 +20,10 @@ returns g c =
       commits = s.commits;
       contents = s.contents.items;
       room = s.room;
+      live = live_value s.live;
       turn = s.turn;
       job = s.job;
+      reclaim = s.reclaim;
       named = s.named;
       archive = s.archive;
       disk = before;

@@ -1,0 +1,12 @@
+pub mod OwnFloors
+pub mod Naming
+pub mod Pieces
+pub mod Fronts
+pub mod RunsLeft
+pub mod FloorsLeft
+pub mod NamesTold
+pub mod TakesFront
+pub mod BaseEntries
+pub mod InRow
+pub mod RollNames
+pub mod MadeBase

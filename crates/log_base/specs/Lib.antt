@@ -1,0 +1,5 @@
+pub mod Bases
+pub mod Laws
+pub mod Names
+pub mod Places
+pub mod Rolls

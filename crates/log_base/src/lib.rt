@@ -1,0 +1,15 @@
+//! What a reclaim puts in the place of a log's front, computed from what memory keeps: the base, and the names of
+//! commits that its roll has.
+#![tactic(auto)]
+
+mod base;
+mod front;
+pub mod laws;
+mod names;
+mod raising;
+mod roll_writer;
+
+pub use base::base_of;
+pub use front::{anchors_of, front_len, mark_of};
+pub use names::names_of;
+pub use roll_writer::RollWriter;
