@@ -145,11 +145,12 @@ class Files(unittest.TestCase):
             self.assertEqual(self.relations(), [])
 
     def test_chains(self) -> None:
-        """Groups of several commits; records of each kind, some with a part in each of two extents; anchors; rolls and runs
-        of a base, and a run behind it; floors."""
+        """Groups of several commits, of which the first is not later than the reclaim; records of each kind, some with a part
+        in each of two extents; anchors; rolls and runs of a base, and a run after it; floors."""
         key, commit = struct.Struct("<BHQ"), struct.Struct("<BQQH")
         large = key.pack(1, 20, 1) + b"\x10" + 16 * (b"\xff" + bytes(255))
-        group = b"".join(
+        group = commit.pack(5, 8, 200, 1) + key.pack(3, 28, 1)
+        group += b"".join(
             commit.pack(5, 7, time, 3) + large + key.pack(1, 21, time) + b"\x01\x00" + key.pack(3, 22, 1) for time in (300, 301, 302, 303)
         )
         group += commit.pack(5, 2**64 - 1, 304, 1) + key.pack(2, 23, 1) + bytes.fromhex("0500 0161 026262")
@@ -166,7 +167,7 @@ class Files(unittest.TestCase):
         status = endless_status("4e4f4f5645523031 04000000 40000000 00000000 06000000 05000000")
         write(self.folder, status, tuple(extents[number] for number in range(1, 10)), archive.hex())
         log = files.read_log(self.folder)
-        named, whole = [(100, 9, None), (200, 8, None)], [(time, 7, 3) for time in (300, 301, 302, 303)]
+        named, whole = [(100, 9, None), (200, 8, 1)], [(time, 7, 3) for time in (300, 301, 302, 303)]
         self.assertEqual(log.commits, [*named, *whole, (304, 2**64 - 1, 1)])
         self.assertEqual(log.runs, [(0, 37, 1), (53, 37, 1), (106, 37, 1)])
         self.assertEqual((log.reclaimed, log.relations), (200, {20, 21, 22, 23, 24}))

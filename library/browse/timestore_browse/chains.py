@@ -32,7 +32,7 @@ def read_log(folder: Path) -> Log:
         read = _Read(heap, archive)
         for chain in _log(heap, roots[turn == OPEN]):
             read.take(chain)
-    return Log(sorted(read.commits), read.runs, read.reclaimed, read.relations)
+    return Log(sorted(read.commits.values()), read.runs, read.reclaimed, read.relations)
 
 
 class _Extent(NamedTuple):
@@ -75,7 +75,7 @@ class _Read:
 
     def __init__(self, heap: BinaryIO, archive: BinaryIO) -> None:
         self._heap, self._archive = heap, archive
-        self.commits: list[Commit] = []
+        self.commits: dict[int, Commit] = {}
         self.runs: list[Run] = []
         self.reclaimed = 0
         self.relations: set[int] = set()
@@ -96,7 +96,7 @@ class _Read:
                 self.relations.update(relations(_joined(self._heap, first)))
                 at += ANCHORS.size
             elif kind == ROLL:
-                self.commits += self._names(*PLACE.unpack_from(chain, at))
+                self._name(*PLACE.unpack_from(chain, at))
                 at += PLACE.size
             elif kind == FLOOR:
                 at += FLOOR_BYTES
@@ -104,16 +104,18 @@ class _Read:
                 raise ValueError(f"a chain says something of kind {kind}")
 
     def _commit(self, chain: bytes, at: int) -> int:
-        """Reads a commit; where it ends."""
+        """Reads a commit; where it ends. Of one up to the last reclaim, whose group has a later one, the records count no more."""
         label, time, records = MEMBER.unpack_from(chain, at)
-        self.commits.append(Commit(time, label, records))
+        self.commits[time] = Commit(time, label, records)
         at += MEMBER.size
         for _ in range(records):
-            self.relations.add(relation(chain, at))
+            if time > self.reclaimed:
+                self.relations.add(relation(chain, at))
             at = end(chain, at)
         return at
 
-    def _names(self, start: int, length: int) -> Iterator[Commit]:
-        """The commits that a roll names."""
+    def _name(self, start: int, length: int) -> None:
+        """Reads the commits that a roll names."""
         self._archive.seek(start)
-        return (Commit(time, label, None) for label, time in NAME.iter_unpack(self._archive.read(length)))
+        for label, time in NAME.iter_unpack(self._archive.read(length)):
+            self.commits[time] = Commit(time, label, None)
