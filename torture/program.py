@@ -33,6 +33,8 @@ PATIENCE = 60
 MEMORY = "/dev/shm"
 # of a test, behind which it ends
 FAILURES_MOST = 20
+# the status of a test that could not try all of what it is for
+NOT_TRIED = 3
 
 
 def words_of(test: str | None) -> argparse.ArgumentParser:
@@ -42,6 +44,14 @@ def words_of(test: str | None) -> argparse.ArgumentParser:
     )
     words.add_argument("program")
     return words
+
+
+def status_at_end(bad: int, left_out: Iterable[str]) -> int:
+    """The status of a test by how many cases failed; what was left out, and why, is its last line."""
+    left_out = [*left_out]
+    if left_out:
+        print(f"not tried: {'; '.join(left_out)}")
+    return 1 if bad else NOT_TRIED if left_out else 0
 
 
 def use_memory() -> None:

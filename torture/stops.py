@@ -23,6 +23,8 @@ SYNCED = {
 }
 # what one call of a growth writes
 ZEROS = 8192
+# what is left out where there is no compiler
+CALLS_UNSEEN = "the device calls of each line"
 FILLINGS = (0x00, 0xC7, 0xFF)
 # lines between two ends of a session, how often a vacuum or the command of a growth stands between,
 # and how often a vacuum stands behind a line
