@@ -18,7 +18,7 @@ from dataclasses import dataclass
 from types import FrameType
 from typing import Any, TypeVar
 
-from machine import NEWEST
+from machine import ENDLESS, NEWEST
 
 # the words of refuse.c that a script of its own needs
 REFUSES = ("REFUSE_CLASS", "REFUSE_AT", "REFUSE_HOW")
@@ -224,9 +224,17 @@ def differing(found: Answer, wanted: Answer) -> str:
     return f"answers {said} with status {found[0]}, and not {due} with status {wanted[0]}"
 
 
+def format_endless(program: str, folder: str, extents: int) -> None:
+    """A new store of profile 4."""
+    words = ("--profile", str(ENDLESS), "--extents", str(extents))
+    said = command(program, "format", folder, *words)
+    if said != (0, [f"formatted {extents}"]):
+        raise Failure(f"format {' '.join(words)} answers {said}")
+
+
 def format_store(program: str, folder: str, slots: int, profile: int = NEWEST) -> None:
-    """A new store: the program makes one of the newest profile, and one of an earlier profile
-    differs in one byte of its header."""
+    """A new store with slots: the program makes one of the newest profile, and one of an earlier
+    profile differs in one byte of its header."""
     said = command(program, "format", folder, "--slots", str(slots))
     if said != (0, [f"formatted {slots}"]):
         raise Failure(f"format answers {said}")

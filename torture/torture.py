@@ -34,10 +34,11 @@ import forged
 import image
 import machine
 import wrong
-from machine import Commit, Front, Machine
+from endless import EXTENTS, Endless
+from machine import ENDLESS, Commit, Front, Machine
 from program import (
-    AREAS, Areas, Failure, Session, format_store, read_areas, report, seconds_to_begin,
-    status_at_end, use_memory, words_of
+    AREAS, Areas, Failure, Session, format_endless, format_store, read_areas, report,
+    seconds_to_begin, status_at_end, use_memory, words_of
 )
 from refused_scripts import Case
 from scripts import (
@@ -51,7 +52,10 @@ REFUSED = (8, 1, 1, 3, 2, 6, 6, 1, 1)
 
 
 def new_store(program: str, folder: str, slots: int, profile: int) -> Machine:
-    """A new store, and its machine."""
+    """A new store, and its machine. One of profile 4 has more than enough extents."""
+    if profile == ENDLESS:
+        format_endless(program, folder, EXTENTS)
+        return Endless()
     format_store(program, folder, slots, profile)
     return Machine(slots=slots, profile=profile)
 
@@ -343,6 +347,8 @@ KINDS = {
 }
 
 
+# the kinds that try stores of profile 4 too
+WITH_ENDLESS = ("stops", "kills", "full")
 # what of a kind is left out where there is no compiler
 NEEDS_COMPILER = {"stops": CALLS_UNSEEN, "refused": "refused calls"}
 
@@ -351,7 +357,8 @@ def one_case(program: str, kind: str, seed: int) -> Counter | None:
     """Runs a case, on a store of the profile whose turn it is: what it tried, or None where it
     fails."""
     folder = tempfile.mkdtemp(prefix=f"torture-{kind}-")
-    profile = machine.PROFILES[-1 - (seed + [*KINDS].index(kind)) % len(machine.PROFILES)]
+    profiles = (*machine.PROFILES, *([ENDLESS] if kind in WITH_ENDLESS else []))
+    profile = profiles[-1 - (seed + [*KINDS].index(kind)) % len(profiles)]
     try:
         chance = random.Random(f"{kind} {seed}")
         return KINDS[kind](program, chance, folder, profile) + Counter({f"profile {profile}": 1})
