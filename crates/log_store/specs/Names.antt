@@ -13,7 +13,7 @@ use Rattle.group.specs.CommitOrder.{times_of}
 use Rattle.commits.specs.Values.{order_of}
 use Rattle.law_log_layout.specs.HeapLog.{PlacedRoll, AreNamesOf, HoldsRoll, IsStoredRoll}
 use Rattle.log_base.specs.Bases.{mark_of}
-use Rattle.log_names.specs.Rolls.{times_in}
+use Rattle.log_names.specs.Rolls.{times_named}
 use Rattle.log_store.specs.Values.{LogStoreValue}
 
 -- the reclaim mark of the log
@@ -48,4 +48,4 @@ pub record AnswersTimes (tells : Bool) (v : LogStoreValue) (label : ℕ) (answer
   pub new_is : new ≡ record v { disk = after_query answer v.disk }
   pub refused : IfErr answer RefusesTimes
   pub only : (rolls : List PlacedRoll) (names : List Head) → IsTrue tells → NamesLie v (archive_of v.disk) rolls names
-      → Answers answer (λ found. found.items ≡ times_in label names ++ late_times v label)
+      → Answers answer (λ found. found.items ≡ times_named label names ++ late_times v label)
