@@ -1,6 +1,5 @@
 -- Looks at one state, one after another.
-use Rattle.std.proofs.Common.{◌≡◌, ℕ, ◌+◌, ◌≤◌, IsTrue, Bool, List, [], ◌∷◌, map, subst, sym, arith}
-use Rattle.std.specs.Prelude.{Contains}
+use Rattle.std.proofs.Common.{◌≡◌, ℕ, zero, suc, ◌+◌, ◌-◌, ◌≤◌, IsTrue, Bool, List, [], ◌∷◌, length, take, drop, get_or, refl, ap, subst, sym, arith}
 use Rattle.disk.specs.Calls.{DiskState}
 use Rattle.archive.specs.declared.fault.ArchiveFault.{ArchiveFault}
 use Rattle.archive.specs.declared.fault.ArchiveFault.TheVariants.{Device, NoMemory, Damaged}
@@ -10,7 +9,7 @@ use Rattle.archive.specs.Damages.{IfDamaged}
 use Rattle.log_entries.specs.declared.entry.Roll.{Roll}
 use Rattle.log_names.specs.Looks.{IsFaultAt}
 use Rattle.log_names.specs.Standing.{roll_end}
-use Rattle.log_names.specs.Rolls.{RollsEndBy, IsFaultIn}
+use Rattle.log_names.specs.Rolls.{RollsEndBy}
 
 keeps_again : {end : ℕ} {tells : Bool} {area : List ℕ} {a b c : List (ℕ × List ℕ)} → Keeps end tells area a b → Keeps end tells area b c
     → Keeps end tells area a c
@@ -66,9 +65,21 @@ pub right_among : {tells : Bool} {kept new : List (ℕ × List ℕ)} {state afte
 right_among {tells} {kept} {new} {state} {after} rolls told right same keeps =
     let ends = ends_by rolls in right_again told right same (keeps ends.0 ends.1)
 
--- a fault of one of them is one of them
-pub fault_among : (start : ℕ) (fault : ArchiveFault) (rolls : List Roll) → ((damaged : ℕ) → damaged ≡ start
-    → Contains (map (λ (roll : Roll). roll.start) rolls) damaged) → IsFaultAt start fault → IsFaultIn rolls fault
-fault_among start Device rolls among is = tt
-fault_among start NoMemory rolls among is = tt
-fault_among start (Damaged damaged) rolls among is = among damaged is
+-- the same of what begins at one place
+pub map_fault : {P Q : ℕ → Type 0} (start : ℕ) (fault : ArchiveFault) → ((damaged : ℕ) → damaged ≡ start → P damaged → Q damaged) → IsFaultAt start fault
+    → IfDamaged P fault → IfDamaged Q fault
+map_fault start Device goes at is = tt
+map_fault start NoMemory goes at is = tt
+map_fault start (Damaged damaged) goes at is = goes damaged at is
+
+take-all : (n : ℕ) (rolls : List Roll) → length rolls ≤ n → take n rolls ≡ rolls
+take-all zero [] few = refl
+take-all zero (roll ∷ rolls) few = absurd (omega (arith, few))
+take-all (suc n) [] few = refl
+take-all (suc n) (roll ∷ rolls) few = ap (λ (l : List Roll). roll ∷ l) (take-all n rolls (omega (arith, few)))
+
+-- the first of some rolls and the others
+pub split_rolls : (rolls : List Roll) (d : Roll) → 1 ≤ length rolls → rolls ≡ get_or rolls 0 d ∷ take (length rolls - 1) (drop 1 rolls)
+split_rolls [] d some = absurd (omega (arith, some))
+split_rolls (roll ∷ rolls) d some =
+    let rest : take (length (roll ∷ rolls) - 1) rolls ≡ rolls = take-all (length (roll ∷ rolls) - 1) rolls (omega arith) in λ i. roll ∷ sym rest i
