@@ -1,5 +1,8 @@
-use Rattle.std.proofs.Common.{rules, ◌≡◌}
+use Rattle.std.proofs.Common.{rules, ◌≡◌, ◌∙◌, ◌++◌, nat_lt, filter, List, ℕ, Ok, ap, sym, subst}
+use Rattle.log_base.specs.Bases.{mark_of}
+use Rattle.log_recovery.specs.Live.{LiveChainValue}
 use Rattle.log_store.specs.Live.{live_value}
+use Rattle.log_store.specs.Names.{AnswersTimes}
 use Rattle.log_store.specs.Values.{LogStoreValue}
 use Rattle.log_store.proofs.Times.{answered-search, refused-search}
 use Rattle.log_store.proofs.store.LogStore.times_of.Goals as goal
@@ -19,8 +22,12 @@ returns-in_err-times g c =
       archive = c.self.inside.archive;
       disk = g.D.Disk.state c.self.inside.disk;
     } in
-    refused-search g.D.Disk.tells old c.args.label c.mark_of-mark.result c.rolls-rolls.result.now c.times_of_rolls.result
-    (g.D.Disk.state c.times_of_rolls.new.disk) ? ? ? ? c.in_err-times.field-0.0 c.from_residual.result ? ?
+    subst (λ (v : LogStoreValue). AnswersTimes g.D.Disk.tells v c.args.label c.from_residual.result
+    (record old { disk = g.D.Disk.state c.times_of_rolls.new.disk })) (sym c.self.view_is)
+    (refused-search g.D.Disk.tells old c.args.label c.mark_of-mark.result c.rolls-rolls.result.now c.times_of_rolls.result
+    (g.D.Disk.state c.times_of_rolls.new.disk)
+    (c.mark_of-mark.ensures ∙ ap mark_of c.chains.ensures) c.rolls-rolls.ensures
+    c.times_of_rolls.ensures.disk c.times_of_rolls.ensures.only c.in_err-times.field-0.0 c.from_residual.result c.in_err-times.was ?)
 
 pub returns : goal.returns
 returns g c =
@@ -37,5 +44,11 @@ returns g c =
       archive = c.self.inside.archive;
       disk = g.D.Disk.state c.self.inside.disk;
     } in
-    answered-search g.D.Disk.tells old c.args.label c.mark_of-mark.result c.rolls-rolls.result.now c.times_of_rolls.result
-    (g.D.Disk.state c.times_of_rolls.new.disk) ? ? ? ? c.in_ok-times.times c.push_later.new.times c.in_ok-recent.recent ? ? ?
+    subst (λ (v : LogStoreValue). AnswersTimes g.D.Disk.tells v c.args.label (Ok c.push_later.new.times)
+    (record old { disk = g.D.Disk.state c.times_of_rolls.new.disk })) (sym c.self.view_is)
+    (answered-search g.D.Disk.tells old c.args.label c.mark_of-mark.result c.rolls-rolls.result.now c.times_of_rolls.result
+    (g.D.Disk.state c.times_of_rolls.new.disk)
+    (c.mark_of-mark.ensures ∙ ap mark_of c.chains.ensures) c.rolls-rolls.ensures
+    c.times_of_rolls.ensures.disk c.times_of_rolls.ensures.only c.in_ok-times.times c.push_later.new.times c.in_ok-recent.recent c.in_ok-times.was
+    c.in_ok-recent.ensures
+    (c.in_ok-push_later.ensures ∙ ap (λ (l : List ℕ). c.in_ok-times.times.items ++ filter (nat_lt c.mark_of-mark.result) l) c.as_slice.ensures.value))
