@@ -1,7 +1,6 @@
 //! The times of a label in rolls: the names of commits that the archive has.
 #![tactic(auto)]
 
-pub mod laws;
 mod name;
 mod parts;
 mod reader;

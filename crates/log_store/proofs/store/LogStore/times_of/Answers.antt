@@ -23,11 +23,11 @@ returns-in_err-times g c =
       disk = g.D.Disk.state c.self.inside.disk;
     } in
     subst (λ (v : LogStoreValue). AnswersTimes g.D.Disk.tells v c.args.label c.from_residual.result
-    (record old { disk = g.D.Disk.state c.times_of_rolls.new.disk })) (sym c.self.view_is)
+    (record old { disk = g.D.Disk.state c.times_of_rolls.new.disk })) c.self.view_is
     (refused-search g.D.Disk.tells old c.args.label c.mark_of-mark.result c.rolls-rolls.result.now c.times_of_rolls.result
     (g.D.Disk.state c.times_of_rolls.new.disk)
     (c.mark_of-mark.ensures ∙ ap mark_of c.chains.ensures) c.rolls-rolls.ensures
-    c.times_of_rolls.ensures.disk c.times_of_rolls.ensures.only c.in_err-times.field-0.0 c.from_residual.result c.in_err-times.was ?)
+    c.times_of_rolls.ensures.disk c.times_of_rolls.ensures.only c.in_err-times.field-0.0 c.from_residual.result c.in_err-times.was c.from_residual.ensures)
 
 pub returns : goal.returns
 returns g c =
@@ -45,7 +45,7 @@ returns g c =
       disk = g.D.Disk.state c.self.inside.disk;
     } in
     subst (λ (v : LogStoreValue). AnswersTimes g.D.Disk.tells v c.args.label (Ok c.push_later.new.times)
-    (record old { disk = g.D.Disk.state c.times_of_rolls.new.disk })) (sym c.self.view_is)
+    (record old { disk = g.D.Disk.state c.times_of_rolls.new.disk })) c.self.view_is
     (answered-search g.D.Disk.tells old c.args.label c.mark_of-mark.result c.rolls-rolls.result.now c.times_of_rolls.result
     (g.D.Disk.state c.times_of_rolls.new.disk)
     (c.mark_of-mark.ensures ∙ ap mark_of c.chains.ensures) c.rolls-rolls.ensures
