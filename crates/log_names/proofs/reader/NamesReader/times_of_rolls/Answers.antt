@@ -19,8 +19,11 @@ returns-clause-only g c = λ heads told right holds.
     })
 
 pub returns-clause-exact : goal.returns-clause-exact
-returns-clause-exact g c = λ told right.
-    (_, c.in_ok-times.ensures.exact told right, record {
-      same = c.sort_unstable.ensures.permutation;
-      rising = IsNonDecreasingBy-from_sort (λ x. x) _ c.sort_unstable.ensures.sorted;
-    })
+returns-clause-exact g c = λ told right. (
+  _,
+  c.in_ok-times.ensures.exact told right,
+  record {
+    same = c.sort_unstable.ensures.permutation;
+    rising = IsNonDecreasingBy-from_sort (λ x. x) _ c.sort_unstable.ensures.sorted;
+  },
+)

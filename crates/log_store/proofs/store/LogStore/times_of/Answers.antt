@@ -1,4 +1,5 @@
-use Rattle.std.proofs.Common.{rules, ◌≡◌, ◌∙◌, ◌++◌, nat_lt, filter, List, ℕ, Ok, ap, sym, subst}
+use Rattle.std.proofs.Common.{rules, ◌≡◌, ◌∙◌, ◌++◌, nat_lt, filter, List, ℕ, Ok, Err, ap, subst}
+use Rattle.std.proofs.lemmas.Result.{err_from_is_err_and}
 use Rattle.log_base.specs.Bases.{mark_of}
 use Rattle.log_recovery.specs.Live.{LiveChainValue}
 use Rattle.log_store.specs.Live.{live_value}
@@ -22,12 +23,13 @@ returns-in_err-times g c =
       archive = c.self.inside.archive;
       disk = g.D.Disk.state c.self.inside.disk;
     } in
+    let p = err_from_is_err_and c.from_residual.result c.from_residual.ensures.1 in
     subst (λ (v : LogStoreValue). AnswersTimes g.D.Disk.tells v c.args.label c.from_residual.result
     (record old { disk = g.D.Disk.state c.times_of_rolls.new.disk })) c.self.view_is
     (refused-search g.D.Disk.tells old c.args.label c.mark_of-mark.result c.rolls-rolls.result.now c.times_of_rolls.result
     (g.D.Disk.state c.times_of_rolls.new.disk)
     (c.mark_of-mark.ensures ∙ ap mark_of c.chains.ensures) c.rolls-rolls.ensures
-    c.times_of_rolls.ensures.disk c.times_of_rolls.ensures.only c.in_err-times.field-0.0 c.from_residual.result c.in_err-times.was c.from_residual.ensures)
+    c.times_of_rolls.ensures.disk c.times_of_rolls.ensures.only c.in_err-times.field-0.0 c.from_residual.result c.in_err-times.was (p.1 ∙ ap Err p.2))
 
 pub returns : goal.returns
 returns g c =
