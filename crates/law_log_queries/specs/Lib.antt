@@ -2,3 +2,4 @@ pub mod Archive
 pub mod Calls
 pub mod Laws
 pub mod Views
+pub mod Names
