@@ -1,5 +1,5 @@
 pub mod Archive
 pub mod Calls
 pub mod Laws
-pub mod Views
 pub mod Names
+pub mod Views

@@ -12,4 +12,10 @@ counts made others o count is told =
 pub returns-in-Some-clause-last : goal.returns-in-Some-clause-last
 returns-in-Some-clause-last c =
     let r = c.requires in
-    (r.0, r.2, counts (length r.0.published) _ _ _ c.in-Some.is r.3, c.last-last.ensures ∙ last-published _ _ _ r.1)
+    record {
+      state = r.0;
+      reached = r.2;
+      many = counts (length r.0.published) _ _ _ c.in-Some.is r.3;
+      last_is = c.last-last.ensures ∙ last-published _ _ _ r.1;
+      holds = ?;
+    }
