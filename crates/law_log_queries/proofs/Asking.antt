@@ -123,6 +123,7 @@ module _ (v : LogStoreValue) (archive : ArchiveValue) (refused : ℕ) where
     names = n.names;
     lie = record {
       rolls_are = (n.lie).rolls_are;
+      each = (n.lie).each;
       held = (n.lie).held;
       stored = (n.lie).stored;
       are_names = (n.lie).are_names;

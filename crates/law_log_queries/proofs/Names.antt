@@ -8,6 +8,7 @@ use Rattle.std.proofs.lemmas.List.{map-append}
 use Rattle.disk.specs.Parts.{KeepsPart}
 use Rattle.disk.specs.declared.area.Area.TheVariants as areas
 use Rattle.disk.proofs.Parts.{read_part}
+use Rattle.history.proofs.Filters.{AllByRecursion-append}
 use Rattle.history.specs.Histories.{Commit, History, HasRisingTimes, last}
 use Rattle.history.specs.Machine.{Machine}
 use Rattle.law_image.specs.Values.{Value}
@@ -18,14 +19,18 @@ use Rattle.law_image.proofs.Standing.{archived-range}
 use Rattle.law_log.specs.Chains.{reclaimed_by, commits_in, later_heads, told}
 use Rattle.law_log.proofs.Telling.{tells-all}
 use Rattle.archive.specs.Searches.{archive_of}
-use Rattle.log_roots.specs.Roots.{root_of}
+use Rattle.log_entries.specs.declared.entry.Entry.{Entry}
+use Rattle.log_entries.specs.declared.entry.Entry.TheVariants.{Group, Archived}
+use Rattle.log_entries.specs.declared.entry.Entry.TheVariants as entries
+use Rattle.log_entries.specs.declared.entry.Roll.{Roll}
+use Rattle.log_entries.specs.Ranges.{IsEntry, IsRoll}
 use Rattle.log_base.specs.Bases.{mark_of}
 use Rattle.log_base.proofs.NamesTold.{heads-told, names-rolled, rolled, rolled-early}
 use Rattle.log_base.proofs.RollNames.{names-long}
 use Rattle.log_base.proofs.RunsLeft.{mark-is}
 use Rattle.log_recovery.specs.Live.{LiveChainValue, live_of}
 use Rattle.log_writer.specs.Writer.{WriterState}
-use Rattle.law_log_layout.specs.HeapLog.{PlacedChain, PlacedRoll, HeapLog, HoldsRoll, IsStoredRoll, chains_told, name_bytes, placed_group}
+use Rattle.law_log_layout.specs.HeapLog.{PlacedChain, PlacedRoll, HeapLog, HoldsRoll, IsPlaced, IsStoredRoll, chains_told, name_bytes, placed_group, rolls_in}
 use Rattle.log_store.specs.Live.{is_base}
 use Rattle.log_store.specs.Names.{NamesLie, names_mark}
 use Rattle.log_store.specs.Values.{LogStoreValue}
@@ -81,6 +86,20 @@ live-mark v h queue floors s = by-turn v.turn s.turn
     by-turn None has = by-job v.job has
     by-turn (Some w) has = behind-mark s.l.chains (placed_group w.numbers w.link has.group) v.live.chains (has.live).chains refl
 
+-- the rolls that a log names are where rolls may be
+are-rolls : (most : ℕ) (chains : List PlacedChain) → AllByRecursion (IsPlaced most) chains
+    → AllByRecursion IsRoll (flat_map (λ (c : PlacedChain). rolls_in c.entry) chains)
+are-rolls most [] placed = tt
+are-rolls most (c ∷ cs) placed =
+    AllByRecursion-append IsRoll (rolls_in c.entry) (flat_map (λ (d : PlacedChain). rolls_in d.entry) cs) (by-entry c.entry placed.0.entry)
+    (are-rolls most cs placed.1)
+  where
+    by-entry : (e : Entry) → IsEntry most e → AllByRecursion IsRoll (rolls_in e)
+    by-entry (Group members) is = tt
+    by-entry (Archived archive) is = tt
+    by-entry (entries.Floor floor) is = tt
+    by-entry (entries.Base base) is = is.parts.rolls
+
 module _ (v : LogStoreValue) (h queue : History Value) (floors : ℕ → ℕ) (s : StandsOnHeap v h queue floors) where
   abbrev l : HeapLog
   l = s.l
@@ -123,6 +142,8 @@ module _ (v : LogStoreValue) (h queue : History Value) (floors : ℕ → ℕ) (s
     names = names;
     lie = record {
       rolls_are = sym (s.named).rolls;
+      each = subst (λ (rolls : List Roll). AllByRecursion IsRoll rolls) (sym ((s.named).rolls ∙ (s.is_log).rolls_named))
+          (are-rolls v.roots.extents l.chains (s.is_log).placed);
       held = held l.rolls (s.archive).rolls;
       stored = (s.is_log).each_roll;
       are_names = (s.is_log).are_names;
@@ -185,6 +206,7 @@ names-later old new m after later same end keeps n =
       names = n.names;
       lie = record {
         rolls_are = (n.lie).rolls_are ∙ sym same.rolls;
+        each = subst (λ (rolls : List Roll). AllByRecursion IsRoll rolls) (sym same.rolls) (n.lie).each;
         held = rolls-held old.named.end (archive_of old.disk) (archive_of new.disk) n.rolls keeps n.ends (n.lie).stored (n.lie).held;
         stored = (n.lie).stored;
         are_names = (n.lie).are_names;

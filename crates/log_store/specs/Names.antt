@@ -11,6 +11,7 @@ use Rattle.timequery.specs.declared.fault.QueryFault.{QueryFault}
 use Rattle.timequery.specs.declared.fault.QueryFault.TheVariants.{BeforeKept, NotYet, EmptyInterval, Device, NoMemory, Damaged, NeedsDisk, Stranger}
 use Rattle.group.specs.CommitOrder.{times_of}
 use Rattle.commits.specs.Values.{order_of}
+use Rattle.log_entries.specs.Ranges.{IsRoll}
 use Rattle.law_log_layout.specs.HeapLog.{PlacedRoll, AreNamesOf, HoldsRoll, IsStoredRoll}
 use Rattle.log_base.specs.Bases.{mark_of}
 use Rattle.log_names.specs.Rolls.{times_named}
@@ -38,6 +39,7 @@ RefusesTimes Stranger = ⊥
 -- The rolls that the log names lie in these bytes of the archive, and name these commits.
 pub record NamesLie (v : LogStoreValue) (area : List ℕ) (rolls : List PlacedRoll) (names : List Head) : Type 0 where
   pub rolls_are : map (λ (r : PlacedRoll). r.roll) rolls ≡ v.named.rolls
+  pub each : AllByRecursion IsRoll v.named.rolls
   pub held : AllByRecursion (HoldsRoll area) rolls
   pub stored : AllByRecursion IsStoredRoll rolls
   pub are_names : AreNamesOf rolls names

@@ -1,0 +1,1 @@
+-- The history that rolls name.

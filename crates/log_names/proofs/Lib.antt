@@ -1,0 +1,6 @@
+pub mod Halving
+pub mod History
+pub mod Looking
+pub mod Right
+pub mod Sorting
+pub mod Walking

@@ -1,0 +1,1 @@
+-- What a search of rolls that are right finds.

@@ -1,0 +1,4 @@
+pub mod Looks
+pub mod Laws
+pub mod Rolls
+pub mod Standing

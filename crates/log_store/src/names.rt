@@ -1,0 +1,80 @@
+//! The times of a label: those of the rolls in the archive, and those in memory.
+ghost use Rattle.std.specs.Prelude.{◌≡◌, ◌↔◌, ◌++◌, nat_lt, filter, IsTrue, IfOk, IfSome, MatchOption};
+ghost use Rattle.std.specs.List.{AllByRecursion};
+ghost use Rattle.log_entries.specs.Ranges.{IsRoll};
+ghost use Rattle.log_store.specs.Names.{AnswersTimes};
+
+use crate::store::LogStore;
+use disk::Disk;
+use log_base::mark_of;
+use log_entries::Roll;
+use log_names::{NamesReader, UncachedParts};
+use std::alloc::AllocError;
+use timequery::QueryFault;
+use wire::LAST_PLACE;
+
+/// How many bytes a name has in a roll.
+const NAME_LEN: u64 = 16;
+
+// Whether these may be the place and the length of a roll.
+fn is_roll(roll: &Roll) -> bool
+    ensures { IsTrue result ↔ IsRoll roll.now }
+{
+    roll.len % NAME_LEN == 0
+        && NAME_LEN <= roll.len
+        && roll.len <= LAST_PLACE
+        && roll.start <= LAST_PLACE - roll.len
+}
+
+// The start of the first of these that may be none.
+fn first_bad(rolls: &[Roll]) -> Option<u64>
+    ensures { MatchOption result (AllByRecursion IsRoll rolls.now) (λ start. AllByRecursion IsRoll rolls.now → ⊥) }
+{
+    let mut rest = rolls;
+    while let [first, after @ ..] = rest {
+        if !is_roll(first) {
+            return Some(first.start);
+        }
+        rest = after;
+    }
+    None
+}
+
+// Adds those of these times that are later than a mark.
+fn push_later(times: &mut Vec<u64>, more: &[u64], mark: u64) -> Result<(), AllocError>
+    ensures { IfOk result (λ _. times.new.items ≡ times.old.items ++ filter (nat_lt mark) more.now) }
+{
+    let mut rest = more;
+    while let [first, after @ ..] = rest {
+        if mark < *first {
+            times.push(*first)?;
+        }
+        rest = after;
+    }
+    Ok(())
+}
+
+impl<D: Disk> LogStore<D> {
+    /// The times of the published commits with a label, rising, in microseconds since 1970. Those up to the reclaim mark are read in the
+    /// rolls of the archive: `Device`, `NoMemory`, and `Damaged` with the roll's start, where they are met.
+    pub fn times_of(&mut self, label: u64) -> Result<Vec<u64>, QueryFault>
+        ensures { AnswersTimes D.tells self.old label result self.new }
+    {
+        let mark = mark_of(self.live.chains());
+        let rolls = self.named.rolls();
+        if let Some(start) = first_bad(rolls) {
+            return Err(QueryFault::Damaged(start));
+        }
+        let mut times = NamesReader::new().times_of_rolls(
+            self.alloc,
+            &mut UncachedParts,
+            &mut self.disk,
+            rolls,
+            mark,
+            label,
+        )?;
+        let recent = self.commits.times_of(self.alloc, label)?;
+        push_later(&mut times, recent.as_slice(), mark)?;
+        Ok(times)
+    }
+}
