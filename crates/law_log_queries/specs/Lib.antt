@@ -3,3 +3,4 @@ pub mod Calls
 pub mod Laws
 pub mod Names
 pub mod Views
+pub mod Names
