@@ -119,7 +119,7 @@ module _ (v : LogStoreValue) (h queue : History Value) (floors : ℕ → ℕ) (s
   log-is : (s.reading).log ≡ told (chains_told names l.chains)
   log-is = ap (λ (x : Reading). x.log) (s.is_log).reading_is
 
-  others : List Head
+  abbrev others : List Head
   others = later_heads mark (flat_map commits_in (chains_told names l.chains))
 
   heads-are : map head_of h ≡ names ++ others
@@ -190,10 +190,10 @@ more-late mark t [] low up = tt
 more-late mark t (c ∷ cs) low up =
     let later = up.0 in (omega (arith, low, later), more-late mark c.time cs (omega (arith, low, later)) up.2)
 
-both-late : (mark : ℕ) (xs ys : List Head) → AllByRecursion (λ (head : Head). mark < head.time) xs → AllByRecursion (λ (head : Head). mark < head.time) ys
-    → AllByRecursion (λ (head : Head). mark < head.time) (xs ++ ys)
-both-late mark [] ys a b = b
-both-late mark (x ∷ xs) ys a b = (a.0, both-late mark xs ys a.1 b)
+both-late : (n : ℕ) (xs ys : List Head) → AllByRecursion (λ (head : Head). n < head.time) xs → AllByRecursion (λ (head : Head). n < head.time) ys
+    → AllByRecursion (λ (head : Head). n < head.time) (xs ++ ys)
+both-late n [] ys a b = b
+both-late n (x ∷ xs) ys a b = (a.0, both-late n xs ys a.1 b)
 
 pub names-later : (old new : LogStoreValue) (m after : Machine Value) → IsLater m after → SameNames old new → old.named.end ≤ new.named.end
     → KeepsUpTo old.named.end (archive_of old.disk) (archive_of new.disk) → NamesStand old m.published → NamesStand new after.published

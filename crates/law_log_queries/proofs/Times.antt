@@ -105,12 +105,12 @@ all-times tells v m label stands n =
 pub times-answered : (tells : Bool) (v new : LogStoreValue) (m : Machine Value) (label : ℕ) (answer : Result (Vec ℕ Global) QueryFault) → Stands tells v m
     → AnswersTimes tells v label answer new → SaysTimes tells true (answers.times_of m.published label) answer
 times-answered tells v new m label (Ok found) stands says = λ told.
-    let n = stands.names (told tt) in says.only n.rolls n.names (told tt) n.lie ∙ all-times tells v m label stands n
+    let n = stands.names (told refl) in says.only n.rolls n.names (told refl) n.lie ∙ all-times tells v m label stands n
 times-answered tells v new m label (Err (BeforeKept floor)) stands says = says.refused
 times-answered tells v new m label (Err (NotYet last)) stands says = says.refused
 times-answered tells v new m label (Err EmptyInterval) stands says = says.refused
-times-answered tells v new m label (Err Device) stands says = tt
+times-answered tells v new m label (Err Device) stands says = refl
 times-answered tells v new m label (Err NoMemory) stands says = tt
-times-answered tells v new m label (Err (Damaged start)) stands says = (tt, λ told. let n = stands.names told in says.only n.rolls n.names told n.lie)
+times-answered tells v new m label (Err (Damaged start)) stands says = (refl, λ told. let n = stands.names told in says.only n.rolls n.names told n.lie)
 times-answered tells v new m label (Err NeedsDisk) stands says = says.refused
 times-answered tells v new m label (Err Stranger) stands says = says.refused

@@ -1,11 +1,11 @@
 -- The search by halves.
-use Rattle.std.proofs.Common.{ℕ, zero, suc, ◌≡◌, ◌⊎◌, ◌+◌, ◌-◌, ◌/◌, ◌≤◌, ◌<◌, nat_lt, Bool, true, false, cond, List, refl, sym, ◌∙◌, ap, subst, arith}
+use Rattle.std.proofs.Common.{ℕ, zero, suc, ◌≡◌, ◌⊎◌, inl, inr, ◌+◌, ◌-◌, ◌/◌, ◌≤◌, ◌<◌, nat_lt, Bool, true, false, List, length, refl, sym, ◌∙◌, ap, subst, arith}
 use Rattle.std.specs.Prelude.{Option, Some, None, if◌then◌else◌}
 use Rattle.std.proofs.lemmas.Bool.Decides.{nat_tests}
 use Rattle.archive.specs.Digits.{digits_in, digits}
 use Rattle.log_entries.specs.declared.entry.Roll.{Roll}
 use Rattle.log_names.specs.declared.name.Name.{Name}
-use Rattle.log_names.specs.Standing.{name_at, name_count, is_in_time, halved, first_in}
+use Rattle.log_names.specs.Standing.{name_at, name_count, roll_end, is_in_time, halved, first_in}
 
 -- ---- digits
 
@@ -105,3 +105,24 @@ module _ (area : List ℕ) (upto label : ℕ) (roll : Roll) (low high : ℕ) (ha
         else None)
         else Some low in
         sym same ∙ gone
+
+  -- a name that is read at another moment, from the same bytes
+  module _ (later : List ℕ) (same : later ≡ area) where
+    pub here_below : (name : Name) → low < high → (name ≡ name_at later roll.start (low + (high - low) / 2)) × (is_in_time upto name ≡ true)
+        → name.label < label → IsHalfway area upto label roll (low + (high - low) / 2 + 1) high
+    here_below name less is lesser =
+        let test : nat_lt name.label label ≡ true = grind (arith, nat_tests) in
+        half_below name less (is.0 ∙ ap (λ (a : List ℕ). name_at a roll.start (low + (high - low) / 2)) same) is.1 test
+
+    pub here_above : (name : Name) → low < high → (name ≡ name_at later roll.start (low + (high - low) / 2)) × (is_in_time upto name ≡ true)
+        → label ≤ name.label → IsHalfway area upto label roll low (low + (high - low) / 2)
+    here_above name less is greater =
+        let test : nat_lt name.label label ≡ false = grind (arith, nat_tests) in
+        half_above name less (is.0 ∙ ap (λ (a : List ℕ). name_at a roll.start (low + (high - low) / 2)) same) is.1 test
+
+    pub here_broken : low < high
+        → (length later < roll_end roll) ⊎ (is_in_time upto (name_at later roll.start (low + (high - low) / 2)) ≡ false)
+        → (length area < roll_end roll) ⊎ (first_in area upto label roll ≡ None)
+    here_broken less (inl short) = inl (subst (λ (a : List ℕ). length a < roll_end roll) same short)
+    here_broken less (inr late) =
+        inr (half_broken less (subst (λ (a : List ℕ). is_in_time upto (name_at a roll.start (low + (high - low) / 2)) ≡ false) same late))

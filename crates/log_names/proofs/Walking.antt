@@ -1,11 +1,13 @@
 -- The walk forward.
-use Rattle.std.proofs.Common.{ℕ, zero, suc, ◌≡◌, ◌⊎◌, ◌+◌, ◌-◌, ◌≤◌, ◌<◌, ◌==◌, Bool, true, false, List, [], ◌∷◌, ◌++◌, refl, sym, ◌∙◌, ap, subst, arith}
+use Rattle.std.proofs.Common.{ℕ, zero, suc, ◌≡◌, ◌≢◌, ◌⊎◌, inl, inr, ◌+◌, ◌-◌, ◌≤◌, ◌<◌, ◌==◌, Bool, true, false, List, [], ◌∷◌, ◌++◌, length, refl, sym, ◌∙◌, ap, subst, arith}
 use Rattle.std.proofs.Common.{append_assoc}
 use Rattle.std.specs.Prelude.{Option, Some, None, option_map, option_and_then, if◌then◌else◌, ◌&&◌}
 use Rattle.std.proofs.lemmas.List.{append-nil}
+use Rattle.std.proofs.lemmas.Bool.Decides.{nat_tests}
 use Rattle.log_entries.specs.declared.entry.Roll.{Roll}
 use Rattle.log_names.specs.declared.name.Name.{Name}
-use Rattle.log_names.specs.Standing.{name_at, name_count, is_in_time, may_follow, walked, times_behind, first_in, times_there, times_in_all}
+use Rattle.log_names.specs.Standing.{name_at, name_count, roll_end, is_in_time, may_follow, walked, times_behind, first_in, times_there, times_in_all}
+use Rattle.log_names.specs.Standing.{IsBroken, PastEnd, BadName, IsFirstBroken}
 
 -- a walk from the first place that has come to the n-th name, has read this last and has found these times
 pub record IsWalking (area : List ℕ) (upto label : ℕ) (roll : Roll) (first n : ℕ) (last : Option Name) (old into : List ℕ) : Type 0 where
@@ -124,17 +126,57 @@ module _ (area : List ℕ) (upto label : ℕ) (roll : Roll) (first n : ℕ) (las
   walk_broken name less is broken =
       broken-goes less (second-false (is_in_time upto here) (may_follow last here) (ap (may_follow last) (sym is) ∙ broken))
 
+  -- a name that is read at another moment, from the same bytes
+  module _ (later : List ℕ) (same : later ≡ area) where
+    pub here_goes : (name : Name) → n < name_count roll → (name ≡ name_at later roll.start n) × (is_in_time upto name ≡ true) → may_follow last name ≡ true
+        → name.label ≡ label → IsWalking area upto label roll first (n + 1) (Some name) old (into ++ name.time ∷ [])
+    here_goes name less is follows own =
+        let test : (name.label == label) ≡ true = grind (arith, nat_tests) in
+        walk_goes name less (is.0 ∙ ap (λ (a : List ℕ). name_at a roll.start n) same) is.1 follows test
+
+    pub here_ends : (name : Name) → n < name_count roll → (name ≡ name_at later roll.start n) × (is_in_time upto name ≡ true) → may_follow last name ≡ true
+        → name.label ≢ label → IsWalkOf area upto label roll first old into
+    here_ends name less is follows other =
+        let test : (name.label == label) ≡ false = grind (arith, nat_tests) in
+        walk_ends name less (is.0 ∙ ap (λ (a : List ℕ). name_at a roll.start n) same) is.1 follows test
+
+    pub here_late : n < name_count roll → (length later < roll_end roll) ⊎ (is_in_time upto (name_at later roll.start n) ≡ false)
+        → (length area < roll_end roll) ⊎ (times_behind area upto label roll first ≡ None)
+    here_late less (inl short) = inl (subst (λ (a : List ℕ). length a < roll_end roll) same short)
+    here_late less (inr late) = inr (walk_late less (subst (λ (a : List ℕ). is_in_time upto (name_at a roll.start n) ≡ false) same late))
+
+    pub here_apart : (name : Name) → n < name_count roll → (name ≡ name_at later roll.start n) × (is_in_time upto name ≡ true) → may_follow last name ≡ false
+        → (length area < roll_end roll) ⊎ (times_behind area upto label roll first ≡ None)
+    here_apart name less is broken = inr (walk_broken name less (is.0 ∙ ap (λ (a : List ℕ). name_at a roll.start n) same) broken)
+
 -- ---- one roll
 
 module _ (area : List ℕ) (upto label : ℕ) (roll : Roll) where
-  pub there_from : (first : ℕ) (found : Option (List ℕ)) → first_in area upto label roll ≡ Some first → times_behind area upto label roll first ≡ found
-      → times_there area upto label roll ≡ found
+  pub there_from : (first : ℕ) (times : Option (List ℕ)) → first_in area upto label roll ≡ Some first → times_behind area upto label roll first ≡ times
+      → times_there area upto label roll ≡ times
   unfolding times_there
-  there_from first found at is = ap (option_and_then (times_behind area upto label roll)) at ∙ is
+  there_from first times at is = ap (option_and_then (times_behind area upto label roll)) at ∙ is
 
   pub there_none : first_in area upto label roll ≡ None → times_there area upto label roll ≡ None
   unfolding times_there
   there_none none = ap (option_and_then (times_behind area upto label roll)) none
+
+  -- where the search for the first name, or the walk, met what breaks a rule
+  pub first_broken : (length area < roll_end roll) ⊎ (first_in area upto label roll ≡ None) → IsBroken area upto label roll
+  first_broken (inl short) = PastEnd short
+  first_broken (inr none) = BadName (there_none none)
+
+  pub walk_fails : (first : ℕ) → first_in area upto label roll ≡ Some first → (later : List ℕ) → later ≡ area
+      → (length later < roll_end roll) ⊎ (times_behind later upto label roll first ≡ None) → IsBroken area upto label roll
+  walk_fails first at later same (inl short) = PastEnd (subst (λ (a : List ℕ). length a < roll_end roll) same short)
+  walk_fails first at later same (inr none) =
+      BadName (there_from first None at (subst (λ (a : List ℕ). times_behind a upto label roll first ≡ None) same none))
+
+  pub walk_finds : (first : ℕ) (old into : List ℕ) → first_in area upto label roll ≡ Some first → (later : List ℕ) → later ≡ area
+      → IsWalkOf later upto label roll first old into
+      → (times : List ℕ) × (times_there area upto label roll ≡ Some times) × (into ≡ old ++ times)
+  walk_finds first old into at later same walk =
+      (walk.0, there_from first (Some walk.0) at (subst (λ (a : List ℕ). times_behind a upto label roll first ≡ Some walk.0) same walk.1), walk.2)
 
 -- ---- several rolls
 
@@ -164,3 +206,29 @@ all_more area upto label rolls roll times more is there =
             (option_and_then (λ (ts : List ℕ). option_map (λ (rest : List ℕ). ts ++ rest) (times_in_all area upto label rs)) found)
         step None rest = refl
         step (Some ts) rest = ap (option_map (λ (l : List ℕ). ts ++ l)) rest ∙ all-front ts (times_in_all area upto label rs) more
+
+-- the next roll is broken
+pub all_broken : (area : List ℕ) (upto label : ℕ) (rolls done : List Roll) (roll : Roll) (behind : List Roll) (times : List ℕ) (start : ℕ)
+    → rolls ≡ done ++ roll ∷ behind → times_in_all area upto label done ≡ Some times → start ≡ roll.start → (later : List ℕ) → later ≡ area
+    → IsBroken later upto label roll → IsFirstBroken area upto label rolls start
+all_broken area upto label rolls done roll behind times start among found here later same broken = record {
+  before = done;
+  roll = roll;
+  behind = behind;
+  among = among;
+  times = times;
+  found = found;
+  here = here;
+  broken = subst (λ (a : List ℕ). IsBroken a upto label roll) same broken;
+}
+
+-- with the next roll
+pub all_goes : (area : List ℕ) (upto label : ℕ) (rolls done : List Roll) (roll : Roll) (behind : List Roll) (old into : List ℕ)
+    → rolls ≡ done ++ roll ∷ behind → times_in_all area upto label done ≡ Some old → (later : List ℕ) → later ≡ area
+    → (times : List ℕ) × (times_there later upto label roll ≡ Some times) × (into ≡ old ++ times)
+    → (more : List Roll) × (rolls ≡ more ++ behind) × (times_in_all area upto label more ≡ Some into)
+all_goes area upto label rolls done roll behind old into among found later same there =
+    (done ++ roll ∷ [],
+    among ∙ sym (append_assoc done (roll ∷ []) behind),
+    all_more area upto label done roll old there.0 found (subst (λ (a : List ℕ). times_there a upto label roll ≡ Some there.0) same there.1)
+    ∙ ap Some (sym there.2))

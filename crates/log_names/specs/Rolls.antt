@@ -31,8 +31,10 @@ pub record HoldsNames (area : List ℕ) (upto : ℕ) (roll : Roll) (heads : List
 pub record HoldRolls (area : List ℕ) (upto : ℕ) (rolls : List Roll) (heads : List Head) : Type 0 where
   pub placed : List PlacedRoll
   pub rolls_are : map (λ (r : PlacedRoll). r.roll) placed ≡ rolls
-  pub each : AllByRecursion (λ (r : PlacedRoll). HoldsNames area upto r.roll r.names) placed
+  pub held : AllByRecursion (HoldsRoll area) placed
+  pub stored : AllByRecursion IsStoredRoll placed
   pub named : AreNamesOf placed heads
+  pub early : AreUpTo upto heads
 
 -- each of these rolls ends by this place
 abbrev pub RollsEndBy : ℕ → List Roll → Type 0

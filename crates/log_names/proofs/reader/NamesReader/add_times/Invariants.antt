@@ -3,7 +3,7 @@ use Rattle.archive.specs.Parts.{IsRight, Keeps}
 use Rattle.archive.specs.Searches.{archive_of}
 use Rattle.log_names.specs.Standing.{name_count}
 use Rattle.log_names.proofs.Walking.{IsWalking}
-use Rattle.log_names.proofs.walk.NamesReader.add_times.Given as goal
+use Rattle.log_names.proofs.reader.NamesReader.add_times.Given as goal
 
 abbrev pub invariant-loop-n : goal.invariant-loop-n
 invariant-loop-n g l = record {
