@@ -1,5 +1,5 @@
 -- Views and the queries over them, and the times of a label.
-use Rattle.std.specs.Prelude.{ℕ, ◌≡◌, Bool, Option, Result, IfOk, IfErr}
+use Rattle.std.specs.Prelude.{ℕ, ◌≡◌, Bool, false, Option, Result, IfOk, IfErr}
 use Rattle.std.specs.declared.alloc.Global.{Global}
 use Rattle.std.specs.declared.vec.Vec.{Vec}
 use Rattle.history.specs.declared.key.Key.{Key}
@@ -13,6 +13,7 @@ use Rattle.store.specs.Calls as slots
 use Rattle.store.specs.Values as slot_values
 use Rattle.log_store.specs.Names as names
 use Rattle.log_store.specs.Queries as logs
+use Rattle.any_store.specs.declared.engine.Engine.TheVariants.{Slots, Log}
 use Rattle.any_store.specs.Values.{StoreValue, commits_of, archive_of, OfEngine, ByEngine}
 
 -- a view of what is published now, over the runs of the log
@@ -55,3 +56,8 @@ pub record AnswersTimesOfSlots (s : slot_values.StoreValue) (label : ℕ) (answe
 abbrev pub AnswersTimes : Bool → StoreValue → ℕ → Result (Vec ℕ Global) QueryFault → StoreValue → Type 0
 AnswersTimes tells old label answer new =
     ByEngine (λ s s'. AnswersTimesOfSlots s label answer s') (λ l l'. names.AnswersTimes tells l label answer l') old new
+
+-- names of commits lie in the archive, so some times of labels are read there
+abbrev pub has_rolls : StoreValue → Bool
+has_rolls (Slots s) = false
+has_rolls (Log l) = names.has_rolls l

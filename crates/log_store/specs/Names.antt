@@ -1,5 +1,5 @@
 -- The times of a label: those up to the reclaim mark are read in the rolls of the archive, the others are in memory.
-use Rattle.std.specs.Prelude.{◌≡◌, ◌≤◌, ◌++◌, ℕ, nat_lt, Bool, IsTrue, List, filter, map, Result, IfErr}
+use Rattle.std.specs.Prelude.{◌≡◌, ◌≤◌, ◌++◌, ℕ, nat_lt, Bool, IsTrue, List, length, filter, map, Result, IfErr}
 use Rattle.std.specs.List.{AllByRecursion}
 use Rattle.std.specs.declared.alloc.Global.{Global}
 use Rattle.std.specs.declared.vec.Vec.{Vec}
@@ -24,6 +24,10 @@ names_mark v = mark_of v.live.chains
 -- the times of a label that are later, of the published commits that are in memory
 abbrev pub late_times : LogStoreValue → ℕ → List ℕ
 late_times v label = filter (nat_lt (names_mark v)) (times_of label (order_of v.commits))
+
+-- names of commits lie in rolls of the archive
+abbrev pub has_rolls : LogStoreValue → Bool
+has_rolls v = nat_lt 0 (length v.named.rolls)
 
 -- why it is refused: the device or memory gave out, or a roll is damaged
 abbrev pub RefusesTimes : QueryFault → Type 0

@@ -2,14 +2,18 @@
 ghost use Rattle.std.specs.Prelude.{◌≡◌, ◌↔◌, ◌++◌, nat_lt, filter, IsTrue, IfOk, IfSome, MatchOption};
 ghost use Rattle.std.specs.List.{AllByRecursion};
 ghost use Rattle.log_entries.specs.Ranges.{IsRoll};
+ghost use Rattle.log_base.specs.Bases.{mark_of};
 ghost use Rattle.log_store.specs.Names.{AnswersTimes};
+ghost use Rattle.log_store.specs.Values.{LogStoreValue};
 
+use crate::named::Named;
 use crate::store::LogStore;
+use commits::Commits;
 use disk::Disk;
 use log_base::mark_of;
 use log_entries::Roll;
 use log_names::{NamesReader, UncachedParts};
-use std::alloc::AllocError;
+use std::alloc::{AllocError, Global};
 use timequery::QueryFault;
 use wire::LAST_PLACE;
 
@@ -54,27 +58,66 @@ fn push_later(times: &mut Vec<u64>, more: &[u64], mark: u64) -> Result<(), Alloc
     Ok(())
 }
 
+// The times of a label of a log that names these rolls, has this reclaim mark and these commits in memory, and whose archive lies on this disk.
+fn times_on<D: Disk>(
+    alloc: Global,
+    disk: &mut D,
+    named: &Named,
+    mark: u64,
+    commits: &Commits,
+    label: u64,
+) -> Result<Vec<u64>, QueryFault>
+    ensures { (v : LogStoreValue) → v.named ≡ named.now → mark_of v.live.chains ≡ mark → v.commits ≡ commits.now → v.disk ≡ D.state disk.old
+        → AnswersTimes D.tells v label result (record v { disk = D.state disk.new }) }
+{
+    let rolls = named.rolls();
+    if let Some(start) = first_bad(rolls) {
+        return Err(QueryFault::Damaged(start));
+    }
+    let mut times = NamesReader::new().times_of_rolls(
+        alloc,
+        &mut UncachedParts,
+        disk,
+        rolls,
+        mark,
+        label,
+    )?;
+    let recent = commits.times_of(alloc, label)?;
+    push_later(&mut times, recent.as_slice(), mark)?;
+    Ok(times)
+}
+
 impl<D: Disk> LogStore<D> {
+    ghost use Rattle.log_store.specs.Names.{has_rolls};
+
     /// The times of the published commits with a label, rising, in microseconds since 1970. Those up to the reclaim mark are read in the
     /// rolls of the archive: `Device`, `NoMemory`, and `Damaged` with the roll's start, where they are met.
     pub fn times_of(&mut self, label: u64) -> Result<Vec<u64>, QueryFault>
         ensures { AnswersTimes D.tells self.old label result self.new }
     {
         let mark = mark_of(self.live.chains());
-        let rolls = self.named.rolls();
-        if let Some(start) = first_bad(rolls) {
-            return Err(QueryFault::Damaged(start));
-        }
-        let mut times = NamesReader::new().times_of_rolls(
+        times_on(
             self.alloc,
-            &mut UncachedParts,
             &mut self.disk,
-            rolls,
+            &self.named,
             mark,
+            &self.commits,
             label,
-        )?;
-        let recent = self.commits.times_of(self.alloc, label)?;
-        push_later(&mut times, recent.as_slice(), mark)?;
-        Ok(times)
+        )
+    }
+
+    /// The same where the archive is read on this disk, in place of the store's. What it holds is the caller's to see to.
+    pub fn times_over<E: Disk>(&self, disk: &mut E, label: u64) -> Result<Vec<u64>, QueryFault>
+        ensures { AnswersTimes E.tells (record self.now { disk = E.state disk.old }) label result (record self.now { disk = E.state disk.new }) }
+    {
+        let mark = mark_of(self.live.chains());
+        times_on(self.alloc, disk, &self.named, mark, &self.commits, label)
+    }
+
+    /// Whether names of commits lie in rolls of the archive.
+    pub fn has_rolls(&self) -> bool
+        ensures { result ≡ has_rolls self.now }
+    {
+        !self.named.rolls().is_empty()
     }
 }
