@@ -34,10 +34,10 @@ fault-refuses NoMemory = tt
 fault-refuses (Damaged start) = tt
 
 -- and damages nothing where it does not
-refusal-is : (why : ArchiveFault) {P Q : Vec ℕ Global → Type 0} → searches.Answers (Err why) P → Answers (Err (query_fault why)) Q
-refusal-is Device is = tt
-refusal-is NoMemory is = tt
-refusal-is (Damaged start) is = absurd is
+refusal-is : (why : ArchiveFault) (P Q : Vec ℕ Global → Type 0) → searches.Answers (Err why) P → Answers (Err (query_fault why)) Q
+refusal-is Device P Q is = tt
+refusal-is NoMemory P Q is = tt
+refusal-is (Damaged start) P Q is = absurd is
 
 module _ (tells : Bool) (v : LogStoreValue) (label mark : ℕ) (rolls : List Roll) (result : Result (Vec ℕ Global) ArchiveFault) (disk : DiskState)
     (mark-is : mark ≡ names_mark v) (rolls-are : rolls ≡ v.named.rolls) (after : disk ≡ searches.after_query result v.disk)
@@ -60,7 +60,7 @@ module _ (tells : Bool) (v : LogStoreValue) (label mark : ℕ) (rolls : List Rol
             (after ∙ ap (λ (r : Result (Vec ℕ Global) ArchiveFault). searches.after_query r v.disk) is ∙ after-fault why v.disk);
         refused = fault-refuses why;
         only = λ placed names told lie.
-            refusal-is why
+            refusal-is why (λ found. found.items ≡ times_named label names) (λ found. found.items ≡ times_named label names ++ late_times v label)
             (subst (λ (r : Result (Vec ℕ Global) ArchiveFault). searches.Answers r (λ found. found.items ≡ times_named label names)) is
             (searched placed names told lie));
       })
