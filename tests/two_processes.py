@@ -1,10 +1,11 @@
 #!/usr/bin/env python3
 """Two processes and one store: who comes second is refused, nothing is touched, and a process that is
-killed gives the store up. A folder without a store stays as it is.
+killed gives the store up. A folder without a store stays as it is. And the threads of `stress`.
 
     tests/two_processes.py PROGRAM
 """
 import os
+import re
 import sys
 import tempfile
 
@@ -94,8 +95,16 @@ def wrong_folders(program, base):
     assert sorted(os.listdir(empty)) == ["archive", "heap", "status"]
 
 
+def threads_in_memory(program):
+    """Two writers of twenty rounds and a reader: each commit is counted, and no two have the same time."""
+    status, said, told = run(program, ["stress", "2", "1", "20"])
+    answer = re.fullmatch(r"commits 40 last ([1-9][0-9]*)\n", said)
+    assert status == 0 and answer and int(answer[1]) >= 40 and told == "", (status, said, told)
+
+
 def main():
     program = os.path.abspath(sys.argv[1])
+    threads_in_memory(program)
     with tempfile.TemporaryDirectory() as base:
         folder = os.path.join(base, "store")
         os.mkdir(folder)

@@ -1,5 +1,5 @@
 #!/usr/bin/env python3
-"""A session over pipes: using_example.py PROGRAM FOLDER, where a store was formatted."""
+"""A session over pipes: using_example.py PROGRAM FOLDER."""
 import subprocess
 import sys
 import time
@@ -23,7 +23,7 @@ def ask(line):
 
 
 def put(label, relation, record, *texts):
-    """Commits one value and gives its time. It then survives any crash."""
+    """Commits one value and gives its time."""
     fields = " ".join(text.encode().hex() or "-" for text in texts)
     for line in ("begin t", f"put t {relation} {record} {fields}", f"submit t {label} {int(time.time() * 1e6)}", "flush"):
         ask(line)

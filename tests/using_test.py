@@ -2,7 +2,7 @@
 """Runs the examples of documents: using_test.py PROGRAM DOCUMENT..
 
 In a block of `console` a line `$ COMMAND` is run by a shell in a folder that the document has for itself, lines `> LINE`
-behind it are its input, and the others are what it must write. A block of `python` must be a file of bench/, as it
+behind it are its input, and the others are what it must write. A block of `python` must be a file of tests/, as it
 stands there, and is run on a new store. Ends with 1 at the first difference.
 """
 import os
@@ -43,7 +43,7 @@ def run_python(block, program, where):
     names = [name for name in os.listdir(HERE) if name.endswith(".py")]
     same = [name for name in names if open(os.path.join(HERE, name), encoding="utf-8").read() == block]
     if not same:
-        sys.exit("a block of python is no file of bench/")
+        sys.exit("a block of python is no file of tests/")
     folder = tempfile.mkdtemp(dir=where)
     subprocess.run([program, "format", folder], check=True, stdout=subprocess.DEVNULL)
     done = subprocess.run([sys.executable, os.path.join(HERE, same[0]), program, folder], stdout=subprocess.PIPE)

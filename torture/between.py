@@ -12,7 +12,8 @@ the last write, torn to bytes 00, c7 and ff; a stop before a call leaves what on
 before it may leave. Each image is opened and asked at every time, and compared with the list of
 write sets (machine.py) and with a plain reader (image.py). With --seconds it ends after so many;
 the images of the first stop are then spread over all of them. The status is 1 where one fails; a
-script is left that shows it.
+script is left that shows it. It is 3 where there is no C compiler: the device calls are then not
+looked at.
 """
 from __future__ import annotations
 
@@ -29,12 +30,12 @@ import image
 from image import Slot
 from machine import NEWEST, PIECE, Front, Machine
 from program import (
-    FAILURES_MOST, Areas, Failure, Until, format_store, read_areas, report, spread, use_memory,
-    words_of, write_areas
+    FAILURES_MOST, Areas, Failure, Until, format_store, read_areas, report, spread, status_at_end,
+    use_memory, words_of, write_areas
 )
 from scripts import LARGE, check_left
-from stops import Stops, Traced, step, tell
-from wrong import has_compiler, library
+from stops import CALLS_UNSEEN, Stops, Traced, step, tell
+from wrong import has_compiler, left_out, library
 
 SLOTS = 16
 # a record with three versions and a deletion
@@ -331,7 +332,7 @@ def main() -> int:
             f" and {seconds_of} of a second one"
         )
     print(f"{until.rate(tried.total(), 'images')}; {bad} failed")
-    return 1 if bad else 0
+    return status_at_end(bad, left_out(CALLS_UNSEEN))
 
 
 if __name__ == "__main__":

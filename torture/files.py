@@ -6,8 +6,9 @@ files.py PROGRAM [--lines N]
 
 Each refusal is the one that docs/USING.md names, with status 1, and leaves every file as it was.
 As root the rights are tried as the user nobody, and a full and a read-only file system are
-mounted; who may not mount is told that these were left out. A script of N lines (200,000) takes
-the memory of one of 10,000. The status is 1 where a check fails.
+mounted. A script of N lines (200,000) takes the memory of one of 10,000. The status is 1 where a
+check fails, and 3 where something is left out: who may not mount, or has no C compiler, is told
+what.
 """
 from __future__ import annotations
 
@@ -33,11 +34,12 @@ import machine
 from machine import Machine
 from program import (
     AREAS, Areas, Failure, Session, command, ended, format_store, read_areas, report, run,
-    status_of, use_memory, words_of, write_areas
+    status_at_end, status_of, use_memory, words_of, write_areas
 )
 from scripts import check_left
-from stops import Play
+from stops import CALLS_UNSEEN, Play
 from torture import new_store, write_on
+from wrong import left_out
 
 # what a run may take more than another by chance, in KiB
 SLACK = 256
@@ -64,6 +66,7 @@ class Files:
         self.program = shutil.copy(program, os.path.join(folder, "program"))
         os.chmod(self.program, 0o755)
         self.tried: Counter = Counter()
+        self.left_out: list[str] = []
 
     def store(self) -> str:
         """A store with one commit, of whoever is to try it."""
@@ -240,6 +243,7 @@ class Files:
             ["mount", "-t", "tmpfs", "-o", options, "none", place], stderr=subprocess.DEVNULL,
             check=False,
         ).returncode:
+            self.left_out = ["full and read-only file systems (no rights to mount)"]
             return None
         return place
 
@@ -250,7 +254,6 @@ class Files:
             chance = random.Random(f"full disk {seed}")
             place = self.mounted(f"size={4 * chance.randrange(11, 80)}k")
             if place is None:
-                print("no rights to mount: a full file system and a read-only one are left out")
                 return
             try:
                 self.full_disk(place, chance)
@@ -386,7 +389,7 @@ def main() -> int:
     for what, count in files.tried.items():
         print(f"{what}: {count}")
     print(f"{sum(files.tried.values())} cases in {time.time() - began:.0f} s; {bad} failed")
-    return 1 if bad else 0
+    return status_at_end(bad, [*files.left_out, *left_out(CALLS_UNSEEN)])
 
 
 if __name__ == "__main__":

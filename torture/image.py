@@ -8,8 +8,8 @@ from datetime import datetime, timedelta
 from typing import Any
 
 from machine import (
-    LATEST, PIECE, PROFILES, SLOTS_MOST, Commit, Fields, Floors, History, Key, all_versions,
-    can_grow, floor_of, has_own_floors
+    ENDLESS, LATEST, PIECE, PROFILES, SLOTS_MOST, Commit, Fields, Floors, History, Key,
+    all_versions, can_grow, floor_of, has_own_floors
 )
 
 EXTENT = 8192
@@ -366,6 +366,12 @@ class Image:
     # the extents of the live chains
     live: frozenset[int]
 
+    @property
+    def named(self) -> list[Commit]:
+        """The commits whose labels a store that was just opened tells."""
+        is_whole = self.profile != ENDLESS
+        return [it for it in self.history if is_whole or it.time > self.log.reclaimed]
+
 
 def read(areas: Mapping[str, bytes]) -> Image:
     """Refused where the files don't open."""
@@ -470,26 +476,35 @@ def run_records(archive: bytes, run: Run) -> list[RunRecord] | None:
 # ---- what an image stands for
 
 
+def why_not_written(image: Image, history: History) -> str | None:
+    """Why what the heap has does not stand for this history."""
+    mark = image.log.reclaimed
+    if [(it.time, it.label) for it in image.history] != [(it.time, it.label) for it in history]:
+        return "other times or labels"
+    for mine, its in zip(image.history, history):
+        if its.time > mark and mine.writes != its.writes:
+            return f"other writes at {its.time}"
+    if image.anchors != {
+        key: (start, fields)
+        for key, start, stop, fields in all_versions(history)
+        if start <= mark and (stop is None or stop > mark)
+    }:
+        return f"other anchors at {mark}"
+    return None
+
+
 def why_not(areas: Mapping[str, bytes], image: Image, history: History) -> str | None:
     """Why these files, as they were read, don't stand for this history, both homes of its versions
     looked at; None where they do."""
     log, status = image.log, areas["status"]
-    if [(it.time, it.label) for it in image.history] != [(it.time, it.label) for it in history]:
-        return "other times or labels"
     if any(status[slot_at(number)] == OPEN for number in range(len(log.slots), image.slots)):
         return "an open gate behind the log"
     if OPEN in gates(status)[pieces(status):]:
         return "an open gate behind the pieces"
-    for mine, its in zip(image.history, history):
-        if its.time > log.reclaimed and mine.writes != its.writes:
-            return f"other writes at {its.time}"
+    why = why_not_written(image, history)
+    if why:
+        return why
     whole = all_versions(history)
-    if image.anchors != {
-        key: (start, fields)
-        for key, start, stop, fields in whole
-        if start <= log.reclaimed and (stop is None or stop > log.reclaimed)
-    }:
-        return f"other anchors at {log.reclaimed}"
     for run in runs(log):
         # what ended by a floor before it, or is in an earlier run, is left out
         wanted = sorted(

@@ -12,9 +12,12 @@ LATEST = (1 << 63) - 1
 SPARE_FOR_JOBS = 2
 # the slots of a piece, and the most that a store has
 PIECE, SLOTS_MOST = 256, 65536
-# a store of the first one does not grow; in the last one each relation has a floor of its own
+# those with slots: a store of the first one does not grow; in the last one each relation has a
+# floor of its own
 PROFILES = (1, 2, 3)
 NEWEST = PROFILES[-1]
+# the one whose log lies in the heap
+ENDLESS = 4
 
 # relation, record
 Key = tuple[int, int]
@@ -119,7 +122,7 @@ def times(history: History, label: int) -> list[str]:
 
 
 def can_grow(profile: int) -> bool:
-    return profile >= 2
+    return profile in (2, 3)
 
 
 def has_own_floors(profile: int) -> bool:
@@ -191,6 +194,7 @@ class Job:
         return self.kind != "grow"
 
     def next_steps(self) -> tuple[str, ...]:
+        """The steps that may come next."""
         return NEXT[self.kind][self.step] if self.takes_slot() else (GROWTH[self.made],)
 
     def is_in_slot(self) -> bool:
@@ -217,6 +221,9 @@ class Front:
 class Machine:
     """A store without its disk: what is published, what waits, the open transactions, and how far
     a group and a job are."""
+
+    group_most = GROUP_MOST
+    group_steps = NEXT["group"]
 
     def __init__(
         self, published: History = (), slots: int = SLOTS_MOST, used: int = 0, profile: int = 2,
@@ -356,21 +363,29 @@ class Machine:
 
     # ---- steps: how many extents and pieces there are is the store's to say, and is followed here
 
+    def group_waits(self) -> bool:
+        """Whether the next step of the group waits for the job: its slot is not begun while the
+        job's is in the writing."""
+        return self.job is not None and self.job.is_in_slot() and self.turn == "heap synced"
+
+    def job_waits(self) -> bool:
+        """Whether the next step of the job waits for the group, in the same way."""
+        return self.job is not None and self.job.begins_slot() and self.turn in SLOT_STEPS
+
     def pumped(self, said: str) -> str | None:
         """Follows one step of a group; returns why it may not be answered so, or None."""
         if said == "idle":
             return None if not self.queue else "idle with a commit that waits"
-        if said == "refused: busy":
-            is_due = self.job is not None and self.job.is_in_slot() and self.turn == "heap synced"
-            return None if is_due else "busy where no slot is to be begun beside a job's"
         if not self.queue:
             return f"{said} with nothing that waits"
-        self.group = self.group or min(GROUP_MOST, len(self.queue))
+        if (said == "refused: busy") != self.group_waits():
+            return f"{said} where the job's step is {self.job and self.job.step}"
+        if said == "refused: busy":
+            return None
+        self.group = self.group or min(self.group_most, len(self.queue))
         name = "published" if said == f"published {self.group}" else said
-        if name not in NEXT["group"][self.turn]:
+        if name not in self.group_steps[self.turn]:
             return f"{said} is no step of a group of {self.group} after {self.turn}"
-        if name in SLOT_STEPS and self.job is not None and self.job.is_in_slot():
-            return "two slots in the writing"
         self.turn = name
         if name == "published":
             self.publish()
@@ -384,16 +399,14 @@ class Machine:
         """Follows one step of a job."""
         if said == "idle":
             return None if self.job is None else "idle with a job that runs"
-        is_other_in_slot = self.turn in SLOT_STEPS
-        if said == "refused: busy":
-            is_due = self.job is not None and self.job.begins_slot() and is_other_in_slot
-            return None if is_due else "busy where no slot is to be begun beside a group's"
         if self.job is None:
             return f"{said} with no job"
+        if (said == "refused: busy") != self.job_waits():
+            return f"{said} where the group's step is {self.turn}"
+        if said == "refused: busy":
+            return None
         if said not in self.job.next_steps():
             return f"{said} is no step of this {self.job.kind} after {self.job.step}"
-        if self.job.takes_slot() and said in SLOT_STEPS and is_other_in_slot:
-            return "two slots in the writing"
         self.job.makes(said)
         if said == "job done":
             self.end_job()
@@ -461,7 +474,7 @@ class Machine:
         """Pumps to the end: all that waits is published, but where a job's slot is in the
         writing."""
         while self.queue:
-            self.group = self.group or min(GROUP_MOST, len(self.queue))
+            self.group = self.group or min(self.group_most, len(self.queue))
             if self.job is not None and self.job.is_in_slot():
                 self.turn = "heap synced"
                 return ["refused: busy"]

@@ -18,7 +18,7 @@ from dataclasses import dataclass
 from types import FrameType
 from typing import Any, TypeVar
 
-from machine import NEWEST
+from machine import ENDLESS, NEWEST
 
 # the words of refuse.c that a script of its own needs
 REFUSES = ("REFUSE_CLASS", "REFUSE_AT", "REFUSE_HOW")
@@ -33,6 +33,8 @@ PATIENCE = 60
 MEMORY = "/dev/shm"
 # of a test, behind which it ends
 FAILURES_MOST = 20
+# the status of a test that could not try all of what it is for
+NOT_TRIED = 3
 
 
 def words_of(test: str | None) -> argparse.ArgumentParser:
@@ -42,6 +44,14 @@ def words_of(test: str | None) -> argparse.ArgumentParser:
     )
     words.add_argument("program")
     return words
+
+
+def status_at_end(bad: int, left_out: Iterable[str]) -> int:
+    """The status of a test by how many cases failed; what was left out, and why, is its last line."""
+    left_out = [*left_out]
+    if left_out:
+        print(f"not tried: {'; '.join(left_out)}")
+    return 1 if bad else NOT_TRIED if left_out else 0
 
 
 def use_memory() -> None:
@@ -214,9 +224,17 @@ def differing(found: Answer, wanted: Answer) -> str:
     return f"answers {said} with status {found[0]}, and not {due} with status {wanted[0]}"
 
 
+def format_endless(program: str, folder: str, extents: int) -> None:
+    """A new store of profile 4."""
+    words = ("--profile", str(ENDLESS), "--extents", str(extents))
+    said = command(program, "format", folder, *words)
+    if said != (0, [f"formatted {extents}"]):
+        raise Failure(f"format {' '.join(words)} answers {said}")
+
+
 def format_store(program: str, folder: str, slots: int, profile: int = NEWEST) -> None:
-    """A new store: the program makes one of the newest profile, and one of an earlier profile
-    differs in one byte of its header."""
+    """A new store with slots: the program makes one of the newest profile, and one of an earlier
+    profile differs in one byte of its header."""
     said = command(program, "format", folder, "--slots", str(slots))
     if said != (0, [f"formatted {slots}"]):
         raise Failure(f"format answers {said}")

@@ -15,7 +15,7 @@ that the function which keeps a block was running.
 
 With --seconds it ends after so many: first comes each call of the files that is not made, and then
 the others, spread over all of them. The status is 1 where a case fails; the script that shows it
-is named.
+is named. It is 3 where there is no C compiler, and so nothing is tried.
 """
 from __future__ import annotations
 
@@ -28,11 +28,11 @@ from collections.abc import Callable
 from machine import NEWEST, Machine
 from program import (
     FAILURES_MOST, Areas, Failure, Until, format_store, read_areas, report, run, spread,
-    use_memory, words_of, write_areas
+    status_at_end, use_memory, words_of, write_areas
 )
 from refused_commands import BEFORE, COMMANDS, Command
 from refused_scripts import PROFILES, SCRIPTS, Case
-from wrong import NONE, What, Wrong, cases_of, has_compiler, is_first
+from wrong import NONE, What, Wrong, cases_of, has_compiler, is_first, left_out
 
 
 # the example on the disk in memory
@@ -123,8 +123,7 @@ def main() -> int:
     given = words.parse_args()
     use_memory()
     if not has_compiler():
-        print("no C compiler: refused calls are left out")
-        return 0
+        return status_at_end(0, left_out("refused calls"))
     until = Until(given.seconds)
     with tempfile.TemporaryDirectory(prefix="refusals-") as folder:
         all_of = Refusals(os.path.abspath(given.program), folder, until)

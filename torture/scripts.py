@@ -5,10 +5,13 @@ from __future__ import annotations
 import random
 import tempfile
 from collections.abc import Iterable, Sequence
+from types import ModuleType
 
+import chains
 import image
 import machine
-from machine import Front, History, Key, Machine, Transaction
+from endless import Endless
+from machine import ENDLESS, Front, History, Key, Machine, Transaction
 from program import Areas, Failure, Shown, command, differing, run, write_areas
 
 KINDS = (
@@ -200,8 +203,9 @@ def check_left(
 
     newest = machine.last(front.order[: front.counts[0]])
     first = [machine.opened(image.profile_of(areas["status"]), newest, front.floors[0])]
+    reader = reader_of(areas)
     try:
-        found = image.read(areas)
+        found = reader.read(areas)
     except image.Refused as why:
         raise failure(f"the plain reader is refused: {why}", ["reopen"], first) from None
     why = why_no_front(found, front)
@@ -210,7 +214,7 @@ def check_left(
     left = machine_of(found, front.order[: len(found.history)])
     lines = ["reopen", *questions(left, others)]
     wanted = [said for line in lines for said in left.answer(line) or []]
-    why = image.why_not(areas, found, left.published)
+    why = reader.why_not(areas, found, left.published)
     if why:
         raise failure(f"the plain reader finds {why}", lines, wanted)
     with tempfile.TemporaryDirectory(prefix="torture-") as folder:
@@ -226,9 +230,18 @@ def check_left(
     return left
 
 
+def reader_of(areas: Areas) -> ModuleType:
+    """The plain reader of such files."""
+    return chains if image.profile_of(areas["status"]) == ENDLESS else image
+
+
 def machine_of(found: image.Image, history: History) -> Machine:
     """A machine that goes on with files."""
     log = found.log
+    if found.profile == ENDLESS:
+        endless = Endless(history, log.floors, log.chains, found.slots)
+        endless.archived = log.archived
+        return endless
     small = Machine(history, found.slots, len(log.slots), found.profile, log.floors)
     small.archived, small.reclaimed = log.archived, log.reclaimed
     return small

@@ -7,13 +7,15 @@ import tempfile
 from collections import Counter
 from collections.abc import Iterable, Iterator
 
+import chains
 import image
 import machine
-from machine import SLOT_STEPS, Job, Machine
+from endless import Endless
+from machine import ENDLESS, SLOT_STEPS, Job, Machine
 from program import (
     AREAS, Areas, Failure, Session, Shown, command, read_areas, status_of, write_areas
 )
-from scripts import BY_STEPS, a_vacuum, check_left, some_line
+from scripts import BY_STEPS, a_vacuum, check_left, reader_of, some_line
 from wrong import Call, Wrong, has_compiler
 
 # the area that a step syncs; the others write
@@ -23,6 +25,8 @@ SYNCED = {
 }
 # what one call of a growth writes
 ZEROS = 8192
+# what is left out where there is no compiler
+CALLS_UNSEEN = "the device calls of each line"
 FILLINGS = (0x00, 0xC7, 0xFF)
 # lines between two ends of a session, how often a vacuum or the command of a growth stands between,
 # and how often a vacuum stands behind a line
@@ -47,34 +51,69 @@ def growth_call(growth: Job, status: bytes) -> Call:
     return Call("write", "status", at, at + 1)
 
 
-def call_of(said: str, before: Areas, after: Areas, growth: Job | None = None) -> Call | None:
+def extent_call(before: Areas, after: Areas, head: int | None = None) -> Call:
+    """The write of the first extent that has changed; of one that begins at the head all but its
+    gate."""
+    new = after["heap"]
+    old = before["heap"].ljust(len(new), b"\0")
+    changed_at = (
+        at
+        for at in range(0, len(new), image.EXTENT)
+        if new[at: at + image.EXTENT] != old[at: at + image.EXTENT]
+    )
+    at = next(changed_at, None)
+    low, is_head = at or 0, at is not None and at == head
+    return Call("write", "heap", low + is_head, low + image.EXTENT)
+
+
+def endless_call(said: str, before: Areas, after: Areas, job: Job | None) -> Call | None:
+    """The same in a store of profile 4: a write of an extent, of the gate of a chain or of the one
+    where the log will end, of a run or a roll, of the root that does not count or of the turn
+    gate; or a sync."""
+    is_reclaim = job is not None and job.kind == "reclaim"
+    synced = {
+        **SYNCED, "published": "heap", "job done": "status" if is_reclaim else "heap",
+        "roll synced": "archive", "root synced": "status",
+    }
+    if step_name(said) in synced:
+        return Call("sync", synced[step_name(said)])
+    status, log = before["status"], chains.read_log(before, set())
+    head = image.EXTENT * (log.next - 1)
+    if said in ("wrote extent", "wrote entry"):
+        return extent_call(before, after, None if is_reclaim else head)
+    if said == "gate written":
+        return Call("write", "heap", head, head + 1)
+    if said == "gate closed":
+        end = image.EXTENT * (image.u(before["heap"], head + 16, 4) - 1)
+        return Call("write", "heap", end, end + 1)
+    if said in ("wrote run", "wrote roll"):
+        return Call("write", "archive", log.end, len(after["archive"]))
+    if said == "root written":
+        other = chains.ROOTS[status[chains.TURN] != image.OPEN]
+        return Call("write", "status", other, other + 4)
+    if said == "turn written":
+        return Call("write", "status", chains.TURN, chains.TURN + 1)
+    return None
+
+
+def call_of(said: str, before: Areas, after: Areas, job: Job | None = None) -> Call | None:
     """The device call of a step, as the files show it: of a growth, if it is one's; of the first
     closed slot all but the gate, or the gate; an extent; behind the last run."""
+    if image.profile_of(before["status"]) == ENDLESS:
+        return endless_call(said, before, after, job)
     log = image.read_log(before["status"])
     slot = image.slot_at(len(log.slots))
     if step_name(said) in SYNCED:
         return Call("sync", SYNCED[step_name(said)])
-    if growth:
-        return growth_call(growth, before["status"])
+    if job and job.kind == "grow":
+        return growth_call(job, before["status"])
     if said == "body written":
         return Call("write", "status", slot + 1, slot + image.SLOT)
     if said == "gate written":
         return Call("write", "status", slot, slot + 1)
     if said == "wrote run":
         return Call("write", "archive", log.end, len(after["archive"]))
-    if said == "wrote extent":
-        new = after["heap"]
-        old = before["heap"].ljust(len(new), b"\0")
-        place = next(
-            (
-                at
-                for at in range(0, len(new), image.EXTENT)
-                if new[at: at + image.EXTENT] != old[at: at + image.EXTENT]
-            ),
-            0,
-        )
-        return Call("write", "heap", place, place + image.EXTENT)
-    return None
+    return extent_call(before, after) if said == "wrote extent" else None
 
 
 def is_of(call: Call, shown: Call) -> bool:
@@ -83,8 +122,8 @@ def is_of(call: Call, shown: Call) -> bool:
     if shown.area == "archive":
         is_within = call.kind == "sync" or shown.low <= call.low < call.high <= shown.high
         return (call.kind, call.area) == (shown.kind, shown.area) and is_within
-    if shown.area == "heap" and shown.kind == "write":
-        is_extent = call.low % image.EXTENT == 0 and call.high == call.low + image.EXTENT
+    if shown.area == "heap" and shown.high - shown.low > 1:
+        is_extent = call.high % image.EXTENT == 0 and call.high - call.low == shown.high - shown.low
         return (call.kind, call.area) == ("write", "heap") and is_extent
     return call == shown
 
@@ -114,7 +153,7 @@ class Traced(Session):
 
     def times(self) -> list[str]:
         """The commits with label 0 of the files."""
-        found = image.read(self.start).history
+        found = reader_of(self.start).read(self.start).named
         return [" ".join(["times", *(str(it.time) for it in found if it.label == 0)])]
 
     def calls(self) -> list[Call]:
@@ -294,6 +333,8 @@ class Play:
 def areas_of(line: str, small: Machine) -> set[str]:
     """The areas that a line of many steps syncs; where another's slot is in the writing, its own
     is not begun."""
+    if isinstance(small, Endless):
+        return endless_areas_of(line, small)
     synced = ("heap synced", "run synced", *SLOT_STEPS)
     is_barred = small.job is not None and small.job.is_in_slot()
     if line == "finish":
@@ -305,6 +346,25 @@ def areas_of(line: str, small: Machine) -> set[str]:
         data = {"archive": {"archive"}, "reclaim": {"heap"}}.get(small.job.kind, set())
         return (set() if small.job.step in synced else data) | (set() if is_barred else {"status"})
     return set(AREAS) if line == "reopen" else set()
+
+
+def endless_areas_of(line: str, small: Endless) -> set[str]:
+    """The same in a store of profile 4."""
+    if line == "reopen":
+        return set(AREAS)
+    if line == "flush" and small.queue:
+        return set() if small.group_waits() else {"heap"}
+    job = small.job if line == "finish" else None
+    if job is None:
+        return set()
+    made = job.steps_behind()
+    if job.kind != "reclaim":
+        data = {"archive"} if job.kind == "archive" and "run synced" not in made else set()
+        return data | (set() if small.turn is not None and not job.is_entered() else {"heap"})
+    is_barred = small.turn == "gate written" and "turn written" not in made
+    synced = {"heap synced": "heap", "roll synced": "archive", "root synced": "status"}
+    areas = {area for step, area in synced.items() if step in job.order and step not in made}
+    return areas | (set() if is_barred else {"status"})
 
 
 def tell(session: Traced, small: Machine, stops: Stops, line: str) -> None:
@@ -326,8 +386,7 @@ def step(session: Traced, small: Machine, stops: Stops, line: str) -> str:
     at its end."""
     job = small.job if line == "job" else None
     said = session.step(line, small.pumped if line == "pump" else small.jobbed)
-    growth = job if job and job.kind == "grow" else None
-    shown = call_of(said, stops.now, read_areas(session.folder), growth)
+    shown = call_of(said, stops.now, read_areas(session.folder), job)
     made = [it for it in session.calls() if it.kind != "read"]
     if session.trace and (len(made) != (shown is not None) or shown and not is_of(made[0], shown)):
         raise session.failure(

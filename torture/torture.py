@@ -11,7 +11,8 @@ what stood there before, or to other bytes. What is left is opened and asked for
 compared with the small machine (machine.py) and with a plain reader of the format (image.py).
 
 KIND: stops, kills, full (a disk without room), forged, refused (a call of the system). The status
-is 1 where a case fails; a script is left that shows it (`sh SCRIPT PROGRAM`).
+is 1 where a case fails; a script is left that shows it (`sh SCRIPT PROGRAM`). It is 3 where there
+is no C compiler: the last line tells what was left out.
 """
 from __future__ import annotations
 
@@ -33,16 +34,17 @@ import forged
 import image
 import machine
 import wrong
-from machine import Commit, Front, Machine
+from endless import EXTENTS, Endless
+from machine import ENDLESS, Commit, Front, Machine
 from program import (
-    AREAS, Areas, Failure, Session, format_store, read_areas, report, seconds_to_begin, use_memory,
-    words_of
+    AREAS, Areas, Failure, Session, format_endless, format_store, read_areas, report,
+    seconds_to_begin, status_at_end, use_memory, words_of
 )
 from refused_scripts import Case
 from scripts import (
     BY_LINES, a_vacuum, check_left, key_text, questions, some_fields, some_key, some_line
 )
-from stops import Play
+from stops import CALLS_UNSEEN, Play
 
 FAILURES_MOST = 5
 # how often a call of each class is refused
@@ -50,7 +52,10 @@ REFUSED = (8, 1, 1, 3, 2, 6, 6, 1, 1)
 
 
 def new_store(program: str, folder: str, slots: int, profile: int) -> Machine:
-    """A new store, and its machine."""
+    """A new store, and its machine. One of profile 4 has more than enough extents."""
+    if profile == ENDLESS:
+        format_endless(program, folder, EXTENTS)
+        return Endless()
     format_store(program, folder, slots, profile)
     return Machine(slots=slots, profile=profile)
 
@@ -342,11 +347,18 @@ KINDS = {
 }
 
 
+# the kinds that try stores of profile 4 too
+WITH_ENDLESS = ("stops", "kills", "full")
+# what of a kind is left out where there is no compiler
+NEEDS_COMPILER = {"stops": CALLS_UNSEEN, "refused": "refused calls"}
+
+
 def one_case(program: str, kind: str, seed: int) -> Counter | None:
     """Runs a case, on a store of the profile whose turn it is: what it tried, or None where it
     fails."""
     folder = tempfile.mkdtemp(prefix=f"torture-{kind}-")
-    profile = machine.PROFILES[-1 - (seed + [*KINDS].index(kind)) % len(machine.PROFILES)]
+    profiles = (*machine.PROFILES, *([ENDLESS] if kind in WITH_ENDLESS else []))
+    profile = profiles[-1 - (seed + [*KINDS].index(kind)) % len(profiles)]
     try:
         chance = random.Random(f"{kind} {seed}")
         return KINDS[kind](program, chance, folder, profile) + Counter({f"profile {profile}": 1})
@@ -378,11 +390,11 @@ def main() -> int:
     given = words.parse_args()
     use_memory()
     program, began, seed = os.path.abspath(given.program), time.time(), given.seed
-    kinds = [it for it in KINDS if it != "refused" or wrong.has_compiler()]
-    if given.only:
-        kinds = [given.only]
+    kinds = [given.only] if given.only else [*KINDS]
+    left_out = wrong.left_out(*(NEEDS_COMPILER[it] for it in kinds if it in NEEDS_COMPILER))
+    kinds = [it for it in kinds if it != "refused" or wrong.has_compiler()]
     tried, cases, failed = {kind: Counter() for kind in kinds}, Counter(), 0
-    while time.time() < began + 60 * given.minutes and failed < FAILURES_MOST:
+    while kinds and time.time() < began + 60 * given.minutes and failed < FAILURES_MOST:
         for kind in kinds:
             found = one_case(program, kind, seed)
             failed += found is None
@@ -391,7 +403,7 @@ def main() -> int:
         seed += 1
     say(tried, cases, time.time() - began)
     print(f"seeds {given.seed} to {seed - 1}, {failed} failed")
-    return 1 if failed else 0
+    return status_at_end(failed, left_out)
 
 
 if __name__ == "__main__":

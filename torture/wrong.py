@@ -126,6 +126,11 @@ def has_compiler() -> bool:
     return all(shutil.which(it) for it in (os.environ.get("CC", "cc"), "nm"))
 
 
+def left_out(*what: str) -> list[str]:
+    """What is left out where there is no compiler: what needs `library`."""
+    return [f"{' and '.join(what)} (no C compiler, or no nm)"] if what and not has_compiler() else []
+
+
 @functools.cache
 def library() -> str:
     """Where the library is, which is made once for a process."""

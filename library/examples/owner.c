@@ -1,6 +1,7 @@
 /* One store and several threads: `owner FOLDER`, a folder that is there. One thread opens the store, makes all
-   of its calls and closes it. The others put what they want into a queue and wait for the answer; what stands
-   in the queue together is published under one gate. cc -pthread owner.c $(pkg-config --cflags --libs timestore) */
+   of its calls and closes it. The others put what they want into a queue and wait for the answer; what waits
+   in the queue together is committed with the syncs of one.
+   cc -pthread owner.c $(pkg-config --cflags --libs timestore) */
 #include <inttypes.h>
 #include <pthread.h>
 #include <stdio.h>
@@ -33,7 +34,7 @@ static void stop(const char *what, int32_t code) {
 
 /* ---- the owner's side */
 
-/* All that stands in the queue, once something does; NULL at its end. */
+/* All that waits in the queue, once something does; NULL at its end. */
 static request *take(queue *q) {
     pthread_mutex_lock(&q->lock);
     while (!q->first && !q->over) pthread_cond_wait(&q->asked, &q->lock);

@@ -1,6 +1,6 @@
 """One store and several threads: owner.py FOLDER.
 
-An executor of one thread owns the store. What the others want of it stands in its queue.
+An executor of one thread owns the store. What the others want of it waits in its queue.
 """
 
 import sys

@@ -1,13 +1,13 @@
 /* timestore: a store of records that keeps every version, in the process of its user.
  *
- * What stands here opens no file, starts no thread and holds no lock. Where the store is to write or sync, its
- * user, the host, makes that device call: where ts_pump or ts_job_pump tells TS_CALL_DUE it asks ts_call, makes
- * what is told, and says so by ts_called, which tells what the step did. Until then every call answers TS_PENDING
- * but ts_call, ts_called, ts_close, the reads and writes of open transactions, the queries of views, ts_abort,
- * ts_end and ts_give_up. If the device refused it, the host says so by ts_called: from then on the store answers
- * what was published before that call, tickets of commits that were not are in doubt, nothing is written any
- * more, and the store is to be opened again. So it is too where there was no memory to tell the device call: the
- * step then answers TS_FAILED, and no call is due.
+ * The functions of this header open no file, start no thread and hold no lock. Where the store is to write
+ * or sync, its user, the host, makes that device call: where ts_pump or ts_job_pump tells TS_CALL_DUE it
+ * asks ts_call, makes what is told, and says so by ts_called, which tells what the step did. Until then
+ * every call answers TS_PENDING but ts_call, ts_called, ts_close, the reads and writes of open transactions,
+ * the queries of views, ts_abort, ts_end and ts_give_up. If the device refused it, the host says so by
+ * ts_called: from then on the store answers what was published before that call, tickets of commits that
+ * were not are in doubt, nothing is written any more, and the store is to be opened again. So it is too
+ * where there was no memory to tell the device call: the step then answers TS_FAILED, and no call is due.
  * timestore_file.h has a host for files, which does all this.
  *
  * What the host must uphold, which nothing checks:
@@ -22,10 +22,10 @@
  *   3. A handle begins as TS_EMPTY, is not copied, and one call of it is made at a time: by the thread that
  *      opened it, or by several, each call under one lock. timestore_shared.h is such a host for files; owner.c
  *      of the examples has one thread own the handle and serve the others by a queue.
- *   4. No pointer is null, also where the length beside it is 0; memory that is written to lies apart from
- *      all else that the call is given, and lengths are those of the memory.
- *   5. Stores that are open in one process have marks whose lowest 15 bits differ. Then a number of one names
- *      nothing in another.
+ *   4. No pointer is null, also where its length is 0; memory that is written to lies apart from all else that
+ *      the call is given, and lengths are those of the memory.
+ *   5. The marks that ts_open is given for stores that are open in one process differ in their lowest 15 bits.
+ *      Then a number of one store names nothing in another.
  *   6. malloc, realloc and free are one allocator, of blocks aligned to 16 bytes. No call is made from a
  *      signal handler, nor in the child of a fork.
  *
@@ -57,7 +57,7 @@ typedef struct ts {
 } ts;
 #define TS_EMPTY {NULL, false}
 
-/* What a call tells beside its code. */
+/* What a call tells besides its code. */
 typedef struct ts_info {
     uint64_t a, b;
 } ts_info;
@@ -72,7 +72,7 @@ enum { TS_STATUS = 0, TS_HEAP = 1, TS_ARCHIVE = 2 };
 #define TS_WRITE_MOST 8192 /* no write is longer */
 
 /* A row: record, from when on and up to when it had the value, whose len bytes lie at `at`. The values lie one
-   behind the other, in the order of their rows. */
+   after the other, in the order of their rows. */
 typedef struct ts_row {
     uint64_t record, from, upto, at, len;
 } ts_row;
@@ -81,7 +81,7 @@ typedef struct ts_row {
    many bytes. */
 #define TS_VALUE_MOST 4097
 
-/* Codes. What info has beside one stands behind it. */
+/* Codes. The comment of a code says what info has with it. */
 enum {
     TS_OK = 0,
     TS_NONE = 1,            /* there is no value; no device call is due */
@@ -110,7 +110,7 @@ enum {
     TS_DAMAGED = -18,       /* what a stop cannot leave. b: the area; a: of the status area the slot, of the heap
                                the chain's first extent, of the archive the first byte of the run or of the roll */
     TS_NOT_A_STORE = -19,
-    TS_BUSY = -20,          /* one slot is in the writing at a time: pump the other one; ts_open: the handle is full */
+    TS_BUSY = -20,          /* one slot is written at a time: pump the other one; ts_open: the handle is full */
     TS_JOB_BUSY = -21,      /* an archive, a reclaim, a floor or a growth is being made */
     TS_NOTHING_TO_DO = -22, /* all versions that ended by then are archived; all that is archived is reclaimed;
                                the floor is as late */
@@ -131,14 +131,14 @@ enum {
     TS_BODY_SYNCED = 4,
     TS_GATE_WRITTEN = 5,
     TS_PUBLISHED = 6, /* of a job: it is done */
-    TS_KEPT_WRITTEN = 7, /* of a reclaim: an extent of what stands at its mark, or of its base, is written */
+    TS_KEPT_WRITTEN = 7, /* of a reclaim: an extent of the values at its time, or of its base, is written */
     TS_KEPT_SYNCED = 8, /* these are synced; where the log lies in the heap a job's entry, but for its gate */
-    TS_ZEROS_WRITTEN = 9, /* of a growth: zeros are written behind the slots */
+    TS_ZEROS_WRITTEN = 9, /* of a growth: zeros are written after the slots */
     TS_ZEROS_SYNCED = 10,
     TS_ENTRY_WRITTEN = 12, /* where the log lies in the heap: a job's entry is written, but for its gate */
     TS_GATE_CLOSED = 13, /* where the log lies in the heap: the gate where the log will end is closed */
     /* of a reclaim there: */
-    TS_ROLL_WRITTEN = 14, /* a piece of the names of archived commits is written */
+    TS_ROLL_WRITTEN = 14, /* a part of the names of archived commits is written */
     TS_ROLL_SYNCED = 15,
     TS_ROOT_WRITTEN = 16, /* the status area names the new base, which does not count yet */
     TS_ROOT_SYNCED = 17,
@@ -218,7 +218,7 @@ int32_t ts_at(ts *h, uint64_t view, uint16_t relation, uint64_t record, uint64_t
 int32_t ts_scan_at(ts *h, uint64_t view, uint16_t relation, uint64_t time, const uint8_t *archive,
                    size_t archive_len, ts_row *rows, size_t row_count, uint8_t *out, size_t len, ts_info *info);
 
-/* What stood in a record from one time up to another, by rising time; as ts_scan. */
+/* The values of a record from one time up to another, by rising time; as ts_scan. */
 int32_t ts_between(ts *h, uint64_t view, uint16_t relation, uint64_t record, uint64_t from, uint64_t upto,
                    const uint8_t *archive, size_t archive_len, ts_row *rows, size_t row_count, uint8_t *out,
                    size_t len, ts_info *info);

@@ -13,11 +13,11 @@ extern "C" {
    all its calls but ts_file_close answer TS_CLOSED; its parent goes on. */
 typedef struct ts_file ts_file;
 
-/* Codes beside those of the store. */
+/* Codes besides those of the store. */
 enum {
     TS_SYSTEM = -100,      /* the system refused a call; ts_file_error and errno say why */
     TS_LOCKED = -101,      /* another process has the store open */
-    TS_OCCUPIED = -102,    /* a store, or something else, stands there */
+    TS_OCCUPIED = -102,    /* a store, or something else, is there already */
     TS_CACHED = -103,      /* the system keeps a part of a file in memory that the disk may lack */
     TS_ALREADY_OPEN = -104 /* this process has the store open */
 };
@@ -71,7 +71,7 @@ int32_t ts_file_put(ts_file *file, uint16_t relation, uint64_t record, const uin
                     uint64_t label, uint64_t now, ts_info *info);
 int32_t ts_file_delete(ts_file *file, uint16_t relation, uint64_t record, uint64_t label, uint64_t now, ts_info *info);
 
-/* What stands now, after the last commit: the value of a record, as ts_recent, and the records of a relation with their
+/* The present, after the last commit: the value of a record, as ts_recent, and the records of a relation with their
    values, as ts_scan_at. They need no archive. */
 int32_t ts_file_get(ts_file *file, uint16_t relation, uint64_t record, uint8_t *out, size_t len, ts_info *info);
 int32_t ts_file_scan(ts_file *file, uint16_t relation, ts_row *rows, size_t row_count, uint8_t *out, size_t len,

@@ -1,9 +1,9 @@
 /* A store in files that any thread may call: timestore_file.h under a lock.
  *
- * Commits of several threads are written together: up to 16 under one gate, with its three syncs. There is no thread
- * for that: one of the threads that wait in ts_shared_commit makes the device calls for all, without the lock, and
- * waits a little before it begins where those whose commits were written together last are likely to come again. A
- * commit returns once it outlasts a stop.
+ * Commits of several threads are written together: up to 16 with the syncs of one. There is no thread for that: one
+ * of the threads that wait in ts_shared_commit makes the device calls for all, without the lock, and waits a little
+ * before it begins where those whose commits were written together last are likely to come again. A commit returns
+ * once it outlasts a stop.
  *
  * What takes the lock, and how long:
  *   - Queries, and the reads and writes of a transaction, for as long as they take. They wait for no device call and
@@ -18,7 +18,7 @@
  * nothing.
  *
  * In the child of a fork all calls but ts_shared_free answer TS_CLOSED; the parent goes on. A thread that is cancelled
- * (pthread_cancel) within a call ends behind it. No call is made from a signal handler.
+ * (pthread_cancel) within a call ends after it. No call is made from a signal handler.
  */
 #ifndef TIMESTORE_SHARED_H
 #define TIMESTORE_SHARED_H
@@ -46,10 +46,10 @@ int32_t ts_shared_error(ts_shared *store, ts_cause *cause);
 /* a: the time of the last commit, b: the floor of all relations, 0 where each has one of its own. */
 int32_t ts_shared_last(ts_shared *store, ts_info *info);
 
-/* ---- what stands now */
+/* ---- the present */
 
 /* A commit of one value, or of one deletion; a: its time. As ts_shared_commit; where another commit of that record is on its
-   way it comes behind that. (TS_CONFLICT only where that one was answered TS_WAITING.) */
+   way it comes after that. (TS_CONFLICT only where that one was answered TS_WAITING.) */
 int32_t ts_shared_put(ts_shared *store, uint16_t relation, uint64_t record, const uint8_t *value, size_t value_len,
                       uint64_t label, uint64_t now, ts_info *info);
 int32_t ts_shared_delete(ts_shared *store, uint16_t relation, uint64_t record, uint64_t label, uint64_t now,

@@ -10,7 +10,7 @@ const char *ts_text(int32_t code) {
     case TS_WAITING: return "waiting";
     case TS_READ_ONLY: return "readonly";
     case TS_IN_DOUBT: return "in doubt";
-    case TS_PENDING: return "a device call stands out";
+    case TS_PENDING: return "a device call is due";
     case TS_CLOSED: return "no store is open";
     case TS_UNKNOWN: return "unknown";
     case TS_SMALL: return "too little room";

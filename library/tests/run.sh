@@ -1,6 +1,7 @@
 #!/usr/bin/env bash
-# Tests the library that stands in a folder: run.sh OUT [PROGRAM]. With the program `timestore`, which stands
-# where `make test` builds it, images go from the one to the other.
+# Tests the library that was built into a folder: run.sh OUT [PROGRAM]. Images go from it to the program `timestore`, which is
+# where `make test` builds it, and back. What could not be tried is the last line. Without Python 3.11, cargo or the program the
+# status is then 3.
 set -eu
 here=$(cd "$(dirname "$0")" && pwd)
 top=$(dirname "$here")
@@ -24,7 +25,28 @@ compare() {
     fi
 }
 
-# Ends the run where a command fails. What it writes stands before the ok.
+untried=""
+status=0
+
+# What is not tried, since something is not here.
+left_out() {
+    echo "not tried: $1"
+    untried="${untried:+$untried; }$1"
+}
+
+# The same of what has to be tried.
+lacks() {
+    left_out "$1"
+    status=3
+}
+
+# The last line, if there is something to tell, and the status.
+finish() {
+    if [ -n "$untried" ]; then echo "not tried: $untried"; fi
+    exit "$status"
+}
+
+# Ends the run where a command fails. What it writes comes before the ok.
 passes() {
     if "$@"; then
         echo ok
@@ -51,7 +73,7 @@ build() { # NAME FLAGS..
 sanitized="-fsanitize=address,undefined -fno-sanitize-recover=all"
 # They may also be there and not run, as where no process may trace another.
 if ! { echo 'int main(void){return 0;}' | gcc -x c - $sanitized -o "$work/probe" && "$work/probe"; } > /dev/null 2>&1; then
-    echo "gcc's sanitizers do not run here: the tests run without"
+    left_out "the tests in C under gcc's sanitizers, which do not run here"
     sanitized=""
 fi
 for test in rows worked refused memory lost reads forks shared shared_memory; do
@@ -82,8 +104,8 @@ if unshare -m mount -t tmpfs none "$work/small" 2> /dev/null; then
 elif unshare -rm mount -t tmpfs none "$work/small" 2> /dev/null; then
     passes on_small_disk -rm
 else
-    printf '(no full disk: no file system can be mounted here) '
     passes "$work/causes" "$work/causes-folder"
+    left_out "a full disk (no file system can be mounted here)"
 fi
 
 say "C, sixteen threads beside a small machine"
@@ -110,7 +132,7 @@ if { echo 'int main(void){return 0;}' | gcc -x c - $of_threads -o "$work/probe" 
         if [ "$test" = shared ]; then passes watched_threads; else passes watched_threads "${SOAK:-3000}" 2; fi
     done
 else
-    echo "gcc's thread sanitizer does not run here"
+    left_out "the threads under gcc's thread sanitizer, which does not run here"
 fi
 
 if command -v valgrind > /dev/null; then
@@ -119,6 +141,8 @@ if command -v valgrind > /dev/null; then
     mkdir "$work/valgrind-folder"
     watched() { valgrind --quiet --leak-check=full --error-exitcode=3 "$work/plain" "$work/valgrind-folder" > "$work/watched" 2>&1 || { cat "$work/watched"; false; }; }
     passes watched
+else
+    left_out "the proved part under valgrind, which is not here"
 fi
 
 if command -v g++ > /dev/null; then
@@ -126,6 +150,8 @@ if command -v g++ > /dev/null; then
     printf '#include <timestore_file.h>\nint main() { ts h = TS_EMPTY; return ts_close(&h) == TS_CLOSED ? 0 : 1; }\n' > "$work/plus.cc"
     g++ -Wall -Wextra -pedantic "-I$top/include" "$work/plus.cc" "$out/libtimestore.a" -o "$work/plus"
     passes "$work/plus"
+else
+    left_out "the headers in C++ (no g++)"
 fi
 
 say "C, the tour"
@@ -176,12 +202,16 @@ $version
 timestore $version
 libtimestore.so.${version%%.*}
 END
+else
+    left_out "what is installed (no pkg-config)"
 fi
 
 if command -v groff > /dev/null; then
     say "the man page, without warnings"
     warned() { groff -man -ww -z -Tutf8 "$top/man/timestore.1" 2>&1; }
     compare warned < /dev/null
+else
+    left_out "the man page (no groff)"
 fi
 say "the words that bash completes"
 completed() { # WORDS.., the last of which is completed
@@ -251,7 +281,7 @@ END
             mkdir "$2-store" && cargo run --offline --quiet -- "$2-store"
         )
     }
-    if [ "$out" = "$top/out" ]; then compare added "$top/rust" "$work/adds" <<< "$version"; else echo "not tested: the library was built elsewhere"; fi
+    if [ "$out" = "$top/out" ]; then compare added "$top/rust" "$work/adds" <<< "$version"; else left_out "the crate added by its path, since the library was built elsewhere"; fi
     if [ -d "$work/installed" ]; then
         say "Rust, the same of what is installed"
         compare added "$work/installed/share/timestore/rust" "$work/adds-installed" <<< "$version"
@@ -260,12 +290,12 @@ END
     cargo_test() { (cd "$top/rust" && LD_PRELOAD="$work/faults.so" cargo test --offline --quiet > "$work/cargo" 2>&1) || { cat "$work/cargo"; false; }; }
     passes cargo_test
 else
-    echo "no cargo: the Rust crate is not tested"
+    lacks "the Rust crate (no cargo)"
 fi
 
 if ! python3 -c 'import sys; sys.exit(sys.version_info < (3, 11))'; then
-    echo "no Python 3.11: the module is not tested, nor what is tested by it"
-    exit 0
+    lacks "the Python module, and what is tested by it (no Python 3.11)"
+    finish
 fi
 export TIMESTORE_LIBRARY="$out/libtimestore.so" PYTHONPATH="$top/python" PYTHONDONTWRITEBYTECODE=1
 say "one list of codes and texts, of the program, the headers, Python and Rust"
@@ -305,6 +335,8 @@ if python3 -m pip --version > /dev/null 2>&1; then
         say "Python, the same of what is installed"
         compare wheel "$work/installed/share/timestore/python" "$work/wheel-installed" <<< "$work/wheel-installed/timestore/__init__.py $version $version"
     fi
+else
+    left_out "the Python wheel (no pip)"
 fi
 say "Python, the example of the module"
 mkdir -p "$work/doctest/reg"
@@ -319,6 +351,8 @@ if command -v mypy > /dev/null; then
     say "Python, types"
     typed() { MYPYPATH="$top/python" mypy --strict --cache-dir "$work/mypy" "$top/python/timestore" "$top"/examples/*.py > "$work/types" || { cat "$work/types"; false; }; }
     passes typed
+else
+    left_out "the types of Python (no mypy)"
 fi
 say "Python, calls"
 passes env LD_PRELOAD="$work/faults.so" python3 "$here/calls.py" "$work"
@@ -339,5 +373,6 @@ if [ -x "$program" ]; then
     say "images of the library and of the program"
     passes python3 "$here/exchanged.py" "$program" "$work/exchanged"
 else
-    echo "no program at $program: images are not exchanged"
+    lacks "images of the library and of the program (none at $program)"
 fi
+finish

@@ -47,7 +47,8 @@ AnswersScanRows tells old view relation a b answer new =
 -- ---- labels
 
 -- the times of a label are asked of slots: all names are in memory, and nothing is read
-pub record AnswersTimesOfSlots (s : slot_values.StoreValue) (label : ℕ) (answer : Result (Vec ℕ Global) QueryFault) (new : slot_values.StoreValue) : Type 0 where
+pub record AnswersTimesOfSlots (s : slot_values.StoreValue) (label : ℕ) (answer : Result (Vec ℕ Global) QueryFault) (new : slot_values.StoreValue)
+    : Type 0 where
   pub new_is : new ≡ s
   pub refused : IfErr answer (λ why. why ≡ NoMemory)
   pub is : IfOk answer (λ found. slots.IsTimesOf s label found.items)

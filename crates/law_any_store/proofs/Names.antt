@@ -20,7 +20,8 @@ use Rattle.law_refinement.proofs.Answering.{times-of_label}
 use Rattle.law_refinement.proofs.RunsKept.{up_to-same}
 use Rattle.law_refinement.proofs.RunsStep.{goes-same}
 use Rattle.law_log_queries.specs.Names.{SaysTimes}
-use Rattle.law_log_queries.proofs.Times.{times-answered, times-stands}
+use Rattle.law_log_queries.proofs.Asking as log_asked
+use Rattle.law_log_queries.proofs.Times.{times-answered}
 use Rattle.law_any_store.specs.Standing.{Stands}
 use Rattle.law_any_store.specs.Views.{IsKept}
 use Rattle.law_any_store.proofs.Views.{asked-in_step}
@@ -54,7 +55,7 @@ slots-kept tells s s' m is same = record {
 log-kept : (tells : Bool) (l l' : LogStoreValue) (m : Machine Value) (label : ℕ) (answer : Result (Vec ℕ Global) QueryFault)
     → Stands tells (Log l) m → logs.AnswersTimes tells l label answer l' → IsKept tells (Log l) (Log l') m
 log-kept tells l l' m label answer is asks =
-    let done = times-stands tells l l' m label answer is.1 asks in
+    let done = log_asked.times-stand tells l l' m label answer is.1 asks in
     record {
       stands = (subst IsInStep (sym asks.new_is) (asked-in_step l l.archive (after_query answer l.disk) is.0), done.0);
       goes = done.1;

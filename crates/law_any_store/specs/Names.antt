@@ -12,8 +12,8 @@ use Rattle.law_log_queries.specs.Names.{SaysTimes}
 use Rattle.law_any_store.specs.Standing.{Stands}
 use Rattle.law_any_store.specs.Views.{IsKept}
 
--- The times of a label are those of the published history. Of a store whose log lies in the heap a part of them is read on the disk: they are told for sure where
--- it tells its bytes.
+-- The times of a label are those of the published history. Of a store whose log lies in the heap a part of them is read on the disk: they are told for sure
+-- where it tells its bytes.
 abbrev pub TimesAreOfLabel : Type 0
 TimesAreOfLabel =
     (tells : Bool) (v new : StoreValue) (m : Machine Value) (label : ℕ) (answer : Result (Vec ℕ Global) QueryFault)

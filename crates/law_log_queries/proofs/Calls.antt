@@ -41,7 +41,8 @@ use Rattle.law_log_queries.specs.Calls.{IsCall, LeadsTo, OfBegin, OfAbort, OfRed
 use Rattle.law_log_queries.specs.Calls.{OfScanAt, OfBetween, OfScanBetween, OfTimes}
 use Rattle.law_log_queries.specs.Laws.{GoesTo}
 use Rattle.law_log_queries.proofs.Runs.{end-more}
-use Rattle.law_log_queries.proofs.Leaving.{LeavesArchive, AddsRun, BaseIsPast, IsPastAll, alone-leaves, submit-leaves, pump-leaves, floor-leaves, archive-leaves}
+use Rattle.law_log_queries.proofs.Leaving.{LeavesArchive, AddsRun, BaseIsPast, IsPastAll, alone-leaves, submit-leaves, pump-leaves, floor-leaves}
+use Rattle.law_log_queries.proofs.Leaving.{archive-leaves}
 use Rattle.law_log_queries.proofs.Leaving.{beside-place, job-moves, leaves-goes, leaves-same, reclaim-leaves, runs-left}
 use Rattle.law_log_queries.proofs.Adding.{added-goes, names-added, runs-added}
 use Rattle.law_log_queries.proofs.Names.{names-left}

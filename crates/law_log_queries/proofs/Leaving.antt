@@ -119,7 +119,16 @@ record LeavesMemory (old new : LogStoreValue) : Type 0 where
   names : NamesOrWorks old new
 
 same-memory : (v : LogStoreValue) → LeavesMemory v v
-same-memory v = record { runs = refl; kept = refl; upto = refl; end = omega arith; reclaimed = refl; mark = refl; place = λ place. place; names = inl (record { rolls = refl; mark = refl }) }
+same-memory v = record {
+  runs = refl;
+  kept = refl;
+  upto = refl;
+  end = omega arith;
+  reclaimed = refl;
+  mark = refl;
+  place = λ place. place;
+  names = inl (record { rolls = refl; mark = refl });
+}
 
 moved-memory : (old next new : LogStoreValue) → new ≡ next → LeavesMemory old next → LeavesMemory old new
 moved-memory old next new is leaves = subst (λ (v : LogStoreValue). LeavesMemory old v) (sym is) leaves
@@ -221,7 +230,16 @@ answer-leaves tells v new txn label now (Ok (ReadOnly snapshot)) is = moved tell
 answer-leaves tells v new txn label now (Ok (Queued ticket)) is =
     let queued : LogStoreValue = with_queued v label ticket.time txn.writes in
     moved tells v queued new is.2 (same-disk tells v queued
-    (record { runs = refl; kept = refl; upto = refl; end = omega arith; reclaimed = refl; mark = refl; place = λ place. place; names = inl (record { rolls = refl; mark = refl }) }) refl)
+    (record {
+      runs = refl;
+      kept = refl;
+      upto = refl;
+      end = omega arith;
+      reclaimed = refl;
+      mark = refl;
+      place = λ place. place;
+      names = inl (record { rolls = refl; mark = refl });
+    }) refl)
 answer-leaves tells v new txn label now (Err why) is = moved tells v v new is.1 (leaves-same tells v)
 
 own-leaves : (tells : Bool) (v new : LogStoreValue) (txn : TxnValue) (label now : ℕ) (answer : Result Submitted SubmitFault)
@@ -243,7 +261,16 @@ submit-leaves tells old new txn label now answer submits = by-own (is_own old.co
     by-own true is =
         both-leave tells old (spent old txn.number) new (record { rolls = refl; mark = refl })
         (same-disk tells old (spent old txn.number)
-        (record { runs = refl; kept = refl; upto = refl; end = omega arith; reclaimed = refl; mark = refl; place = λ place. place; names = inl (record { rolls = refl; mark = refl }) }) refl)
+        (record {
+          runs = refl;
+          kept = refl;
+          upto = refl;
+          end = omega arith;
+          reclaimed = refl;
+          mark = refl;
+          place = λ place. place;
+          names = inl (record { rolls = refl; mark = refl });
+        }) refl)
         (own-leaves tells (spent old txn.number) new txn label now answer is)
     by-own false is = moved tells old old new is.1 (leaves-same tells old)
 
@@ -262,10 +289,46 @@ call-bytes t Done result old new call = absurd call
 -- and memory has the same archive
 after-leaves : (old : LogStoreValue) (w : WriterState) (stage : Stage) → LeavesMemory old (after_call old w stage)
 after-leaves old w (Writing done rest) =
-    record { runs = refl; kept = refl; upto = refl; end = omega arith; reclaimed = refl; mark = refl; place = λ place. place; names = inl (record { rolls = refl; mark = refl }) }
-after-leaves old w Syncing = record { runs = refl; kept = refl; upto = refl; end = omega arith; reclaimed = refl; mark = refl; place = λ place. place; names = inl (record { rolls = refl; mark = refl }) }
-after-leaves old w Opening = record { runs = refl; kept = refl; upto = refl; end = omega arith; reclaimed = refl; mark = refl; place = λ place. place; names = inl (record { rolls = refl; mark = refl }) }
-after-leaves old w Settling = record { runs = refl; kept = refl; upto = refl; end = omega arith; reclaimed = refl; mark = refl; place = λ place. place; names = inl (record { rolls = refl; mark = refl }) }
+    record {
+      runs = refl;
+      kept = refl;
+      upto = refl;
+      end = omega arith;
+      reclaimed = refl;
+      mark = refl;
+      place = λ place. place;
+      names = inl (record { rolls = refl; mark = refl });
+    }
+after-leaves old w Syncing = record {
+  runs = refl;
+  kept = refl;
+  upto = refl;
+  end = omega arith;
+  reclaimed = refl;
+  mark = refl;
+  place = λ place. place;
+  names = inl (record { rolls = refl; mark = refl });
+}
+after-leaves old w Opening = record {
+  runs = refl;
+  kept = refl;
+  upto = refl;
+  end = omega arith;
+  reclaimed = refl;
+  mark = refl;
+  place = λ place. place;
+  names = inl (record { rolls = refl; mark = refl });
+}
+after-leaves old w Settling = record {
+  runs = refl;
+  kept = refl;
+  upto = refl;
+  end = omega arith;
+  reclaimed = refl;
+  mark = refl;
+  place = λ place. place;
+  names = inl (record { rolls = refl; mark = refl });
+}
 after-leaves old w Done = same-memory old
 
 -- over another disk too
@@ -279,7 +342,16 @@ other-disk old next disk is =
 
 -- and where the device refuses a call
 failed-memory : (v : LogStoreValue) → LeavesMemory v (with_failure v)
-failed-memory v = record { runs = refl; kept = refl; upto = refl; end = omega arith; reclaimed = refl; mark = refl; place = λ place. place; names = inl (record { rolls = refl; mark = refl }) }
+failed-memory v = record {
+  runs = refl;
+  kept = refl;
+  upto = refl;
+  end = omega arith;
+  reclaimed = refl;
+  mark = refl;
+  place = λ place. place;
+  names = inl (record { rolls = refl; mark = refl });
+}
 
 advance-leaves : (tells : Bool) (w : WriterState) (old new : LogStoreValue) (answer : Result Did PumpFault) → Advances tells w old answer new
     → LeavesArchive tells old new
@@ -509,7 +581,16 @@ module _ (tells : Bool) (job : Job) (writer : InWriting) (old new : LogStoreValu
           let left = stage-leaves old job (stage_behind job.stage false) is-job in
           moved-memory old (record (with_failure next) { disk = new.disk }) new is.1
           (other-disk old (with_failure next) new.disk
-          (record { runs = left.runs; kept = left.kept; upto = left.upto; end = left.end; reclaimed = left.reclaimed; mark = left.mark; place = left.place; names = inl (record { rolls = refl; mark = refl }) }))
+          (record {
+            runs = left.runs;
+            kept = left.kept;
+            upto = left.upto;
+            end = left.end;
+            reclaimed = left.reclaimed;
+            mark = left.mark;
+            place = left.place;
+            names = inl (record { rolls = refl; mark = refl });
+          }))
 
 -- an entry begins, and its first call is made
 entry-begins-leaves : (tells : Bool) (old new : LogStoreValue) (job : Job) (begun : LogStoreValue) (answer : Result JobDid PumpFault)
@@ -556,66 +637,66 @@ pub record BaseIsPast (tells : Bool) (v : LogStoreValue) : Type 0 where
 
 module _ (v : LogStoreValue) (r : ReclaimValue) (works-on : v.commits.failed ≡ false) (runs : v.reclaim ≡ Some r) (reaches : BaseReaches v.named.upto r)
     (past : BaseHasPlace v.job v.named.end r) where
-    -- it is further, and names the same
-    goes-further : (after : ReclaimValue) → after.named ≡ r.named → WaitsBehind v.named.end after.roll → GoesBehind v.named.end after.stage
-        → LeavesMemory v (with_reclaim_as v after)
-    goes-further after named waits goes = record {
-      runs = refl;
-      kept = refl;
-      upto = refl;
-      end = omega arith;
-      reclaimed = refl;
-      mark = refl;
-      place = λ place. (
-        place.0,
-        record {
-          alone = past.alone;
-          waits = waits;
-          goes = goes;
-          named = (let low = past.named in let same = ap (λ (n : NamedValue). n.end) named in omega (arith, low, same));
-        },
-      );
-      names = inl (record { rolls = refl; mark = refl });
-    }
+  -- it is further, and names the same
+  goes-further : (after : ReclaimValue) → after.named ≡ r.named → WaitsBehind v.named.end after.roll → GoesBehind v.named.end after.stage
+      → LeavesMemory v (with_reclaim_as v after)
+  goes-further after named waits goes = record {
+    runs = refl;
+    kept = refl;
+    upto = refl;
+    end = omega arith;
+    reclaimed = refl;
+    mark = refl;
+    place = λ place. (
+      place.0,
+      record {
+        alone = past.alone;
+        waits = waits;
+        goes = goes;
+        named = (let low = past.named in let same = ap (λ (n : NamedValue). n.end) named in omega (arith, low, same));
+      },
+    );
+    names = inl (record { rolls = refl; mark = refl });
+  }
 
-    -- the base is the log's
-    base-leaves : LeavesMemory v (with_base v r)
-    base-leaves = record {
-      runs = refl;
-      kept = refl;
-      upto = reaches.named;
-      end = past.named;
-      reclaimed = refl;
-      mark = refl;
-      place = λ place. (subst (λ (j : Option Job). JobHasPlace r.named v.archive.runs v.archive.next j) (sym past.alone) tt, tt);
-      names = inr works-on;
-    }
+  -- the base is the log's
+  base-leaves : LeavesMemory v (with_base v r)
+  base-leaves = record {
+    runs = refl;
+    kept = refl;
+    upto = reaches.named;
+    end = past.named;
+    reclaimed = refl;
+    mark = refl;
+    place = λ place. (subst (λ (j : Option Job). JobHasPlace r.named v.archive.runs v.archive.next j) (sym past.alone) tt, tt);
+    names = inr works-on;
+  }
 
-    roll-begins : (roll : Option InRoll) → r.roll ≡ roll → LeavesMemory v (with_reclaim_as v (begins_roll v.roots r roll))
-    roll-begins None none = goes-further (begins_roll v.roots r None) refl past.waits tt
-    roll-begins (Some roll) some =
-        goes-further (begins_roll v.roots r (Some roll)) refl tt (subst (WaitsBehind v.named.end) some past.waits)
+  roll-begins : (roll : Option InRoll) → r.roll ≡ roll → LeavesMemory v (with_reclaim_as v (begins_roll v.roots r roll))
+  roll-begins None none = goes-further (begins_roll v.roots r None) refl past.waits tt
+  roll-begins (Some roll) some =
+      goes-further (begins_roll v.roots r (Some roll)) refl tt (subst (WaitsBehind v.named.end) some past.waits)
 
-    extents-go : (anchors base : WholeState) (xs ys : List Part) → LeavesMemory v (with_reclaim_as v (behind_extents v.roots r anchors base xs ys))
-    extents-go anchors base (x ∷ xs) ys = goes-further (behind_extents v.roots r anchors base (x ∷ xs) ys) refl past.waits tt
-    extents-go anchors base [] (y ∷ ys) = goes-further (behind_extents v.roots r anchors base [] (y ∷ ys)) refl past.waits tt
-    extents-go anchors base [] [] = roll-begins r.roll refl
+  extents-go : (anchors base : WholeState) (xs ys : List Part) → LeavesMemory v (with_reclaim_as v (behind_extents v.roots r anchors base xs ys))
+  extents-go anchors base (x ∷ xs) ys = goes-further (behind_extents v.roots r anchors base (x ∷ xs) ys) refl past.waits tt
+  extents-go anchors base [] (y ∷ ys) = goes-further (behind_extents v.roots r anchors base [] (y ∷ ys)) refl past.waits tt
+  extents-go anchors base [] [] = roll-begins r.roll refl
 
-    pieces-go : (roll : InRoll) (bs : List ℕ) → v.named.end ≤ roll.at → LeavesMemory v (with_reclaim_as v (behind_roll v.roots r roll bs))
-    pieces-go roll [] low = goes-further (behind_roll v.roots r roll []) refl past.waits tt
-    pieces-go roll (b ∷ bs) low = goes-further (behind_roll v.roots r roll (b ∷ bs)) refl past.waits (omega (arith, low))
+  pieces-go : (roll : InRoll) (bs : List ℕ) → v.named.end ≤ roll.at → LeavesMemory v (with_reclaim_as v (behind_roll v.roots r roll bs))
+  pieces-go roll [] low = goes-further (behind_roll v.roots r roll []) refl past.waits tt
+  pieces-go roll (b ∷ bs) low = goes-further (behind_roll v.roots r roll (b ∷ bs)) refl past.waits (omega (arith, low))
 
-    turn-goes : (t : RootTurnState) (k : turning.Stage) → LeavesMemory v (behind_turn v r t k)
-    turn-goes t turning.Writing = goes-further (at_turn r t turning.Syncing) refl past.waits tt
-    turn-goes t turning.Syncing = goes-further (at_turn r t turning.Turning) refl past.waits tt
-    turn-goes t turning.Turning = goes-further (at_turn r t turning.Settling) refl past.waits tt
-    turn-goes t turning.Settling = base-leaves
-    turn-goes t turning.Done = same-memory v
+  turn-goes : (t : RootTurnState) (k : turning.Stage) → LeavesMemory v (behind_turn v r t k)
+  turn-goes t turning.Writing = goes-further (at_turn r t turning.Syncing) refl past.waits tt
+  turn-goes t turning.Syncing = goes-further (at_turn r t turning.Turning) refl past.waits tt
+  turn-goes t turning.Turning = goes-further (at_turn r t turning.Settling) refl past.waits tt
+  turn-goes t turning.Settling = base-leaves
+  turn-goes t turning.Done = same-memory v
 
-    call-goes : (k : ReclaimStage) → r.stage ≡ k → LeavesMemory v (reclaim_calls.behind v r k)
-    call-goes (reclaims.Writing anchors base) e = extents-go anchors base anchors.left base.left
-    call-goes (Rolling roll) e = pieces-go roll roll.left (subst (GoesBehind v.named.end) e past.goes)
-    call-goes (Turning t) e = turn-goes t t.stage
+  call-goes : (k : ReclaimStage) → r.stage ≡ k → LeavesMemory v (reclaim_calls.behind v r k)
+  call-goes (reclaims.Writing anchors base) e = extents-go anchors base anchors.left base.left
+  call-goes (Rolling roll) e = pieces-go roll roll.left (subst (GoesBehind v.named.end) e past.goes)
+  call-goes (Turning t) e = turn-goes t t.stage
 
 -- it writes to the archive behind all runs alone
 extents-bytes : (parts : List Part) (result : Result (Unit {0}) DeviceFault) (old new : Areas) → CallsExtents parts result old new

@@ -1,5 +1,6 @@
 -- The names in the rolls of a store: what the heap says of them, and that they stay.
-use Rattle.std.proofs.Common.{◌≡◌, ◌⊎◌, ℕ, ◌*◌, ◌+◌, ◌<◌, ◌≤◌, nat_lt, Bool, true, false, cond, List, [], ◌∷◌, ◌++◌, length, map, Option, None, Some, refl, arith, ap, sym, subst}
+use Rattle.std.proofs.Common.{◌≡◌, ◌⊎◌, ℕ, ◌*◌, ◌+◌, ◌<◌, ◌≤◌, nat_lt, Bool, true, false, cond, List, [], ◌∷◌, ◌++◌, length, map, Option, None}
+use Rattle.std.proofs.Common.{Some, refl, arith, ap, sym, subst}
 use Rattle.std.proofs.Common.{◌∙◌, inl, inr, append_assoc}
 use Rattle.std.specs.Prelude.{IsTrue, MatchBool, flat_map}
 use Rattle.std.specs.List.{AllByRecursion}
@@ -157,11 +158,11 @@ module _ (v : LogStoreValue) (h queue : History Value) (floors : ℕ → ℕ) (s
     late = subst (λ (n : ℕ). AllByRecursion (λ (head : Head). n < head.time) others) (sym mark-same)
         (later-than mark (flat_map commits_in (chains_told names l.chains)));
     by_last =
-      let order = ((s.stands).homes).marks in
-      let upto = archived-range s.reading h floors s.stands in
-      let is = marked in
-      let same = mark-same in
-      omega (arith, order, upto, is, same);
+        let order = ((s.stands).homes).marks in
+        let upto = archived-range s.reading h floors s.stands in
+        let is = marked in
+        let same = mark-same in
+        omega (arith, order, upto, is, same);
   }
 
 -- ---- they stay
@@ -231,5 +232,6 @@ names-left tells old new m after later leaves is told n = by-names leaves.names
     by-names (inl same) = names-later old new m after later same leaves.end (leaves.all told) n
     by-names (inr works) =
         names-of-heap new after.published after.queue after.floors
-        (subst (λ (b : Bool). MatchBool b (StopsOnHeap new after.published after.queue after.floors) (StandsOnHeap new after.published after.queue after.floors))
+        (subst (λ (b : Bool). MatchBool b (StopsOnHeap new after.published after.queue after.floors)
+        (StandsOnHeap new after.published after.queue after.floors))
         works (is.disk told))

@@ -1,5 +1,6 @@
 -- The times of a label are those of the history.
-use Rattle.std.proofs.Common.{◌≡◌, ℕ, ◌==◌, ◌<◌, ◌≤◌, nat_lt, Bool, true, false, cond, List, [], ◌∷◌, ◌++◌, map, filter, Result, Ok, Err, refl, arith, ap, sym, ◌∙◌}
+use Rattle.std.proofs.Common.{◌≡◌, ℕ, ◌==◌, ◌<◌, ◌≤◌, nat_lt, Bool, true, false, cond, List, [], ◌∷◌, ◌++◌, map, filter, Result, Ok, Err, refl}
+use Rattle.std.proofs.Common.{arith, ap, sym, ◌∙◌}
 use Rattle.std.specs.Prelude.{IsTrue}
 use Rattle.std.specs.List.{AllByRecursion}
 use Rattle.std.specs.declared.alloc.Global.{Global}
@@ -34,7 +35,8 @@ times-named label [] = refl
 times-named label (c ∷ cs) = by-label (c.label == label) (times-named label cs)
   where
     by-label : (b : Bool) → answers.times_of cs label ≡ times_named label (map head_of cs)
-        → map (λ (d : Commit Value). d.time) (cond b (c ∷ filter (λ (d : Commit Value). d.label == label) cs) (filter (λ (d : Commit Value). d.label == label) cs))
+        → map (λ (d : Commit Value). d.time) (cond b (c ∷ filter (λ (d : Commit Value). d.label == label) cs)
+        (filter (λ (d : Commit Value). d.label == label) cs))
         ≡ map (λ (head : Head). head.time) (cond b (head_of c ∷ filter (λ (head : Head). head.label == label) (map head_of cs))
         (filter (λ (head : Head). head.label == label) (map head_of cs)))
     by-label true rest = ap (λ (l : List ℕ). c.time ∷ l) rest
@@ -46,7 +48,8 @@ times-append label xs ys =
     ∙ map-append (λ (head : Head). head.time) (filter (λ (head : Head). head.label == label) xs) (filter (λ (head : Head). head.label == label) ys)
 
 -- none of these is later than the mark
-early-none : (mark label : ℕ) (names : List Head) → AllByRecursion (λ (head : Head). head.time ≤ mark) names → filter (nat_lt mark) (times_named label names) ≡ []
+early-none : (mark label : ℕ) (names : List Head) → AllByRecursion (λ (head : Head). head.time ≤ mark) names
+    → filter (nat_lt mark) (times_named label names) ≡ []
 early-none mark label [] by = refl
 early-none mark label (x ∷ xs) by = by-label (x.label == label) (early-none mark label xs by.1)
   where

@@ -3,4 +3,3 @@ pub mod Calls
 pub mod Laws
 pub mod Names
 pub mod Views
-pub mod Names

@@ -1,5 +1,4 @@
 pub mod Halving
-pub mod History
 pub mod Looking
 pub mod Right
 pub mod Sorting

@@ -20,7 +20,8 @@ use Rattle.log_entries.specs.declared.entry.Roll.{Roll}
 use Rattle.law_layout.proofs.Lists.{both}
 use Rattle.law_log_layout.specs.HeapLog.{name_bytes, IsName, IsNamedBefore, AreNamedInOrder}
 use Rattle.log_names.specs.declared.name.Name.{Name}
-use Rattle.log_names.specs.Standing.{name_in, name_at, name_count, roll_end, is_in_time, may_follow, halved, walked, first_in, times_behind, times_there, IsBroken}
+use Rattle.log_names.specs.Standing.{name_in, name_at, name_count, roll_end, is_in_time, may_follow, halved, walked, first_in, times_behind}
+use Rattle.log_names.specs.Standing.{times_there, IsBroken}
 use Rattle.log_names.specs.Standing.{PastEnd, BadName}
 use Rattle.log_names.specs.Rolls.{times_named, AreUpTo, HoldsNames}
 
@@ -90,10 +91,11 @@ are-read area start n (head ∷ heads) are held =
     let rest = flat_map name_bytes heads in
     let front : slice_range area (start + 16 * n) (start + 16 * n + 16) ≡ name_bytes head =
     ap (λ (k : ℕ). slice_range area (start + 16 * n) (start + 16 * n + k)) (sym long) ∙ part-front (start + 16 * n) (name_bytes head) rest area held in
-    let next : start + 16 * n + length (name_bytes head) ≡ start + 16 * (n + 1) = omega (arith, long) in
-    (ap name_in front ∙ name-again head are.0,
-    are-read area start (n + 1) heads are.1
-    (subst (λ (k : ℕ). HoldsPart k rest area) next (part-rest (start + 16 * n) (name_bytes head) rest area held)))
+    let next : start + 16 * n + length (name_bytes head) ≡ start + 16 * (n + 1) = omega (arith, long) in (
+      ap name_in front ∙ name-again head are.0,
+      are-read area start (n + 1) heads are.1
+          (subst (λ (k : ℕ). HoldsPart k rest area) next (part-rest (start + 16 * n) (name_bytes head) rest area held)),
+    )
 
 read-drop : (names : ℕ → Name) (k n : ℕ) (heads : List Head) → AreRead names n heads → AreRead names (n + k) (drop k heads)
 read-drop names zero n heads are = let same : n ≡ n + 0 = omega arith in subst (λ (m : ℕ). AreRead names m heads) same are
@@ -135,9 +137,10 @@ at-place names P (head ∷ heads) n are all i le less =
 of-place : (names : ℕ → Name) (P : Name → Type 0) (heads : List Head) (n : ℕ) → AreRead names n heads
     → ((i : ℕ) → n ≤ i → i < n + length heads → P (names i)) → AllByRecursion (λ (head : Head). P (name_of head)) heads
 of-place names P [] n are at = tt
-of-place names P (head ∷ heads) n are at =
-    (subst P are.0 (at n (omega arith) (omega arith)),
-    of-place names P heads (n + 1) are.1 (λ i le less. at i (omega arith) (omega arith)))
+of-place names P (head ∷ heads) n are at = (
+  subst P are.0 (at n (omega arith) (omega arith)),
+  of-place names P heads (n + 1) are.1 (λ i le less. at i (omega arith) (omega arith)),
+)
 
 label-above : (head : Head) (heads : List Head) → AllByRecursion (IsNamedBefore head) heads
     → AllByRecursion (λ (other : Head). head.label ≤ (name_of other).label) heads
@@ -157,7 +160,8 @@ labels-rise names (head ∷ heads) n are up i j low le less =
             | inl same ↦ let e : (names i).label ≡ (names j).label = ap (λ (k : ℕ). (names k).label) (first ∙ sym same) in omega (arith, e)
             | inr other ↦
                 let e : (names i).label ≡ head.label = ap (λ (k : ℕ). (names k).label) first ∙ ap (λ (m : Name). m.label) are.0 in
-                let far = at-place names (λ (m : Name). head.label ≤ m.label) heads (n + 1) are.1 (label-above head heads up.0) j (omega (arith, other)) (omega arith) in
+                let far = at-place names (λ (m : Name). head.label ≤ m.label) heads (n + 1) are.1 (label-above head heads up.0) j (omega (arith, other))
+                (omega arith) in
                 omega (arith, e, far)
           ]
       | inr other ↦ labels-rise names heads (n + 1) are.1 up.1 i j (omega (arith, other)) le (omega arith)
@@ -198,12 +202,15 @@ module _ (names : ℕ → Name) (upto label count : ℕ) (timed : (i : ℕ) → 
 
   at-end : (steps low high : ℕ) → low ≤ high → high ≤ count → high ≤ low → ((i : ℕ) → i < low → (names i).label < label)
       → ((i : ℕ) → high ≤ i → i < count → label ≤ (names i).label) → (n : ℕ) × (halved names upto label steps low high ≡ Some n) × IsFirst names label count n
-  at-end steps low high order within past below above =
-      (low, ended steps low high past, record {
-        within = omega arith;
-        below = below;
-        above = λ i le less. above i (omega arith) less;
-      })
+  at-end steps low high order within past below above = (
+    low,
+    ended steps low high past,
+    record {
+      within = omega arith;
+      below = below;
+      above = λ i le less. above i (omega arith) less;
+    },
+  )
 
   halves : (steps low high : ℕ) → low ≤ high → high ≤ count → high - low ≤ steps → ((i : ℕ) → i < low → (names i).label < label)
       → ((i : ℕ) → high ≤ i → i < count → label ≤ (names i).label) → (n : ℕ) × (halved names upto label steps low high ≡ Some n) × IsFirst names label count n
@@ -253,7 +260,8 @@ named-other label head heads other =
     let test : (head.label == label) ≡ false = grind (arith, nat_tests) in
     λ i. map (λ (h : Head). h.time) (cond (test i) (head ∷ filter (λ (h : Head). h.label == label) heads) (filter (λ (h : Head). h.label == label) heads))
 
-none-above : (label least : ℕ) (heads : List Head) → label < least → AllByRecursion (λ (head : Head). least ≤ (name_of head).label) heads → times_named label heads ≡ []
+none-above : (label least : ℕ) (heads : List Head) → label < least → AllByRecursion (λ (head : Head). least ≤ (name_of head).label) heads
+    → times_named label heads ≡ []
 none-above label least [] less all = refl
 none-above label least (head ∷ heads) less all =
     named-other label head heads (λ e. absurd (omega (arith, e, all.0, less))) ∙ none-above label least heads less all.1
@@ -309,7 +317,8 @@ module _ (names : ℕ → Name) (upto label : ℕ) where
 all-timed : (upto : ℕ) (heads : List Head) → AllByRecursion IsName heads → AreUpTo upto heads → AllByRecursion (IsTimed upto) heads
 all-timed upto heads are early = both IsName (λ (head : Head). head.time ≤ upto) (IsTimed upto) heads (λ head is le. (is.1, le)) are early
 
-timed-names : (upto : ℕ) (heads : List Head) → AllByRecursion (IsTimed upto) heads → AllByRecursion (λ (head : Head). is_in_time upto (name_of head) ≡ true) heads
+timed-names : (upto : ℕ) (heads : List Head) → AllByRecursion (IsTimed upto) heads
+    → AllByRecursion (λ (head : Head). is_in_time upto (name_of head) ≡ true) heads
 timed-names upto [] all = tt
 timed-names upto (head ∷ heads) all = (timed-name upto head all.0, timed-names upto heads all.1)
 
@@ -335,7 +344,8 @@ module _ (area : List ℕ) (upto label : ℕ) (roll : Roll) (heads : List Head) 
   first : (n : ℕ) × (first_in area upto label roll ≡ Some n) × IsFirst names label (name_count roll) n
   first =
       halves names upto label (name_count roll)
-      (λ i less. at-place names (λ (m : Name). is_in_time upto m ≡ true) heads 0 read (timed-names upto heads timed) i (omega arith) (omega (arith, many, less)))
+      (λ i less. at-place names (λ (m : Name). is_in_time upto m ≡ true) heads 0 read (timed-names upto heads timed) i (omega arith)
+      (omega (arith, many, less)))
       (λ i j le less. labels-rise names heads 0 read holds.stored.in_order i j (omega arith) le (omega (arith, many, less)))
       (name_count roll) 0 (name_count roll) (omega arith) (omega arith) (omega arith)
       (λ i less. absurd (omega arith)) (λ i le less. absurd (omega arith))

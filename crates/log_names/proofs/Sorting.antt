@@ -32,9 +32,10 @@ AreUp (x ∷ xs) = AllByRecursion (λ (y : ℕ). x ≤ y) xs × AreUp xs
 
 up-from : (xs : List ℕ) → IsNonDecreasing xs → AreUp xs
 up-from [] up = tt
-up-from (x ∷ xs) up =
-    (recursion_from_All (λ (y : ℕ). x ≤ y) xs (λ k d less. up 0 (suc k) d (omega arith) (omega (arith, less))),
-    up-from xs (λ i j d le less. up (suc i) (suc j) d (omega (arith, le)) (omega (arith, less))))
+up-from (x ∷ xs) up = (
+  recursion_from_All (λ (y : ℕ). x ≤ y) xs (λ k d less. up 0 (suc k) d (omega arith) (omega (arith, less))),
+  up-from xs (λ i j d le less. up (suc i) (suc j) d (omega (arith, le)) (omega (arith, less))),
+)
 
 -- one for this number
 abbrev one_at : ℕ → ℕ → ℕ
@@ -186,13 +187,14 @@ AreHeld area upto rolls = AllByRecursion (λ (r : PlacedRoll). HoldsNames area u
 are-held : (area : List ℕ) (upto : ℕ) (rolls : List PlacedRoll) → AllByRecursion (HoldsRoll area) rolls → AllByRecursion IsStoredRoll rolls
     → ((h : Head) → Contains (names_in rolls) h → h.time ≤ upto) → AreHeld area upto rolls
 are-held area upto [] held stored early = tt
-are-held area upto (r ∷ rolls) held stored early =
-    (record {
-      held = held.0;
-      stored = stored.0;
-      early = early-in r.names (λ h has. early h (Contains-append_left r.names (names_in rolls) h has));
-    },
-    are-held area upto rolls held.1 stored.1 (λ h has. early h (Contains-append_right r.names (names_in rolls) h has)))
+are-held area upto (r ∷ rolls) held stored early = (
+  record {
+    held = held.0;
+    stored = stored.0;
+    early = early-in r.names (λ h has. early h (Contains-append_left r.names (names_in rolls) h has));
+  },
+  are-held area upto rolls held.1 stored.1 (λ h has. early h (Contains-append_right r.names (names_in rolls) h has)),
+)
   where
     early-in : (names : List Head) → ((h : Head) → Contains names h → h.time ≤ upto) → AreUpTo upto names
     early-in [] le = tt
@@ -223,7 +225,8 @@ module _ (area : List ℕ) (upto label : ℕ) (rolls : List Roll) (heads : List 
   held : AreHeld area upto holds.placed
   held =
       are-held area upto holds.placed holds.held holds.stored
-      (λ h has. All-contains (λ (x : Head). x.time ≤ upto) heads h (All-from_recursion (λ (x : Head). x.time ≤ upto) heads holds.early) ((holds.named.same h).1 has))
+      (λ h has. All-contains (λ (x : Head). x.time ≤ upto) heads h (All-from_recursion (λ (x : Head). x.time ≤ upto) heads holds.early)
+      ((holds.named.same h).1 has))
 
   -- the times that were found, by rising time, are those of the commits
   pub all_right : (times found : List ℕ) → times_in_all area upto label rolls ≡ Some times → IsInOrder times found → found ≡ times_named label heads

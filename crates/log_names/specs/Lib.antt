@@ -1,4 +1,3 @@
 pub mod Looks
-pub mod Laws
 pub mod Rolls
 pub mod Standing

@@ -254,7 +254,7 @@ fn call_all<D: Disk + Send, L: Opening + Send + Sync, R: Threads + Wait + Sync>(
     }
 }
 
-// Publishes, archives and reclaims, until told to end. Where the log lies in the heap nothing is reclaimed.
+// Publishes, archives and reclaims, until told to end.
 fn keep_up<D: Disk + Send, L: Opening + Send + Sync, R: Threads + Wait + Sync>(
     rt: &R,
     store: &SharedStore<D, L>,

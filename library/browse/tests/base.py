@@ -2,6 +2,7 @@
 
 import http.client
 import re
+import struct
 import tempfile
 import threading
 import unittest
@@ -44,6 +45,13 @@ def fill(store: timestore.Store) -> None:
     commit(150, (65_535, MOST_RECORD, ("Zoë".encode(),)))
 
 
+def make_endless(folder: Path) -> None:
+    """A store of profile 4, of 64 extents, which only the program formats."""
+    (folder / "heap").write_bytes(bytes(8_192))
+    (folder / "archive").write_bytes(b"")
+    (folder / "status").write_bytes((b"NOOVER01" + struct.pack("<5I", 4, 64, 0, 1, 0)).ljust(512, b"\0"))
+
+
 class _Tables(HTMLParser):
     """The cells of a page's tables, row by row; fields are parted by |."""
 
@@ -80,12 +88,16 @@ def rows(page: str) -> list[list[str]]:
 class BrowseTest(unittest.TestCase):
     """A test with a store in a folder of its own."""
 
+    def make(self) -> None:
+        """Makes the store."""
+        timestore.make(self.folder, 64)
+
     def setUp(self) -> None:
         base = tempfile.TemporaryDirectory()
         self.addCleanup(base.cleanup)
         self.folder = Path(base.name) / "store"
         self.folder.mkdir()
-        timestore.make(self.folder, 64)
+        self.make()
         with timestore.Store(self.folder) as store:
             fill(store)
 

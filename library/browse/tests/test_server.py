@@ -12,7 +12,7 @@ import timestore
 
 from timestore_browse import copying, files
 
-from .base import BrowseTest, rows
+from .base import BrowseTest, make_endless, rows
 
 SCRIPT = Path(__file__).resolve().parents[1] / "timestore-browse"
 
@@ -151,11 +151,15 @@ class Copies(BrowseTest):
             store.grow()
             with store.begin(label=2**64 - 1, now=2**63 - 1) as txn:
                 txn.put(1, 7, b"e")
-        log = files.read_log((self.folder / "status").read_bytes())
-        self.assertEqual((log.reclaims, log.reclaimed, len(log.runs)), (1, 120, 1))
-        self.assertEqual([commit[:3] for commit in log.commits], [
+        log = files.read_log(self.folder)
+        self.assertEqual((log.reclaimed, len(log.runs)), (120, 1))
+        self.assertEqual(log.commits, [
             (100, 1, 1), (110, 2, 2), (120, 3, 1), (130, 4, 1), (140, 5, 1), (150, 6, 1), (2**63 - 1, 2**64 - 1, 1),
         ])  # fmt: skip
+
+    def relations(self) -> list[int]:
+        """The relations of the store."""
+        return files.relations(self.folder, files.read_log(self.folder))
 
     def test_relations(self) -> None:
         """Those of the heap and of the archive, in records of each kind and chains of many extents."""
@@ -170,12 +174,12 @@ class Copies(BrowseTest):
             with store.begin() as txn:
                 txn.delete(2, 1)
                 txn.put(6, 1, b"a")
-            self.assertEqual(files.relations(self.folder), [1, 2, 3, 4, 5, 6, 65_535])
+            self.assertEqual(self.relations(), [1, 2, 3, 4, 5, 6, 65_535])
             store.archive(store.last)
             store.reclaim()
             with store.begin() as txn:
                 txn.put(7, 1, b"a")
-        self.assertEqual(files.relations(self.folder), [1, 2, 3, 4, 5, 6, 7, 65_535])
+        self.assertEqual(self.relations(), [1, 2, 3, 4, 5, 6, 7, 65_535])
 
     def test_reclaim_amid_the_copy(self) -> None:
         """Without the lock a copy is taken again where a reclaim came in between; in the end it is refused."""
@@ -197,6 +201,70 @@ class Copies(BrowseTest):
             copying.copy(self.folder, Path(target), 0.1, is_locked=False)
             with timestore.Store(target) as store:
                 self.assertEqual(store.at(1, 7, 110), (b"b",))
+
+
+class Endless(BrowseTest):
+    """A store of profile 4."""
+
+    def make(self) -> None:
+        make_endless(self.folder)
+
+    def test_log(self) -> None:
+        """Of the commits up to the last reclaim time and label alone."""
+        whole = [(100, 1, 1), (110, 2, 2), (120, 3, 1), (130, 4, 1), (140, 5, 1), (150, 6, 1)]
+        self.assertEqual(files.read_log(self.folder), (whole, [], 0, {1, 2, 65_535}))
+        with timestore.Store(self.folder) as store:
+            store.archive(120)
+            store.reclaim()
+            store.floor_of(2, 140)
+            with store.begin(label=2**64 - 1, now=2**63 - 1) as txn:
+                txn.put(7, 7, b"e")
+        log = files.read_log(self.folder)
+        named = [(time, label, None) for time, label, _ in whole[:3]]
+        self.assertEqual(log.commits, [*named, *whole[3:], (2**63 - 1, 2**64 - 1, 1)])
+        self.assertEqual((log.reclaimed, len(log.runs), log.relations), (120, 1, {1, 2, 7, 65_535}))
+        self.assertEqual(files.relations(self.folder, log), [1, 2, 7, 65_535])
+        with timestore.Store(self.folder) as store:
+            store.archive(150)
+            store.reclaim()
+        log = files.read_log(self.folder)
+        self.assertEqual(log.commits, [*((time, label, None) for time, label, _ in whole), (2**63 - 1, 2**64 - 1, 1)])
+        self.assertEqual((log.reclaimed, len(log.runs)), (150, 2))
+
+    def test_chains_of_many_extents(self) -> None:
+        with timestore.Store(self.folder) as store:
+            with store.begin(label=7) as txn:
+                for record in range(200):
+                    txn.put(3, record, b"x" * 255)
+                txn.put(4, 1, b"y" * 255, b"a")
+            with store.begin(label=8) as txn:
+                txn.put(4, 1, b"y" * 255, b"b")
+                txn.put(5, 1, *[b"", b"z"] * 8)
+                txn.delete(2, 1)
+        log = files.read_log(self.folder)
+        self.assertEqual([commit[1:] for commit in log.commits[-2:]], [(7, 201), (8, 3)])
+        self.assertEqual(files.relations(self.folder, log), [1, 2, 3, 4, 5, 65_535])
+
+    def test_pages(self) -> None:
+        """A label is told of commits before the reclaim too, and a commit changes the store, though not its status."""
+        with timestore.Store(self.folder) as store:
+            store.archive(120)
+            store.reclaim()
+        server = self.serve()
+        self.assertEqual(rows(self.page(server, "/relations/1?at=110")), [["7", "b"], ["8", "x|y"]])
+        self.assertEqual([row[-2:] for row in rows(self.page(server, "/relations/1/records/7"))], [["4", "c"], ["3", "no value"], ["2", "b"], ["1", "a"]])
+        self.assertEqual([row[1:] for row in rows(self.page(server, "/commits"))][2:4], [["4", "1"], ["3", "not told"]])
+        self.assertIn("Its label is <strong>2</strong>", self.page(server, "/commits/110"))
+        with timestore.Store(self.folder) as store, store.begin(now=200) as txn:
+            txn.put(1, 7, b"d")
+        self.assertIn("The store has changed since this copy was made.", self.page(server, "/"))
+
+    def test_never_unlocked(self) -> None:
+        """Without the lock it is not copied, whether it is in use or not."""
+        with self.assertRaises(copying.NeedsLock):
+            self.serve(is_locked=False)
+        with timestore.Store(self.folder), self.assertRaises(copying.NeedsLock):
+            self.serve(is_locked=False)
 
 
 class Program(BrowseTest):
@@ -223,6 +291,14 @@ class Program(BrowseTest):
         done = subprocess.run([sys.executable, SCRIPT, str(self.folder)], env=environment, capture_output=True, text=True, timeout=60)
         self.assertEqual(done.returncode, 1)
         self.assertRegex(done.stderr, r"^timestore-browse: /nowhere/libtimestore\.so: [^\n]+: the environment's TIMESTORE_LIBRARY names [^\n]+\n$")
+
+    def test_profile_4_unlocked(self) -> None:
+        endless = self.folder.parent / "endless"
+        endless.mkdir()
+        make_endless(endless)
+        _, errors = (process := self.start(str(endless), "--unlocked")).communicate(timeout=60)
+        self.assertEqual(process.returncode, 1)
+        self.assertEqual(errors, f"timestore-browse: {endless}: --unlocked is not for a store of profile 4, whose copy could be damaged\n")
 
     def test_nothing_to_show(self) -> None:
         empty = self.folder.parent / "empty"

@@ -6,7 +6,8 @@ import time
 from pathlib import Path
 from typing import IO
 
-from .files import read_log
+from .chains import has_chains
+from .slots import last_reclaim
 
 LOCK_PAUSE_SECONDS = 0.02
 TRIES = 3
@@ -16,10 +17,14 @@ class InUse(Exception):
     """Another process has the store open, or went on changing it."""
 
 
-def stamp(folder: Path) -> tuple[int, int]:
-    """What changes where the store does: when its status was written last, and how long it is."""
-    state = (folder / "status").stat()
-    return state.st_mtime_ns, state.st_size
+class NeedsLock(Exception):
+    """A store of profile 4 is not copied while another process may write it."""
+
+
+def stamp(folder: Path) -> tuple[int, ...]:
+    """What changes where the store does: when its status and its heap were written last, and how long they are."""
+    states = [(folder / name).stat() for name in ("status", "heap")]
+    return tuple(number for state in states for number in (state.st_mtime_ns, state.st_size))
 
 
 def copy(folder: Path, target: Path, wait_seconds: float, is_locked: bool) -> None:
@@ -27,15 +32,18 @@ def copy(folder: Path, target: Path, wait_seconds: float, is_locked: bool) -> No
 
     It is locked, shared, while status and heap are copied. The archive follows without: what it has is never
     written over. Without the lock it is copied again where a reclaim came in between, which lets bytes of the heap
-    be written over.
+    be written over. A store of profile 4 is never copied without (`NeedsLock`): the log itself is in the heap, and the
+    copy might have the gate of a chain whose other extents were copied before they were written.
     """
     with open(folder / "status", "rb") as status:
         if is_locked:
             _lock(status, wait_seconds)
             _copy_front(folder, target)
             fcntl.flock(status, fcntl.LOCK_UN)
+        elif has_chains(status.read()):
+            raise NeedsLock("--unlocked is not for a store of profile 4, whose copy could be damaged")
         else:
-            _copy_beside(folder, target)
+            _copy_unlocked(folder, target)
     shutil.copyfile(folder / "archive", target / "archive")
 
 
@@ -44,11 +52,12 @@ def _copy_front(folder: Path, target: Path) -> None:
         shutil.copyfile(folder / name, target / name)
 
 
-def _copy_beside(folder: Path, target: Path) -> None:
-    """The same beside a process that has the store open."""
+def _copy_unlocked(folder: Path, target: Path) -> None:
+    """The same while a process may have the store open."""
     for _ in range(TRIES):
         _copy_front(folder, target)
-        if read_log((folder / "status").read_bytes()).reclaims == read_log((target / "status").read_bytes()).reclaims:
+        before, after = ((it / "status").read_bytes() for it in (target, folder))
+        if last_reclaim(before) == last_reclaim(after):
             return
     raise InUse("the store was reclaimed while it was copied")
 

@@ -5,9 +5,9 @@ from typing import NamedTuple
 import timestore
 
 from . import chart
-from .files import Commit
 from .markup import Markup, element, join
 from .reading import Difference, Names, Past, Summary
+from .records import Commit
 from .values import instant, is_text, lasting, spelled
 
 ROWS_MOST = 500
@@ -261,7 +261,8 @@ def commits(frame: Frame, past: Past, first: int) -> str:
 
 def _commit_row(commit: Commit) -> Markup:
     link = element("a", instant(commit.time), href=f"/commits/{commit.time}", title=f"{commit.time} microseconds since 1970")
-    return _row(link, element("span", commit.label, title=f"hexadecimal {commit.label:x}"), f"{commit.records:,}", class_="numbers")
+    records = element("span", "not told", class_="empty") if commit.records is None else f"{commit.records:,}"
+    return _row(link, element("span", commit.label, title=f"hexadecimal {commit.label:x}"), records, class_="numbers")
 
 
 def commit(frame: Frame, past: Past, time: int) -> str:

@@ -7,7 +7,8 @@ from typing import NamedTuple
 
 import timestore
 
-from .files import Commit, read_log, relations
+from .files import read_log, relations
+from .records import Commit
 from .values import spelled
 
 
@@ -64,11 +65,12 @@ class Past:
         """Names are in a relation of the store, where one is told: its record N has the name of relation N, then those
         of its fields, each up to a colon."""
         self._store = timestore.Store(folder)
-        self.commits: list[Commit] = read_log((folder / "status").read_bytes()).commits
+        log = read_log(folder)
+        self.commits: list[Commit] = log.commits
         self._labels = {commit.time: commit.label for commit in self.commits}
         self.last = self._store.last
         self._moments: dict[int, list[int]] = {}
-        self.relations = self._summaries(relations(folder))
+        self.relations = self._summaries(relations(folder, log))
         self._names = {} if names_in is None else {relation: _names(fields) for relation, fields in self.records(names_in, self.last)}
 
     def close(self) -> None:

@@ -37,8 +37,8 @@ HEADERS = {
     "Cache-Control": "no-store",
 }
 IN_USE = (
-    "Another process has the store open, so it can't be copied now. It is not waited for. Close the other process and try again, "
-    "or start timestore-browse with --unlocked, which copies the files beside it."
+    "Another process has the store open, so it can't be copied now. It is not waited for. Close the other process and try again. "
+    "If the store is not of profile 4, you can also start timestore-browse with --unlocked, which copies the files meanwhile."
 )
 
 
@@ -73,7 +73,7 @@ class Browser:
     def __init__(self, source: Source) -> None:
         self._source = source
         self._files: tempfile.TemporaryDirectory[str] | None = None
-        self._stamp = (0, 0)
+        self._stamp: tuple[int, ...] = ()
         self._copied = ""
         self._is_in_use = False
         self.past: Past | None = None
@@ -288,7 +288,7 @@ class _Handler(BaseHTTPRequestHandler):
     def _copy(self) -> None:
         try:
             self._server.ask(self._server.browser.copy)
-        except (timestore.Refused, OSError) as why:
+        except (timestore.Refused, copying.NeedsLock, OSError) as why:
             frame = self._server.ask(self._server.browser.frame)
             self._send(Answer(pages.message(frame, "The store can't be copied", str(why)), HTTPStatus.SERVICE_UNAVAILABLE))
             return
@@ -384,7 +384,7 @@ def _arguments() -> argparse.Namespace:
     parser.add_argument("--port", metavar="N", type=_sixteen_bits, default=0, help="the port to listen on; else a free one")
     names = "the relation whose record N has the name of relation N, then those of its fields, each up to a colon"
     parser.add_argument("--names", metavar="REL", type=_sixteen_bits, help=names)
-    unlocked = "copy the files beside a process that has the store open; a power cut may undo the last commits that are shown"
+    unlocked = "copy the files while another process has the store open, not those of profile 4; a power cut may undo the last commits that are shown"
     parser.add_argument("--unlocked", action="store_true", help=unlocked)
     return parser.parse_args()
 
@@ -402,7 +402,7 @@ def main() -> int:
             server.serve_forever()
     except KeyboardInterrupt:
         return 0
-    except timestore.Refused as why:
+    except (timestore.Refused, copying.NeedsLock) as why:
         print(f"timestore-browse: {args.folder}: {why}", file=sys.stderr)
     except OSError as why:
         is_missing = isinstance(why, FileNotFoundError) and args.folder.is_dir()

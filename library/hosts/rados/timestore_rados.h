@@ -26,7 +26,7 @@ typedef struct ts_rados_place {
    through a fork. */
 typedef struct ts_rados ts_rados;
 
-/* Codes beside those of timestore_file.h: TS_LOCKED says that another host owns the store, TS_SYSTEM that the cluster or the system
+/* Codes besides those of timestore_file.h: TS_LOCKED says that another host owns the store, TS_SYSTEM that the cluster or the system
    refused a call, TS_OCCUPIED that the place has a store or a part of one. */
 enum {
     TS_FENCED = -120, /* another host has taken the store over: nothing is written any more */
@@ -95,7 +95,7 @@ int32_t ts_rados_put(ts_rados *host, uint16_t relation, uint64_t record, const u
                      uint64_t now, ts_info *info);
 int32_t ts_rados_delete(ts_rados *host, uint16_t relation, uint64_t record, uint64_t label, uint64_t now, ts_info *info);
 
-/* What stands now, after the last commit: the value of a record, as ts_recent, and the records of a relation with their values, as
+/* The present, after the last commit: the value of a record, as ts_recent, and the records of a relation with their values, as
    ts_scan_at. They need no archive. */
 int32_t ts_rados_get(ts_rados *host, uint16_t relation, uint64_t record, uint8_t *out, size_t len, ts_info *info);
 int32_t ts_rados_scan(ts_rados *host, uint16_t relation, ts_row *rows, size_t row_count, uint8_t *out, size_t len, ts_info *info);

@@ -422,7 +422,7 @@ _opened: weakref.WeakSet[Store] = weakref.WeakSet()
 
 
 def _forget_all() -> None:
-    """In the child of a fork, which would write the files beside its parent."""
+    """In the child of a fork, which would write the files while its parent does."""
     for store in _opened:
         store._forget()
 

@@ -140,7 +140,7 @@ class Damaged(Refused, code=-18):
 
     @property
     def place(self) -> int:
-        """Where: a slot, the first extent of a chain, or the first byte of a run."""
+        """Where: a slot, the first extent of a chain, or the first byte of what an archive wrote."""
         return self.first
 
 
@@ -149,7 +149,7 @@ class NotAStore(Refused, code=-19):
 
 
 class Busy(Refused, code=-20):
-    """One slot is in the writing at a time: pump the other one."""
+    """One slot is written at a time: pump the other one."""
 
 
 class JobBusy(Refused, code=-21):
@@ -198,7 +198,7 @@ class Locked(Refused, code=-101):
 
 
 class Occupied(Refused, code=-102):
-    """A store, or something else, stands there."""
+    """A store, or something else, is there already."""
 
 
 class Cached(Refused, code=-103):

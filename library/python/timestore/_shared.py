@@ -28,7 +28,7 @@ _KEPT = 16
 class SharedStore(CommonStore["SharedTransaction", "SharedView"]):
     """An open store that any thread may call. As a context it is closed at its end.
 
-    Commits of several threads are written together, up to 16 under one gate. Calls let other threads
+    Commits of several threads are written together, up to 16 with the syncs of one. Calls let other threads
     run; queries are made one at a time. Transactions and views may go from thread to thread.
     """
 

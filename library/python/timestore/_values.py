@@ -55,7 +55,7 @@ def micros(time: Time) -> int:
 
 
 def moment(time: int) -> datetime:
-    """The `datetime` of a time, in UTC. `OverflowError` behind the year 9999."""
+    """The `datetime` of a time, in UTC. `OverflowError` after the year 9999."""
     return _EPOCH + timedelta(microseconds=time)
 
 

@@ -3,7 +3,7 @@ use crate::raw::{self, File, Info};
 use std::ffi::{CStr, c_char};
 use std::{fmt, io};
 
-/// The refusals by their codes, first those that tell nothing beside it, then those that tell a time.
+/// The refusals by their codes, first those that tell nothing besides it, then those that tell a time.
 macro_rules! refusals {
     (
         $($(#[$plain_doc:meta])* $plain:ident = $plain_code:literal,)*;
@@ -26,7 +26,7 @@ macro_rules! refusals {
             Damaged {
                 /// The file that breaks a rule.
                 area: Area,
-                /// Where: a slot, the first extent of a chain, or the first byte of a run.
+                /// Where: a slot, the first extent of a chain, or the first byte of what an archive wrote.
                 place: u64,
             },
             /// Memory was refused amid a commit, which waits: a later flush publishes it, and
@@ -122,7 +122,7 @@ refusals! {
     EmptyInterval = -17,
     /// The folder has no store.
     NotAStore = -19,
-    /// One slot is in the writing at a time.
+    /// One slot is written at a time.
     Busy = -20,
     /// An archive, a reclaim, a floor or a growth is being made.
     JobBusy = -21,
@@ -141,7 +141,7 @@ refusals! {
     NotGrowable = -28,
     /// Another process has the store open.
     Locked = -101,
-    /// A store, or something else, stands there.
+    /// A store, or something else, is there already.
     Occupied = -102,
     /// This process has the store open.
     AlreadyOpen = -104,
@@ -150,7 +150,7 @@ refusals! {
     BeforeKept = -15,
     /// The last commit is of this time: a later one may still change the answer.
     NotYet = -16,
-    /// A transaction reads below the mark or the floor; the least snapshot is named.
+    /// An open transaction reads at a time too early for the reclaim or the floor; the least such time is named.
     InUse = -25,
 }
 

@@ -1,7 +1,7 @@
 //! What queries find, made row by row as it is taken.
 use crate::{Fields, Store, fields_of, raw};
 
-/// What stood in a record from one time on, up to another.
+/// A value that a record had, from one time on up to another.
 #[derive(Clone, Debug, PartialEq, Eq)]
 pub struct Row {
     /// The record's number.

@@ -1,6 +1,6 @@
 //! A store that any thread may call.
 //!
-//! Commits of several threads are written together, up to 16 under one gate. Queries take the store's lock for as
+//! Commits of several threads are written together, up to 16 with the syncs of one. Queries take the store's lock for as
 //! long as they take, and wait for no commit. What is given out here is of its own: it may be sent to another
 //! thread, and used by several. The store is closed by [`SharedStore::close`], or with the last of all that it
 //! gave out.
@@ -154,14 +154,14 @@ impl SharedStore {
         })
     }
 
-    /// The value that stands now, after the last commit.
+    /// The present value, after the last commit.
     pub fn get(&self, relation: u16, record: u64) -> Result<Option<Fields>> {
         self.0.read(|s, out, len, info| unsafe {
             raw::ts_shared_get(s, relation, record, out, len, info)
         })
     }
 
-    /// The records of a relation with the values that stand now, in rising order.
+    /// The records of a relation with their present values, in rising order.
     pub fn scan(&self, relation: u16) -> Result<Records> {
         let found = self.0.rows(|s, room, info| unsafe {
             let (rows, count, out, len) = room.parts();
@@ -394,7 +394,7 @@ impl View {
         found.map(RecordsOf)
     }
 
-    /// What stood in a record from one time up to another, by rising time.
+    /// The values of a record from one time up to another, by rising time.
     pub fn between(&self, relation: u16, record: u64, from: u64, upto: u64) -> Result<Rows> {
         self.store.rows(|s, room, info| unsafe {
             let (rows, count, out, len) = room.parts();

@@ -15,7 +15,7 @@ const ROOMS_KEPT: usize = 4;
 pub enum Step {
     /// There was nothing to do.
     Idle,
-    /// An extent of the group, or a piece of an archive, was written.
+    /// An extent of the group, or a part of an archive, was written.
     Wrote,
     /// What was written of it was synced.
     Synced,
@@ -27,11 +27,11 @@ pub enum Step {
     GateWritten,
     /// So many commits are published, or the job is done.
     Published(u64),
-    /// Of a reclaim: an extent of what stands at its mark, or of its base, was written.
+    /// Of a reclaim: an extent of the values at its time, or of its base, was written.
     KeptWritten,
     /// Of a reclaim: these were synced. Where the log lies in the heap: a job's entry was, but for its gate.
     KeptSynced,
-    /// Of a growth: zeros were written behind the slots.
+    /// Of a growth: zeros were written after the slots.
     ZerosWritten,
     /// Of a growth: these were synced.
     ZerosSynced,
@@ -39,7 +39,7 @@ pub enum Step {
     EntryWritten,
     /// Where the log lies in the heap: the gate where the log will end was closed.
     GateClosed,
-    /// Of a reclaim there: a piece of the names of archived commits was written.
+    /// Of a reclaim there: a part of the names of archived commits was written.
     RollWritten,
     /// Of a reclaim there: these were synced.
     RollSynced,
@@ -179,7 +179,7 @@ impl Store {
         Store::committed(txn, label)
     }
 
-    /// The value that stands now, after the last commit.
+    /// The present value, after the last commit.
     pub fn get(&self, relation: u16, record: u64) -> Result<Option<Fields>> {
         let file = self.file;
         // SAFETY: the file is open, and at most `len` bytes are written at `out`.
@@ -188,7 +188,7 @@ impl Store {
         })
     }
 
-    /// The records of a relation with the values that stand now, in rising order.
+    /// The records of a relation with their present values, in rising order.
     pub fn scan(&self, relation: u16) -> Result<Records<'_>> {
         let file = self.file;
         // SAFETY: the file is open, and no more rows and bytes are written than there is room for.

@@ -65,7 +65,7 @@ impl<'a> View<'a> {
         found.map(RecordsOf)
     }
 
-    /// What stood in a record from one time up to another, by rising time.
+    /// The values of a record from one time up to another, by rising time.
     pub fn between(&self, relation: u16, record: u64, from: u64, upto: u64) -> Result<Rows<'a>> {
         let number = self.number;
         self.store.rows_lent(|h, at, size, room, info| unsafe {

@@ -33,11 +33,11 @@ loop-n-preserved g c = record {
   rises = omega (arith, c.loop-n.invariant.rises, c.in_ok-name.ensures.rises);
   within = omega arith;
   front = let front = c.loop-n.invariant.front in (
-        front.0 ++ c.in_ok-name.name.time ∷ [],
-        c.in_ok-push.ensures.items ∙ ap (λ (l : List ℕ). l ++ c.in_ok-name.name.time ∷ []) front.1
+    front.0 ++ c.in_ok-name.name.time ∷ [],
+    c.in_ok-push.ensures.items ∙ ap (λ (l : List ℕ). l ++ c.in_ok-name.name.time ∷ []) front.1
         ∙ append_assoc c.args.into.now.items front.0 (c.in_ok-name.name.time ∷ []),
-        omega (arith, front.2, c.in_ok-name.ensures.counted, length-append front.0 (c.in_ok-name.name.time ∷ [])),
-      );
+    omega (arith, front.2, c.in_ok-name.ensures.counted, length-append front.0 (c.in_ok-name.name.time ∷ [])),
+  );
   disk = c.in_ok-name.ensures.looks.disk ∙ c.loop-n.invariant.disk;
   kept = keeps_on c.loop-n.invariant.disk c.loop-n.invariant.kept c.in_ok-name.ensures.looks.kept;
   walking = λ told right.
