@@ -212,6 +212,11 @@ class Endless(Machine):
         self.named_after = self.reclaimed
         return said
 
+    def vacuum(self, upto: int) -> list[str]:
+        said = super().vacuum(upto)
+        self.named_after = self.reclaimed
+        return said
+
     def asked(self, word: str, numbers: list[int]) -> list[str] | None:
         if word != "times":
             return super().asked(word, numbers)

@@ -6,11 +6,10 @@ import copy
 import signal
 from collections.abc import Iterable
 
-import image
 import machine
 from machine import Front, Machine, Transaction
 from program import Areas, Failure, Session, is_whole, read_areas, write_areas
-from scripts import LARGE, check_left, questions
+from scripts import LARGE, check_left, machine_of, questions, reader_of
 from wrong import HARMLESS, Wrong
 
 BY_A_REFUSED_CALL = ("refused: no memory", "refused: device", "refused: failed")
@@ -353,9 +352,8 @@ class Case:
     def __init__(self, program: str, folder: str, start: Areas, wrong: Wrong) -> None:
         self.program, self.wrong, self.folder = program, wrong, folder
         # a store in memory is of the newest profile
-        slots = image.header(start["status"]) if folder else SLOTS
-        profile = image.profile_of(start["status"]) if folder else machine.NEWEST
-        self.small = Machine(slots=slots, profile=profile)
+        in_memory = Machine(slots=SLOTS, profile=machine.NEWEST)
+        self.small = machine_of(reader_of(start).read(start), []) if folder else in_memory
         self.front = self.small.front()
         self.done: list[int] = []
         if folder:
@@ -565,10 +563,10 @@ class Case:
         """A line of several groups may have published the first ones: how many is asked."""
         small = self.small
         said = self.session.ask(f"at 1 1 {machine.LATEST + 1}")
-        group = small.group or machine.GROUP_MOST
+        group = small.group or small.group_most
         while small.queue and said != [f"refused: not yet {machine.last(small.published)}"]:
             small.published = small.published + small.queue[:group]
-            small.queue, group = small.queue[group:], machine.GROUP_MOST
+            small.queue, group = small.queue[group:], small.group_most
         if said != [f"refused: not yet {machine.last(small.published)}"]:
             raise self.failure(
                 f"after failed, the last commit is {said}", said, ["that of a whole group"]

@@ -223,8 +223,10 @@ def check_left(
         if said != due:
             raise failure(f"what was left {differing(said, due)}", lines, wanted)
         # how many slots there are is told by the log's text alone
+        if len({*front.slots}) == 1:
+            return left
         due = (0, image.dump(areas["status"]))
-        said = command(program, "dump", folder) if len({*front.slots}) > 1 else due
+        said = command(program, "dump", folder)
         if said != due:
             raise failure(f"dump of what was left {differing(said, due)}", [], due[1], "dump DIR")
     return left

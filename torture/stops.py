@@ -53,7 +53,7 @@ def growth_call(growth: Job, status: bytes) -> Call:
 
 def extent_call(before: Areas, after: Areas, head: int | None = None) -> Call:
     """The write of the first extent that has changed; of one that begins at the head all but its
-    gate."""
+    gate. Where there is a head and no change, that of some extent."""
     new = after["heap"]
     old = before["heap"].ljust(len(new), b"\0")
     changed_at = (
@@ -61,9 +61,11 @@ def extent_call(before: Areas, after: Areas, head: int | None = None) -> Call:
         for at in range(0, len(new), image.EXTENT)
         if new[at: at + image.EXTENT] != old[at: at + image.EXTENT]
     )
-    at = next(changed_at, None)
-    low, is_head = at or 0, at is not None and at == head
-    return Call("write", "heap", low + is_head, low + image.EXTENT)
+    low = next(changed_at, None)
+    if low is None and head is not None:
+        return Call("write", "heap")
+    low = low or 0
+    return Call("write", "heap", low + (low == head), low + image.EXTENT)
 
 
 def endless_call(said: str, before: Areas, after: Areas, job: Job | None) -> Call | None:
@@ -122,8 +124,10 @@ def is_of(call: Call, shown: Call) -> bool:
     if shown.area == "archive":
         is_within = call.kind == "sync" or shown.low <= call.low < call.high <= shown.high
         return (call.kind, call.area) == (shown.kind, shown.area) and is_within
-    if shown.area == "heap" and shown.high - shown.low > 1:
-        is_extent = call.high % image.EXTENT == 0 and call.high - call.low == shown.high - shown.low
+    if (shown.kind, shown.area) == ("write", "heap") and shown.high - shown.low != 1:
+        length, least = call.high - call.low, image.EXTENT - 1
+        is_long = length == shown.high - shown.low if shown.high else length in (least, least + 1)
+        is_extent = is_long and call.high % image.EXTENT == 0
         return (call.kind, call.area) == ("write", "heap") and is_extent
     return call == shown
 

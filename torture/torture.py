@@ -320,7 +320,7 @@ def refused_case(program: str, chance: random.Random, folder: str, profile: int)
     """Some calls of a random script, each refused in a run of its own."""
     formatted, store = os.path.join(folder, "formatted"), os.path.join(folder, "store")
     os.makedirs(formatted)
-    format_store(program, formatted, 256, profile)
+    new_store(program, formatted, 256, profile)
     start, nothing = read_areas(formatted), wrong.Wrong(folder)
     first = Case(program, store, start, nothing)
     opened: Counter = Counter()
@@ -348,7 +348,7 @@ KINDS = {
 
 
 # the kinds that try stores of profile 4 too
-WITH_ENDLESS = ("stops", "kills", "full")
+WITH_ENDLESS = ("stops", "kills", "full", "refused")
 # what of a kind is left out where there is no compiler
 NEEDS_COMPILER = {"stops": CALLS_UNSEEN, "refused": "refused calls"}
 
