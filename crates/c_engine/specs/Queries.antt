@@ -103,10 +103,14 @@ LentScanRows archive runs view relation a b answer =
     MatchBool (is_none archive view) (RecentScanRows view relation a b answer) (Over archive runs
     (λ old new. FindsScanRows alone true old view relation a b answer new))
 
--- The times of a label over the archive that is lent. Where none is, though names of commits lie there, it is needed.
+-- no byte is lent, though names of commits lie in the archive
+abbrev pub lacks_rolls : List ℕ → StoreValue → Bool
+lacks_rolls archive v = (length archive == 0) && has_rolls v
+
+-- the times of a label over the archive that is lent; where none is and some lie there, it is needed
 abbrev pub LentTimes : List ℕ → StoreValue → ℕ → Result (Vec ℕ Global) QueryFault → Type 0
 LentTimes archive v label answer =
-    MatchBool ((length archive == 0) && has_rolls v) (answer ≡ Err NeedsDisk) ((before after : Lent) × IsOver archive before
+    MatchBool (lacks_rolls archive v) (answer ≡ Err NeedsDisk) ((before after : Lent) × IsOver archive before
     × AnswersTimes true (with_disk v (slices_state before.disk)) label answer (with_disk v (slices_state after.disk)))
 
 -- ---- codes and bytes

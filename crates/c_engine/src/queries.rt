@@ -3,7 +3,7 @@ ghost use Rattle.std.specs.Prelude.{◌≡◌, option_copied};
 ghost use Rattle.timequery.specs.Archives.{ArchiveValue};
 ghost use Rattle.c_engine.specs.Engines.{AreTimesTold};
 ghost use Rattle.c_engine.specs.Held.{view_of};
-ghost use Rattle.c_engine.specs.Queries.{is_none, takes_bytes, TellsRecent, TellsAt, LentScanAt, LentRows, LentScanRows, LentTimes};
+ghost use Rattle.c_engine.specs.Queries.{is_none, lacks_rolls, takes_bytes, TellsRecent, TellsAt, LentScanAt, LentRows, LentScanRows, LentTimes};
 
 use crate::asking::{self, Kept, Lent};
 use crate::code::{Code, Info, Row};
@@ -124,11 +124,18 @@ fn scan_between(
     lent.scan_between(view, relation, a, b)
 }
 
+// Whether no byte is lent, though names of commits lie in the archive.
+fn lacks_rolls(archive: &[u8], store: &Kept) -> bool
+    ensures { result ≡ lacks_rolls archive.now store.now }
+{
+    archive.is_empty() && store.has_rolls()
+}
+
 // The times of a label, over the archive that is lent; where none is, it may be needed.
 fn times_of(alloc: Global, archive: &[u8], store: &Kept, label: u64) -> Result<Vec<u64>, QueryFault>
     ensures { LentTimes archive.now store.now label result }
 {
-    if archive.is_empty() && store.has_rolls() {
+    if lacks_rolls(archive, store) {
         return Err(QueryFault::NeedsDisk);
     }
     let mut lent = Lent::new(alloc, archive);
