@@ -18,6 +18,7 @@ use Rattle.law_any_store.specs.Starts.{ArchiveSays, ReclaimSays}
 use Rattle.law_any_store.proofs.Memory.{memory-stands}
 use Rattle.law_any_store.proofs.Jobs.{archive-start-stands, reclaim-start-stands, job-pump-stands}
 use Rattle.law_any_store.proofs.Leaving.{start-leaves, reclaim-leaves, pumped-leaves}
+use Rattle.law_any_store.proofs.Names.{start-names, reclaim-names, pumped-names}
 use Rattle.law_any_store.proofs.StartSays.{start-says, reclaim-says}
 use Rattle.law_any_store.proofs.Views.{archive-start-goes, reclaim-start-goes, job-pump-goes}
 use Rattle.run.specs.declared.calls.Call.TheVariants as call
@@ -56,7 +57,7 @@ start-leads tells v v' xs upto r starts w is = (
       (subst (λ (b : Bool). ArchiveSays b w.machine upto r) (sym is.layout) (start-says tells v v' upto r w.machine is.stands starts)),
   no-step w.machine,
   kept-world tells v v' xs w w.machine is
-      (archive-start-goes tells v v' upto r w.machine is.stands starts)
+      (record { goes = archive-start-goes tells v v' upto r w.machine is.stands starts; names = start-names v v' upto r starts })
       (archive-start-stands tells v v' upto r w.machine is.stands starts) (goes_on-same w.machine.published)
       (λ x. pump-keeps (commits_of v) (commits_of v') x (start-leaves v v' upto r starts)),
 )
@@ -85,7 +86,7 @@ reclaim-leads tells v v' xs r starts w is = (
   reclaims-so w r (subst (λ (b : Bool). ReclaimSays b w.machine r) (sym is.layout) (reclaim-says tells v v' r w.machine is.stands starts)),
   no-step w.machine,
   kept-world tells v v' xs w w.machine is
-      (reclaim-start-goes tells v v' r w.machine is.stands starts)
+      (record { goes = reclaim-start-goes tells v v' r w.machine is.stands starts; names = reclaim-names v v' r starts })
       (reclaim-start-stands tells v v' r w.machine is.stands starts) (goes_on-same w.machine.published)
       (λ x. pump-keeps (commits_of v) (commits_of v') x (reclaim-leaves v v' r starts)),
 )
@@ -105,7 +106,7 @@ pumped-leads tells v v' xs r sound pumps w is =
         → IsWorld tells v' (xs ++ held.Nothing ∷ []) (same (moved w m))
     world m goes stands =
         kept-world tells v v' xs w m is
-        (job-pump-goes tells v v' r w.machine is.stands pumps) stands goes
+        (record { goes = job-pump-goes tells v v' r w.machine is.stands pumps; names = pumped-names tells v v' r pumps }) stands goes
         (λ x. pump-keeps (commits_of v) (commits_of v') x (pumped-leaves tells v v' r pumps))
 
     Does-so : Bool → World → Type 0

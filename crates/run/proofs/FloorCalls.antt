@@ -13,6 +13,7 @@ use Rattle.law_any_store.specs.Calls.{StartsOn}
 use Rattle.law_any_store.specs.Standing.{Stands}
 use Rattle.law_any_store.proofs.Jobs.{floor-start-stands}
 use Rattle.law_any_store.proofs.Leaving.{floor-leaves}
+use Rattle.law_any_store.proofs.Names.{floor-names}
 use Rattle.law_any_store.proofs.Views.{floor-start-goes}
 use Rattle.run.specs.declared.calls.Call.TheVariants as call
 use Rattle.run.specs.declared.calls.Answer.TheVariants as answer
@@ -72,7 +73,7 @@ floor-leads tells v v' xs scope floor r starts w is =
       leads.says,
       leads.follows,
       kept-world tells v v' xs w leads.after is
-          (floor-start-goes tells v v' scope floor r w.machine is.stands starts)
+          (record { goes = floor-start-goes tells v v' scope floor r w.machine is.stands starts; names = floor-names v v' scope floor r starts })
           leads.stands
           (subst (λ (h : History Value). GoesOn w.machine.published h) (sym leads.published) (goes_on-same w.machine.published))
           (λ x. pump-keeps (commits_of v) (commits_of v') x (floor-leaves v v' scope floor r starts)),

@@ -7,6 +7,7 @@ use Rattle.any_store.specs.Jobs.{StartsGrowth}
 use Rattle.law_any_store.specs.Starts.{GrowSays}
 use Rattle.law_any_store.proofs.Jobs.{grow-start-stands}
 use Rattle.law_any_store.proofs.Leaving.{grow-leaves}
+use Rattle.law_any_store.proofs.Names.{grow-names}
 use Rattle.law_any_store.proofs.StartSays.{grow-says}
 use Rattle.law_any_store.proofs.Views.{grow-start-goes}
 use Rattle.run.specs.declared.calls.Call.TheVariants as call
@@ -42,7 +43,7 @@ grow-leads tells v v' xs r starts w is = (
   grows-so w r (grow-says tells v v' r w.machine is.stands starts),
   no-step w.machine,
   kept-world tells v v' xs w w.machine is
-      (grow-start-goes tells v v' r w.machine is.stands starts)
+      (record { goes = grow-start-goes tells v v' r w.machine is.stands starts; names = grow-names v v' r starts })
       (grow-start-stands tells v v' r w.machine is.stands starts) (goes_on-same w.machine.published)
       (λ x. pump-keeps (commits_of v) (commits_of v') x (grow-leaves v v' r starts)),
 )

@@ -20,6 +20,7 @@ use Rattle.law_any_store.specs.Standing.{Stands}
 use Rattle.law_any_store.proofs.Memory.{memory-stands}
 use Rattle.law_any_store.proofs.Calls.{pump-stands}
 use Rattle.law_any_store.proofs.Leaving.{pump-leaves}
+use Rattle.law_any_store.proofs.Names.{pump-names}
 use Rattle.law_any_store.proofs.Views as lasting
 use Rattle.run.specs.declared.calls.Call.TheVariants as call
 use Rattle.run.specs.declared.calls.Answer.TheVariants as answer
@@ -59,7 +60,7 @@ pump-leads tells v v' xs r sound pumps w is =
         → IsWorld tells v' (xs ++ held.Nothing ∷ []) (same (moved w m))
     world m goes stands =
         kept-world tells v v' xs w m is
-        (lasting.pump-goes tells v v' r w.machine is.stands pumps) stands goes
+        (record { goes = lasting.pump-goes tells v v' r w.machine is.stands pumps; names = pump-names tells v v' r pumps }) stands goes
         (λ x. pump-keeps (commits_of v) (commits_of v') x (pump-leaves tells v v' r pumps))
 
     Done : Bool → Type 0

@@ -133,6 +133,7 @@ rewrite-leads tells v xs i t t' ws c a here is does w world = (
       ∷ []) (same (put w i (Running t.snapshot ws)))) (sym is) (record {
         stands = world.stands;
         layout = world.layout;
+        names = world.names;
         places = push_nothing (commits_of v) w.machine.published (slice_set xs i (held.Transaction (record t { writes = ws })))
             (slice_set w.places i (Running t.snapshot ws))
             (rewritten-places (commits_of v) w.machine.published xs w.places i t ws here world.places);

@@ -19,12 +19,13 @@ use Rattle.group.specs.Values.{is_snapshot, is_of_value}
 use Rattle.commits.specs.Values.{CommitsValue, is_own, over}
 use Rattle.any_store.specs.Values.{StoreValue, commits_of}
 use Rattle.any_store.specs.Calls as stores
-use Rattle.law_any_store.specs.Standing.{Stands, GoesOn as StoreGoesOn}
+use Rattle.law_any_store.specs.Standing.{Stands}
 use Rattle.law_any_store.specs.Calls.{BeginsOn}
 use Rattle.law_any_store.specs.Leaving.{LeftByBegin}
 use Rattle.law_any_store.proofs.Memory.{memory-stands, begun-sees, open-sees}
 use Rattle.law_any_store.proofs.Calls.{begin-stands, abort-stands}
 use Rattle.law_any_store.proofs.Leaving.{begin-leaves, abort-leaves}
+use Rattle.law_any_store.proofs.Names.{begin-names, abort-names}
 use Rattle.law_any_store.proofs.Views as lasting
 use Rattle.run.specs.declared.calls.Call.{Call}
 use Rattle.run.specs.declared.calls.Call.TheVariants as call
@@ -35,7 +36,7 @@ use Rattle.run.specs.Places.{Place, Free, Running, place_at, IsOwnTransaction, S
 use Rattle.run.specs.Worlds.{World, IsWorld, leaves, put, moved, same, spent}
 use Rattle.run.specs.Makes.{LacksNamed}
 use Rattle.run.specs.Runs.{Does, Goes, Leads, Follows, NamesNone, Aborts}
-use Rattle.run.proofs.Runs.{no-step, next-world}
+use Rattle.run.proofs.Runs.{no-step, Lasts, next-world}
 use Rattle.run.proofs.Places.{reads-move, reads-plain, reads-set, push, push_nothing, free, move, freed_apart, own_transaction, at_transaction, no_transaction}
 use Rattle.run.proofs.Places.{no_ticket, no_view, GoesOn, goes_on-same, run-goes_on, Keeps, stays, closed_other, opened_other, opened_here}
 
@@ -46,13 +47,14 @@ same-world tells v xs w is =
     record {
       stands = is.stands;
       layout = is.layout;
+      names = is.names;
       places = push_nothing (commits_of v) w.machine.published xs w.places is.places;
       views = reads-plain tells v xs w.places held.Nothing Free is.places.many tt is.views;
     }
 
 -- ---- worlds after a call
 
-module _ (tells : Bool) (v v' : StoreValue) (xs : List Held) (w : World) (m : Machine Value) (is : IsWorld tells v xs w) (lasts : StoreGoesOn tells v v')
+module _ (tells : Bool) (v v' : StoreValue) (xs : List Held) (w : World) (m : Machine Value) (is : IsWorld tells v xs w) (lasts : Lasts tells v v')
     (stands : Stands tells v' m) where
   -- what is held is as it was
   pub kept-world : GoesOn w.machine.published m.published → ((x : Held) → Keeps (commits_of v) (commits_of v') x)
@@ -62,7 +64,7 @@ module _ (tells : Bool) (v v' : StoreValue) (xs : List Held) (w : World) (m : Ma
       (push_nothing (commits_of v') m.published xs w.places
       (move (commits_of v) (commits_of v') w.machine.published m.published xs w.places is.places
       (λ i x p at shows. stays (commits_of v) (commits_of v') w.machine.published m.published x p (keeps x) goes shows)))
-      (reads-plain tells v' xs w.places held.Nothing Free is.places.many tt (reads-move tells v v' xs w.places lasts is.views))
+      (reads-plain tells v' xs w.places held.Nothing Free is.places.many tt (reads-move tells v v' xs w.places lasts.goes is.views))
 
   -- what a place held is spent, and the call's own holds this
   pub spent-world : (i : ℕ) (x : Held) (p : Place) → HasNoView (Some x)
@@ -72,7 +74,7 @@ module _ (tells : Bool) (v v' : StoreValue) (xs : List Held) (w : World) (m : Ma
   spent-world i x p plain places many =
       next-world tells v v' xs (slice_set xs i held.Nothing ++ x ∷ []) w m (slice_set w.places i Free ++ p ∷ []) is lasts stands places
       (reads-plain tells v' (slice_set xs i held.Nothing) (slice_set w.places i Free) x p many plain
-      (reads-set tells v' xs w.places i held.Nothing Free tt (reads-move tells v v' xs w.places lasts is.views)))
+      (reads-set tells v' xs w.places i held.Nothing Free tt (reads-move tells v v' xs w.places lasts.goes is.views)))
 
 -- what is in memory is as it was
 pub keeps-same : (old new : CommitsValue) → new ≡ old → (x : Held) → Keeps old new x
@@ -167,8 +169,8 @@ begin-leads tells v v' xs r begins w is =
     new : CommitsValue
     new = commits_of v'
 
-    lasts : StoreGoesOn tells v v'
-    lasts = lasting.begin-goes tells v v' r begins
+    lasts : Lasts tells v v'
+    lasts = record { goes = lasting.begin-goes tells v v' r begins; names = begin-names v v' r begins }
 
     by-result : (o : Result TxnValue BeginFault) → BeginsOn tells m o v' → LeftByBegin old o new
         → (next : World) × Does tells w call.Begin (begin_answer o).0 next × Follows m next.machine
@@ -199,7 +201,7 @@ begin-leads tells v v' xs r begins w is =
           next-world tells v v' xs (xs ++ held.Transaction txn ∷ []) w (begun m) (w.places ++ Running (last h) [] ∷ []) is lasts did.1
               (subst (λ (t : CommitsValue). ArePlaces t h (xs ++ held.Transaction txn ∷ []) (w.places ++ Running (last h) [] ∷ [])) (sym b.new_is) places)
               (reads-plain tells v' xs w.places (held.Transaction txn) (Running (last h) []) is.places.many tt
-              (reads-move tells v v' xs w.places lasts is.views)),
+              (reads-move tells v v' xs w.places lasts.goes is.views)),
         )
     by-result (Err begin.NoMemory) did same_memory =
         (same w, (did.0, refl), no-step m, kept-world tells v v' xs w m is lasts did.1 (goes_on-same h) (keeps-same old new same_memory))
@@ -278,7 +280,7 @@ abort-leads tells v v' xs i t here are aborts w is =
     let machine = (memory-stands tells v' after did.2).1 in
     let goes = run-goes_on m after (Aborted t.snapshot ∷ []) machine (after, did.1, refl) in
     let places = over-places c m.published after.published xs w.places i t here goes is.places in
-    let lasts = lasting.abort-goes tells v v' t aborts in (
+    let lasts : Lasts tells v v' = record { goes = lasting.abort-goes tells v v' t aborts; names = abort-names v v' t aborts } in (
       spent (moved w after) i,
       at_transaction (λ (p : Place). Aborts w i p (spent (moved w after) i)) c m.published t (place_at w.places i) shows (after, did.1, refl),
       (Aborted t.snapshot ∷ [], (after, did.1, refl)),

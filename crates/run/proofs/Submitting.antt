@@ -22,11 +22,12 @@ use Rattle.commits.specs.Values.{CommitsValue, is_own, over}
 use Rattle.any_store.specs.Values.{StoreValue, commits_of}
 use Rattle.any_store.specs.Calls as stores
 use Rattle.law_refinement.specs.Laws.{submission_of, event_of}
-use Rattle.law_any_store.specs.Standing.{Stands, GoesOn}
+use Rattle.law_any_store.specs.Standing.{Stands}
 use Rattle.law_any_store.specs.Leaving.{JoinsOrder, LeftBySubmit}
 use Rattle.law_any_store.proofs.Memory.{memory-stands}
 use Rattle.law_any_store.proofs.Calls.{submit-stands}
 use Rattle.law_any_store.proofs.Leaving.{submit-leaves}
+use Rattle.law_any_store.proofs.Names.{submit-names}
 use Rattle.law_any_store.proofs.Tickets.{ticket-time}
 use Rattle.law_any_store.proofs.Views as lasting
 use Rattle.run.specs.declared.calls.Call.TheVariants as call
@@ -38,6 +39,7 @@ use Rattle.run.specs.Places.{Place, Free, Waits, place_at, IsOwnTicket, ShowsAs,
 use Rattle.run.specs.Worlds.{World, IsWorld, leaves, put, moved}
 use Rattle.run.specs.Runs.{Does, Goes, Leads, Submits, Follows}
 use Rattle.run.specs.Runs as told
+use Rattle.run.proofs.Runs.{Lasts}
 use Rattle.run.proofs.Places.{push, push_nothing, move, own_transaction, own_ticket, at_transaction, goes_on-same}
 use Rattle.run.proofs.Places.{run-goes_on, Keeps, stays, awaited-push, awaited-early, awaited-new}
 use Rattle.run.proofs.Steps.{own-is, over-places, spent-world}
@@ -97,8 +99,8 @@ submit-leads tells v v' xs i t label now r here are range submits w is =
     by-over true mine did = did
     by-over false mine did = absurd cc
 
-    lasts : GoesOn tells v v'
-    lasts = lasting.submit-goes tells v v' t label now r submits
+    lasts : Lasts tells v v'
+    lasts = record { goes = lasting.submit-goes tells v v' t label now r submits; names = submit-names v v' t label now r submits }
 
     -- it is over, and leaves nothing
     nothing : (said : Result SubmitOutcome SubmitFault) (event : Event Value) (after : Machine Value) → Step IsValue w.machine event after

@@ -10,10 +10,11 @@ use Rattle.commits.specs.Values.{CommitsValue}
 use Rattle.any_store.specs.Values.{StoreValue, commits_of}
 use Rattle.any_store.specs.Calls as stores
 use Rattle.law_refinement.specs.Laws.{RedeemsAs}
-use Rattle.law_any_store.specs.Standing.{Stands, GoesOn}
+use Rattle.law_any_store.specs.Standing.{Stands}
 use Rattle.law_any_store.specs.Leaving.{LeftByRedeem}
 use Rattle.law_any_store.proofs.Calls.{redeem-stands}
 use Rattle.law_any_store.proofs.Leaving.{redeem-leaves}
+use Rattle.law_any_store.proofs.Names.{redeem-names}
 use Rattle.law_any_store.proofs.Views as lasting
 use Rattle.run.specs.declared.calls.Call.TheVariants as call
 use Rattle.run.specs.declared.calls.Answer.TheVariants as answer
@@ -23,7 +24,7 @@ use Rattle.run.specs.declared.held.Held.TheVariants as held
 use Rattle.run.specs.Places.{Place, Free, place_at, ShowsAs, Clash, ArePlaces, redeem_answer}
 use Rattle.run.specs.Worlds.{World, IsWorld, same, spent}
 use Rattle.run.specs.Runs.{Does, Goes, Leads, Redeems, GivesUp, Follows}
-use Rattle.run.proofs.Runs.{no-step}
+use Rattle.run.proofs.Runs.{no-step, Lasts}
 use Rattle.run.proofs.Lists.{set-get}
 use Rattle.run.proofs.Places.{reads-plain, reads-set, push_nothing, free, move, freed_apart, own_ticket, at_ticket, goes_on-same, Keeps, stays}
 use Rattle.run.proofs.Places.{awaited-redeemed}
@@ -53,8 +54,8 @@ redeem-leads tells v v' xs i k r here redeems w is =
     shown) in
     by-result r left did.0 shows did.1 freed moved
   where
-    lasts : GoesOn tells v v'
-    lasts = lasting.redeem-goes tells v v' k r redeems
+    lasts : Lasts tells v v'
+    lasts = record { goes = lasting.redeem-goes tells v v' k r redeems; names = redeem-names v v' k r redeems }
 
     by-result : (o : Redeemed) → LeftByRedeem (commits_of v) (stores.last v) k o (commits_of v') → RedeemsAs (answers.redeemed_by w.machine k.time) o
         → ShowsAs (commits_of v) w.machine.published (held.Ticket k) (place_at w.places i) → Stands tells v' w.machine
@@ -103,6 +104,7 @@ give_up-leads tells v xs i k here w is = (
   record {
     stands = is.stands;
     layout = is.layout;
+    names = is.names;
     places = push_nothing (commits_of v) w.machine.published (slice_set xs i held.Nothing) (slice_set w.places i Free)
         (free (commits_of v) w.machine.published xs w.places i (held.Ticket k) is.places here);
     views = reads-plain tells v (slice_set xs i held.Nothing) (slice_set w.places i Free) held.Nothing Free

@@ -15,7 +15,7 @@ use Rattle.history.specs.Time.{value_at}
 use Rattle.timequery.specs.View.{ViewValue, AnswersAt, RefusesRecent}
 use Rattle.timequery.specs.declared.fault.QueryFault.{QueryFault}
 use Rattle.timequery.specs.declared.fault.QueryFault.TheVariants as query
-use Rattle.any_store.specs.Values.{StoreValue, commits_of}
+use Rattle.any_store.specs.Values.{StoreValue, is_log, commits_of}
 use Rattle.any_store.specs.Queries as queries
 use Rattle.history.specs.Histories.{History}
 use Rattle.law_refinement.specs.Homes.{ViewStands}
@@ -26,7 +26,7 @@ use Rattle.law_log_queries.specs.Names.{SaysTimes}
 use Rattle.law_any_store.specs.Standing.{ViewReads}
 use Rattle.law_any_store.specs.Views.{IsKept}
 use Rattle.law_any_store.proofs.Marks.{view-mark}
-use Rattle.law_any_store.proofs.Names.{times-told, times-stand}
+use Rattle.law_any_store.proofs.Names.{kept-names, times-told, times-stand}
 use Rattle.law_any_store.proofs.Views.{view-of-history, at-answered, scan_at-answered, between-answered, scan_between-answered}
 use Rattle.law_any_store.proofs.Views.{at-stands, scan_at-stands, between-stands, scan_between-stands}
 use Rattle.run.specs.declared.calls.Call.TheVariants as call
@@ -68,6 +68,7 @@ view-leads tells v xs (Ok view) of w is =
       record {
         stands = is.stands;
         layout = is.layout;
+        names = is.names;
         places = push (commits_of v) h xs w.places (held.View view) (Views h w.machine.floors view.reclaimed) is.places shows
             (λ j b at clash. view-no_clash view b clash);
         views = reads-push tells v xs w.places (held.View view) (Views h w.machine.floors view.reclaimed) is.places.many is.views stands.1;
@@ -79,7 +80,7 @@ view-leads tells v xs (Err why) of w is = (same w, refl, no-step w.machine, same
 asked-world : (tells : Bool) (v v' : StoreValue) (xs : List Held) (w : World) → IsWorld tells v xs w → IsKept tells v v' w.machine
     → IsWorld tells v' (xs ++ held.Nothing ∷ []) (same w)
 asked-world tells v v' xs w is kept =
-    kept-world tells v v' xs w w.machine is kept.goes kept.stands
+    kept-world tells v v' xs w w.machine is (record { goes = kept.goes; names = kept-names tells v v' kept.goes kept.commits }) kept.stands
     (goes_on-same w.machine.published) (keeps-same (commits_of v) (commits_of v') kept.commits)
 
 -- what the view at a place reads is there
@@ -195,6 +196,7 @@ end-leads tells v v' xs i view here unchanged w is =
       subst (λ (x : StoreValue). IsWorld tells x (slice_set xs i held.Nothing ++ held.Nothing ∷ []) (spent w i)) (sym unchanged) (record {
         stands = is.stands;
         layout = is.layout;
+        names = is.names;
         places = push_nothing (commits_of v) w.machine.published (slice_set xs i held.Nothing) (slice_set w.places i Free) freed;
         views = reads-plain tells v (slice_set xs i held.Nothing) (slice_set w.places i Free) held.Nothing Free freed.many tt
             (reads-set tells v xs w.places i held.Nothing Free tt is.views);
@@ -206,8 +208,9 @@ times-leads : (tells : Bool) (v v' : StoreValue) (xs : List Held) (label : ℕ) 
 times-leads tells v v' xs label r says w is = (
   same w,
   (
-    subst (λ (b : Bool). SaysTimes tells b (answers.times_of w.machine.published label) r) (sym is.layout)
-        (times-told tells v v' w.machine label r is.stands says),
+    subst (λ (b : Bool). SaysTimes tells b w.names_from (answers.times_of w.machine.published label) r) (sym is.layout)
+        (subst (λ (from : ℕ). SaysTimes tells (is_log v) from (answers.times_of w.machine.published label) r) (sym is.names)
+        (times-told tells v v' w.machine label r is.stands says)),
     refl,
   ),
   no-step w.machine,

@@ -4,6 +4,7 @@ use Rattle.history.specs.Machine.{Machine}
 use Rattle.law_image.specs.Values.{Value}
 use Rattle.any_store.specs.Values.{StoreValue, is_log, commits_of}
 use Rattle.law_any_store.specs.Standing.{Stands}
+use Rattle.law_any_store.specs.Names as memory
 use Rattle.run.specs.declared.held.Held.{Held}
 use Rattle.run.specs.Places.{Place, Free, ArePlaces, AreRead}
 
@@ -12,12 +13,14 @@ pub record World : Type 0 where
   pub machine : Machine Value
   -- the log lies in the heap, and is no row of slots
   pub in_heap : Bool
+  -- the time up to which names of commits may have left memory: 0 where the log is slots
+  pub names_from : ℕ
   -- one for each call that was made
   pub places : List Place
 
 -- no call is made yet of the store
 abbrev pub started : StoreValue → Machine Value → World
-started v m = record { machine = m; in_heap = is_log v; places = [] }
+started v m = record { machine = m; in_heap = is_log v; names_from = memory.names_from v; places = [] }
 
 -- ---- the world after a call
 
@@ -45,5 +48,6 @@ spent w i = leaves (put w i Free) Free
 pub record IsWorld (tells : Bool) (v : StoreValue) (xs : List Held) (w : World) : Type 0 where
   pub stands : Stands tells v w.machine
   pub layout : w.in_heap ≡ is_log v
+  pub names : w.names_from ≡ memory.names_from v
   pub places : ArePlaces (commits_of v) w.machine.published xs w.places
   pub views : AreRead tells v xs w.places
