@@ -30,7 +30,7 @@ use Rattle.commits.specs.Calls as memory
 use Rattle.commits.specs.Values.{CommitsValue, order_of}
 use Rattle.any_store.specs.Calls as stores
 use Rattle.any_store.specs.Queries as queries
-use Rattle.any_store.specs.Values.{StoreValue, commits_of}
+use Rattle.any_store.specs.Values.{StoreValue, is_log, commits_of}
 use Rattle.any_store.specs.declared.engine.Engine.TheVariants.{Slots, Log}
 use Rattle.law_refinement.specs.Laws.{RedeemsAs}
 use Rattle.law_refinement.specs.Standing.{Name, name_of, name_at}
@@ -257,11 +257,12 @@ counted tells start kind brand table v shares at pass h =
 pub times-say : (tells : Bool) (start : Machine Value) (kind : Kind) (brand : ℕ) (table : TableId) (v new : StoreValue) (shares : ℕ) (at : TableId)
     (pass : SightValue) (seen : Seen) (label : ℕ) (r : Result (Vec ℕ Global) QueryFault) → IsShared tells start kind brand table v shares at pass
     → seen ≡ pass.seen → queries.AnswersTimes tells v label r new
-    → OfSeen start seen (λ m. SaysTimes tells kind.in_heap (answers.times_of m.published label) r)
+    → OfSeen start seen (λ m. SaysTimes tells kind.in_heap kind.names_from (answers.times_of m.published label) r)
 times-say tells start kind brand table v new shares at pass seen label r h same asks = (
   h.state,
   h.reached,
   same ∙ h.seen,
-  subst (λ (b : Bool). SaysTimes tells b (answers.times_of h.state.published label) r) (in-heap tells start kind brand table v shares at pass h)
-      (times-told tells v new h.state label r h.stands asks),
+  subst (λ (b : Bool). SaysTimes tells b kind.names_from (answers.times_of h.state.published label) r) (in-heap tells start kind brand table v shares at pass h)
+      (subst (λ (n : ℕ). SaysTimes tells (is_log v) n (answers.times_of h.state.published label) r) (ap (λ (k : Kind). k.names_from) h.layout)
+      (times-told tells v new h.state label r h.stands asks)),
 )
