@@ -10,11 +10,13 @@ use Rattle.group.specs.CommitOrder.{last_time, last_time_after, last_published}
 use Rattle.group.specs.declared.commit_order.CommitHead.{CommitHead}
 use Rattle.commits.specs.Values.{CommitsValue, order_of}
 use Rattle.commits.specs.Values as commits
-use Rattle.any_store.specs.Values.{StoreValue, commits_of}
+use Rattle.any_store.specs.Values.{StoreValue, is_log, commits_of}
 use Rattle.any_store.specs.declared.engine.Engine.TheVariants.{Slots, Log}
 use Rattle.law_refinement.specs.Standing.{Name, name_of, name_at}
 use Rattle.law_commits.specs.Standing.{StandsInMemory}
 use Rattle.law_commits.proofs.Names.{last-is, assigned-is, waiting-heads, back-names}
+use Rattle.law_any_store.specs.Names as memory
+use Rattle.law_any_store.specs.Names.{KeepsNames}
 use Rattle.law_any_store.specs.Standing.{Stands, GoesOn}
 use Rattle.law_any_store.proofs.Marks.{layout-stays}
 use Rattle.law_any_store.proofs.Memory.{memory-stands}
@@ -32,8 +34,10 @@ pub is-machine : (tells : Bool) (v : StoreValue) (m : Machine Value) → Stands 
 is-machine tells v m stands = (memory-stands tells v m stands).1
 
 -- no call changes what the layout tells
-pub kind-stays : (tells : Bool) (old new : StoreValue) → GoesOn tells old new → kind_of new ≡ kind_of old
-kind-stays tells old new goes = ap (λ (b : Bool). record { in_heap = b }) (layout-stays tells old new goes)
+pub kind-stays : (tells : Bool) (old new : StoreValue) → GoesOn tells old new → KeepsNames old new → kind_of new ≡ kind_of old
+kind-stays tells old new goes names =
+    ap (λ (b : Bool). record { in_heap = b; names_from = memory.names_from new }) (layout-stays tells old new goes)
+    ∙ ap (λ (n : ℕ). record { in_heap = is_log old; names_from = n }) names
 
 -- the floor that the job is to raise is the machine's in the making
 pub raises-is : (tells : Bool) (v : StoreValue) (m : Machine Value) → Stands tells v m → m.raising ≡ raising_in v

@@ -1,5 +1,5 @@
 -- A store that was just opened, for threads.
-use Rattle.std.proofs.Common.{◌≡◌, ℕ, ◌+◌, suc, Bool, List, [], ◌∷◌, ◌++◌, map, length, refl, sym, ap, ◌∙◌, subst, arith}
+use Rattle.std.proofs.Common.{◌≡◌, ℕ, ◌+◌, ◌≤◌, suc, Bool, true, List, [], ◌∷◌, ◌++◌, map, length, refl, sym, ap, ◌∙◌, subst, arith}
 use Rattle.std.specs.Prelude.{IsTrue, Contains}
 use Rattle.std.specs.List.{AllByRecursion}
 use Rattle.disk.specs.Areas.{Areas, AreSound}
@@ -32,7 +32,7 @@ use Rattle.law_any_store.proofs.Formatted.{formatted-stands}
 use Rattle.law_any_store.proofs.Memory.{memory-stands}
 use Rattle.law_any_store.proofs.Opened.{open-stands, open-header}
 use Rattle.shared.specs.Counts.{told_count}
-use Rattle.shared.specs.Kinds.{kind_of, kind_as, HasSize}
+use Rattle.shared.specs.Kinds.{Kind, kind_of, kind_as, HasSize}
 
 -- ---- no ticket is out
 
@@ -88,16 +88,23 @@ pub fresh-size : (tells : Bool) (layout : Layout) (old : Areas) (disk : DiskStat
     → IsTrue tells → IsFormatted layout old disk.areas → Opens tells disk mark v → HasSize layout v
 fresh-size tells layout old disk mark v told is opens = size-as layout v (fresh-header tells layout old disk mark v told is opens)
 
-kind-by : (layout : Layout) (v : StoreValue) → IsOfHeader v (header_of layout) → kind_of v ≡ kind_as layout
-kind-by (layouts.Slots slots) (Slots s) of = refl
-kind-by (layouts.Slots slots) (Log l) of = absurd of
-kind-by (layouts.Log extents) (Slots s) of = absurd of
-kind-by (layouts.Log extents) (Log l) of = refl
+kind-by : (tells : Bool) (layout : Layout) (v : StoreValue) → IsOfHeader v (header_of layout)
+    → Stands tells v (opened_as (header_of layout) [] (λ relation. 0)) → kind_of v ≡ kind_as layout
+kind-by tells (layouts.Slots slots) (Slots s) of stands = refl
+kind-by tells (layouts.Slots slots) (Log l) of stands = absurd of
+kind-by tells (layouts.Log extents) (Slots s) of stands = absurd of
+kind-by tells (layouts.Log extents) (Log l) of stands =
+    let marked : l.commits.reclaimed ≤ 0 = (memory-stands tells (Log l) _ stands).0.versions.marked in
+    let none : l.commits.reclaimed ≡ 0 = omega (arith, marked) in
+    let goal : Path Kind (record { in_heap = true; names_from = l.commits.reclaimed }) (record { in_heap = true; names_from = 0 }) =
+    ap (λ (n : ℕ). record { in_heap = true; names_from = n }) none in
+    goal
 
 -- it is of its layout
 pub fresh-kind : (tells : Bool) (layout : Layout) (old : Areas) (disk : DiskState) (mark : ℕ) (v : StoreValue)
-    → IsTrue tells → IsFormatted layout old disk.areas → Opens tells disk mark v → kind_of v ≡ kind_as layout
-fresh-kind tells layout old disk mark v told is opens = kind-by layout v (fresh-header tells layout old disk mark v told is opens)
+    → IsTrue tells → AreSound disk.areas → IsFormatted layout old disk.areas → Opens tells disk mark v → kind_of v ≡ kind_as layout
+fresh-kind tells layout old disk mark v told sound is opens =
+    kind-by tells layout v (fresh-header tells layout old disk mark v told is opens) (fresh-stands tells layout old disk mark v told sound is opens)
 
 -- it is opened as its layout says
 pub opened-as : (layout : Layout) (v : StoreValue) → HasSize layout v → (h : History Value) (floors : ℕ → ℕ)

@@ -40,12 +40,15 @@ use Rattle.law_refinement.specs.Laws.{submission_of, event_of}
 use Rattle.law_commits.specs.Standing.{StandsInMemory}
 use Rattle.law_any_store.specs.Calls.{StartsOn, Goes, RunsTo, pumped_in, job_ends_in}
 use Rattle.law_any_store.specs.Leaving.{Leaves, LeftBySubmit, LeftByRedeem}
+use Rattle.law_any_store.specs.Names.{KeepsNames}
 use Rattle.law_any_store.specs.Standing.{Stands, GoesOn}
 use Rattle.law_any_store.specs.Views.{IsKept}
 use Rattle.law_any_store.proofs.Calls.{begin-stands, abort-stands, submit-stands, pump-stands, redeem-stands}
 use Rattle.law_any_store.proofs.Jobs.{archive-start-stands, reclaim-start-stands, grow-start-stands, floor-start-stands, job-pump-stands}
 use Rattle.law_any_store.proofs.Leaving as laws
 use Rattle.law_any_store.proofs.Memory.{last-published}
+use Rattle.law_any_store.proofs.Names.{begin-names, abort-names, submit-names, redeem-names, pump-names, start-names, reclaim-names, floor-names, grow-names}
+use Rattle.law_any_store.proofs.Names.{pumped-names, kept-names}
 use Rattle.law_any_store.proofs.Tickets.{ticket-time}
 use Rattle.law_any_store.proofs.Views.{begin-goes, abort-goes, submit-goes, redeem-goes, pump-goes, job-pump-goes, archive-start-goes, reclaim-start-goes}
 use Rattle.law_any_store.proofs.Views.{floor-start-goes, grow-start-goes}
@@ -145,15 +148,15 @@ told-redeem heads published queue time first shares waits told =
 -- the machine's commits are as they were, under a pass that has other transactions out
 rested : (tells : Bool) (start : Machine Value) (kind : Kind) (brand : ℕ) (table : TableId) (old new : StoreValue) (shares : ℕ) (at at' : TableId)
     (pass pass' : SightValue) (h : IsShared tells start kind brand table old shares at pass) (after : Machine Value)
-    → Stands tells new after → GoesOn tells old new → Reached start after → seen_of after ≡ seen_of h.state
+    → Stands tells new after → GoesOn tells old new → KeepsNames old new → Reached start after → seen_of after ≡ seen_of h.state
     → (commits_of new).mark ≡ (commits_of old).mark
     → (commits_of new).heads ≡ (commits_of old).heads → at' ≡ at → pass'.writes ≡ true → pass'.seen ≡ pass.seen → pass'.archive ≡ pass.archive
     → AreOpen pass'.tokens.out (commits_of new).opened → IsShared tells start kind brand table new shares at' pass'
-rested tells start kind brand table old new shares at at' pass pass' h after stands goes reached same mark heads cell on seen archive given = record {
+rested tells start kind brand table old new shares at at' pass pass' h after stands goes names reached same mark heads cell on seen archive given = record {
   state = after;
   stands = stands;
   reached = reached;
-  layout = kind-stays tells old new goes ∙ h.layout;
+  layout = kind-stays tells old new goes names ∙ h.layout;
   mark = mark ∙ h.mark;
   told =
       told-ordered (commits_of old).heads (commits_of new).heads (seen_of h.state) (seen_of after) (length start.published) shares heads (ap order_of same)
@@ -172,12 +175,12 @@ rested tells start kind brand table old new shares at at' pass pass' h after sta
 quiet : (tells : Bool) (start : Machine Value) (kind : Kind) (brand : ℕ) (table : TableId) (old new : StoreValue) (shares : ℕ) (at : TableId)
     (pass : SightValue)
     (h : IsShared tells start kind brand table old shares at pass) (after : Machine Value)
-    → Stands tells new after → GoesOn tells old new → Reached start after → seen_of after ≡ seen_of h.state
+    → Stands tells new after → GoesOn tells old new → KeepsNames old new → Reached start after → seen_of after ≡ seen_of h.state
     → (commits_of new).mark ≡ (commits_of old).mark
     → (commits_of new).heads ≡ (commits_of old).heads → (commits_of new).opened ≡ (commits_of old).opened
     → IsShared tells start kind brand table new shares at pass
-quiet tells start kind brand table old new shares at pass h after stands goes reached same mark heads places =
-    rested tells start kind brand table old new shares at at pass pass h after stands goes reached same mark heads refl h.writes refl refl
+quiet tells start kind brand table old new shares at pass h after stands goes names reached same mark heads places =
+    rested tells start kind brand table old new shares at at pass pass h after stands goes names reached same mark heads refl h.writes refl refl
     (open-still pass.tokens.out (commits_of old).opened (commits_of new).opened places h.given)
 
 -- ---- opening
@@ -223,6 +226,7 @@ begin-gives tells start kind brand table old new shares at at' pass pass' txn h 
     let free = begin-fresh tells start kind brand table old new shares at pass txn h begins in
     let given = given-open pass.tokens.out (commits_of old).opened (token_of txn) h.given free b.within in
     rested tells start kind brand table old new shares at at' pass pass' h (begun h.state) did.1 (begin-goes tells old new (Ok txn) begins)
+    (begin-names old new (Ok txn) begins)
     (stepped (Began txn.snapshot) h.reached did.0) refl mark (ap (λ (v : CommitsValue). v.heads) is) cell on seen archive
     (subst (λ (o : List Token). AreOpen o (commits_of new).opened) (sym out)
     (open-still (token_of txn ∷ pass.tokens.out) (with_opened (commits_of old).opened txn.number txn.snapshot) (commits_of new).opened
@@ -237,13 +241,13 @@ begin-keeps tells start kind brand table old new shares at pass begin.NoMemory h
     let did = begin-stands tells old new (Err begin.NoMemory) h.state h.stands begins in
     let is = laws.begin-leaves old new (Err begin.NoMemory) begins in
     quiet tells start kind brand table old new shares at pass h h.state did.1 (begin-goes tells old new (Err begin.NoMemory) begins)
-    h.reached refl (ap (λ (v : CommitsValue). v.mark) is) (ap (λ (v : CommitsValue). v.heads) is)
+    (begin-names old new (Err begin.NoMemory) begins) h.reached refl (ap (λ (v : CommitsValue). v.mark) is) (ap (λ (v : CommitsValue). v.heads) is)
     (ap (λ (v : CommitsValue). v.opened) is)
 begin-keeps tells start kind brand table old new shares at pass begin.Failed h begins =
     let did = begin-stands tells old new (Err begin.Failed) h.state h.stands begins in
     let is = laws.begin-leaves old new (Err begin.Failed) begins in
     quiet tells start kind brand table old new shares at pass h h.state did.1 (begin-goes tells old new (Err begin.Failed) begins)
-    h.reached refl (ap (λ (v : CommitsValue). v.mark) is) (ap (λ (v : CommitsValue). v.heads) is)
+    (begin-names old new (Err begin.Failed) begins) h.reached refl (ap (λ (v : CommitsValue). v.mark) is) (ap (λ (v : CommitsValue). v.heads) is)
     (ap (λ (v : CommitsValue). v.opened) is)
 
 -- a transaction that is out is the store's own, by what the writer's pass has seen since it began
@@ -280,6 +284,7 @@ abort-keeps tells start kind brand table old new shares at at' pass pass' txn ow
     let mark : (commits_of new).mark ≡ (commits_of old).mark = ap (λ (v : CommitsValue). v.mark) a.left in
     let taken = taken-open pass.tokens.out (commits_of old).opened txn.number h.given in
     rested tells start kind brand table old new shares at at' pass pass' h a.after a.stands (abort-goes tells old new txn aborts)
+    (abort-names old new txn aborts)
     (stepped (Aborted txn.snapshot) h.reached a.step) (ap seen_of a.step.2) mark (ap (λ (v : CommitsValue). v.heads) a.left) cell on seen archive
     (subst (λ (o : List Token). AreOpen o (commits_of new).opened) (sym (out ∙ ap (taken_back pass.tokens.out) goes))
     (open-still (without txn.number pass.tokens.out) (with_closed (commits_of old).opened txn.number) (commits_of new).opened
@@ -422,6 +427,7 @@ pub record SubmitLeaves (tells : Bool) (start : Machine Value) (brand : ℕ) (m 
       → AreToldOf (commits_of new).heads after.published after.queue first shares
   pub opened : (commits_of new).opened ≡ with_closed (commits_of old).opened t.number
   pub goes : GoesOn tells old new
+  pub names : KeepsNames old new
   pub happens : SubmitHappens start brand t label now r (seen_of after)
 
 pub submit-leaves : (tells : Bool) (start : Machine Value) (brand : ℕ) (m : Machine Value) (old new : StoreValue) (t : TxnValue) (label now : ℕ)
@@ -451,6 +457,7 @@ submit-leaves tells start brand m old new t label now r stands reached mark are 
               (left-told (commits_of old) (commits_of new) t label x (seen_of m) t.writes first shares s.left told);
           opened = left-opened (commits_of old) (commits_of new) t label x s.left;
           goes = submit-goes tells old new t label now r does;
+          names = submit-names old new t label now r does;
           happens = tells_so s.after (record { before = m; after = s.after; reached = reached; step = s.step; seen_is = refl; says = says });
         }
 
@@ -483,7 +490,7 @@ submit-keeps tells start kind brand table old new shares at at' pass pass' t lab
       state = s.after;
       stands = s.stands;
       reached = s.reached;
-      layout = kind-stays tells old new s.goes ∙ h.layout;
+      layout = kind-stays tells old new s.goes s.names ∙ h.layout;
       mark = s.counts.mark ∙ h.mark;
       told = s.told (length start.published) shares h.told;
       none_waits = s.counts.after (last s.after.published) ∙ ap (λ (x : History Value). told_after (last x) (commits_of old).heads) published ∙ h.none_waits;
@@ -507,6 +514,7 @@ pub record Pumped (tells : Bool) (start : Machine Value) (m : Machine Value) (ol
   pub seen : seen_of after ≡ pumped_seen r (seen_of m)
   pub left : Leaves (commits_of old) (commits_of new)
   pub goes : GoesOn tells old new
+  pub names : KeepsNames old new
 
 pub pumped : (tells : Bool) (start : Machine Value) (m : Machine Value) (old new : StoreValue) (r : Result Did PumpFault) → Reached start m → Stands tells old m
     → (IsTrue tells → AreSound (disk_of new).areas) → stores.Pumps tells old r new → Pumped tells start m old new r
@@ -523,6 +531,7 @@ pumped tells start m old new r reached stands sound pumps = by-failure m.failed 
           ∙ ap (λ (s : Seen). record s { failed = true }) (published-none (seen_of m)));
       left = laws.pump-leaves tells old new r pumps;
       goes = pump-goes tells old new r m stands pumps;
+      names = pump-names tells old new r pumps;
     }
     by-failure false is did = record {
       after = did.after;
@@ -532,6 +541,7 @@ pumped tells start m old new r reached stands sound pumps = by-failure m.failed 
       seen = pumped-seen (is_log old) m did.after r did.run;
       left = laws.pump-leaves tells old new r pumps;
       goes = pump-goes tells old new r m stands pumps;
+      names = pump-names tells old new r pumps;
     }
 
 -- once the pass has gone on
@@ -548,7 +558,7 @@ pump-publishes tells start kind brand table old new shares at at' pass pass' r h
       state = p.after;
       stands = p.stands;
       reached = p.reached;
-      layout = kind-stays tells old new p.goes ∙ h.layout;
+      layout = kind-stays tells old new p.goes p.names ∙ h.layout;
       mark = p.left.mark ∙ h.mark;
       told =
           told-ordered (commits_of old).heads (commits_of new).heads (seen_of h.state) (seen_of p.after) (length start.published) shares p.left.heads
@@ -565,8 +575,8 @@ pump-publishes tells start kind brand table old new shares at at' pass pass' r h
     }
 
 -- that of a shared store
-pub in-heap : (tells : Bool) (start : Machine Value) (kind : Kind) (brand : ℕ) (table : TableId) (v : StoreValue) (shares : ℕ) (at : TableId)
-    (pass : SightValue) → IsShared tells start kind brand table v shares at pass → is_log v ≡ kind.in_heap
+in-heap : (tells : Bool) (start : Machine Value) (kind : Kind) (brand : ℕ) (table : TableId) (v : StoreValue) (shares : ℕ) (at : TableId) (pass : SightValue)
+    → IsShared tells start kind brand table v shares at pass → is_log v ≡ kind.in_heap
 in-heap tells start kind brand table v shares at pass h = ap (λ (k : Kind). k.in_heap) h.layout
 
 -- what a step of its group leads to
@@ -584,7 +594,7 @@ pub archive-begins : (tells : Bool) (start : Machine Value) (kind : Kind) (brand
 archive-begins tells start kind brand table old new shares at pass upto r h starts =
     let left = laws.start-leaves old new upto r starts in (
       quiet tells start kind brand table old new shares at pass h h.state (archive-start-stands tells old new upto r h.state h.stands starts)
-          (archive-start-goes tells old new upto r h.state h.stands starts) h.reached refl left.mark left.heads left.opened,
+          (archive-start-goes tells old new upto r h.state h.stands starts) (start-names old new upto r starts) h.reached refl left.mark left.heads left.opened,
       (
         h.state,
         h.reached,
@@ -601,7 +611,7 @@ pub reclaim-begins : (tells : Bool) (start : Machine Value) (kind : Kind) (brand
 reclaim-begins tells start kind brand table old new shares at pass r h starts =
     let left = laws.reclaim-leaves old new r starts in (
       quiet tells start kind brand table old new shares at pass h h.state (reclaim-start-stands tells old new r h.state h.stands starts)
-          (reclaim-start-goes tells old new r h.state h.stands starts) h.reached refl left.mark left.heads left.opened,
+          (reclaim-start-goes tells old new r h.state h.stands starts) (reclaim-names old new r starts) h.reached refl left.mark left.heads left.opened,
       (
         h.state,
         h.reached,
@@ -632,8 +642,11 @@ floor-begins tells start kind brand table old new shares at pass scope floor r h
     goes : GoesOn tells old new
     goes = floor-start-goes tells old new scope floor r h.state h.stands starts
 
+    names : KeepsNames old new
+    names = floor-names old new scope floor r starts
+
     same : Stands tells new h.state → IsShared tells start kind brand table new shares at pass
-    same stands = quiet tells start kind brand table old new shares at pass h h.state stands goes h.reached refl left.mark left.heads left.opened
+    same stands = quiet tells start kind brand table old new shares at pass h h.state stands goes names h.reached refl left.mark left.heads left.opened
 
     works : (x : Result (Unit {0}) StartFault) → r ≡ x → (x ≡ Err fault.Failed → ⊥) → h.state.failed ≡ false
     works x is other = floor-works tells old new scope floor r h.state h.stands starts (λ failed. other (sym is ∙ failed))
@@ -641,7 +654,7 @@ floor-begins tells start kind brand table old new shares at pass scope floor r h
     by-answer : (x : Result (Unit {0}) StartFault) → r ≡ x → StartsOn tells (is_log old) h.state (raising_to scope floor) x new
         → IsShared tells start kind brand table new shares at pass × FloorSays (is_log old) h.state (raising_to scope floor) x
     by-answer (Ok done) is did = (
-      quiet tells start kind brand table old new shares at pass h (floor_started h.state (raising_to scope floor)) did.1 goes
+      quiet tells start kind brand table old new shares at pass h (floor_started h.state (raising_to scope floor)) did.1 goes names
           (stepped (FloorStarted (raising_to scope floor)) h.reached did.0) refl left.mark left.heads left.opened,
       did.0,
     )
@@ -664,7 +677,7 @@ pub growth-begins : (tells : Bool) (start : Machine Value) (kind : Kind) (brand 
 growth-begins tells start kind brand table old new shares at pass r h starts =
     let left = laws.grow-leaves old new r starts in (
       quiet tells start kind brand table old new shares at pass h h.state (grow-start-stands tells old new r h.state h.stands starts)
-          (grow-start-goes tells old new r h.state h.stands starts) h.reached refl left.mark left.heads left.opened,
+          (grow-start-goes tells old new r h.state h.stands starts) (grow-names old new r starts) h.reached refl left.mark left.heads left.opened,
       (h.state, h.reached, h.seen, growth-says tells old new h.state r h.stands starts),
     )
 
@@ -677,6 +690,7 @@ pub record JobPumped (tells : Bool) (start : Machine Value) (m : Machine Value) 
   pub later : IsLater (seen_of m) (done_seen r (raising_in old) (seen_of m))
   pub left : Leaves (commits_of old) (commits_of new)
   pub goes : GoesOn tells old new
+  pub names : KeepsNames old new
 
 pub job-pumped : (tells : Bool) (start : Machine Value) (m : Machine Value) (old new : StoreValue) (r : Result JobDid PumpFault) → Reached start m
     → Stands tells old m → (IsTrue tells → AreSound (disk_of new).areas) → PumpsJob tells old r new → JobPumped tells start m old new r
@@ -693,6 +707,7 @@ job-pumped tells start m old new r reached stands sound pumps = by-failure m.fai
       later = subst (λ (x : Result JobDid PumpFault). IsLater (seen_of m) (done_seen x (raising_in old) (seen_of m))) (sym did.0) (later-same (seen_of m));
       left = laws.pumped-leaves tells old new r pumps;
       goes = job-pump-goes tells old new r m stands pumps;
+      names = pumped-names tells old new r pumps;
     }
     by-failure false is did = record {
       after = did.after;
@@ -705,6 +720,7 @@ job-pumped tells start m old new r reached stands sound pumps = by-failure m.fai
       later = later-done (is_log old) m did.after (raising_in old) r (is-machine tells old m stands) (raises-is tells old m stands) did.run;
       left = laws.pumped-leaves tells old new r pumps;
       goes = job-pump-goes tells old new r m stands pumps;
+      names = pumped-names tells old new r pumps;
     }
 
 -- what a step of a shared store's job leads to
@@ -740,7 +756,7 @@ job-keeps tells start kind brand table old new shares at at' pass pass' r h rais
       state = p.after;
       stands = p.stands;
       reached = p.reached;
-      layout = kind-stays tells old new p.goes ∙ h.layout;
+      layout = kind-stays tells old new p.goes p.names ∙ h.layout;
       mark = p.left.mark ∙ h.mark;
       told =
           told-ordered (commits_of old).heads (commits_of new).heads (seen_of h.state) (seen_of p.after) (length start.published) shares p.left.heads
@@ -762,7 +778,7 @@ pub query-keeps : (tells : Bool) (start : Machine Value) (kind : Kind) (brand : 
     (pass : SightValue) (h : IsShared tells start kind brand table old shares at pass) → IsKept tells old new h.state
     → IsShared tells start kind brand table new shares at pass
 query-keeps tells start kind brand table old new shares at pass h kept =
-    quiet tells start kind brand table old new shares at pass h h.state kept.stands kept.goes h.reached refl
+    quiet tells start kind brand table old new shares at pass h h.state kept.stands kept.goes (kept-names tells old new kept.goes kept.commits) h.reached refl
     (ap (λ (v : CommitsValue). v.mark) kept.commits) (ap (λ (v : CommitsValue). v.heads) kept.commits) (ap (λ (v : CommitsValue). v.opened) kept.commits)
 
 -- ---- tickets
@@ -776,10 +792,13 @@ redeem-keeps tells start kind brand table old new shares at pass k r h redeems =
     goes : GoesOn tells old new
     goes = redeem-goes tells old new k r redeems
 
+    names : KeepsNames old new
+    names = redeem-names old new k r redeems
+
     same : (x : Redeemed) → done_in x ≡ 0 → commits_of new ≡ commits_of old → Stands tells new h.state
         → IsShared tells start kind brand table new (shares + done_in x) at pass
     same x none is stands = subst (λ (n : ℕ). IsShared tells start kind brand table new n at pass) (omega (arith, none))
-        (quiet tells start kind brand table old new shares at pass h h.state stands goes h.reached refl (ap (λ (v : CommitsValue). v.mark) is)
+        (quiet tells start kind brand table old new shares at pass h h.state stands goes names h.reached refl (ap (λ (v : CommitsValue). v.mark) is)
         (ap (λ (v : CommitsValue). v.heads) is) (ap (λ (v : CommitsValue). v.opened) is))
 
     by-result : (x : Redeemed) → LeftByRedeem (commits_of old) (stores.last old) k x (commits_of new) → Stands tells new h.state
@@ -792,7 +811,7 @@ redeem-keeps tells start kind brand table old new shares at pass k r h redeems =
           state = h.state;
           stands = stands;
           reached = h.reached;
-          layout = kind-stays tells old new goes ∙ h.layout;
+          layout = kind-stays tells old new goes names ∙ h.layout;
           mark = ap (λ (v : CommitsValue). v.mark) left.3 ∙ h.mark;
           told = subst (λ (hs : List CommitHead). AreToldOf hs h.state.published h.state.queue (length start.published) (shares + 1)) (sym heads)
               (told-redeem (commits_of old).heads h.state.published h.state.queue k.time (length start.published) shares left.1 h.told);

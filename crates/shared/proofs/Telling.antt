@@ -54,7 +54,7 @@ use Rattle.shared.proofs.Archives.{reads-taken}
 use Rattle.shared.proofs.Awaiting.{queue-awaited}
 use Rattle.shared.proofs.Counting.{rising-last, rising-take}
 use Rattle.shared.proofs.Engines.{in-memory, is-machine, waiting-named, queue-rises, heads-many, published-told}
-use Rattle.shared.proofs.Moves.{Aborting, in-heap}
+use Rattle.shared.proofs.Moves.{Aborting}
 
 pub shows : (tells : Bool) (start : Machine Value) (kind : Kind) (brand : ℕ) (table : TableId) (v : StoreValue) (shares : ℕ) (at : TableId)
     (pass : SightValue) (archive : ArchiveSeen) (seen : Seen) (r : Result ViewValue AllocError) → IsShared tells start kind brand table v shares at pass
@@ -257,11 +257,11 @@ counted tells start kind brand table v shares at pass h =
 pub times-say : (tells : Bool) (start : Machine Value) (kind : Kind) (brand : ℕ) (table : TableId) (v new : StoreValue) (shares : ℕ) (at : TableId)
     (pass : SightValue) (seen : Seen) (label : ℕ) (r : Result (Vec ℕ Global) QueryFault) → IsShared tells start kind brand table v shares at pass
     → seen ≡ pass.seen → queries.AnswersTimes tells v label r new
-    → OfSeen start seen (λ m. SaysTimes tells kind.in_heap (answers.times_of m.published label) r)
+    → OfSeen start seen (λ m. SaysTimes tells kind.in_heap kind.names_from (answers.times_of m.published label) r)
 times-say tells start kind brand table v new shares at pass seen label r h same asks = (
   h.state,
   h.reached,
   same ∙ h.seen,
-  subst (λ (b : Bool). SaysTimes tells b (answers.times_of h.state.published label) r) (in-heap tells start kind brand table v shares at pass h)
+  subst (λ (k : Kind). SaysTimes tells k.in_heap k.names_from (answers.times_of h.state.published label) r) h.layout
       (times-told tells v new h.state label r h.stands asks),
 )

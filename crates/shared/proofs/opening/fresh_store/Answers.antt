@@ -9,7 +9,7 @@ returns-in-Ok-open-clause-stands g c =
 pub returns-in-Ok-open-clause-layout : goal.returns-in-Ok-open-clause-layout
 returns-in-Ok-open-clause-layout g c =
     let told = c.requires in
-    fresh-kind _ _ _ _ _ _ told (c.in-Ok.ensures.formatted told) c.in-Ok-open.ensures.ok
+    fresh-kind _ _ _ _ _ _ told (g.met.D.Disk.sound c.format.new.disk told) (c.in-Ok.ensures.formatted told) c.in-Ok-open.ensures.ok
 
 pub returns-in-Ok-open-clause-size : goal.returns-in-Ok-open-clause-size
 returns-in-Ok-open-clause-size g c =
