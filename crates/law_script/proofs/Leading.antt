@@ -5,6 +5,7 @@ use Rattle.session.specs.Session.{State}
 use Rattle.session.specs.Session as session
 use Rattle.session.specs.declared.reply.Reply.{Reply}
 use Rattle.any_store.specs.Values.{StoreValue, is_log, commits_of, disk_of}
+use Rattle.law_any_store.specs.Names.{names_from}
 use Rattle.run.specs.declared.calls.Call.{Call}
 use Rattle.run.specs.declared.calls.Answer.{Answer}
 use Rattle.run.specs.declared.held.Held.{Held}
@@ -46,11 +47,13 @@ settled tells v xs end new at same among = record {
   world = subst (λ (s : StoreValue). IsWorld tells s (held_of new) (record {
     machine = end.world.machine;
     in_heap = is_log s;
+    names_from = names_from s;
     places = map place_of (held_of new);
   })) (sym same)
       (record {
         stands = at.world.stands;
         layout = refl;
+        names = refl;
         places = renumbered (commits_of v) end.world.machine.published xs end.world.places (held_of new) (held-no_view new.opened new.tickets) among
             at.world.places;
         views = record { each = λ i x there. read-plain tells v x (held-no_view new.opened new.tickets i x there) (place_at (map place_of (held_of new)) i) };

@@ -8,6 +8,7 @@ use Rattle.session.specs.declared.names.TicketName.{TicketName}
 use Rattle.session.specs.declared.reply.Reply.{Reply}
 use Rattle.session.specs.declared.reply.Reply.TheVariants as reply
 use Rattle.any_store.specs.Values.{StoreValue, is_log}
+use Rattle.law_any_store.specs.Names.{names_from}
 use Rattle.run.specs.declared.held.Held.{Held}
 use Rattle.run.specs.declared.held.Held.TheVariants as held
 use Rattle.run.specs.Places.{Place, Free, Running, Waits}
@@ -50,6 +51,7 @@ moment_of m = record {
   world = record {
     machine = m.machine;
     in_heap = is_log m.state.store;
+    names_from = names_from m.state.store;
     places = map place_of (held_of m.state);
   };
   done = m.done;

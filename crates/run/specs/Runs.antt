@@ -214,7 +214,7 @@ Closes w i (Views history floors reclaimed) next = next ≡ spent w i
 Closes w i place next = ⊥
 
 -- The times of the published commits with a label, or there is no memory for them. Where names may have left memory up to a time, the earlier ones are read on
--- the disk: these are told for sure where it tells its bytes, and the later ones whatever it tells.
+-- the disk: they are told for sure where it tells its bytes, the later ones always.
 abbrev pub ListsTimes : Bool → World → ℕ → Result (Vec ℕ Global) QueryFault → World → Type 0
 ListsTimes tells w label said next = SaysTimes tells w.in_heap w.names_from (answers.times_of w.machine.published label) said × (next ≡ same w)
 

@@ -394,8 +394,7 @@ impl<D: Disk, L: Opening> Locked<D, L> {
     ) -> Result<Vec<u64>, QueryFault>
         requires { cell.now.table.shared.table_id ≡ L.table }
         ensures is { AnswersTimes D.tells self.old label result self.new }
-        ensures says { OfSeen L.start me.new
-            (λ m. SaysTimes D.tells L.kind.in_heap L.kind.names_from (answers.times_of m.published label) result) }
+        ensures says { OfSeen L.start me.new (λ m. SaysTimes D.tells L.kind.in_heap L.kind.names_from (answers.times_of m.published label) result) }
         ensures later { IsLater me.old me.new }
     {
         me.meet(rt, cell, &mut self.writer);

@@ -89,7 +89,7 @@ impl<D: Disk, L: Opening> SharedStore<D, L> {
     }
 
     /// The times of the published commits with a label, rising, in microseconds since 1970: all of those that
-    /// the caller sees then. Where the log lies in the heap those whose names have left memory are read in the
+    /// the caller sees then. Where the log lies in the heap those up to its reclaim mark are read in the
     /// archive, under the lock: `Device`, `NoMemory` and `Damaged` where they are met. Else `NoMemory` alone
     /// is a refusal.
     pub fn times_of<R: Wait>(
@@ -98,8 +98,7 @@ impl<D: Disk, L: Opening> SharedStore<D, L> {
         label: u64,
         me: &mut Observer<L>,
     ) -> Result<Vec<u64>, QueryFault>
-        ensures says { OfSeen L.start me.new
-            (λ m. SaysTimes D.tells L.kind.in_heap L.kind.names_from (answers.times_of m.published label) result) }
+        ensures says { OfSeen L.start me.new (λ m. SaysTimes D.tells L.kind.in_heap L.kind.names_from (answers.times_of m.published label) result) }
         ensures later { IsLater me.old me.new }
     {
         self.locked.lock(rt).times_of(rt, &self.cell, label, me)

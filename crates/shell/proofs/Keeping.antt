@@ -25,6 +25,7 @@ use Rattle.any_store.specs.Queries.{IsViewOf}
 use Rattle.any_store.specs.Values.{StoreValue, is_log}
 use Rattle.law_any_store.specs.Formatted.{header_of}
 use Rattle.law_any_store.proofs.Formatted.{formatted-leaves, formatted-stands}
+use Rattle.law_any_store.specs.Names.{names_from}
 use Rattle.law_any_store.specs.Opened.{IsOfHeader}
 use Rattle.law_any_store.specs.Standing.{AnyHeader, IsImageOf, Stands, ViewReads, opened_as, opened_in}
 use Rattle.law_any_store.proofs.Memory.{last-published, memory-stands}
@@ -594,24 +595,25 @@ scan-says tells store new h floors relation time r told stands step =
         (scan_at-answered tells store new (opened_in store h floors) view h floors relation time step.0 stands of.0 of.1 asks.1)
 
 -- the times that the write sets say are replied
-times-replied : (tells in_heap : Bool) → IsTrue tells → (times : List ℕ) (answer : Result (Vec ℕ Global) QueryFault) → SaysTimes tells in_heap times answer
+times-replied : (tells in_heap : Bool) (from : ℕ) → IsTrue tells → (times : List ℕ) (answer : Result (Vec ℕ Global) QueryFault)
+    → SaysTimes tells in_heap from times answer
     → OrGaveOut (IsTimesReply times) (session.times_found answer)
-times-replied tells in_heap told times (Ok found) says = inl (found, says (λ lies. told), refl)
-times-replied tells in_heap told times (Err query.NoMemory) says = inr (inl refl)
-times-replied tells in_heap told times (Err query.Device) says = inr (inr refl)
-times-replied tells in_heap told times (Err (query.Damaged start)) says = absurd (says.1 told)
-times-replied tells in_heap told times (Err (query.BeforeKept floor)) says = absurd says
-times-replied tells in_heap told times (Err (query.NotYet last)) says = absurd says
-times-replied tells in_heap told times (Err query.EmptyInterval) says = absurd says
-times-replied tells in_heap told times (Err query.NeedsDisk) says = absurd says
-times-replied tells in_heap told times (Err query.Stranger) says = absurd says
+times-replied tells in_heap from told times (Ok found) says = inl (found, says.0 (λ lies. told), refl)
+times-replied tells in_heap from told times (Err query.NoMemory) says = inr (inl refl)
+times-replied tells in_heap from told times (Err query.Device) says = inr (inr refl)
+times-replied tells in_heap from told times (Err (query.Damaged start)) says = absurd (says.1 told)
+times-replied tells in_heap from told times (Err (query.BeforeKept floor)) says = absurd says
+times-replied tells in_heap from told times (Err (query.NotYet last)) says = absurd says
+times-replied tells in_heap from told times (Err query.EmptyInterval) says = absurd says
+times-replied tells in_heap from told times (Err query.NeedsDisk) says = absurd says
+times-replied tells in_heap from told times (Err query.Stranger) says = absurd says
 
 times-says : (tells : Bool) (store new : StoreValue) (h : History Value) (floors : ℕ → ℕ) (label : ℕ) (r : Reply) → IsTrue tells
     → Stands tells store (opened_in store h floors) → TimesStep tells store label r new → OrGaveOut (IsTimesReply (times_of h label)) r
 times-says tells store new h floors label r told stands step =
     subst (OrGaveOut (IsTimesReply (times_of h label))) (sym step.2)
-    (times-replied tells (is_log store) told (times_of h label) step.0
-    (subst (λ (h' : History Value). SaysTimes tells (is_log store) (times_of h' label) step.0) (published-in store h floors)
+    (times-replied tells (is_log store) (names_from store) told (times_of h label) step.0
+    (subst (λ (h' : History Value). SaysTimes tells (is_log store) (names_from store) (times_of h' label) step.0) (published-in store h floors)
     (times-told tells store new (opened_in store h floors) label step.0 stands step.1)))
 
 -- the store's last commit and floors are those of the history
