@@ -575,8 +575,8 @@ pump-publishes tells start kind brand table old new shares at at' pass pass' r h
     }
 
 -- that of a shared store
-pub in-heap : (tells : Bool) (start : Machine Value) (kind : Kind) (brand : ℕ) (table : TableId) (v : StoreValue) (shares : ℕ) (at : TableId)
-    (pass : SightValue) → IsShared tells start kind brand table v shares at pass → is_log v ≡ kind.in_heap
+in-heap : (tells : Bool) (start : Machine Value) (kind : Kind) (brand : ℕ) (table : TableId) (v : StoreValue) (shares : ℕ) (at : TableId) (pass : SightValue)
+    → IsShared tells start kind brand table v shares at pass → is_log v ≡ kind.in_heap
 in-heap tells start kind brand table v shares at pass h = ap (λ (k : Kind). k.in_heap) h.layout
 
 -- what a step of its group leads to

@@ -30,7 +30,7 @@ use Rattle.commits.specs.Calls as memory
 use Rattle.commits.specs.Values.{CommitsValue, order_of}
 use Rattle.any_store.specs.Calls as stores
 use Rattle.any_store.specs.Queries as queries
-use Rattle.any_store.specs.Values.{StoreValue, is_log, commits_of}
+use Rattle.any_store.specs.Values.{StoreValue, commits_of}
 use Rattle.any_store.specs.declared.engine.Engine.TheVariants.{Slots, Log}
 use Rattle.law_refinement.specs.Laws.{RedeemsAs}
 use Rattle.law_refinement.specs.Standing.{Name, name_of, name_at}
@@ -54,7 +54,7 @@ use Rattle.shared.proofs.Archives.{reads-taken}
 use Rattle.shared.proofs.Awaiting.{queue-awaited}
 use Rattle.shared.proofs.Counting.{rising-last, rising-take}
 use Rattle.shared.proofs.Engines.{in-memory, is-machine, waiting-named, queue-rises, heads-many, published-told}
-use Rattle.shared.proofs.Moves.{Aborting, in-heap}
+use Rattle.shared.proofs.Moves.{Aborting}
 
 pub shows : (tells : Bool) (start : Machine Value) (kind : Kind) (brand : ℕ) (table : TableId) (v : StoreValue) (shares : ℕ) (at : TableId)
     (pass : SightValue) (archive : ArchiveSeen) (seen : Seen) (r : Result ViewValue AllocError) → IsShared tells start kind brand table v shares at pass
@@ -262,7 +262,6 @@ times-say tells start kind brand table v new shares at pass seen label r h same 
   h.state,
   h.reached,
   same ∙ h.seen,
-  subst (λ (b : Bool). SaysTimes tells b kind.names_from (answers.times_of h.state.published label) r) (in-heap tells start kind brand table v shares at pass h)
-      (subst (λ (n : ℕ). SaysTimes tells (is_log v) n (answers.times_of h.state.published label) r) (ap (λ (k : Kind). k.names_from) h.layout)
-      (times-told tells v new h.state label r h.stands asks)),
+  subst (λ (k : Kind). SaysTimes tells k.in_heap k.names_from (answers.times_of h.state.published label) r) h.layout
+      (times-told tells v new h.state label r h.stands asks),
 )

@@ -124,18 +124,26 @@ fn holds_last_round<D: Disk>(store: &mut Store<D>, number: u64, rounds: u16) -> 
     is_of_round(&answer, u32::from(rounds))
 }
 
-// Whether the value is that of a writer's round.
+// Whether the answer is the value of a writer's round.
 fn is_of_round(answer: &Result<Option<SharedValue>, QueryFault>, round: u32) -> bool
     ensures { IsTrue result → answer.now ≡ Ok (Some (value_of round)) }
 {
     match answer {
-        Ok(Some(found)) => {
-            let value = found.value();
-            match value.field(0) {
-                Some(field) => value.len() == 1 && field == field_of(round).as_slice(),
-                None => false,
-            }
-        }
-        _ => false,
+        Ok(found) => match found {
+            Some(found) => has_round(found, round),
+            None => false,
+        },
+        Err(_) => false,
+    }
+}
+
+// Whether the value is that of a writer's round.
+fn has_round(found: &SharedValue, round: u32) -> bool
+    ensures { IsTrue result → found.now ≡ value_of round }
+{
+    let value = found.value();
+    match value.field(0) {
+        Some(field) => value.len() == 1 && field == field_of(round).as_slice(),
+        None => false,
     }
 }

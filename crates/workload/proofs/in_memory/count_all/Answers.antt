@@ -1,4 +1,4 @@
-use Rattle.std.proofs.Common.{◌≡◌, ◌≤◌, ℕ, ◌+◌, ◌∙◌, length, Option, Some, arith, subst}
+use Rattle.std.proofs.Common.{◌≡◌, ◌≤◌, ℕ, ◌+◌, ◌∙◌, length, Option, Some, arith, refl, subst}
 use Rattle.std.specs.Prelude.{IfSome}
 use Rattle.law_any_store.proofs.Memory.{last-published}
 use Rattle.workload.proofs.in_memory.count_all.Goals as goal
@@ -17,5 +17,5 @@ returns-in-Some-clause-last c =
       reached = r.2;
       many = counts (length r.0.published) _ _ _ c.in-Some.is r.3;
       last_is = c.last-last.ensures ∙ last-published _ _ _ r.1;
-      holds = ?;
+      holds = c.holds_last_rounds-holds.ensures c.if-holds.true refl r.0 r.1;
     }
