@@ -151,47 +151,59 @@ log-pump-leaves tells l l' answer pumps = by-failed l.commits.failed pumps
 
 -- ---- steps of a job, where the log lies in the heap
 
-broken-left : (v : CommitsValue) → Leaves v (commit_steps.broken v)
-broken-left v = record { mark = refl; opened = refl; heads = refl }
+-- memory is left so, and no name has left it
+pub record LeavesNames (old new : CommitsValue) : Type 0 where
+  pub left : Leaves old new
+  pub reclaimed : new.reclaimed ≡ old.reclaimed
+
+same-names : (v v' : CommitsValue) → v' ≡ v → LeavesNames v v'
+same-names v v' same = record { left = same-left v v' same; reclaimed = ap (λ (c : CommitsValue). c.reclaimed) same }
+
+names-then : (v mid v' : CommitsValue) → LeavesNames v mid → v' ≡ mid → LeavesNames v v'
+names-then v mid v' is same =
+    record { left = left-then v mid v' is.left same; reclaimed = ap (λ (c : CommitsValue). c.reclaimed) same ∙ is.reclaimed }
+
+broken-names : (v : CommitsValue) → LeavesNames v (commit_steps.broken v)
+broken-names v = record { left = record { mark = refl; opened = refl; heads = refl }; reclaimed = refl }
 
 -- what the work of a job puts into memory
-work-left : (v : CommitsValue) (work : JobWork) → Leaves v (log_jobs.commits_with work v)
-work-left v (Floor floor kept) = record { mark = refl; opened = refl; heads = refl }
-work-left v (Archive archive archives) = same-left v v refl
+work-left : (v : CommitsValue) (work : JobWork) → LeavesNames v (log_jobs.commits_with work v)
+work-left v (Floor floor kept) = record { left = record { mark = refl; opened = refl; heads = refl }; reclaimed = refl }
+work-left v (Archive archive archives) = same-names v v refl
 
-entry-left : (l : LogStoreValue) (job : log_job.Job) (w : WriterState) (stage : Stage) → Leaves l.commits (log_jobs.after_call l job w stage).commits
-entry-left l job w (Writing done rest) = same-left l.commits l.commits refl
-entry-left l job w Syncing = same-left l.commits l.commits refl
-entry-left l job w Opening = same-left l.commits l.commits refl
+entry-left : (l : LogStoreValue) (job : log_job.Job) (w : WriterState) (stage : Stage) → LeavesNames l.commits (log_jobs.after_call l job w stage).commits
+entry-left l job w (Writing done rest) = same-names l.commits l.commits refl
+entry-left l job w Syncing = same-names l.commits l.commits refl
+entry-left l job w Opening = same-names l.commits l.commits refl
 entry-left l job w Settling = work-left l.commits job.work
-entry-left l job w Done = same-left l.commits l.commits refl
+entry-left l job w Done = same-names l.commits l.commits refl
 
 advance-entry-left : (tells : Bool) (job : log_job.Job) (w : WriterState) (l l' : LogStoreValue) (said : Result log_did.JobDid PumpFault)
-    → log_jobs.Advances tells job w l said l' → Leaves l.commits l'.commits
+    → log_jobs.Advances tells job w l said l' → LeavesNames l.commits l'.commits
 advance-entry-left tells job w l l' said advances = by-answer said advances.answer
   where
     by-answer : (a : Result log_did.JobDid PumpFault)
         → MatchResult a (λ what. (what ≡ log_jobs.did_of (writers.did w.stage)) × (l' ≡ record (log_jobs.after_call l job w w.stage) { disk = l'.disk }))
         (λ why. (why ≡ pump.Failed) × (l' ≡ record (log_steps.with_failure l) { disk = l'.disk }))
-        → Leaves l.commits l'.commits
-    by-answer (Ok what) so = left-then l.commits (log_jobs.after_call l job w w.stage).commits l'.commits (entry-left l job w w.stage)
+        → LeavesNames l.commits l'.commits
+    by-answer (Ok what) so = names-then l.commits (log_jobs.after_call l job w w.stage).commits l'.commits (entry-left l job w w.stage)
         (ap (λ (x : LogStoreValue). x.commits) so.1)
     by-answer (Err why) so =
-        left-then l.commits (commit_steps.broken l.commits) l'.commits (broken-left l.commits) (ap (λ (x : LogStoreValue). x.commits) so.1)
+        names-then l.commits (commit_steps.broken l.commits) l'.commits (broken-names l.commits) (ap (λ (x : LogStoreValue). x.commits) so.1)
 
 -- a call of the writing of a run
 run-left : (tells : Bool) (job : log_job.Job) (l l' : LogStoreValue) (said : Result log_did.JobDid PumpFault) → log_runs.WritesRun tells job l said l'
-    → Leaves l.commits l'.commits
+    → LeavesNames l.commits l'.commits
 run-left tells job l l' said writes = by-answer said writes.answer
   where
     by-answer : (a : Result log_did.JobDid PumpFault)
         → MatchResult a (λ what. (what ≡ log_runs.did_at job.stage)
         × (l' ≡ record (log_runs.with_job_as l (log_runs.behind job true)) { disk = l'.disk }))
         (λ why. (why ≡ pump.Failed) × (l' ≡ record (log_steps.with_failure (log_runs.with_job_as l (log_runs.behind job false))) { disk = l'.disk }))
-        → Leaves l.commits l'.commits
-    by-answer (Ok what) so = same-left l.commits l'.commits (ap (λ (x : LogStoreValue). x.commits) so.1)
+        → LeavesNames l.commits l'.commits
+    by-answer (Ok what) so = same-names l.commits l'.commits (ap (λ (x : LogStoreValue). x.commits) so.1)
     by-answer (Err why) so =
-        left-then l.commits (commit_steps.broken l.commits) l'.commits (broken-left l.commits) (ap (λ (x : LogStoreValue). x.commits) so.1)
+        names-then l.commits (commit_steps.broken l.commits) l'.commits (broken-names l.commits) (ap (λ (x : LogStoreValue). x.commits) so.1)
 
 -- a call of a reclaim, which takes nothing from memory
 turn-kept : (l : LogStoreValue) (r : ReclaimValue) (t : RootTurnState) (k : turning.Stage) → (log_reclaim_steps.behind_turn l r t k).commits ≡ l.commits
@@ -207,64 +219,64 @@ behind-kept l r (reclaims.Rolling roll) = refl
 behind-kept l r (reclaims.Turning t) = turn-kept l r t t.stage
 
 reclaim-left : (tells : Bool) (r : ReclaimValue) (l l' : LogStoreValue) (said : Result log_did.JobDid PumpFault)
-    → log_reclaim_steps.StepsReclaim tells r l said l' → Leaves l.commits l'.commits
+    → log_reclaim_steps.StepsReclaim tells r l said l' → LeavesNames l.commits l'.commits
 reclaim-left tells r l l' said steps = by-gate (waits_at l.turn r.stage) steps
   where
     by-answer : (a : Result log_did.JobDid PumpFault)
         → MatchResult a (λ what. (what ≡ log_reclaim_steps.did_at r.stage) × (l' ≡ record (log_reclaim_steps.behind l r r.stage) { disk = l'.disk }))
         (λ why. (why ≡ pump.Failed) × (l' ≡ record (log_steps.with_failure l) { disk = l'.disk }))
-        → Leaves l.commits l'.commits
-    by-answer (Ok what) so = same-left l.commits l'.commits (ap (λ (x : LogStoreValue). x.commits) so.1 ∙ behind-kept l r r.stage)
+        → LeavesNames l.commits l'.commits
+    by-answer (Ok what) so = same-names l.commits l'.commits (ap (λ (x : LogStoreValue). x.commits) so.1 ∙ behind-kept l r r.stage)
     by-answer (Err why) so =
-        left-then l.commits (commit_steps.broken l.commits) l'.commits (broken-left l.commits) (ap (λ (x : LogStoreValue). x.commits) so.1)
+        names-then l.commits (commit_steps.broken l.commits) l'.commits (broken-names l.commits) (ap (λ (x : LogStoreValue). x.commits) so.1)
 
     by-gate : (b : Bool) → MatchBool b ((said ≡ Err pump.Busy) × (l' ≡ l)) (log_reclaim_steps.AdvancesReclaim tells r l said l')
-        → Leaves l.commits l'.commits
-    by-gate true busy = same-left l.commits l'.commits (ap (λ (x : LogStoreValue). x.commits) busy.1)
+        → LeavesNames l.commits l'.commits
+    by-gate true busy = same-names l.commits l'.commits (ap (λ (x : LogStoreValue). x.commits) busy.1)
     by-gate false advances = by-answer said advances.answer
 
 pub log-job-leaves : (tells : Bool) (l l' : LogStoreValue) (said : Result log_did.JobDid PumpFault) → log_jobs.PumpsJob tells l said l'
-    → Leaves l.commits l'.commits
+    → LeavesNames l.commits l'.commits
 log-job-leaves tells l l' said pumps = by-failed l.commits.failed pumps
   where
-    same : (x : LogStoreValue) → x.commits ≡ l.commits → l' ≡ x → Leaves l.commits l'.commits
-    same x kept is = same-left l.commits l'.commits (ap (λ (x : LogStoreValue). x.commits) is ∙ kept)
+    same : (x : LogStoreValue) → x.commits ≡ l.commits → l' ≡ x → LeavesNames l.commits l'.commits
+    same x kept is = same-names l.commits l'.commits (ap (λ (x : LogStoreValue). x.commits) is ∙ kept)
 
     by-at : (x : LogStoreValue) (job : log_job.Job) (k : log_stages.JobStage) → x.commits ≡ l.commits → log_jobs.AdvancesAt tells job k x said l'
-        → Leaves l.commits l'.commits
+        → LeavesNames l.commits l'.commits
     by-at x job (log_stage.Writing writer) kept advances = absurd advances
     by-at x job (log_stage.Ready waited) kept advances = absurd advances
     by-at x job (log_stage.Entering w) kept advances =
-        subst (λ (v : CommitsValue). Leaves v l'.commits) kept (advance-entry-left tells job w x l' said advances)
+        subst (λ (v : CommitsValue). LeavesNames v l'.commits) kept (advance-entry-left tells job w x l' said advances)
 
     by-begun : (x : LogStoreValue) (j : Option log_job.Job) → x.commits ≡ l.commits → log_jobs.AdvancesEntry tells j x said l'
-        → Leaves l.commits l'.commits
+        → LeavesNames l.commits l'.commits
     by-begun x None kept advances = absurd advances
     by-begun x (Some job) kept advances = by-at x job job.stage kept advances
 
-    by-turn : (job : log_job.Job) (t : Option WriterState) → log_jobs.StepsReady tells job t l said l' → Leaves l.commits l'.commits
+    by-turn : (job : log_job.Job) (t : Option WriterState) → log_jobs.StepsReady tells job t l said l' → LeavesNames l.commits l'.commits
     by-turn job None (inl none) = same l refl none.1
     by-turn job None (inr enters) = by-begun enters.0 (enters.0).job (ap (λ (x : LogStoreValue). x.commits) (enters.1).new_is) enters.2
     by-turn job (Some w) busy = same (log_jobs.at_stage l job (log_stage.Ready true)) refl busy.1
 
-    by-stage : (job : log_job.Job) (k : log_stages.JobStage) → log_jobs.StepsAt tells job k l said l' → Leaves l.commits l'.commits
+    by-stage : (job : log_job.Job) (k : log_stages.JobStage) → log_jobs.StepsAt tells job k l said l' → LeavesNames l.commits l'.commits
     by-stage job (log_stage.Writing writer) step = run-left tells job l l' said step
     by-stage job (log_stage.Ready waited) step = by-turn job l.turn step
     by-stage job (log_stage.Entering w) step = advance-entry-left tells job w l l' said step
 
-    by-job : (j : Option log_job.Job) → log_jobs.StepsJob tells j l said l' → Leaves l.commits l'.commits
+    by-job : (j : Option log_job.Job) → log_jobs.StepsJob tells j l said l' → LeavesNames l.commits l'.commits
     by-job None idle = same l refl idle.1
     by-job (Some job) step = by-stage job job.stage step
 
     by-reclaim : (o : Option ReclaimValue)
-        → MatchOption o (log_jobs.StepsJob tells l.job l said l') (λ r. log_reclaim_steps.StepsReclaim tells r l said l') → Leaves l.commits l'.commits
+        → MatchOption o (log_jobs.StepsJob tells l.job l said l') (λ r. log_reclaim_steps.StepsReclaim tells r l said l') → LeavesNames l.commits l'.commits
     by-reclaim None step = by-job l.job step
     by-reclaim (Some r) step = reclaim-left tells r l l' said step
 
     by-failed : (b : Bool)
         → MatchBool b ((said ≡ Err pump.Failed) × (l' ≡ l))
         (MatchOption l.reclaim (log_jobs.StepsJob tells l.job l said l') (λ r. log_reclaim_steps.StepsReclaim tells r l said l'))
-        → Leaves l.commits l'.commits
+        → LeavesNames l.commits l'.commits
     by-failed true failed = same l refl failed.1
     by-failed false step = by-reclaim l.reclaim step
 
@@ -356,7 +368,7 @@ pub pumped-leaves : (tells : Bool) (old new : StoreValue) (answer : Result JobDi
 pumped-leaves tells (Slots s) (Slots s') answer pumps = of-slots s.transactions s'.transactions (job_leaves.pumped-leaves tells s s' pumps.0 pumps.1)
 pumped-leaves tells (Slots s) (Log l') answer pumps = absurd pumps
 pumped-leaves tells (Log l) (Slots s') answer pumps = absurd pumps
-pumped-leaves tells (Log l) (Log l') answer pumps = log-job-leaves tells l l' pumps.0 pumps.1
+pumped-leaves tells (Log l) (Log l') answer pumps = (log-job-leaves tells l l' pumps.0 pumps.1).left
 
 -- ---- transactions
 

@@ -130,7 +130,7 @@ times-append label h more =
 -- what is told is what the history has
 told-of : (tells : Bool) (v new : LogStoreValue) (m : Machine Value) (label : ℕ) (found : Vec ℕ Global) → IsTrue tells → Stands tells v m
     → AnswersTimes tells v label (Ok found) new → found.items ≡ times_of m.published label
-told-of tells v new m label found told stands says = times-answered tells v new m label (Ok found) stands says (λ heap. told)
+told-of tells v new m label found told stands says = (times-answered tells v m label stands new (Ok found) says).0 (λ heap. told)
 
 pub labels-stay : (tells : Bool) (v asked : LogStoreValue) (m : Machine Value) (disk : DiskState) (mark : ℕ) (again new : LogStoreValue) (label : ℕ)
     (before after : Vec ℕ Global) → IsInStep v → Stands tells v m → IsTrue tells → OpensAgain tells v disk mark again

@@ -46,6 +46,7 @@ impl NamesReader {
         ensures looks { LooksAt roll.now.start roll.now.len D.tells (D.state disk.old) (D.state disk.new) (P.kept parts.old) (P.kept parts.new) result }
         ensures rises { self.old.names ≤ self.new.names }
         ensures counted { self.new.names ≤ self.old.names + 1 }
+        ensures within { IfOk result (λ name. (0 < name.time) × (name.time ≤ upto)) }
         ensures exact { Follows D.tells (D.state disk.old) (P.kept parts.old) result
             (λ area name. (name ≡ name_at area roll.now.start n) × (standing.is_in_time upto name ≡ true))
             (λ area _. (length area < roll_end roll.now) ⊎ (standing.is_in_time upto (name_at area roll.now.start n) ≡ false)) }

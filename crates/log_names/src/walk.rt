@@ -34,7 +34,8 @@ impl NamesReader {
         requires few { first ≤ name_count roll.now }
         ensures looks { LooksAt roll.now.start roll.now.len D.tells (D.state disk.old) (D.state disk.new) (P.kept parts.old) (P.kept parts.new) result }
         ensures rises { self.old.names ≤ self.new.names }
-        ensures front { (times : List ℕ) × (into.new.items ≡ into.old.items ++ times) × (self.new.names ≤ self.old.names + (length times + 1)) }
+        ensures front { (times : List ℕ) × (into.new.items ≡ into.old.items ++ times) × (self.new.names ≤ self.old.names + (length times + 1))
+            × AllByRecursion (λ time. (0 < time) × (time ≤ upto)) times }
         ensures exact { Follows D.tells (D.state disk.old) (P.kept parts.old) result
             (λ area _. (times : List ℕ) × (times_behind area upto label roll.now first ≡ Some times) × (into.new.items ≡ into.old.items ++ times))
             (λ area _. (length area < roll_end roll.now) ⊎ (times_behind area upto label roll.now first ≡ None)) }
@@ -76,7 +77,8 @@ impl NamesReader {
         ensures looks { LooksAt roll.now.start roll.now.len D.tells (D.state disk.old) (D.state disk.new) (P.kept parts.old) (P.kept parts.new) result }
         ensures rises { self.old.names ≤ self.new.names }
         ensures front { (times : List ℕ) × (into.new.items ≡ into.old.items ++ times)
-            × (self.new.names ≤ self.old.names + (digits (name_count roll.now) + (length times + 1))) }
+            × (self.new.names ≤ self.old.names + (digits (name_count roll.now) + (length times + 1)))
+            × AllByRecursion (λ time. (0 < time) × (time ≤ upto)) times }
         ensures only { (heads : List Head) → IsTrue D.tells → IsRight (P.kept parts.old) (archive_of (D.state disk.old))
             → HoldsNames (archive_of (D.state disk.old)) upto roll.now heads
             → Answers result (λ _. into.new.items ≡ into.old.items ++ times_named label heads) }
@@ -106,6 +108,7 @@ impl NamesReader {
         ensures damaged { IfErr result (IsFaultIn rolls.now) }
         ensures rises { self.old.names ≤ self.new.names }
         ensures names { IfOk result (λ found. self.new.names ≤ self.old.names + names_to_read rolls.now + length found.items) }
+        ensures within { IfOk result (λ found. AllByRecursion (λ time. (0 < time) × (time ≤ upto)) found.items) }
         ensures exact { Follows D.tells (D.state disk.old) (P.kept parts.old) result
             (λ area found. times_in_all area upto label rolls.now ≡ Some found.items)
             (λ area start. IsFirstBroken area upto label rolls.now start) }
@@ -138,6 +141,7 @@ impl NamesReader {
         ensures damaged { IfErr result (IsFaultIn rolls.now) }
         ensures rises { self.old.names ≤ self.new.names }
         ensures names { IfOk result (λ found. self.new.names ≤ self.old.names + names_to_read rolls.now + length found.items) }
+        ensures within { IfOk result (λ found. AllByRecursion (λ time. (0 < time) × (time ≤ upto)) found.items) }
         ensures only { (heads : List Head) → IsTrue D.tells → IsRight (P.kept parts.old) (archive_of (D.state disk.old))
             → HoldRolls (archive_of (D.state disk.old)) upto rolls.now heads
             → Answers result (λ found. found.items ≡ times_named label heads) }

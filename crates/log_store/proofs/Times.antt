@@ -1,5 +1,8 @@
 -- What is answered of a label, by what its rolls and memory have.
-use Rattle.std.proofs.Common.{◌≡◌, ◌++◌, ℕ, nat_lt, filter, Bool, IsTrue, List, [], Result, Ok, Err, refl, ap, sym, subst, ◌∙◌}
+use Rattle.std.proofs.Common.{◌≡◌, ◌<◌, ◌≤◌, ◌++◌, ℕ, nat_lt, nat_le, filter, Bool, true, false, cond, arith, IsTrue, List, [], ◌∷◌, Result, Ok}
+use Rattle.std.proofs.Common.{Err, refl, ap, sym, subst, ◌∙◌}
+use Rattle.std.specs.List.{AllByRecursion}
+use Rattle.std.proofs.lemmas.Bool.Decides.{nat_tests}
 use Rattle.std.specs.declared.alloc.Global.{Global}
 use Rattle.std.specs.declared.vec.Vec.{Vec}
 use Rattle.disk.specs.Calls.{DiskState}
@@ -18,7 +21,7 @@ use Rattle.commits.specs.Values.{order_of}
 use Rattle.log_entries.specs.declared.entry.Roll.{Roll}
 use Rattle.law_log_layout.specs.HeapLog.{PlacedRoll}
 use Rattle.log_names.specs.Rolls.{HoldRolls, times_named}
-use Rattle.log_store.specs.Names.{AnswersTimes, NamesLie, RefusesTimes, late_times, names_mark}
+use Rattle.log_store.specs.Names.{AnswersTimes, NamesLie, RefusesTimes, early_times, forgotten_upto, late_times, names_mark}
 use Rattle.log_store.specs.Values.{LogStoreValue}
 
 -- a fault of the archive leaves the disk as one of a query does
@@ -38,6 +41,17 @@ refusal-is : (why : ArchiveFault) (P Q : Vec ℕ Global → Type 0) → searches
 refusal-is Device P Q is = tt
 refusal-is NoMemory P Q is = tt
 refusal-is (Damaged start) P Q is = absurd is
+
+-- what is left of times that are in these bounds is in them, and no later than a mark
+early-bound : (mark upto : ℕ) (times : List ℕ) → AllByRecursion (λ (time : ℕ). (0 < time) × (time ≤ upto)) times
+    → AllByRecursion (λ (time : ℕ). (0 < time) × (time ≤ mark)) (filter (λ (time : ℕ). nat_le time mark) times)
+early-bound mark upto [] all = tt
+early-bound mark upto (t ∷ ts) all =
+    (elim (nat_le t mark) as (λ (b : Bool). nat_le t mark ≡ b → AllByRecursion (λ (time : ℕ). (0 < time) × (time ≤ mark))
+    (cond b (t ∷ filter (λ (time : ℕ). nat_le time mark) ts) (filter (λ (time : ℕ). nat_le time mark) ts))) [
+      | true ↦ λ e. ((all.0.0, grind (arith, nat_tests, e)), early-bound mark upto ts all.1)
+      | false ↦ λ e. early-bound mark upto ts all.1
+    ]) refl
 
 module _ (tells : Bool) (v : LogStoreValue) (label mark : ℕ) (rolls : List Roll) (result : Result (Vec ℕ Global) ArchiveFault) (disk : DiskState)
     (mark-is : mark ≡ names_mark v) (rolls-are : rolls ≡ v.named.rolls) (after : disk ≡ searches.after_query result v.disk)
@@ -59,22 +73,27 @@ module _ (tells : Bool) (v : LogStoreValue) (label mark : ℕ) (rolls : List Rol
         new_is = ap (λ (d : DiskState). record v { disk = d })
             (after ∙ ap (λ (r : Result (Vec ℕ Global) ArchiveFault). searches.after_query r v.disk) is ∙ after-fault why v.disk);
         refused = fault-refuses why;
+        late = tt;
         only = λ placed names told lie.
-            refusal-is why (λ found. found.items ≡ times_named label names) (λ found. found.items ≡ times_named label names ++ late_times v label)
+            refusal-is why (λ found. found.items ≡ times_named label names)
+            (λ found. found.items ≡ early_times v (times_named label names) ++ late_times v label)
             (subst (λ (r : Result (Vec ℕ Global) ArchiveFault). searches.Answers r (λ found. found.items ≡ times_named label names)) is
             (searched placed names told lie));
       })
 
   pub answered-search : (found times recent : Vec ℕ Global) → result ≡ Ok found → recent.items ≡ times_of label (order_of v.commits)
-      → times.items ≡ found.items ++ filter (nat_lt mark) recent.items → AnswersTimes tells v label (Ok times) (record v { disk = disk })
-  answered-search found times recent is in_memory all = record {
-    new_is = ap (λ (d : DiskState). record v { disk = d }) (after ∙ ap (λ (r : Result (Vec ℕ Global) ArchiveFault). searches.after_query r v.disk) is);
-    refused = tt;
-    only = λ placed names told lie.
-        let rolled : found.items ≡ times_named label names =
-        subst (λ (r : Result (Vec ℕ Global) ArchiveFault). searches.Answers r (λ (f : Vec ℕ Global). f.items ≡ times_named label names)) is
-        (searched placed names told lie) in
-        all ∙ ap (λ (ts : List ℕ). ts ++ filter (nat_lt mark) recent.items) rolled
-        ∙ ap (λ (ts : List ℕ). times_named label names ++ filter (nat_lt mark) ts) in_memory
-        ∙ ap (λ (m : ℕ). times_named label names ++ filter (nat_lt m) (times_of label (order_of v.commits))) mark-is;
-  }
+      → times.items ≡ early_times v found.items ++ filter (nat_lt (forgotten_upto v)) recent.items
+      → AllByRecursion (λ (time : ℕ). (0 < time) × (time ≤ mark)) found.items → AnswersTimes tells v label (Ok times) (record v { disk = disk })
+  answered-search found times recent is in_memory all within =
+      let told : times.items ≡ early_times v found.items ++ late_times v label =
+      all ∙ ap (λ (ts : List ℕ). early_times v found.items ++ filter (nat_lt (forgotten_upto v)) ts) in_memory in
+      record {
+        new_is = ap (λ (d : DiskState). record v { disk = d }) (after ∙ ap (λ (r : Result (Vec ℕ Global) ArchiveFault). searches.after_query r v.disk) is);
+        refused = tt;
+        late = (early_times v found.items, early-bound (forgotten_upto v) mark found.items within, told);
+        only = λ placed names told-so lie.
+            let rolled : found.items ≡ times_named label names =
+            subst (λ (r : Result (Vec ℕ Global) ArchiveFault). searches.Answers r (λ (f : Vec ℕ Global). f.items ≡ times_named label names)) is
+            (searched placed names told-so lie) in
+            told ∙ ap (λ (ts : List ℕ). early_times v ts ++ late_times v label) rolled;
+      }

@@ -1,5 +1,5 @@
 -- The times of a label: those up to the reclaim mark are read in the rolls of the archive, the others are in memory.
-use Rattle.std.specs.Prelude.{◌≡◌, ◌≤◌, ◌++◌, ℕ, nat_lt, Bool, IsTrue, List, length, filter, map, Result, IfErr}
+use Rattle.std.specs.Prelude.{◌≡◌, ◌<◌, ◌≤◌, ◌++◌, ℕ, nat_lt, nat_le, Bool, IsTrue, List, length, filter, map, Result, IfOk, IfErr}
 use Rattle.std.specs.List.{AllByRecursion}
 use Rattle.std.specs.declared.alloc.Global.{Global}
 use Rattle.std.specs.declared.vec.Vec.{Vec}
@@ -17,13 +17,21 @@ use Rattle.log_base.specs.Bases.{mark_of}
 use Rattle.log_names.specs.Rolls.{times_named}
 use Rattle.log_store.specs.Values.{LogStoreValue}
 
--- the reclaim mark of the log
+-- the reclaim mark of the log: its rolls have the names of the commits up to it
 abbrev pub names_mark : LogStoreValue → ℕ
 names_mark v = mark_of v.live.chains
 
--- the times of a label that are later, of the published commits that are in memory
+-- up to this time names of commits may have left memory
+abbrev pub forgotten_upto : LogStoreValue → ℕ
+forgotten_upto v = v.commits.reclaimed
+
+-- the times of a label that are later, of the published commits
 abbrev pub late_times : LogStoreValue → ℕ → List ℕ
-late_times v label = filter (nat_lt (names_mark v)) (times_of label (order_of v.commits))
+late_times v label = filter (nat_lt (forgotten_upto v)) (times_of label (order_of v.commits))
+
+-- and those of these times that are not
+abbrev pub early_times : LogStoreValue → List ℕ → List ℕ
+early_times v times = filter (λ (time : ℕ). nat_le time (forgotten_upto v)) times
 
 -- names of commits lie in rolls of the archive
 abbrev pub has_rolls : LogStoreValue → Bool
@@ -49,9 +57,12 @@ pub record NamesLie (v : LogStoreValue) (area : List ℕ) (rolls : List PlacedRo
   pub are_names : AreNamesOf rolls names
   pub by_mark : AllByRecursion (λ (head : Head). head.time ≤ names_mark v) names
 
--- The times of a label are asked. Nothing is written, and where the rolls are right they are those that the rolls have and then those in memory.
+-- The times of a label are asked. Nothing is written. Whatever the disk holds, the times behind the earlier ones are those of memory; and where the rolls are
+-- right, the earlier ones are those that the rolls have.
 pub record AnswersTimes (tells : Bool) (v : LogStoreValue) (label : ℕ) (answer : Result (Vec ℕ Global) QueryFault) (new : LogStoreValue) : Type 0 where
   pub new_is : new ≡ record v { disk = after_query answer v.disk }
   pub refused : IfErr answer RefusesTimes
+  pub late : IfOk answer (λ found. (early : List ℕ) × AllByRecursion (λ (time : ℕ). (0 < time) × (time ≤ forgotten_upto v)) early
+      × (found.items ≡ early ++ late_times v label))
   pub only : (rolls : List PlacedRoll) (names : List Head) → IsTrue tells → NamesLie v (archive_of v.disk) rolls names
-      → Answers answer (λ found. found.items ≡ times_named label names ++ late_times v label)
+      → Answers answer (λ found. found.items ≡ early_times v (times_named label names) ++ late_times v label)

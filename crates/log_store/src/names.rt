@@ -1,5 +1,5 @@
 //! The times of a label: those of the rolls in the archive, and those in memory.
-ghost use Rattle.std.specs.Prelude.{◌≡◌, ◌↔◌, ◌++◌, nat_lt, filter, IsTrue, IfOk, IfSome, MatchOption};
+ghost use Rattle.std.specs.Prelude.{◌≡◌, ◌↔◌, ◌++◌, nat_lt, nat_le, filter, IsTrue, IfOk, IfSome, MatchOption};
 ghost use Rattle.std.specs.List.{AllByRecursion};
 ghost use Rattle.log_entries.specs.Ranges.{IsRoll};
 ghost use Rattle.log_base.specs.Bases.{mark_of};
@@ -44,6 +44,20 @@ fn first_bad(rolls: &[Roll]) -> Option<u64>
     None
 }
 
+// Adds those of these times that are no later than a mark.
+fn push_early(times: &mut Vec<u64>, more: &[u64], mark: u64) -> Result<(), AllocError>
+    ensures { IfOk result (λ _. times.new.items ≡ times.old.items ++ filter (λ time. nat_le time mark) more.now) }
+{
+    let mut rest = more;
+    while let [first, after @ ..] = rest {
+        if *first <= mark {
+            times.push(*first)?;
+        }
+        rest = after;
+    }
+    Ok(())
+}
+
 // Adds those of these times that are later than a mark.
 fn push_later(times: &mut Vec<u64>, more: &[u64], mark: u64) -> Result<(), AllocError>
     ensures { IfOk result (λ _. times.new.items ≡ times.old.items ++ filter (nat_lt mark) more.now) }
@@ -59,6 +73,7 @@ fn push_later(times: &mut Vec<u64>, more: &[u64], mark: u64) -> Result<(), Alloc
 }
 
 // The times of a label of a log that names these rolls, has this reclaim mark and these commits in memory, and whose archive lies on this disk.
+// Memory has the names of all commits later than the time up to which it forgot, so the rolls are asked for the others alone.
 fn times_on<D: Disk>(
     alloc: Global,
     disk: &mut D,
@@ -74,7 +89,7 @@ fn times_on<D: Disk>(
     if let Some(start) = first_bad(rolls) {
         return Err(QueryFault::Damaged(start));
     }
-    let mut times = NamesReader::new().times_of_rolls(
+    let rolled = NamesReader::new().times_of_rolls(
         alloc,
         &mut UncachedParts,
         disk,
@@ -82,16 +97,19 @@ fn times_on<D: Disk>(
         mark,
         label,
     )?;
+    let forgotten = commits.reclaimed();
+    let mut times = Vec::new(alloc);
+    push_early(&mut times, rolled.as_slice(), forgotten)?;
     let recent = commits.times_of(alloc, label)?;
-    push_later(&mut times, recent.as_slice(), mark)?;
+    push_later(&mut times, recent.as_slice(), forgotten)?;
     Ok(times)
 }
 
 impl<D: Disk> LogStore<D> {
     ghost use Rattle.log_store.specs.Names.{has_rolls};
 
-    /// The times of the published commits with a label, rising, in microseconds since 1970. Those up to the reclaim mark are read in the
-    /// rolls of the archive: `Device`, `NoMemory`, and `Damaged` with the roll's start, where they are met.
+    /// The times of the published commits with a label, rising, in microseconds since 1970. Those whose names have left memory are read in
+    /// the rolls of the archive: `Device`, `NoMemory`, and `Damaged` with the roll's start, where they are met.
     pub fn times_of(&mut self, label: u64) -> Result<Vec<u64>, QueryFault>
         ensures { AnswersTimes D.tells self.old label result self.new }
     {

@@ -1,5 +1,6 @@
-use Rattle.std.proofs.Common.{ℕ, ◌≡◌, ◌∙◌, ◌++◌, ◌∷◌, [], List, ap, sym, arith, append_assoc, length-append, false, true}
+use Rattle.std.proofs.Common.{ℕ, ◌≡◌, ◌<◌, ◌≤◌, ◌∙◌, ◌++◌, ◌∷◌, [], List, ap, sym, arith, append_assoc, length-append, false, true}
 use Rattle.std.proofs.lemmas.Result.{err_from_is_err_and}
+use Rattle.history.proofs.Filters.{AllByRecursion-append}
 use Rattle.archive.specs.Searches.{archive_of}
 use Rattle.log_names.specs.Standing.{may_follow}
 use Rattle.log_names.proofs.Looking.{right_again, keeps_on, map_damaged}
@@ -37,6 +38,7 @@ loop-n-preserved g c = record {
     c.in_ok-push.ensures.items ∙ ap (λ (l : List ℕ). l ++ c.in_ok-name.name.time ∷ []) front.1
         ∙ append_assoc c.args.into.now.items front.0 (c.in_ok-name.name.time ∷ []),
     omega (arith, front.2, c.in_ok-name.ensures.counted, length-append front.0 (c.in_ok-name.name.time ∷ [])),
+    AllByRecursion-append (λ (time : ℕ). (0 < time) × (time ≤ c.args.upto)) front.0 (c.in_ok-name.name.time ∷ []) front.3 (c.in_ok-name.ensures.within, tt),
   );
   disk = c.in_ok-name.ensures.looks.disk ∙ c.loop-n.invariant.disk;
   kept = keeps_on c.loop-n.invariant.disk c.loop-n.invariant.kept c.in_ok-name.ensures.looks.kept;

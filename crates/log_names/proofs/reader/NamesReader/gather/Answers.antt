@@ -1,7 +1,8 @@
-use Rattle.std.proofs.Common.{ℕ, ◌≡◌, ◌++◌, List, length, map, arith, ◌∙◌, ap, sym, subst, length-append}
+use Rattle.std.proofs.Common.{ℕ, ◌≡◌, ◌<◌, ◌≤◌, ◌++◌, List, length, map, arith, ◌∙◌, ap, sym, subst, length-append}
 use Rattle.std.specs.Prelude.{Contains}
 use Rattle.std.specs.List.{AllByRecursion}
 use Rattle.std.proofs.lemmas.Result.{err_from_is_err_and}
+use Rattle.history.proofs.Filters.{AllByRecursion-append}
 use Rattle.history.proofs.Members.{Contains-tail}
 use Rattle.archive.specs.Searches.{archive_of}
 use Rattle.log_entries.specs.declared.entry.Roll.{Roll}
@@ -44,6 +45,9 @@ loop-rest-preserved g c =
             length-append c.loop-rest.times.items front.0,
             c.loop-rest.invariant.names,
           );
+      within = let front = c.in_ok-times_in.ensures.front in
+          subst (AllByRecursion (λ (time : ℕ). (0 < time) × (time ≤ c.args.upto))) (sym front.1)
+          (AllByRecursion-append (λ (time : ℕ). (0 < time) × (time ≤ c.args.upto)) c.loop-rest.times.items front.0 c.loop-rest.invariant.within front.3);
       disk = c.in_ok-times_in.ensures.looks.disk ∙ c.loop-rest.invariant.disk;
       kept = λ limit by.
           let ends = subst (RollsEndBy limit) split (c.loop-rest.invariant.ends limit by) in

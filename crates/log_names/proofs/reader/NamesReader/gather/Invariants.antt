@@ -1,4 +1,4 @@
-use Rattle.std.proofs.Common.{ℕ, ◌≡◌, ◌+◌, ◌≤◌, ◌++◌, List, IsTrue, length, map}
+use Rattle.std.proofs.Common.{ℕ, ◌≡◌, ◌+◌, ◌<◌, ◌≤◌, ◌++◌, List, IsTrue, length, map}
 use Rattle.std.specs.Prelude.{Some, Contains}
 use Rattle.std.specs.List.{AllByRecursion}
 use Rattle.archive.specs.Parts.{IsRight, Keeps}
@@ -14,6 +14,7 @@ invariant-loop-rest g l = record {
   each : AllByRecursion IsRoll l.rest;
   rises : l.initial.self.names ≤ l.self.names;
   names : l.self.names + names_to_read l.rest ≤ l.initial.self.names + names_to_read l.rolls + length l.times.items;
+  within : AllByRecursion (λ (time : ℕ). (0 < time) × (time ≤ l.upto)) l.times.items;
   disk : g.D.Disk.state l.disk ≡ g.D.Disk.state l.initial.disk;
   kept : (limit : ℕ) → RollsEndBy limit l.rolls
       → Keeps limit g.D.Disk.tells (archive_of (g.D.Disk.state l.initial.disk)) (g.P.ReadsParts.kept l.initial.parts) (g.P.ReadsParts.kept l.parts);

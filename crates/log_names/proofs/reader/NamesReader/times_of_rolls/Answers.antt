@@ -1,5 +1,6 @@
-use Rattle.std.proofs.Common.{arith}
-use Rattle.std.proofs.lemmas.List.Sorted.{IsNonDecreasingBy-from_sort}
+use Rattle.std.proofs.Common.{ℕ, ◌<◌, ◌≤◌, arith}
+use Rattle.std.proofs.lemmas.List.Elements.{All-from_recursion, recursion_from_All}
+use Rattle.std.proofs.lemmas.List.Sorted.{All-permutation, IsNonDecreasingBy-from_sort}
 use Rattle.std.proofs.lemmas.Result.{err_from_is_err_and}
 use Rattle.log_names.proofs.Right.{refused}
 use Rattle.log_names.proofs.Sorting.{all_right, none_broken}
@@ -27,3 +28,10 @@ returns-clause-exact g c = λ told right. (
     rising = IsNonDecreasingBy-from_sort (λ x. x) _ c.sort_unstable.ensures.sorted;
   },
 )
+
+-- what is sorted is no later
+pub returns-clause-within : goal.returns-clause-within
+returns-clause-within g c =
+    let P = λ (time : ℕ). (0 < time) × (time ≤ c.args.upto) in
+    recursion_from_All P _
+    (All-permutation P _ _ c.sort_unstable.ensures.permutation (All-from_recursion P _ c.in_ok-times.ensures.within))
