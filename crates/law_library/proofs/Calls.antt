@@ -163,6 +163,7 @@ module _ (e : Event) (m : HostMoment) (new : Host) (is : IsHostMoment m) (areas 
         let world : IsWorld true old.store (slice_set xs i (held.Transaction y)) w = record {
           stands = is.is.world.stands;
           layout = is.is.world.layout;
+          names = is.is.world.names;
           places = rewritten-places (commits_of old.store) m.at.world.machine.published xs m.at.world.places i t ws here is.is.world.places;
           views = reads-set true old.store xs m.at.world.places i (held.Transaction y) (Running t.snapshot ws) tt is.is.world.views;
         } in
