@@ -409,7 +409,7 @@ static bool has_times(uint64_t label, uint64_t last) {
     return same;
 }
 
-/* The same where the log lies in the heap, and it is refused nothing. Behind its mark labels are in the archive. */
+/* The same where the log lies in the heap, and it is refused nothing. Up to its mark the labels are in the archive. */
 static void vacuumed_in_the_heap(void) {
     uint64_t times[16];
     ts_policy policy = {.every = 1000, .keep = 2, .grows = true};
@@ -431,11 +431,7 @@ static void vacuumed_in_the_heap(void) {
     open_it();
     CHECK(TS_OK, ts_shared_view(s, &info));
     uint64_t view = info.a;
-    faults_refuse_reads(EIO);
-    CHECK(TS_SYSTEM, ts_shared_times_of(s, 1, times, 16, &info));
-    HOLDS(errno == EIO && was_caused(NULL, "pread", "archive", EIO));
-    faults_refuse_reads(0);
-    HOLDS(has_times(1, 11) && has_times(2, 0));
+    HOLDS(has_times(1, 11));
     HOLDS(view_has(view, 7, 1, "1") && view_has(view, 7, 11, "11"));
     CHECK(TS_OK, ts_shared_archive(s, 11, &info));
     CHECK(TS_NOTHING_TO_DO, ts_shared_archive(s, 11, &info));
@@ -447,7 +443,11 @@ static void vacuumed_in_the_heap(void) {
     HOLDS(view_has(info.a, 7, 1, "1") && view_has(info.a, 7, 11, "11"));
     ts_shared_free(s);
     open_it();
-    HOLDS(has_times(1, 11));
+    faults_refuse_reads(EIO);
+    CHECK(TS_SYSTEM, ts_shared_times_of(s, 1, times, 16, &info));
+    HOLDS(errno == EIO && was_caused(NULL, "pread", "archive", EIO));
+    faults_refuse_reads(0);
+    HOLDS(has_times(1, 11) && has_times(2, 0));
     ts_shared_free(s);
 }
 
