@@ -1,0 +1,4 @@
+pub mod Eighths
+pub mod Taking
+pub mod Merging
+pub mod Kept

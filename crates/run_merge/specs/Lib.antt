@@ -1,0 +1,4 @@
+pub mod Classes
+pub mod Cursors
+pub mod Merges
+pub mod Laws

@@ -1,0 +1,11 @@
+//! Runs of the archive merged into one: which of them are taken, and their records in one order.
+#![tactic(auto)]
+
+mod classes;
+mod cursor;
+pub mod laws;
+mod reading;
+mod rules;
+
+pub use classes::{class_of, count_taken};
+pub use cursor::RunCursor;
