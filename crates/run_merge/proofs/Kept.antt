@@ -144,7 +144,7 @@ follows_next r s rs first follow = elim (cases_Bool (same_key s.key r.key)) [
 
 less_follow : (t : ℕ) (vs : List (Version Value)) → FollowOneAnotherFrom t vs → FollowOneAnotherFrom 0 vs
 less_follow t [] follow = tt
-less_follow t (v ∷ vs) follow = (omega arith, follow.1)
+less_follow t (v ∷ vs) follow = (omega arith, follow.1, follow.2)
 
 tail_follows : (key : Key) (r : ArchiveRecord) (rs : List ArchiveRecord) → FollowOneAnotherFrom 0 (run_versions key (r ∷ rs))
     → FollowOneAnotherFrom 0 (run_versions key rs)

@@ -2,3 +2,6 @@ pub mod Eighths
 pub mod Taking
 pub mod Merging
 pub mod Kept
+pub mod Standing
+pub mod Nexts
+pub mod Held

@@ -1,5 +1,5 @@
 //! Going through a run, record by record.
-ghost use Rattle.std.specs.Prelude.{◌≡◌, ℕ, ◌+◌, ◌<◌, List, IsTrue, ⊤, IfOk, IfErr, OnOk, OnErr, MatchOption, MatchResult, option_map, slice_get};
+ghost use Rattle.std.specs.Prelude.{◌≡◌, ℕ, ◌+◌, ◌<◌, List, IsTrue, ⊤, IfOk, IfErr, OnErr, MatchOption, MatchResult, option_map, slice_get};
 ghost use Rattle.law_image.specs.Reading.{ArchiveRecord};
 ghost use Rattle.archive.specs.Answers.{record_of};
 ghost use Rattle.archive.specs.Damages.{IfDamaged};
@@ -7,7 +7,7 @@ ghost use Rattle.archive.specs.Runs.{HoldsRun};
 ghost use Rattle.archive.specs.Searches.{archive_of, after_query, Answers, IsFaultOf};
 ghost use Rattle.run_merge.specs.Cursors.{first_of, IsRecordRead, IsRecordBroken, HasRead, StandsIn};
 
-use crate::reading::{read_head, read_value};
+use crate::reading::read_nth;
 use archive::{ArchiveFault, Head, RunEntry};
 use disk::Disk;
 use std::alloc::Global;
@@ -55,25 +55,6 @@ impl RunCursor {
         self.last = None;
     }
 
-    /// The next record, which there is.
-    fn read_next<D: Disk>(&mut self, disk: &mut D) -> Result<(Head, Value), ArchiveFault>
-        requires { self.old.number < self.old.run.slot.records }
-        ensures disk { D.state disk.new ≡ after_query result (D.state disk.old) }
-        ensures damaged { IfErr result (IsFaultOf self.old.run) }
-        ensures same { OnErr result (self.new ≡ self.old) }
-        ensures run { self.new.run ≡ self.old.run }
-        ensures moves { OnOk result (self.new.number ≡ self.old.number + 1) }
-        ensures exact { (area : List ℕ) → IsTrue D.tells → archive_of (D.state disk.old) ≡ area → HasRead area self.old
-            → MatchResult result (λ found. IsRecordRead area self.old.run self.old.number found.0 found.1 × HasRead area self.new)
-            (IfDamaged (λ _. IsRecordBroken area self.old.run self.old.number)) }
-    {
-        let (place, head) = read_head(disk, &self.run, self.number, &self.last)?;
-        let value = read_value(self.alloc, disk, &self.run, self.number, place)?;
-        self.number += 1;
-        self.last = Some((place, head));
-        Ok((head, value))
-    }
-
     /// The next record of the run, its head and its value, and the cursor goes behind it. None behind the last one.
     ///
     /// # Errors
@@ -93,17 +74,20 @@ impl RunCursor {
         ensures exact { (area : List ℕ) → IsTrue D.tells → archive_of (D.state disk.old) ≡ area → HasRead area self.old
             → MatchResult result (λ o. MatchOption o ⊤ (λ found. IsRecordRead area self.old.run self.old.number found.0 found.1 × HasRead area self.new))
             (IfDamaged (λ _. IsRecordBroken area self.old.run self.old.number)) }
-        ensures only { (records : List ArchiveRecord) → IsTrue D.tells → HoldsRun (archive_of (D.state disk.old)) self.old.run records → StandsIn records self.old
+        ensures only { (area : List ℕ) (records : List ArchiveRecord) → IsTrue D.tells → archive_of (D.state disk.old) ≡ area
+            → HoldsRun area self.old.run records → StandsIn records self.old
             → Answers result (λ o. (option_map (λ p. record_of p.0 p.1) o ≡ slice_get records self.old.number) × StandsIn records self.new) }
     {
-        archive::laws::unbroken_runs_are_held();
-        wire::one_value();
         if self.number == self.run.slot.records {
             return Ok(None);
         }
-        match self.read_next(disk) {
-            Ok(found) => Ok(Some(found)),
-            Err(fault) => Err(fault),
-        }
+        let (last, value) =
+            match read_nth(self.alloc, disk, &self.run, self.number, &self.last) {
+                Ok(found) => found,
+                Err(fault) => return Err(fault),
+            };
+        self.number += 1;
+        self.last = Some(last);
+        Ok(Some((last.1, value)))
     }
 }

@@ -1,11 +1,14 @@
 //! Runs of the archive merged into one: which of them are taken, and their records in one order.
 #![tactic(auto)]
 
+mod ahead;
 mod classes;
 mod cursor;
 pub mod laws;
+mod merger;
 mod reading;
 mod rules;
 
 pub use classes::{class_of, count_taken};
 pub use cursor::RunCursor;
+pub use merger::RunMerger;

@@ -1,12 +1,16 @@
 //! What is read of a run: a part, a place, a head and a value.
-ghost use Rattle.std.specs.Prelude.{◌≡◌, ◌≢◌, ◌⊎◌, ◌+◌, ◌<◌, ◌≤◌, ℕ, List, IsTrue, IfOk, IfErr, MatchBool, MatchResult, length, slice_range};
+ghost use Rattle.std.specs.Prelude.{◌≡◌, ◌≢◌, ◌⊎◌, ◌+◌, ◌<◌, ◌≤◌, ℕ, List, IsTrue, IfOk, IfErr, MatchBool, MatchResult, Some, length, slice_get, slice_range};
 ghost use Rattle.disk.specs.Calls.{looked};
 ghost use Rattle.wire.specs.Values.{IsValue, value_bytes};
 ghost use Rattle.archive.specs.Runs.{run_end};
 ghost use Rattle.archive.specs.Searches.{archive_of, after_query, IsFaultOf, IsPlace};
 ghost use Rattle.archive.specs.Damages.{entry_at, before_of, IsEntryThere, IsHeadSound, IsValueAt, IsEntryBroken, IsHeadBroken, IsValueBroken, IfDamaged};
 ghost use Rattle.archive.specs.Traces.{nth_head};
-ghost use Rattle.run_merge.specs.Cursors.{last_at};
+ghost use Rattle.law_image.specs.Reading.{ArchiveRecord};
+ghost use Rattle.archive.specs.Answers.{record_of};
+ghost use Rattle.archive.specs.Runs.{HoldsRun};
+ghost use Rattle.archive.specs.Searches.{Answers};
+ghost use Rattle.run_merge.specs.Cursors.{last_at, last_in, IsRecordRead, IsRecordBroken};
 
 use crate::rules::{
     HEAD_LEN, decode_head, decode_value, is_in_range, is_place, is_record_room, may_stand,
@@ -120,9 +124,15 @@ pub(crate) fn read_head<D: Disk>(
         → MatchResult result (λ p. (p.0 ≡ entry_at area run.now n) × (p.1 ≡ nth_head area run.now n) × IsHeadSound area run.now (before_of area run.now n) n)
         (IfDamaged (λ _. IsHeadBroken area run.now (before_of area run.now n) n)) }
 {
-    let place = read_place(disk, run, n)?;
+    let place = match read_place(disk, run, n) {
+        Ok(place) => place,
+        Err(fault) => return Err(fault),
+    };
     let mut bytes = [0; HEAD_LEN];
-    read_part(disk, run, place, &mut bytes)?;
+    match read_part(disk, run, place, &mut bytes) {
+        Ok(()) => {}
+        Err(fault) => return Err(fault),
+    }
     let head = decode_head(&bytes);
     if !is_in_range(&head, run) {
         return Err(ArchiveFault::Damaged(run.slot.start));
@@ -144,13 +154,16 @@ fn read_fields<D: Disk>(
     requires { at + length buf.old ≤ run.now.slot.len }
     ensures disk { D.state disk.new ≡ after_query result (D.state disk.old) }
     ensures damaged { IfErr result (IsFaultOf run.now) }
-    ensures exact { (area : List ℕ) (len : ℕ) → IsTrue D.tells → archive_of (D.state disk.old) ≡ area → len ≡ length buf.old
-        → MatchResult result (λ value. IsValue value × (slice_range area (run.now.slot.start + at) (run.now.slot.start + at + len) ≡ value_bytes value))
-        (IfDamaged (λ _. (length area < run_end run.now)
-        ⊎ ((value : List (List ℕ)) → IsValue value → slice_range area (run.now.slot.start + at) (run.now.slot.start + at + len) ≢ value_bytes value))) }
+    ensures exact { (area : List ℕ) → IsTrue D.tells → archive_of (D.state disk.old) ≡ area
+        → MatchResult result (λ value. IsValue value
+        × (slice_range area (run.now.slot.start + at) (run.now.slot.start + at + length buf.old) ≡ value_bytes value))
+        (IfDamaged (λ _. (length area < run_end run.now) ⊎ ((value : List (List ℕ)) → IsValue value
+        → slice_range area (run.now.slot.start + at) (run.now.slot.start + at + length buf.old) ≢ value_bytes value))) }
 {
-    read_part(disk, run, at, buf)?;
-    decode_value(alloc, run, buf)
+    match read_part(disk, run, at, buf) {
+        Ok(()) => decode_value(alloc, run, buf),
+        Err(fault) => Err(fault),
+    }
 }
 
 /// The value that a long part of the run spells. It stays a call of its own: its array is cleared, which would
@@ -215,10 +228,61 @@ pub(crate) fn read_value<D: Disk>(
     ensures exact { (area : List ℕ) → IsTrue D.tells → archive_of (D.state disk.old) ≡ area → place ≡ entry_at area run.now n
         → MatchResult result (IsValueAt area run.now n) (IfDamaged (λ _. IsValueBroken area run.now n)) }
 {
-    let end = read_place(disk, run, n + 1)?;
+    let end = match read_place(disk, run, n + 1) {
+        Ok(end) => end,
+        Err(fault) => return Err(fault),
+    };
     if !is_record_room(place, end) {
         return Err(ArchiveFault::Damaged(run.slot.start));
     }
     let len = (end - place) as usize - HEAD_LEN;
     read_spelled(alloc, disk, run, place + HEAD_LEN as u64, len)
+}
+
+/// The n-th record: its place and its head, and its value. Beside it stands the one that was read last.
+pub(crate) fn read_record<D: Disk>(
+    alloc: Global,
+    disk: &mut D,
+    run: &RunEntry,
+    n: u64,
+    last: &Option<(u64, Head)>,
+) -> Result<((u64, Head), Value), ArchiveFault>
+    requires { n < run.now.slot.records }
+    ensures disk { D.state disk.new ≡ after_query result (D.state disk.old) }
+    ensures damaged { IfErr result (IsFaultOf run.now) }
+    ensures exact { (area : List ℕ) → IsTrue D.tells → archive_of (D.state disk.old) ≡ area → last.now ≡ last_at area run.now n
+        → MatchResult result (λ p. IsRecordRead area run.now n p.0.1 p.1 × (Some p.0 ≡ last_at area run.now (n + 1)))
+        (IfDamaged (λ _. IsRecordBroken area run.now n)) }
+{
+    let (place, head) = match read_head(disk, run, n, last) {
+        Ok(found) => found,
+        Err(fault) => return Err(fault),
+    };
+    match read_value(alloc, disk, run, n, place) {
+        Ok(value) => Ok(((place, head), value)),
+        Err(fault) => Err(fault),
+    }
+}
+
+/// The same over a run of these records.
+pub(crate) fn read_nth<D: Disk>(
+    alloc: Global,
+    disk: &mut D,
+    run: &RunEntry,
+    n: u64,
+    last: &Option<(u64, Head)>,
+) -> Result<((u64, Head), Value), ArchiveFault>
+    requires { n < run.now.slot.records }
+    ensures disk { D.state disk.new ≡ after_query result (D.state disk.old) }
+    ensures damaged { IfErr result (IsFaultOf run.now) }
+    ensures exact { (area : List ℕ) → IsTrue D.tells → archive_of (D.state disk.old) ≡ area → last.now ≡ last_at area run.now n
+        → MatchResult result (λ p. IsRecordRead area run.now n p.0.1 p.1 × (Some p.0 ≡ last_at area run.now (n + 1)))
+        (IfDamaged (λ _. IsRecordBroken area run.now n)) }
+    ensures only { (area : List ℕ) (records : List ArchiveRecord) → IsTrue D.tells → archive_of (D.state disk.old) ≡ area → HoldsRun area run.now records
+        → last.now ≡ last_in records n
+        → Answers result (λ p. (Some (record_of p.0.1 p.1) ≡ slice_get records n) × (Some p.0 ≡ last_in records (n + 1))) }
+{
+    archive::laws::unbroken_runs_are_held();
+    wire::one_value();
+    read_record(alloc, disk, run, n, last)
 }

@@ -2,7 +2,8 @@
 ghost use Rattle.std.specs.Prelude.{◌≡◌, ◌↔◌, ◌+◌, ◌≤◌, ℕ, List, IsTrue, IfOk, IfErr, length};
 ghost use Rattle.wire.specs.Values.{IsValue, value_bytes};
 ghost use Rattle.archive.specs.Answers.{head_at};
-ghost use Rattle.archive.specs.Searches.{Answers, IsFaultOf, IsPlace};
+ghost use Rattle.disk.specs.Calls.{DiskState};
+ghost use Rattle.archive.specs.Searches.{after_query, Answers, IsFaultOf, IsPlace};
 ghost use Rattle.archive.specs.Searches as searches;
 ghost use Rattle.run_merge.specs.Cursors as cursors;
 
@@ -92,6 +93,7 @@ pub(crate) fn decode_value(
     run: &RunEntry,
     bytes: &[u8],
 ) -> Result<Value, ArchiveFault>
+    ensures disk { (state : DiskState) → after_query result state ≡ state }
     ensures damaged { IfErr result (IsFaultOf run.now) }
     ensures ok { IfOk result (λ value. IsValue value × (bytes.now ≡ value_bytes value)) }
     ensures only { (value : List (List ℕ)) → IsValue value → bytes.now ≡ value_bytes value → Answers result (λ found. found ≡ value) }

@@ -1,0 +1,153 @@
+-- Runs whose next records are read one by one.
+use Rattle.std.proofs.Common.{◌≡◌, ℕ, zero, suc, ◌+◌, ◌-◌, ◌<◌, ◌≤◌, Bool, IsTrue, List, [], ◌∷◌, ◌++◌, length, drop, take, map, Option, None, Some, refl, ap, sym, subst, ◌∙◌, arith, add-one, slice_set}
+use Rattle.std.specs.Prelude.{MatchOption, MatchResult, Result, Ok, Err, OnOk, OnErr, IfErr, option_map, slice_get, ⊤}
+use Rattle.std.proofs.lemmas.Option.{slice_get_within, slice_get_past}
+use Rattle.std.specs.List.{AllByRecursion}
+use Rattle.law_image.specs.Values.{Value}
+use Rattle.law_image.specs.Reading.{ArchiveRecord}
+use Rattle.archive.specs.declared.head.Head.{Head}
+use Rattle.archive.specs.declared.run.RunEntry.{RunEntry}
+use Rattle.archive.specs.declared.fault.ArchiveFault.{ArchiveFault}
+use Rattle.archive.specs.declared.fault.ArchiveFault.TheVariants.{Device, NoMemory, Damaged}
+use Rattle.archive.specs.Answers.{head_of, record_of}
+use Rattle.archive.specs.Runs.{HoldsRun}
+use Rattle.archive.specs.Searches.{Answers, IsFaultOf, IsRefusal}
+use Rattle.run_merge.specs.Cursors.{CursorValue, StandsIn}
+use Rattle.run_merge.specs.Aheads.{AheadValue, passed_ahead, head_held, left_in, IsAhead, IsHeld, IsFilled, Fills}
+use Rattle.run_merge.specs.Mergers.{AreAhead, lefts_in, runs_of, IsFaultAmong}
+use Rattle.run_merge.proofs.Nexts.{first_head}
+
+-- ---- one run
+
+-- what a cursor found is held
+pub held_next : (area : List ℕ) (records : List ArchiveRecord) (old new : CursorValue) (found : Option (Head × Value))
+    → IsAhead area records (record { cursor = old; held = None }) → new.run ≡ old.run
+    → MatchOption found ((old.number ≡ old.run.slot.records) × (new ≡ old)) (λ f. (old.number < old.run.slot.records) × (new.number ≡ old.number + 1))
+    → (option_map (λ p. record_of p.0 p.1) found ≡ slice_get records old.number) × StandsIn records new
+    → IsAhead area records (record { cursor = new; held = found })
+    × (left_in records (record { cursor = new; held = found }) ≡ left_in records (record { cursor = old; held = None }))
+held_next area records old new None ahead run moves reads = (
+  record { holds = subst (λ (r : RunEntry). HoldsRun area r records) (sym run) ahead.holds; stands = reads.1; held = tt },
+  ap (λ (c : CursorValue). drop c.number records) moves.1,
+)
+held_next area records old new (Some p) ahead run moves reads =
+    let before : new.number - 1 ≡ old.number = omega (arith, moves.1) in (
+      record {
+        holds = subst (λ (r : RunEntry). HoldsRun area r records) (sym run) ahead.holds;
+        stands = reads.1;
+        held = (omega (arith, moves.1), ap (slice_get records) before ∙ sym reads.0);
+      },
+      ap (λ (n : ℕ). drop n records) before,
+    )
+
+first_dropped : (records : List ArchiveRecord) (n : ℕ) → slice_get (drop n records) 0 ≡ slice_get records n
+first_dropped [] zero = refl
+first_dropped [] (suc n) = refl
+first_dropped (r ∷ rs) zero = refl
+first_dropped (r ∷ rs) (suc n) = first_dropped rs n
+
+dropped_next : (records : List ArchiveRecord) (n : ℕ) → drop 1 (drop n records) ≡ drop (suc n) records
+dropped_next [] zero = refl
+dropped_next [] (suc n) = refl
+dropped_next (r ∷ rs) zero = refl
+dropped_next (r ∷ rs) (suc n) = dropped_next rs n
+
+-- the head that is held is that of the first record that is left
+held_first : (area : List ℕ) (records : List ArchiveRecord) (cursor : CursorValue) (held : Option (Head × Value))
+    → IsAhead area records (record { cursor = cursor; held = held }) → IsFilled (record { cursor = cursor; held = held })
+    → head_held (record { cursor = cursor; held = held }) ≡ first_head (left_in records (record { cursor = cursor; held = held }))
+held_first area records cursor None ahead filled =
+    sym (ap (option_map head_of) (first_dropped records cursor.number ∙ slice_get_past records cursor.number
+    (let count = ahead.holds.records_are in omega (arith, filled, count))))
+held_first area records cursor (Some p) ahead filled =
+    sym (ap (option_map head_of) (first_dropped records (cursor.number - 1) ∙ ahead.held.1))
+
+-- the record that is held is the first that is left, and behind it are the others
+held_taken : (area : List ℕ) (records : List ArchiveRecord) (cursor : CursorValue) (held : Option (Head × Value)) (next : ArchiveRecord)
+    → IsAhead area records (record { cursor = cursor; held = held }) → IsFilled (record { cursor = cursor; held = held })
+    → slice_get (left_in records (record { cursor = cursor; held = held })) 0 ≡ Some next
+    → (option_map (λ p. record_of p.0 p.1) held ≡ Some next) × IsAhead area records (record { cursor = cursor; held = None })
+    × (left_in records (record { cursor = cursor; held = None }) ≡ drop 1 (left_in records (record { cursor = cursor; held = held })))
+held_taken area records cursor None next ahead filled first =
+    let none = first_dropped records cursor.number ∙ slice_get_past records cursor.number
+        (let count = ahead.holds.records_are in omega (arith, filled, count)) in
+    let no : None ≡ Some next = sym none ∙ first in cc
+held_taken area records cursor (Some p) next ahead filled first =
+    let some : suc (cursor.number - 1) ≡ cursor.number = omega (arith, ahead.held.0) in (
+      sym (first_dropped records (cursor.number - 1) ∙ ahead.held.1) ∙ first,
+      record { holds = ahead.holds; stands = ahead.stands; held = tt },
+      ap (λ (n : ℕ). drop n records) (sym some) ∙ sym (dropped_next records (cursor.number - 1)),
+    )
+
+-- ---- one of several
+
+pub get_there : {X : Type 0} (xs : List X) (n : ℕ) → n < length xs → (x : X) × (slice_get xs n ≡ Some x)
+get_there [] n less = absurd (omega (arith, less))
+get_there (x ∷ xs) zero less = (x, refl)
+get_there (x ∷ xs) (suc n) less = get_there xs n (omega (arith, less))
+
+-- a place that holds the same records, of which as many are left
+pub set_ahead : (area : List ℕ) (lists : List (List ArchiveRecord)) (as : List AheadValue) (n : ℕ) (a b : AheadValue) → AreAhead area lists as
+    → slice_get as n ≡ Some a
+    → ((records : List ArchiveRecord) → IsAhead area records a → IsAhead area records b × (left_in records b ≡ left_in records a))
+    → AreAhead area lists (slice_set as n b) × (lefts_in lists (slice_set as n b) ≡ lefts_in lists as)
+set_ahead area [] [] n a b ahead at each = cc
+set_ahead area [] (x ∷ as) n a b ahead at each = absurd ahead
+set_ahead area (records ∷ lists) [] n a b ahead at each = absurd ahead
+set_ahead area (records ∷ lists) (x ∷ as) zero a b ahead at each =
+    let is : x ≡ a = cc in
+    let there = each records (subst (IsAhead area records) is ahead.0) in (
+      (there.0, ahead.1),
+      ap (λ (left : List ArchiveRecord). left ∷ lefts_in lists as) (there.1 ∙ ap (left_in records) (sym is)),
+    )
+set_ahead area (records ∷ lists) (x ∷ as) (suc n) a b ahead at each =
+    let rest = set_ahead area lists as n a b ahead.1 at each in
+    ((ahead.0, rest.0), ap (λ (ls : List (List ArchiveRecord)). left_in records x ∷ ls) rest.1)
+
+pub set_runs : (as : List AheadValue) (n : ℕ) (a b : AheadValue) → slice_get as n ≡ Some a → b.cursor.run ≡ a.cursor.run
+    → runs_of (slice_set as n b) ≡ runs_of as
+set_runs [] n a b at run = refl
+set_runs (x ∷ as) zero a b at run =
+    let is : x ≡ a = cc in
+    ap (λ (r : RunEntry). r ∷ runs_of as) (run ∙ ap (λ (y : AheadValue). y.cursor.run) (sym is))
+set_runs (x ∷ as) (suc n) a b at run = ap (λ (rs : List RunEntry). x.cursor.run ∷ rs) (set_runs as n a b at run)
+
+-- the same run as before is there
+pub run_there : (as : List AheadValue) (n : ℕ) (a : AheadValue) → slice_get as n ≡ Some a → slice_get (runs_of as) n ≡ Some a.cursor.run
+run_there [] n a at = cc
+run_there (x ∷ as) zero a at = let is : x ≡ a = cc in ap (λ (y : AheadValue). Some y.cursor.run) is
+run_there (x ∷ as) (suc n) a at = run_there as n a at
+
+pub same_set : {X : Type 0} (xs : List X) (n : ℕ) (x : X) → slice_get xs n ≡ Some x → slice_set xs n x ≡ xs
+same_set [] n x at = refl
+same_set (y ∷ ys) zero x at = let is : y ≡ x = cc in ap (λ (z : _). z ∷ ys) (sym is)
+same_set (y ∷ ys) (suc n) x at = ap (λ (zs : List _). y ∷ zs) (same_set ys n x at)
+
+-- one more of the first ones is filled
+pub filled_more : (as : List AheadValue) (n : ℕ) (b : AheadValue) → n < length as → AllByRecursion IsFilled (take n as) → IsFilled b
+    → AllByRecursion IsFilled (take (suc n) (slice_set as n b))
+filled_more [] n b less all is = absurd (omega (arith, less))
+filled_more (x ∷ as) zero b less all is = (is, tt)
+filled_more (x ∷ as) (suc n) b less all is = (all.0, filled_more as n b (omega (arith, less)) all.1 is)
+
+pub set_length : {X : Type 0} (xs : List X) (n : ℕ) (x : X) → length (slice_set xs n x) ≡ length xs
+set_length [] n x = refl
+set_length (y ∷ ys) zero x = refl
+set_length (y ∷ ys) (suc n) x = ap suc (set_length ys n x)
+
+pub fault_among : (as : List AheadValue) (n : ℕ) (a : AheadValue) (fault : ArchiveFault) → slice_get as n ≡ Some a → IsFaultOf a.cursor.run fault
+    → IsFaultAmong (runs_of as) fault
+fault_among as n a Device at is = tt
+fault_among as n a NoMemory at is = tt
+fault_among as n a (Damaged start) at is = (n, a.cursor.run, run_there as n a at, is)
+
+-- ---- which is next
+
+pub heads_first : (area : List ℕ) (lists : List (List ArchiveRecord)) (as : List AheadValue) → AreAhead area lists as → AllByRecursion IsFilled as
+    → map head_held as ≡ map first_head (lefts_in lists as)
+heads_first area [] [] ahead filled = refl
+heads_first area [] (a ∷ as) ahead filled = absurd ahead
+heads_first area (records ∷ lists) [] ahead filled = absurd ahead
+heads_first area (records ∷ lists) (a ∷ as) ahead filled =
+    ap (λ (h : Option Head). h ∷ map head_held as) (held_first area records a.cursor a.held ahead.0 filled.0)
+    ∙ ap (λ (hs : List (Option Head)). first_head (left_in records a) ∷ hs) (heads_first area lists as ahead.1 filled.1)

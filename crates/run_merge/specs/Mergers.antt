@@ -1,0 +1,70 @@
+-- Runs in one order with the records of a walk, which come behind theirs.
+use Rattle.std.specs.Prelude.{ℕ, zero, suc, ◌+◌, ◌≡◌, ◌≤◌, List, [], ◌∷◌, ◌++◌, map, drop, slice_get, Option, None, Some, option_map, length}
+use Rattle.law_image.specs.Values.{Value}
+use Rattle.law_image.specs.Reading.{ArchiveRecord}
+use Rattle.floors.specs.Floors.{FloorsValue, floor_at}
+use Rattle.archive.specs.declared.run.RunEntry.{RunEntry}
+use Rattle.archive.specs.declared.head.Head.{Head}
+use Rattle.archive.specs.declared.fault.ArchiveFault.{ArchiveFault}
+use Rattle.archive.specs.declared.fault.ArchiveFault.TheVariants.{Device, NoMemory, Damaged}
+use Rattle.archive.specs.Answers.{head_of, record_of}
+use Rattle.run_merge.specs.Aheads.{AheadValue, ahead_of, head_held, left_in, IsAhead}
+use Rattle.run_merge.specs.Merges.{merged, kept_records, least_of}
+
+-- places in the runs, and a walk: all of its records, and those that are left
+pub record MergerValue : Type 0 where
+  pub aheads : List AheadValue
+  pub all : List ArchiveRecord
+  pub left : List ArchiveRecord
+  -- what ended by them is left out
+  pub floors : FloorsValue
+
+-- the area holds these runs, each of the records of one list, and the places are among them
+abbrev pub AreAhead : List ℕ → List (List ArchiveRecord) → List AheadValue → Type 0
+AreAhead area [] [] = Unit {0}
+AreAhead area [] (a ∷ as) = ⊥
+AreAhead area (records ∷ lists) [] = ⊥
+AreAhead area (records ∷ lists) (a ∷ as) = IsAhead area records a × AreAhead area lists as
+
+-- what is left of each
+abbrev pub lefts_in : List (List ArchiveRecord) → List AheadValue → List (List ArchiveRecord)
+lefts_in [] as = []
+lefts_in (records ∷ lists) [] = []
+lefts_in (records ∷ lists) (a ∷ as) = left_in records a ∷ lefts_in lists as
+
+-- all records in one order, where the runs have these
+abbrev pub all_of : List (List ArchiveRecord) → MergerValue → List ArchiveRecord
+all_of lists m = merged (lists ++ m.all ∷ [])
+
+-- and those that are left
+abbrev pub left_of : List (List ArchiveRecord) → MergerValue → List ArchiveRecord
+left_of lists m = merged (lefts_in lists m.aheads ++ m.left ∷ [])
+
+-- those of them that are kept
+abbrev pub kept_of : List (List ArchiveRecord) → MergerValue → List ArchiveRecord
+kept_of lists m = kept_records (floor_at m.floors) (left_of lists m)
+
+-- the runs
+abbrev pub runs_of : List AheadValue → List RunEntry
+runs_of as = map (λ (a : AheadValue). a.cursor.run) as
+
+-- all stand in front of their first records
+abbrev pub merger_of : List RunEntry → List ArchiveRecord → FloorsValue → MergerValue
+merger_of runs all floors = record { aheads = map ahead_of runs; all = all; left = all; floors = floors }
+
+-- a refusal, or that one of these runs is damaged
+abbrev pub IsFaultAmong : List RunEntry → ArchiveFault → Type 0
+IsFaultAmong runs Device = Unit {0}
+IsFaultAmong runs NoMemory = Unit {0}
+IsFaultAmong runs (Damaged start) = (n : ℕ) × (run : RunEntry) × (slice_get runs n ≡ Some run) × (start ≡ run.slot.start)
+
+-- ---- which record is next
+
+-- the heads of the next records, as far as they are read
+abbrev pub heads_of : List AheadValue → List ArchiveRecord → List (Option Head)
+heads_of as left = map head_held as ++ option_map head_of (slice_get left 0) ∷ []
+
+-- so many places further on
+abbrev pub shifted : ℕ → Option (ℕ × Head) → Option (ℕ × Head)
+shifted n None = None
+shifted n (Some p) = Some (n + p.0, p.1)

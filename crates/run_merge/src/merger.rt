@@ -1,0 +1,177 @@
+//! Records of several runs and of a walk, one by one in one order.
+ghost use Rattle.std.specs.Prelude.{◌≡◌, ◌+◌, ◌<◌, ◌≤◌, ℕ, List, [], ◌∷◌, ◌++◌, None, Some, IsTrue, IfOk, OnOk, OnErr, IfErr, ⊤, MatchResult, map, drop, length, option_map, slice_get, slice_set};
+ghost use Rattle.std.specs.List.{AllByRecursion};
+ghost use Rattle.floors.specs.Floors.{floor_at};
+ghost use Rattle.law_image.specs.Reading.{ArchiveRecord};
+ghost use Rattle.archive.specs.declared.head.Head.{Head};
+ghost use Rattle.archive.specs.Answers.{head_of, record_of};
+ghost use Rattle.archive.specs.Searches.{archive_of, after_query, Answers, IsRefusal};
+ghost use Rattle.run_merge.specs.Aheads.{AheadValue, ahead_of, passed_ahead, head_held, Fills, IsFilled};
+ghost use Rattle.run_merge.specs.Merges.{chosen, least_of};
+ghost use Rattle.run_merge.specs.Mergers.{AreAhead, IsFaultAmong, heads_of, left_of, lefts_in, merger_of, runs_of, shifted};
+
+use crate::ahead::Ahead;
+use archive::{ArchiveFault, Head, RecordWalk, RunEntry};
+use disk::Disk;
+use floors::Floors;
+use std::alloc::{AllocError, Global};
+use std::marker::Model;
+use wire::Value;
+
+/// Records of runs and of a walk in one order: by key, and of each key those of an earlier run first, and those of the walk last.
+#[derive(Drop)]
+pub struct RunMerger<W: RecordWalk> {
+    // In the order of the log.
+    aheads: Vec<Ahead>,
+    walk: W,
+    floors: Floors,
+}
+
+impl<W: RecordWalk> Model for RunMerger<W> {
+    ghost use Rattle.run_merge.specs.Mergers.{MergerValue};
+
+    ghost Value = { MergerValue };
+
+    ghost view = { λ m. record { aheads = m.aheads.items; all = W.all m.walk; left = W.left m.walk; floors = m.floors } };
+}
+
+// In front of the first record of each run.
+fn aheads_of(alloc: Global, runs: &[RunEntry]) -> Result<Vec<Ahead>, AllocError>
+    ensures { IfOk result (λ aheads. aheads.items ≡ map ahead_of runs.now) }
+{
+    let mut aheads = Vec::with_capacity(alloc, runs.len())?;
+    for run in runs {
+        aheads.push(Ahead::new(alloc, run.share()?))?;
+    }
+    Ok(aheads)
+}
+
+// One is in front of the first record of its run again.
+fn restart_at(aheads: &mut Vec<Ahead>, at: usize)
+    ensures { (a : AheadValue) → slice_get aheads.old.items at ≡ Some a → aheads.new.items ≡ slice_set aheads.old.items at (ahead_of a.cursor.run) }
+{
+    if let Some(ahead) = aheads.get_mut(at) {
+        ahead.restart();
+    }
+}
+
+// All are.
+fn restart_all(aheads: &mut Vec<Ahead>)
+    ensures { aheads.new.items ≡ map ahead_of (runs_of aheads.old.items) }
+{
+    let mut at = 0;
+    while at < aheads.len() {
+        restart_at(aheads, at);
+        at += 1;
+    }
+}
+
+// Reads the next record of one run, where it is not read.
+fn fill_at<D: Disk>(
+    aheads: &mut Vec<Ahead>,
+    at: usize,
+    disk: &mut D,
+) -> Result<(), ArchiveFault>
+    requires { at < length aheads.old.items }
+    ensures disk { D.state disk.new ≡ after_query result (D.state disk.old) }
+    ensures fills { (a : AheadValue) → slice_get aheads.old.items at ≡ Some a
+        → (b : AheadValue) × (aheads.new.items ≡ slice_set aheads.old.items at b) × Fills D.tells (archive_of (D.state disk.old)) a b result }
+{
+    match aheads.get_mut(at) {
+        Some(ahead) => ahead.fill(disk),
+        None => Ok(()),
+    }
+}
+
+// Reads the next record of each run, where it is not read.
+fn fill_all<D: Disk>(aheads: &mut Vec<Ahead>, disk: &mut D) -> Result<(), ArchiveFault>
+    ensures disk { D.state disk.new ≡ after_query result (D.state disk.old) }
+    ensures damaged { IfErr result (IsFaultAmong (runs_of aheads.old.items)) }
+    ensures runs { runs_of aheads.new.items ≡ runs_of aheads.old.items }
+    ensures filled { OnOk result (AllByRecursion IsFilled aheads.new.items) }
+    ensures only { (area : List ℕ) (lists : List (List ArchiveRecord)) → IsTrue D.tells → archive_of (D.state disk.old) ≡ area
+        → AreAhead area lists aheads.old.items
+        → AreAhead area lists aheads.new.items × (lefts_in lists aheads.new.items ≡ lefts_in lists aheads.old.items) × Answers result (λ _. ⊤) }
+{
+    let mut at = 0;
+    while at < aheads.len() {
+        match fill_at(aheads, at, disk) {
+            Ok(()) => {}
+            Err(fault) => return Err(fault),
+        }
+        at += 1;
+    }
+    Ok(())
+}
+
+// Of the next record of a run and the next one of those behind it the one that goes first.
+fn sooner(place: usize, head: Option<Head>, behind: Option<(usize, Head)>) -> Option<(usize, Head)>
+    ensures { (b : Option (ℕ × Head)) → behind ≡ shifted (place + 1) b → result ≡ shifted place (chosen head b) }
+{
+    match (head, behind) {
+        (None, behind) => behind,
+        (Some(head), None) => Some((place, head)),
+        (Some(head), Some((number, other))) => {
+            if other.key.is_before(head.key) {
+                Some((number, other))
+            } else {
+                Some((place, head))
+            }
+        }
+    }
+}
+
+// The place of the run whose record is next of all, and its head; the place behind all runs is that of the walk. None where no record is
+// left.
+fn least(aheads: &[Ahead], walk: Option<Head>) -> Option<(usize, Head)>
+    ensures { result ≡ least_of (map head_held aheads.now ++ walk ∷ []) }
+{
+    let mut place = aheads.len();
+    let mut found = match walk {
+        Some(head) => Some((place, head)),
+        None => None,
+    };
+    while place > 0 {
+        place -= 1;
+        found = sooner(place, aheads[place].head(), found);
+    }
+    found
+}
+
+// The head of the next record of a walk.
+fn walk_head<W: RecordWalk>(walk: &W) -> Option<Head>
+    ensures { result ≡ option_map head_of (slice_get (W.left walk.now) 0) }
+{
+    match walk.peek() {
+        Some((head, _)) => Some(head),
+        None => None,
+    }
+}
+
+// The next record of a walk, which is behind then.
+fn take_walk<W: RecordWalk>(walk: &mut W) -> Result<Option<(Head, Value)>, AllocError>
+    ensures record { IfOk result (λ o. option_map (λ p. record_of p.0 p.1) o ≡ slice_get (W.left walk.old) 0) }
+    ensures left { OnOk result (W.left walk.new ≡ drop 1 (W.left walk.old)) }
+    ensures same { OnErr result (W.left walk.new ≡ W.left walk.old) }
+    ensures all { W.all walk.new ≡ W.all walk.old }
+{
+    let Some((head, value)) = walk.peek() else {
+        return Ok(None);
+    };
+    let value = value.share()?;
+    walk.advance(&head);
+    Ok(Some((head, value)))
+}
+
+// The next record of one run, if it is read, which is behind then.
+fn take_at(aheads: &mut Vec<Ahead>, place: usize) -> Option<(Head, Value)>
+    requires { place < length aheads.old.items }
+    ensures record { (a : AheadValue) → slice_get aheads.old.items place ≡ Some a → result ≡ a.held }
+    ensures behind { (a : AheadValue) → slice_get aheads.old.items place ≡ Some a
+        → aheads.new.items ≡ slice_set aheads.old.items place (passed_ahead a) }
+{
+    match aheads.get_mut(place) {
+        Some(ahead) => ahead.take(),
+        None => None,
+    }
+}
