@@ -63,7 +63,7 @@ held_first area records cursor (Some p) ahead filled =
     sym (ap (option_map head_of) (first_dropped records (cursor.number - 1) ∙ ahead.held.1))
 
 -- the record that is held is the first that is left, and behind it are the others
-held_taken : (area : List ℕ) (records : List ArchiveRecord) (cursor : CursorValue) (held : Option (Head × Value)) (next : ArchiveRecord)
+pub held_taken : (area : List ℕ) (records : List ArchiveRecord) (cursor : CursorValue) (held : Option (Head × Value)) (next : ArchiveRecord)
     → IsAhead area records (record { cursor = cursor; held = held }) → IsFilled (record { cursor = cursor; held = held })
     → slice_get (left_in records (record { cursor = cursor; held = held })) 0 ≡ Some next
     → (option_map (λ p. record_of p.0 p.1) held ≡ Some next) × IsAhead area records (record { cursor = cursor; held = None })
@@ -87,36 +87,36 @@ get_there (x ∷ xs) zero less = (x, refl)
 get_there (x ∷ xs) (suc n) less = get_there xs n (omega (arith, less))
 
 -- a place that holds the same records, of which as many are left
-pub set_ahead : (area : List ℕ) (lists : List (List ArchiveRecord)) (as : List AheadValue) (n : ℕ) (a b : AheadValue) → AreAhead area lists as
-    → slice_get as n ≡ Some a
+pub set_ahead : (area : List ℕ) (lists : List (List ArchiveRecord)) (aheads : List AheadValue) (n : ℕ) (a b : AheadValue) → AreAhead area lists aheads
+    → slice_get aheads n ≡ Some a
     → ((records : List ArchiveRecord) → IsAhead area records a → IsAhead area records b × (left_in records b ≡ left_in records a))
-    → AreAhead area lists (slice_set as n b) × (lefts_in lists (slice_set as n b) ≡ lefts_in lists as)
+    → AreAhead area lists (slice_set aheads n b) × (lefts_in lists (slice_set aheads n b) ≡ lefts_in lists aheads)
 set_ahead area [] [] n a b ahead at each = cc
-set_ahead area [] (x ∷ as) n a b ahead at each = absurd ahead
+set_ahead area [] (x ∷ aheads) n a b ahead at each = absurd ahead
 set_ahead area (records ∷ lists) [] n a b ahead at each = absurd ahead
-set_ahead area (records ∷ lists) (x ∷ as) zero a b ahead at each =
+set_ahead area (records ∷ lists) (x ∷ aheads) zero a b ahead at each =
     let is : x ≡ a = cc in
     let there = each records (subst (IsAhead area records) is ahead.0) in (
       (there.0, ahead.1),
-      ap (λ (left : List ArchiveRecord). left ∷ lefts_in lists as) (there.1 ∙ ap (left_in records) (sym is)),
+      ap (λ (left : List ArchiveRecord). left ∷ lefts_in lists aheads) (there.1 ∙ ap (left_in records) (sym is)),
     )
-set_ahead area (records ∷ lists) (x ∷ as) (suc n) a b ahead at each =
-    let rest = set_ahead area lists as n a b ahead.1 at each in
+set_ahead area (records ∷ lists) (x ∷ aheads) (suc n) a b ahead at each =
+    let rest = set_ahead area lists aheads n a b ahead.1 at each in
     ((ahead.0, rest.0), ap (λ (ls : List (List ArchiveRecord)). left_in records x ∷ ls) rest.1)
 
-pub set_runs : (as : List AheadValue) (n : ℕ) (a b : AheadValue) → slice_get as n ≡ Some a → b.cursor.run ≡ a.cursor.run
-    → runs_of (slice_set as n b) ≡ runs_of as
+pub set_runs : (aheads : List AheadValue) (n : ℕ) (a b : AheadValue) → slice_get aheads n ≡ Some a → b.cursor.run ≡ a.cursor.run
+    → runs_of (slice_set aheads n b) ≡ runs_of aheads
 set_runs [] n a b at run = refl
-set_runs (x ∷ as) zero a b at run =
+set_runs (x ∷ aheads) zero a b at run =
     let is : x ≡ a = cc in
-    ap (λ (r : RunEntry). r ∷ runs_of as) (run ∙ ap (λ (y : AheadValue). y.cursor.run) (sym is))
-set_runs (x ∷ as) (suc n) a b at run = ap (λ (rs : List RunEntry). x.cursor.run ∷ rs) (set_runs as n a b at run)
+    ap (λ (r : RunEntry). r ∷ runs_of aheads) (run ∙ ap (λ (y : AheadValue). y.cursor.run) (sym is))
+set_runs (x ∷ aheads) (suc n) a b at run = ap (λ (rs : List RunEntry). x.cursor.run ∷ rs) (set_runs aheads n a b at run)
 
 -- the same run as before is there
-pub run_there : (as : List AheadValue) (n : ℕ) (a : AheadValue) → slice_get as n ≡ Some a → slice_get (runs_of as) n ≡ Some a.cursor.run
+pub run_there : (aheads : List AheadValue) (n : ℕ) (a : AheadValue) → slice_get aheads n ≡ Some a → slice_get (runs_of aheads) n ≡ Some a.cursor.run
 run_there [] n a at = cc
-run_there (x ∷ as) zero a at = let is : x ≡ a = cc in ap (λ (y : AheadValue). Some y.cursor.run) is
-run_there (x ∷ as) (suc n) a at = run_there as n a at
+run_there (x ∷ aheads) zero a at = let is : x ≡ a = cc in ap (λ (y : AheadValue). Some y.cursor.run) is
+run_there (x ∷ aheads) (suc n) a at = run_there aheads n a at
 
 pub same_set : {X : Type 0} (xs : List X) (n : ℕ) (x : X) → slice_get xs n ≡ Some x → slice_set xs n x ≡ xs
 same_set [] n x at = refl
@@ -124,30 +124,30 @@ same_set (y ∷ ys) zero x at = let is : y ≡ x = cc in ap (λ (z : _). z ∷ y
 same_set (y ∷ ys) (suc n) x at = ap (λ (zs : List _). y ∷ zs) (same_set ys n x at)
 
 -- one more of the first ones is filled
-pub filled_more : (as : List AheadValue) (n : ℕ) (b : AheadValue) → n < length as → AllByRecursion IsFilled (take n as) → IsFilled b
-    → AllByRecursion IsFilled (take (suc n) (slice_set as n b))
+pub filled_more : (aheads : List AheadValue) (n : ℕ) (b : AheadValue) → n < length aheads → AllByRecursion IsFilled (take n aheads) → IsFilled b
+    → AllByRecursion IsFilled (take (suc n) (slice_set aheads n b))
 filled_more [] n b less all is = absurd (omega (arith, less))
-filled_more (x ∷ as) zero b less all is = (is, tt)
-filled_more (x ∷ as) (suc n) b less all is = (all.0, filled_more as n b (omega (arith, less)) all.1 is)
+filled_more (x ∷ aheads) zero b less all is = (is, tt)
+filled_more (x ∷ aheads) (suc n) b less all is = (all.0, filled_more aheads n b (omega (arith, less)) all.1 is)
 
 pub set_length : {X : Type 0} (xs : List X) (n : ℕ) (x : X) → length (slice_set xs n x) ≡ length xs
 set_length [] n x = refl
 set_length (y ∷ ys) zero x = refl
 set_length (y ∷ ys) (suc n) x = ap suc (set_length ys n x)
 
-pub fault_among : (as : List AheadValue) (n : ℕ) (a : AheadValue) (fault : ArchiveFault) → slice_get as n ≡ Some a → IsFaultOf a.cursor.run fault
-    → IsFaultAmong (runs_of as) fault
-fault_among as n a Device at is = tt
-fault_among as n a NoMemory at is = tt
-fault_among as n a (Damaged start) at is = (n, a.cursor.run, run_there as n a at, is)
+pub fault_among : (aheads : List AheadValue) (n : ℕ) (a : AheadValue) (fault : ArchiveFault) → slice_get aheads n ≡ Some a → IsFaultOf a.cursor.run fault
+    → IsFaultAmong (runs_of aheads) fault
+fault_among aheads n a Device at is = tt
+fault_among aheads n a NoMemory at is = tt
+fault_among aheads n a (Damaged start) at is = (n, a.cursor.run, run_there aheads n a at, is)
 
 -- ---- which is next
 
-pub heads_first : (area : List ℕ) (lists : List (List ArchiveRecord)) (as : List AheadValue) → AreAhead area lists as → AllByRecursion IsFilled as
-    → map head_held as ≡ map first_head (lefts_in lists as)
+pub heads_first : (area : List ℕ) (lists : List (List ArchiveRecord)) (aheads : List AheadValue) → AreAhead area lists aheads → AllByRecursion IsFilled aheads
+    → map head_held aheads ≡ map first_head (lefts_in lists aheads)
 heads_first area [] [] ahead filled = refl
-heads_first area [] (a ∷ as) ahead filled = absurd ahead
+heads_first area [] (a ∷ aheads) ahead filled = absurd ahead
 heads_first area (records ∷ lists) [] ahead filled = absurd ahead
-heads_first area (records ∷ lists) (a ∷ as) ahead filled =
-    ap (λ (h : Option Head). h ∷ map head_held as) (held_first area records a.cursor a.held ahead.0 filled.0)
-    ∙ ap (λ (hs : List (Option Head)). first_head (left_in records a) ∷ hs) (heads_first area lists as ahead.1 filled.1)
+heads_first area (records ∷ lists) (a ∷ aheads) ahead filled =
+    ap (λ (h : Option Head). h ∷ map head_held aheads) (held_first area records a.cursor a.held ahead.0 filled.0)
+    ∙ ap (λ (hs : List (Option Head)). first_head (left_in records a) ∷ hs) (heads_first area lists aheads ahead.1 filled.1)

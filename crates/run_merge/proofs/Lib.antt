@@ -5,3 +5,4 @@ pub mod Kept
 pub mod Standing
 pub mod Nexts
 pub mod Held
+pub mod Passing

@@ -13,7 +13,7 @@ abbrev pub first_head : List ArchiveRecord → Option Head
 first_head records = option_map head_of (slice_get records 0)
 
 -- the records without the first of the list at this place
-pub passed : ℕ → List (List ArchiveRecord) → List (List ArchiveRecord)
+abbrev pub passed : ℕ → List (List ArchiveRecord) → List (List ArchiveRecord)
 passed n [] = []
 passed zero (rs ∷ lists) = drop 1 rs ∷ lists
 passed (suc n) (rs ∷ lists) = rs ∷ passed n lists
@@ -49,6 +49,7 @@ next-of : (r : ArchiveRecord) (rs : List ArchiveRecord) (lists : List (List Arch
     → (o ≡ None → merged lists ≡ []) → ((p : ℕ × Head) → o ≡ Some p → IsNext lists p.0 p.1) → chosen (Some (head_of r)) o ≡ Some (n, head)
     → IsNext ((r ∷ rs) ∷ lists) n head
 next-of r rs lists n head None none some is =
+    let chosen_is : Some (0, head_of r) ≡ Some (n, head) = is in
     let n_is : 0 ≡ n = cc in
     let head_is : head_of r ≡ head = cc in
     subst (λ (k : ℕ). IsNext ((r ∷ rs) ∷ lists) k head) n_is (record {
@@ -98,14 +99,15 @@ next-of r rs lists n head (Some p) none some is = elim (cases_Bool (key_lt p.1.k
 -- the one that is chosen is the next of those that are merged
 pub next-is : (lists : List (List ArchiveRecord)) (n : ℕ) (head : Head) → least_of (map first_head lists) ≡ Some (n, head) → IsNext lists n head
 next-is [] n head is = cc
-next-is ([] ∷ lists) n head is = by (least_of (map first_head lists)) refl is
+next-is ([] ∷ lists) n head is = by (least_of (map first_head lists)) (λ p least. next-is lists p.0 p.1 least) is
   where
-    by : (o : Option (ℕ × Head)) → least_of (map first_head lists) ≡ o → one_behind o ≡ Some (n, head) → IsNext ([] ∷ lists) n head
-    by None least is = cc
-    by (Some p) least is =
+    by : (o : Option (ℕ × Head)) → ((p : ℕ × Head) → o ≡ Some p → IsNext lists p.0 p.1) → one_behind o ≡ Some (n, head) → IsNext ([] ∷ lists) n head
+    by None some is = let no : None ≡ Some (n, head) = is in cc
+    by (Some p) some is =
+        let chosen_is : Some (suc p.0, p.1) ≡ Some (n, head) = is in
         let n_is : suc p.0 ≡ n = cc in
         let head_is : p.1 ≡ head = cc in
-        let behind = next-is lists p.0 p.1 least in
+        let behind = some p refl in
         subst (λ (k : ℕ). IsNext ([] ∷ lists) k head) n_is (record {
           next = behind.next;
           list = behind.list;

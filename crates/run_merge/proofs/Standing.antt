@@ -17,7 +17,7 @@ use Rattle.archive.specs.Searches.{IsPlace, is_before, is_in_range, may_follow_l
 use Rattle.archive.specs.Damages.{IsEntryThere, entry_at, head_standing, value_part, placed_at, before_of, IsHeadSound, IsHeadBroken, IsEntryBroken, IsValueAt, IsValueBroken}
 use Rattle.archive.specs.Damages.{IsUnbroken, PastEnd, NoPlace, BadEntry, OutOfRange, OutOfOrder, BadEnd, NoRoom, NoValue, IfDamaged}
 use Rattle.archive.specs.Traces.{nth_head}
-use Rattle.run_merge.specs.Cursors.{may_stand, last_at, last_in, IsRecordRead, IsRecordBroken}
+use Rattle.run_merge.specs.Cursors.{SpellsAt, may_stand, last_at, last_in, IsRecordRead, IsRecordBroken}
 
 -- ---- heads
 
@@ -66,11 +66,7 @@ module _ (area : List ℕ) (run : RunEntry) (last : Option (ℕ × Head)) (n pla
 pub value_answer : (area : List ℕ) (run : RunEntry) (n place end len : ℕ) (result : Result Value ArchiveFault)
     → place ≡ entry_at area run n → (end ≡ entry_at area run (n + 1)) × IsEntryThere area run (n + 1) → IsPlace run (n + 1) end
     → (place + 28 ≤ end) × (end ≤ place + 4123) → len ≡ end - place - 26
-    → MatchResult result (λ value. IsValue value
-    × (slice_range area (run.slot.start + (place + 26)) (run.slot.start + (place + 26) + len) ≡ value_bytes value))
-    (IfDamaged (λ _. (length area < run_end run)
-    ⊎ ((value : List (List ℕ)) → IsValue value
-    → slice_range area (run.slot.start + (place + 26)) (run.slot.start + (place + 26) + len) ≢ value_bytes value)))
+    → SpellsAt area run (place + 26) len result
     → MatchResult result (IsValueAt area run n) (IfDamaged (λ _. IsValueBroken area run n))
 value_answer area run n place end len result here (next, there) placed room size = by_result result where
   part : slice_range area (run.slot.start + (place + 26)) (run.slot.start + (place + 26) + len) ≡ value_part area run n
@@ -81,11 +77,7 @@ value_answer area run n place end len result here (next, there) placed room size
       ∙ ap (λ (k : ℕ). slice_range area k (run.slot.start + entry_at area run (n + 1))) from
 
   by_result : (result : Result Value ArchiveFault)
-      → MatchResult result (λ value. IsValue value
-      × (slice_range area (run.slot.start + (place + 26)) (run.slot.start + (place + 26) + len) ≡ value_bytes value))
-      (IfDamaged (λ _. (length area < run_end run)
-      ⊎ ((value : List (List ℕ)) → IsValue value
-      → slice_range area (run.slot.start + (place + 26)) (run.slot.start + (place + 26) + len) ≢ value_bytes value)))
+      → SpellsAt area run (place + 26) len result
       → MatchResult result (IsValueAt area run n) (IfDamaged (λ _. IsValueBroken area run n))
   by_result (Ok value) is = record {
     there = there;

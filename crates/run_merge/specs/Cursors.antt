@@ -1,13 +1,15 @@
 -- Going through a run, record by record.
-use Rattle.std.specs.Prelude.{◌≡◌, ◌⊎◌, ℕ, zero, suc, ◌+◌, ◌≤◌, nat_le, Bool, ◌&&◌, true, List, Option, Some, None, length, option_map, slice_get}
+use Rattle.std.specs.Prelude.{◌≡◌, ◌≢◌, ◌⊎◌, ℕ, zero, suc, ◌+◌, ◌<◌, ◌≤◌, nat_le, Bool, ◌&&◌, true, List, Option, Some, None, length, option_map, slice_get, slice_range, Result, MatchResult}
 use Rattle.law_image.specs.Values.{Value}
 use Rattle.law_image.specs.Reading.{ArchiveRecord}
 use Rattle.archive.specs.declared.run.RunEntry.{RunEntry}
 use Rattle.archive.specs.declared.head.Head.{Head}
+use Rattle.archive.specs.declared.fault.ArchiveFault.{ArchiveFault}
+use Rattle.wire.specs.Values.{IsValue, value_bytes}
 use Rattle.archive.specs.Answers.{head_of}
-use Rattle.archive.specs.Runs.{place_of}
+use Rattle.archive.specs.Runs.{place_of, run_end}
 use Rattle.archive.specs.Searches.{is_before}
-use Rattle.archive.specs.Damages.{entry_at, before_of, IsHeadSound, IsHeadBroken, IsValueAt, IsValueBroken}
+use Rattle.archive.specs.Damages.{entry_at, before_of, IsHeadSound, IsHeadBroken, IsValueAt, IsValueBroken, IfDamaged}
 use Rattle.archive.specs.Traces.{nth_head}
 
 -- a place in a run: how many of its records are behind, and the place and the head of the last of them
@@ -31,6 +33,13 @@ may_stand (Some p) place head = nat_le (p.0 + 28) place && (nat_le place (p.0 + 
 abbrev pub last_at : List ℕ → RunEntry → ℕ → Option (ℕ × Head)
 last_at area run zero = None
 last_at area run (suc n) = Some (entry_at area run n, nth_head area run n)
+
+-- What was read as the value that so many bytes at a place of a run spell: the only one, and it is refused where they spell none.
+abbrev pub SpellsAt : List ℕ → RunEntry → ℕ → ℕ → Result Value ArchiveFault → Type 0
+SpellsAt area run place len result =
+    MatchResult result (λ value. IsValue value × (slice_range area (run.slot.start + place) (run.slot.start + place + len) ≡ value_bytes value))
+    (IfDamaged (λ _. (length area < run_end run)
+    ⊎ ((value : Value) → IsValue value → slice_range area (run.slot.start + place) (run.slot.start + place + len) ≢ value_bytes value)))
 
 -- The n-th record is read, as the area's bytes have it: no rule is broken by it, by itself or beside the one before it.
 pub record IsRecordRead (area : List ℕ) (run : RunEntry) (n : ℕ) (head : Head) (value : Value) : Type 0 where

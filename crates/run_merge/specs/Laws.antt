@@ -6,8 +6,12 @@ use Rattle.history.specs.Versions.{ends_after, FollowOneAnotherFrom}
 use Rattle.law_image.specs.Reading.{ArchiveRecord}
 use Rattle.law_image.specs.Facts.{run_versions}
 use Rattle.law_image.specs.StandsFor.{IsRun}
+use Rattle.floors.specs.Floors.{FloorsValue}
+use Rattle.archive.specs.declared.run.RunEntry.{RunEntry}
+use Rattle.archive.specs.Runs.{HoldRuns}
 use Rattle.run_merge.specs.Classes.{class_of, count_taken}
 use Rattle.run_merge.specs.Merges.{goes_first, merged, kept_merge}
+use Rattle.run_merge.specs.Mergers.{AreAhead, left_of, merger_of}
 
 -- ---- classes
 
@@ -84,3 +88,9 @@ KeptMergeIsRun =
 abbrev pub RunsAreByKey : Type 0
 RunsAreByKey =
     (mark upto : ℕ) (floors : ℕ → ℕ) (records : List ArchiveRecord) → IsRun mark floors upto records → AreByKey records
+
+-- A merger that begins has all records of its runs and of its walk left, in one order.
+abbrev pub MergersBeginWhole : Type 0
+MergersBeginWhole =
+    (area : List ℕ) (runs : List RunEntry) (lists : List (List ArchiveRecord)) (all : List ArchiveRecord) (floors : FloorsValue) → HoldRuns area runs lists
+    → AreAhead area lists (merger_of runs all floors).aheads × (left_of lists (merger_of runs all floors) ≡ merged (lists ++ all ∷ []))

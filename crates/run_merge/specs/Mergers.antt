@@ -1,5 +1,5 @@
 -- Runs in one order with the records of a walk, which come behind theirs.
-use Rattle.std.specs.Prelude.{ℕ, zero, suc, ◌+◌, ◌≡◌, ◌≤◌, List, [], ◌∷◌, ◌++◌, map, drop, slice_get, Option, None, Some, option_map, length}
+use Rattle.std.specs.Prelude.{ℕ, zero, suc, ◌+◌, ◌≡◌, ◌≤◌, List, [], ◌∷◌, ◌++◌, map, drop, slice_get, Option, None, Some, option_map, Result, MatchResult}
 use Rattle.law_image.specs.Values.{Value}
 use Rattle.law_image.specs.Reading.{ArchiveRecord}
 use Rattle.floors.specs.Floors.{FloorsValue, floor_at}
@@ -8,8 +8,11 @@ use Rattle.archive.specs.declared.head.Head.{Head}
 use Rattle.archive.specs.declared.fault.ArchiveFault.{ArchiveFault}
 use Rattle.archive.specs.declared.fault.ArchiveFault.TheVariants.{Device, NoMemory, Damaged}
 use Rattle.archive.specs.Answers.{head_of, record_of}
+use Rattle.archive.specs.Searches.{IsRefusal}
+use Rattle.run_merge.specs.declared.step.MergeStep.{MergeStep}
+use Rattle.run_merge.specs.declared.step.MergeStep.TheVariants.{Record, Counted, End}
 use Rattle.run_merge.specs.Aheads.{AheadValue, ahead_of, head_held, left_in, IsAhead}
-use Rattle.run_merge.specs.Merges.{merged, kept_records, least_of}
+use Rattle.run_merge.specs.Merges.{merged, kept_records}
 
 -- places in the runs, and a walk: all of its records, and those that are left
 pub record MergerValue : Type 0 where
@@ -22,15 +25,15 @@ pub record MergerValue : Type 0 where
 -- the area holds these runs, each of the records of one list, and the places are among them
 abbrev pub AreAhead : List ℕ → List (List ArchiveRecord) → List AheadValue → Type 0
 AreAhead area [] [] = Unit {0}
-AreAhead area [] (a ∷ as) = ⊥
+AreAhead area [] (a ∷ aheads) = ⊥
 AreAhead area (records ∷ lists) [] = ⊥
-AreAhead area (records ∷ lists) (a ∷ as) = IsAhead area records a × AreAhead area lists as
+AreAhead area (records ∷ lists) (a ∷ aheads) = IsAhead area records a × AreAhead area lists aheads
 
 -- what is left of each
 abbrev pub lefts_in : List (List ArchiveRecord) → List AheadValue → List (List ArchiveRecord)
-lefts_in [] as = []
+lefts_in [] aheads = []
 lefts_in (records ∷ lists) [] = []
-lefts_in (records ∷ lists) (a ∷ as) = left_in records a ∷ lefts_in lists as
+lefts_in (records ∷ lists) (a ∷ aheads) = left_in records a ∷ lefts_in lists aheads
 
 -- all records in one order, where the runs have these
 abbrev pub all_of : List (List ArchiveRecord) → MergerValue → List ArchiveRecord
@@ -46,7 +49,7 @@ kept_of lists m = kept_records (floor_at m.floors) (left_of lists m)
 
 -- the runs
 abbrev pub runs_of : List AheadValue → List RunEntry
-runs_of as = map (λ (a : AheadValue). a.cursor.run) as
+runs_of aheads = map (λ (a : AheadValue). a.cursor.run) aheads
 
 -- all stand in front of their first records
 abbrev pub merger_of : List RunEntry → List ArchiveRecord → FloorsValue → MergerValue
@@ -62,9 +65,29 @@ IsFaultAmong runs (Damaged start) = (n : ℕ) × (run : RunEntry) × (slice_get 
 
 -- the heads of the next records, as far as they are read
 abbrev pub heads_of : List AheadValue → List ArchiveRecord → List (Option Head)
-heads_of as left = map head_held as ++ option_map head_of (slice_get left 0) ∷ []
+heads_of aheads left = map head_held aheads ++ option_map head_of (slice_get left 0) ∷ []
 
 -- so many places further on
 abbrev pub shifted : ℕ → Option (ℕ × Head) → Option (ℕ × Head)
 shifted n None = None
 shifted n (Some p) = Some (n + p.0, p.1)
+
+-- ---- one step
+
+-- The next of these records is taken, if there is one. Where that is refused, nothing is.
+abbrev pub TakesNext : List ArchiveRecord → List ArchiveRecord → Result (Option (Head × Value)) ArchiveFault → Type 0
+TakesNext old new result =
+    MatchResult result (λ o. (option_map (λ p. record_of p.0 p.1) o ≡ slice_get old 0) × (new ≡ drop 1 old)) (λ fault. IsRefusal fault × (new ≡ old))
+
+-- what is said of those that are kept: the next one, that none was among many, or that none is left
+abbrev pub IsStep : (ℕ → ℕ) → List ArchiveRecord → List ArchiveRecord → ℕ → MergeStep → Type 0
+IsStep floors old new looked (Record head value) = kept_records floors old ≡ record_of head value ∷ kept_records floors new
+IsStep floors old new looked Counted = (looked ≡ 4096) × (kept_records floors old ≡ kept_records floors new)
+IsStep floors old new looked End = (kept_records floors old ≡ []) × (new ≡ [])
+
+-- At most 4,096 of these records are looked at.
+pub record LooksOn (floors : ℕ → ℕ) (old new : List ArchiveRecord) (result : Result MergeStep ArchiveFault) : Type 0 where
+  pub looked : ℕ
+  pub few : looked ≤ 4096
+  pub behind : new ≡ drop looked old
+  pub step : MatchResult result (IsStep floors old new looked) (λ fault. IsRefusal fault × (kept_records floors old ≡ kept_records floors new))

@@ -1,5 +1,5 @@
 //! What the definitions say, as functions that are proved and do nothing.
-ghost use Rattle.run_merge.specs.Laws.{ClassesAreGreatest, AreTakenAsWorked, MergeKeepsVersions, KeptMergeKeepsVersions, KeptMergeIsRun, RunsAreByKey};
+ghost use Rattle.run_merge.specs.Laws.{ClassesAreGreatest, AreTakenAsWorked, MergeKeepsVersions, KeptMergeKeepsVersions, KeptMergeIsRun, RunsAreByKey, MergersBeginWhole};
 
 /// The class of a run of n records is the greatest c with 8^c at most n, and 0 for no records.
 pub fn classes_are_greatest()
@@ -26,4 +26,9 @@ pub fn kept_merge_keeps_versions()
 pub fn kept_merge_is_run()
     ensures by_key { RunsAreByKey }
     ensures run { KeptMergeIsRun }
+{}
+
+/// A merger that begins has all records of its runs and of its walk left, in one order.
+pub fn mergers_begin_whole()
+    ensures { MergersBeginWhole }
 {}

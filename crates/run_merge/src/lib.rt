@@ -8,7 +8,10 @@ pub mod laws;
 mod merger;
 mod reading;
 mod rules;
+mod run_merger;
+mod step;
 
 pub use classes::{class_of, count_taken};
 pub use cursor::RunCursor;
-pub use merger::RunMerger;
+pub use run_merger::RunMerger;
+pub use step::MergeStep;

@@ -1,42 +1,28 @@
-//! Records of several runs and of a walk, one by one in one order.
-ghost use Rattle.std.specs.Prelude.{◌≡◌, ◌+◌, ◌<◌, ◌≤◌, ℕ, List, [], ◌∷◌, ◌++◌, None, Some, IsTrue, IfOk, OnOk, OnErr, IfErr, ⊤, MatchResult, map, drop, length, option_map, slice_get, slice_set};
+//! Records of several runs, in the order of the log, and of a walk behind them, one by one in one order.
+ghost use Rattle.std.specs.Prelude.{◌≡◌, ◌+◌, ◌<◌, ◌≤◌, ℕ, List, [], ◌∷◌, ◌++◌, Err, Some, IsTrue, IfOk, OnOk, OnErr, IfErr, ⊤, map, drop, length, option_map, slice_get, slice_set};
 ghost use Rattle.std.specs.List.{AllByRecursion};
 ghost use Rattle.floors.specs.Floors.{floor_at};
 ghost use Rattle.law_image.specs.Reading.{ArchiveRecord};
 ghost use Rattle.archive.specs.declared.head.Head.{Head};
 ghost use Rattle.archive.specs.Answers.{head_of, record_of};
-ghost use Rattle.archive.specs.Searches.{archive_of, after_query, Answers, IsRefusal};
+ghost use Rattle.archive.specs.Searches.{archive_of, after_query, Answers};
 ghost use Rattle.run_merge.specs.Aheads.{AheadValue, ahead_of, passed_ahead, head_held, Fills, IsFilled};
-ghost use Rattle.run_merge.specs.Merges.{chosen, least_of};
-ghost use Rattle.run_merge.specs.Mergers.{AreAhead, IsFaultAmong, heads_of, left_of, lefts_in, merger_of, runs_of, shifted};
+ghost use Rattle.run_merge.specs.Merges.{chosen, is_kept, least_of, merged};
+ghost use Rattle.run_merge.specs.Mergers.{AreAhead, IsFaultAmong, LooksOn, TakesNext, heads_of, lefts_in, runs_of, shifted};
 
 use crate::ahead::Ahead;
+use crate::step::MergeStep;
 use archive::{ArchiveFault, Head, RecordWalk, RunEntry};
 use disk::Disk;
 use floors::Floors;
 use std::alloc::{AllocError, Global};
-use std::marker::Model;
 use wire::Value;
 
-/// Records of runs and of a walk in one order: by key, and of each key those of an earlier run first, and those of the walk last.
-#[derive(Drop)]
-pub struct RunMerger<W: RecordWalk> {
-    // In the order of the log.
-    aheads: Vec<Ahead>,
-    walk: W,
-    floors: Floors,
-}
+/// How many records one call looks at.
+const MOST_LOOKED: u32 = 4096;
 
-impl<W: RecordWalk> Model for RunMerger<W> {
-    ghost use Rattle.run_merge.specs.Mergers.{MergerValue};
-
-    ghost Value = { MergerValue };
-
-    ghost view = { λ m. record { aheads = m.aheads.items; all = W.all m.walk; left = W.left m.walk; floors = m.floors } };
-}
-
-// In front of the first record of each run.
-fn aheads_of(alloc: Global, runs: &[RunEntry]) -> Result<Vec<Ahead>, AllocError>
+/// In front of the first record of each run.
+pub(crate) fn aheads_of(alloc: Global, runs: &[RunEntry]) -> Result<Vec<Ahead>, AllocError>
     ensures { IfOk result (λ aheads. aheads.items ≡ map ahead_of runs.now) }
 {
     let mut aheads = Vec::with_capacity(alloc, runs.len())?;
@@ -55,8 +41,8 @@ fn restart_at(aheads: &mut Vec<Ahead>, at: usize)
     }
 }
 
-// All are.
-fn restart_all(aheads: &mut Vec<Ahead>)
+/// All are.
+pub(crate) fn restart_all(aheads: &mut Vec<Ahead>)
     ensures { aheads.new.items ≡ map ahead_of (runs_of aheads.old.items) }
 {
     let mut at = 0;
@@ -174,4 +160,92 @@ fn take_at(aheads: &mut Vec<Ahead>, place: usize) -> Option<(Head, Value)>
         Some(ahead) => ahead.take(),
         None => None,
     }
+}
+
+// The record at this place, which is next of all: of the run there, or behind all runs of the walk.
+fn take_next<W: RecordWalk>(
+    aheads: &mut Vec<Ahead>,
+    walk: &mut W,
+    place: usize,
+) -> Result<Option<(Head, Value)>, ArchiveFault>
+    ensures full { OnErr result (result ≡ Err ArchiveFault.NoMemory) }
+    ensures runs { runs_of aheads.new.items ≡ runs_of aheads.old.items }
+    ensures all { W.all walk.new ≡ W.all walk.old }
+    ensures only { (area : List ℕ) (lists : List (List ArchiveRecord)) (head : Head) → AreAhead area lists aheads.old.items
+        → AllByRecursion IsFilled aheads.old.items → least_of (heads_of aheads.old.items (W.left walk.old)) ≡ Some (place, head)
+        → AreAhead area lists aheads.new.items × TakesNext (merged (lefts_in lists aheads.old.items ++ W.left walk.old ∷ []))
+        (merged (lefts_in lists aheads.new.items ++ W.left walk.new ∷ [])) result }
+{
+    if place < aheads.len() {
+        return Ok(take_at(aheads, place));
+    }
+    match take_walk(walk) {
+        Ok(found) => Ok(found),
+        Err(_) => Err(ArchiveFault::NoMemory),
+    }
+}
+
+/// The next record of all, which is behind then. None where no record is left.
+pub(crate) fn next_of<W: RecordWalk, D: Disk>(
+    aheads: &mut Vec<Ahead>,
+    walk: &mut W,
+    disk: &mut D,
+) -> Result<Option<(Head, Value)>, ArchiveFault>
+    ensures disk { D.state disk.new ≡ after_query result (D.state disk.old) }
+    ensures damaged { IfErr result (IsFaultAmong (runs_of aheads.old.items)) }
+    ensures runs { runs_of aheads.new.items ≡ runs_of aheads.old.items }
+    ensures all { W.all walk.new ≡ W.all walk.old }
+    ensures only { (area : List ℕ) (lists : List (List ArchiveRecord)) → IsTrue D.tells → archive_of (D.state disk.old) ≡ area
+        → AreAhead area lists aheads.old.items
+        → AreAhead area lists aheads.new.items × TakesNext (merged (lefts_in lists aheads.old.items ++ W.left walk.old ∷ []))
+        (merged (lefts_in lists aheads.new.items ++ W.left walk.new ∷ [])) result }
+{
+    match fill_all(aheads, disk) {
+        Ok(()) => {}
+        Err(fault) => return Err(fault),
+    }
+    let head = walk_head(walk);
+    match least(aheads, head) {
+        None => Ok(None),
+        Some((place, _)) => take_next(aheads, walk, place),
+    }
+}
+
+// Whether a record with this head did not end by the floor of its relation.
+fn is_kept(floors: &Floors, head: &Head) -> bool
+    ensures { result ≡ is_kept (floor_at floors.now) (record_of head.now []) }
+{
+    floors.at(head.key.relation) < head.to
+}
+
+/// The next record of all that is kept, which is behind then, or `Counted` where none of the next 4,096 is.
+pub(crate) fn next_kept_of<W: RecordWalk, D: Disk>(
+    aheads: &mut Vec<Ahead>,
+    walk: &mut W,
+    floors: &Floors,
+    disk: &mut D,
+) -> Result<MergeStep, ArchiveFault>
+    ensures disk { D.state disk.new ≡ after_query result (D.state disk.old) }
+    ensures damaged { IfErr result (IsFaultAmong (runs_of aheads.old.items)) }
+    ensures runs { runs_of aheads.new.items ≡ runs_of aheads.old.items }
+    ensures all { W.all walk.new ≡ W.all walk.old }
+    ensures only { (area : List ℕ) (lists : List (List ArchiveRecord)) → IsTrue D.tells → archive_of (D.state disk.old) ≡ area
+        → AreAhead area lists aheads.old.items
+        → AreAhead area lists aheads.new.items × LooksOn (floor_at floors.now) (merged (lefts_in lists aheads.old.items ++ W.left walk.old ∷ []))
+        (merged (lefts_in lists aheads.new.items ++ W.left walk.new ∷ [])) result }
+{
+    let mut looked = 0;
+    while looked < MOST_LOOKED {
+        match next_of(aheads, walk, disk) {
+            Ok(Some((head, value))) => {
+                if is_kept(floors, &head) {
+                    return Ok(MergeStep::Record(head, value));
+                }
+            }
+            Ok(None) => return Ok(MergeStep::End),
+            Err(fault) => return Err(fault),
+        }
+        looked += 1;
+    }
+    Ok(MergeStep::Counted)
 }

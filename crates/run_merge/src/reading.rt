@@ -1,7 +1,6 @@
 //! What is read of a run: a part, a place, a head and a value.
-ghost use Rattle.std.specs.Prelude.{◌≡◌, ◌≢◌, ◌⊎◌, ◌+◌, ◌<◌, ◌≤◌, ℕ, List, IsTrue, IfOk, IfErr, MatchBool, MatchResult, Some, length, slice_get, slice_range};
+ghost use Rattle.std.specs.Prelude.{◌≡◌, ◌+◌, ◌<◌, ◌≤◌, ℕ, List, IsTrue, IfOk, IfErr, MatchBool, MatchResult, Some, length, slice_get, slice_range};
 ghost use Rattle.disk.specs.Calls.{looked};
-ghost use Rattle.wire.specs.Values.{IsValue, value_bytes};
 ghost use Rattle.archive.specs.Runs.{run_end};
 ghost use Rattle.archive.specs.Searches.{archive_of, after_query, IsFaultOf, IsPlace};
 ghost use Rattle.archive.specs.Damages.{entry_at, before_of, IsEntryThere, IsHeadSound, IsValueAt, IsEntryBroken, IsHeadBroken, IsValueBroken, IfDamaged};
@@ -10,7 +9,7 @@ ghost use Rattle.law_image.specs.Reading.{ArchiveRecord};
 ghost use Rattle.archive.specs.Answers.{record_of};
 ghost use Rattle.archive.specs.Runs.{HoldsRun};
 ghost use Rattle.archive.specs.Searches.{Answers};
-ghost use Rattle.run_merge.specs.Cursors.{last_at, last_in, IsRecordRead, IsRecordBroken};
+ghost use Rattle.run_merge.specs.Cursors.{last_at, last_in, SpellsAt, IsRecordRead, IsRecordBroken};
 
 use crate::rules::{
     HEAD_LEN, decode_head, decode_value, is_in_range, is_place, is_record_room, may_stand,
@@ -154,11 +153,7 @@ fn read_fields<D: Disk>(
     requires { at + length buf.old ≤ run.now.slot.len }
     ensures disk { D.state disk.new ≡ after_query result (D.state disk.old) }
     ensures damaged { IfErr result (IsFaultOf run.now) }
-    ensures exact { (area : List ℕ) → IsTrue D.tells → archive_of (D.state disk.old) ≡ area
-        → MatchResult result (λ value. IsValue value
-        × (slice_range area (run.now.slot.start + at) (run.now.slot.start + at + length buf.old) ≡ value_bytes value))
-        (IfDamaged (λ _. (length area < run_end run.now) ⊎ ((value : List (List ℕ)) → IsValue value
-        → slice_range area (run.now.slot.start + at) (run.now.slot.start + at + length buf.old) ≢ value_bytes value))) }
+    ensures exact { (area : List ℕ) → IsTrue D.tells → archive_of (D.state disk.old) ≡ area → SpellsAt area run.now at (length buf.old) result }
 {
     match read_part(disk, run, at, buf) {
         Ok(()) => decode_value(alloc, run, buf),
@@ -180,10 +175,7 @@ fn read_long<D: Disk>(
     requires inside { at + len ≤ run.now.slot.len }
     ensures disk { D.state disk.new ≡ after_query result (D.state disk.old) }
     ensures damaged { IfErr result (IsFaultOf run.now) }
-    ensures exact { (area : List ℕ) → IsTrue D.tells → archive_of (D.state disk.old) ≡ area
-        → MatchResult result (λ value. IsValue value × (slice_range area (run.now.slot.start + at) (run.now.slot.start + at + len) ≡ value_bytes value))
-        (IfDamaged (λ _. (length area < run_end run.now)
-        ⊎ ((value : List (List ℕ)) → IsValue value → slice_range area (run.now.slot.start + at) (run.now.slot.start + at + len) ≢ value_bytes value))) }
+    ensures exact { (area : List ℕ) → IsTrue D.tells → archive_of (D.state disk.old) ≡ area → SpellsAt area run.now at len result }
 {
     let mut bytes = [0; MOST_SPELLED];
     read_fields(alloc, disk, run, at, &mut bytes[..len])
@@ -201,10 +193,7 @@ fn read_spelled<D: Disk>(
     requires inside { at + len ≤ run.now.slot.len }
     ensures disk { D.state disk.new ≡ after_query result (D.state disk.old) }
     ensures damaged { IfErr result (IsFaultOf run.now) }
-    ensures exact { (area : List ℕ) → IsTrue D.tells → archive_of (D.state disk.old) ≡ area
-        → MatchResult result (λ value. IsValue value × (slice_range area (run.now.slot.start + at) (run.now.slot.start + at + len) ≡ value_bytes value))
-        (IfDamaged (λ _. (length area < run_end run.now)
-        ⊎ ((value : List (List ℕ)) → IsValue value → slice_range area (run.now.slot.start + at) (run.now.slot.start + at + len) ≢ value_bytes value))) }
+    ensures exact { (area : List ℕ) → IsTrue D.tells → archive_of (D.state disk.old) ≡ area → SpellsAt area run.now at len result }
 {
     if len > SHORT_SPELLED {
         return read_long(alloc, disk, run, at, len);

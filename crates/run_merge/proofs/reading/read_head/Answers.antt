@@ -23,17 +23,17 @@ pub returns-then-not-is_in_range-clause-exact : goal.returns-then-not-is_in_rang
 returns-then-not-is_in_range-clause-exact g c = λ area told same behind.
     let run = c.args.run.now in
     let read = c.in-Ok-read_part.ensures.exact area told (ap archive_of c.in-Ok.ensures.disk ∙ same) in
-    let out : is_in_range c.decode_head.result run ≡ false = cc (c.is_in_range.ensures, c.if-not-is_in_range.true) in
-    head_out_of_range area run c.args.last.now c.args.n c.in-Ok.place c.read_part.new.buf c.decode_head.result behind
-    (c.in-Ok.ensures.exact area told same) c.in-Ok.ensures.place read.1 c.decode_head.ensures out
+    let out : is_in_range c.decode_head-head.result run ≡ false = cc (c.is_in_range.ensures, c.if-not-is_in_range.true) in
+    head_out_of_range area run c.args.last.now c.args.n c.in-Ok.place c.read_part.new.buf c.decode_head-head.result behind
+    (c.in-Ok.ensures.exact area told same) c.in-Ok.ensures.place read.1 c.decode_head-head.ensures out
 
 pub returns-then-not-may_stand-clause-exact : goal.returns-then-not-may_stand-clause-exact
 returns-then-not-may_stand-clause-exact g c = λ area told same behind.
     let run = c.args.run.now in
     let read = c.in-Ok-read_part.ensures.exact area told (ap archive_of c.in-Ok.ensures.disk ∙ same) in
-    let out : may_stand c.args.last.now c.in-Ok.place c.decode_head.result ≡ false = cc (c.may_stand.ensures, c.if-not-may_stand.true) in
-    head_out_of_order area run c.args.last.now c.args.n c.in-Ok.place c.read_part.new.buf c.decode_head.result behind
-    (c.in-Ok.ensures.exact area told same) c.in-Ok.ensures.place read.1 c.decode_head.ensures out
+    let out : may_stand c.args.last.now c.in-Ok.place c.decode_head-head.result ≡ false = cc (c.may_stand.ensures, c.if-not-may_stand.true) in
+    head_out_of_order area run c.args.last.now c.args.n c.in-Ok.place c.read_part.new.buf c.decode_head-head.result behind
+    (c.in-Ok.ensures.exact area told same) c.in-Ok.ensures.place read.1 c.decode_head-head.ensures out
 
 pub returns-clause-exact : goal.returns-clause-exact
 returns-clause-exact g c = λ area told same behind.
@@ -41,10 +41,10 @@ returns-clause-exact g c = λ area told same behind.
     let entry = c.in-Ok.ensures.exact area told same in
     let placed = c.in-Ok.ensures.place in
     let read = c.in-Ok-read_part.ensures.exact area told (ap archive_of c.in-Ok.ensures.disk ∙ same) in
-    let fits : is_in_range c.decode_head.result run ≡ true = cc (c.is_in_range.ensures, c.if-not-is_in_range.false) in
-    let stands : may_stand c.args.last.now c.in-Ok.place c.decode_head.result ≡ true = cc (c.may_stand.ensures, c.if-not-may_stand.false) in (
+    let fits : is_in_range c.decode_head-head.result run ≡ true = cc (c.is_in_range.ensures, c.if-not-is_in_range.false) in
+    let stands : may_stand c.args.last.now c.in-Ok.place c.decode_head-head.result ≡ true = cc (c.may_stand.ensures, c.if-not-may_stand.false) in (
       entry.0,
-      head_read area run c.args.last.now c.args.n c.in-Ok.place c.read_part.new.buf c.decode_head.result behind entry placed read.1 c.decode_head.ensures,
-      head_sound area run c.args.last.now c.args.n c.in-Ok.place c.read_part.new.buf c.decode_head.result behind entry placed read.1 c.decode_head.ensures
+      head_read area run c.args.last.now c.args.n c.in-Ok.place c.read_part.new.buf c.decode_head-head.result behind entry placed read.1 c.decode_head-head.ensures,
+      head_sound area run c.args.last.now c.args.n c.in-Ok.place c.read_part.new.buf c.decode_head-head.result behind entry placed read.1 c.decode_head-head.ensures
       c.requires fits stands,
     )
