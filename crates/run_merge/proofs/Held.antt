@@ -1,5 +1,5 @@
 -- Runs whose next records are read one by one.
-use Rattle.std.proofs.Common.{◌≡◌, ℕ, zero, suc, ◌+◌, ◌-◌, ◌<◌, ◌≤◌, Bool, IsTrue, List, [], ◌∷◌, ◌++◌, length, drop, take, map, Option, None, Some, refl, ap, sym, subst, ◌∙◌, arith, add-one, slice_set}
+use Rattle.std.proofs.Common.{◌≡◌, ℕ, zero, suc, ◌+◌, ◌-◌, ◌<◌, ◌≤◌, Bool, IsTrue, List, [], ◌∷◌, ◌++◌, length, drop, take, map, Option, None, Some, refl, ap, sym, subst, ◌∙◌, arith, add-one, slice_set, slice_index_or}
 use Rattle.std.specs.Prelude.{MatchOption, MatchResult, Result, Ok, Err, OnOk, OnErr, IfErr, option_map, slice_get, ⊤}
 use Rattle.std.proofs.lemmas.Option.{slice_get_within, slice_get_past}
 use Rattle.std.specs.List.{AllByRecursion}
@@ -151,3 +151,68 @@ heads_first area (records ∷ lists) [] ahead filled = absurd ahead
 heads_first area (records ∷ lists) (a ∷ aheads) ahead filled =
     ap (λ (h : Option Head). h ∷ map head_held aheads) (held_first area records a.cursor a.held ahead.0 filled.0)
     ∙ ap (λ (hs : List (Option Head)). first_head (left_in records a) ∷ hs) (heads_first area lists aheads ahead.1 filled.1)
+
+-- ---- one fill
+
+pub index_there : {X : Type 0} (xs : List X) (n : ℕ) (d : X) → n < length xs → slice_get xs n ≡ Some (slice_index_or xs n d)
+index_there [] n d less = absurd (omega (arith, less))
+index_there (x ∷ xs) zero d less = refl
+index_there (x ∷ xs) (suc n) d less = index_there xs n d (omega (arith, less))
+
+ahead_there : (area : List ℕ) (lists : List (List ArchiveRecord)) (aheads : List AheadValue) (n : ℕ) (a : AheadValue) → AreAhead area lists aheads
+    → slice_get aheads n ≡ Some a → (records : List ArchiveRecord) × IsAhead area records a
+ahead_there area [] [] n a ahead at = let no : None ≡ Some a = at in cc
+ahead_there area [] (x ∷ aheads) n a ahead at = absurd ahead
+ahead_there area (records ∷ lists) [] n a ahead at = absurd ahead
+ahead_there area (records ∷ lists) (x ∷ aheads) zero a ahead at = let is : x ≡ a = cc in (records, subst (IsAhead area records) is ahead.0)
+ahead_there area (records ∷ lists) (x ∷ aheads) (suc n) a ahead at = ahead_there area lists aheads n a ahead.1 at
+
+module _ (tells : Bool) (area : List ℕ) (xs : List AheadValue) (n : ℕ) (a b : AheadValue) (result : Result (Unit {0}) ArchiveFault) (there : slice_get xs n
+    ≡ Some a) (fills : Fills tells area a b result) where
+  pub fill_runs : runs_of (slice_set xs n b) ≡ runs_of xs
+  fill_runs = set_runs xs n a b there fills.run
+
+  pub fill_damaged : IfErr result (IsFaultAmong (runs_of xs))
+  fill_damaged = by result fills.damaged
+    where
+      by : (r : Result (Unit {0}) ArchiveFault) → IfErr r (IsFaultOf a.cursor.run) → IfErr r (IsFaultAmong (runs_of xs))
+      by (Ok done) is = tt
+      by (Err fault) is = fault_among xs n a fault there is
+
+  pub fill_filled : OnOk result (AllByRecursion IsFilled (take n xs) → AllByRecursion IsFilled (take (n + 1) (slice_set xs n b)))
+  fill_filled = by result fills.filled
+    where
+      by : (r : Result (Unit {0}) ArchiveFault) → OnOk r (IsFilled b)
+          → OnOk r (AllByRecursion IsFilled (take n xs) → AllByRecursion IsFilled (take (n + 1) (slice_set xs n b)))
+      by (Ok done) is = λ before.
+          subst (λ (k : ℕ). AllByRecursion IsFilled (take k (slice_set xs n b))) (sym (add-one n))
+          (filled_more xs n b (slice_get_within xs n a there) before is)
+      by (Err fault) is = tt
+
+  pub fill_only : (later : List ℕ) (lists : List (List ArchiveRecord)) → IsTrue tells → area ≡ later → AreAhead later lists xs
+      → AreAhead later lists (slice_set xs n b) × (lefts_in lists (slice_set xs n b) ≡ lefts_in lists xs) × Answers result (λ _. ⊤)
+  fill_only later lists told same ahead =
+      let each : (records : List ArchiveRecord) → IsAhead later records a
+          → IsAhead later records b × (left_in records b ≡ left_in records a) × Answers result (λ _. ⊤) =
+          subst (λ (area : List ℕ). (records : List ArchiveRecord) → IsAhead area records a
+          → IsAhead area records b × (left_in records b ≡ left_in records a) × Answers result (λ _. ⊤)) same (λ records is. fills.only records told is) in
+      let set = set_ahead later lists xs n a b ahead there (λ records is. let done = each records is in (done.0, done.1)) in
+      let here = ahead_there later lists xs n a ahead there in
+      (set.0, set.1, (each here.0 here.1).2)
+
+-- ---- all are restarted
+
+pub restarted_more : (aheads : List AheadValue) (runs : List RunEntry) (n : ℕ) (a : AheadValue) → runs_of aheads ≡ runs → slice_get aheads n ≡ Some a
+    → take n aheads ≡ map ahead_of (take n runs) → take (suc n) (slice_set aheads n (ahead_of a.cursor.run)) ≡ map ahead_of (take (suc n) runs)
+restarted_more [] runs n a run at first = let no : None ≡ Some a = at in cc
+restarted_more (x ∷ aheads) [] n a run at first = cc
+restarted_more (x ∷ aheads) (r ∷ runs) zero a run at first =
+    let is : x ≡ a = cc in
+    let run_is : x.cursor.run ≡ r = cc in
+    ap (λ (s : RunEntry). ahead_of s ∷ []) (ap (λ (y : AheadValue). y.cursor.run) (sym is) ∙ run_is)
+restarted_more (x ∷ aheads) (r ∷ runs) (suc n) a run at first =
+    let rest : runs_of aheads ≡ runs = cc in
+    let head : x ≡ ahead_of r = cc in
+    let tail : take n aheads ≡ map ahead_of (take n runs) = cc in
+    ap (λ (y : AheadValue). y ∷ take (suc n) (slice_set aheads n (ahead_of a.cursor.run))) head
+    ∙ ap (λ (ys : List AheadValue). ahead_of r ∷ ys) (restarted_more aheads runs n a rest at tail)

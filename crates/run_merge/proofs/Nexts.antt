@@ -44,14 +44,17 @@ pub record IsNext (lists : List (List ArchiveRecord)) (n : ℕ) (head : Head) : 
   pub head_is : head_of next ≡ head
   pub merged_is : merged lists ≡ next ∷ merged (passed n lists)
 
+both_parts : (p q : ℕ × Head) → Some p ≡ Some q → (p.0 ≡ q.0) × (p.1 ≡ q.1)
+both_parts p q is = let same : p ≡ q = cc in (ap (λ (x : ℕ × Head). x.0) same, ap (λ (x : ℕ × Head). x.1) same)
+
 -- the next one of a run, or the next one of those behind it, whichever has the lesser key
 next-of : (r : ArchiveRecord) (rs : List ArchiveRecord) (lists : List (List ArchiveRecord)) (n : ℕ) (head : Head) (o : Option (ℕ × Head))
     → (o ≡ None → merged lists ≡ []) → ((p : ℕ × Head) → o ≡ Some p → IsNext lists p.0 p.1) → chosen (Some (head_of r)) o ≡ Some (n, head)
     → IsNext ((r ∷ rs) ∷ lists) n head
 next-of r rs lists n head None none some is =
-    let chosen_is : Some (0, head_of r) ≡ Some (n, head) = is in
-    let n_is : 0 ≡ n = cc in
-    let head_is : head_of r ≡ head = cc in
+    let parts = both_parts (0, head_of r) (n, head) is in
+    let n_is : 0 ≡ n = parts.0 in
+    let head_is : head_of r ≡ head = parts.1 in
     subst (λ (k : ℕ). IsNext ((r ∷ rs) ∷ lists) k head) n_is (record {
       next = r;
       list = r ∷ rs;
@@ -63,8 +66,9 @@ next-of r rs lists n head None none some is =
 next-of r rs lists n head (Some p) none some is = elim (cases_Bool (key_lt p.1.key r.key)) [
   | inl less ↦
       let chosen_is : Some (suc p.0, p.1) ≡ Some (n, head) = sym (ap (λ (b : Bool). cond b (Some (suc p.0, p.1)) (Some (0, head_of r))) less) ∙ is in
-      let n_is : suc p.0 ≡ n = cc in
-      let head_is : p.1 ≡ head = cc in
+      let parts = both_parts (suc p.0, p.1) (n, head) chosen_is in
+      let n_is : suc p.0 ≡ n = parts.0 in
+      let head_is : p.1 ≡ head = parts.1 in
       let behind = some p refl in
       let later : goes_first r behind.next ≡ false = ap (λ (h : Head). not (key_lt h.key r.key)) behind.head_is ∙ ap not less in
       subst (λ (k : ℕ). IsNext ((r ∷ rs) ∷ lists) k head) n_is (record {
@@ -79,8 +83,9 @@ next-of r rs lists n head (Some p) none some is = elim (cases_Bool (key_lt p.1.k
       })
   | inr other ↦
       let chosen_is : Some (0, head_of r) ≡ Some (n, head) = sym (ap (λ (b : Bool). cond b (Some (suc p.0, p.1)) (Some (0, head_of r))) other) ∙ is in
-      let n_is : 0 ≡ n = cc in
-      let head_is : head_of r ≡ head = cc in
+      let parts = both_parts (0, head_of r) (n, head) chosen_is in
+      let n_is : 0 ≡ n = parts.0 in
+      let head_is : head_of r ≡ head = parts.1 in
       let behind = some p refl in
       let first : goes_first r behind.next ≡ true = ap (λ (h : Head). not (key_lt h.key r.key)) behind.head_is ∙ ap not other in
       subst (λ (k : ℕ). IsNext ((r ∷ rs) ∷ lists) k head) n_is (record {
@@ -104,9 +109,9 @@ next-is ([] ∷ lists) n head is = by (least_of (map first_head lists)) (λ p le
     by : (o : Option (ℕ × Head)) → ((p : ℕ × Head) → o ≡ Some p → IsNext lists p.0 p.1) → one_behind o ≡ Some (n, head) → IsNext ([] ∷ lists) n head
     by None some is = let no : None ≡ Some (n, head) = is in cc
     by (Some p) some is =
-        let chosen_is : Some (suc p.0, p.1) ≡ Some (n, head) = is in
-        let n_is : suc p.0 ≡ n = cc in
-        let head_is : p.1 ≡ head = cc in
+        let parts = both_parts (suc p.0, p.1) (n, head) is in
+        let n_is : suc p.0 ≡ n = parts.0 in
+        let head_is : p.1 ≡ head = parts.1 in
         let behind = some p refl in
         subst (λ (k : ℕ). IsNext ([] ∷ lists) k head) n_is (record {
           next = behind.next;

@@ -1,12 +1,12 @@
 //! Records of several runs, in the order of the log, and of a walk behind them, one by one in one order.
-ghost use Rattle.std.specs.Prelude.{◌≡◌, ◌+◌, ◌<◌, ◌≤◌, ℕ, List, [], ◌∷◌, ◌++◌, Err, Some, IsTrue, IfOk, OnOk, OnErr, IfErr, ⊤, map, drop, length, option_map, slice_get, slice_set};
+ghost use Rattle.std.specs.Prelude.{◌≡◌, ◌+◌, ◌<◌, ◌≤◌, ℕ, List, Option, None, [], ◌∷◌, ◌++◌, Err, Some, IsTrue, IfOk, OnOk, OnErr, IfErr, ⊤, map, drop, take, length, option_map, slice_get, slice_set};
 ghost use Rattle.std.specs.List.{AllByRecursion};
 ghost use Rattle.floors.specs.Floors.{floor_at};
 ghost use Rattle.law_image.specs.Reading.{ArchiveRecord};
 ghost use Rattle.archive.specs.declared.head.Head.{Head};
 ghost use Rattle.archive.specs.Answers.{head_of, record_of};
 ghost use Rattle.archive.specs.Searches.{archive_of, after_query, Answers};
-ghost use Rattle.run_merge.specs.Aheads.{AheadValue, ahead_of, passed_ahead, head_held, Fills, IsFilled};
+ghost use Rattle.run_merge.specs.Aheads.{AheadValue, ahead_of, passed_ahead, head_held, IsFilled};
 ghost use Rattle.run_merge.specs.Merges.{chosen, is_kept, least_of, merged};
 ghost use Rattle.run_merge.specs.Mergers.{AreAhead, IsFaultAmong, LooksOn, TakesNext, heads_of, lefts_in, runs_of, shifted};
 
@@ -45,10 +45,9 @@ fn restart_at(aheads: &mut Vec<Ahead>, at: usize)
 pub(crate) fn restart_all(aheads: &mut Vec<Ahead>)
     ensures { aheads.new.items ≡ map ahead_of (runs_of aheads.old.items) }
 {
-    let mut at = 0;
-    while at < aheads.len() {
+    let count = aheads.len();
+    for at in 0..count {
         restart_at(aheads, at);
-        at += 1;
     }
 }
 
@@ -60,8 +59,13 @@ fn fill_at<D: Disk>(
 ) -> Result<(), ArchiveFault>
     requires { at < length aheads.old.items }
     ensures disk { D.state disk.new ≡ after_query result (D.state disk.old) }
-    ensures fills { (a : AheadValue) → slice_get aheads.old.items at ≡ Some a
-        → (b : AheadValue) × (aheads.new.items ≡ slice_set aheads.old.items at b) × Fills D.tells (archive_of (D.state disk.old)) a b result }
+    ensures damaged { IfErr result (IsFaultAmong (runs_of aheads.old.items)) }
+    ensures size { length aheads.new.items ≡ length aheads.old.items }
+    ensures runs { runs_of aheads.new.items ≡ runs_of aheads.old.items }
+    ensures filled { OnOk result (AllByRecursion IsFilled (take at aheads.old.items) → AllByRecursion IsFilled (take (at + 1) aheads.new.items)) }
+    ensures only { (area : List ℕ) (lists : List (List ArchiveRecord)) → IsTrue D.tells → archive_of (D.state disk.old) ≡ area
+        → AreAhead area lists aheads.old.items
+        → AreAhead area lists aheads.new.items × (lefts_in lists aheads.new.items ≡ lefts_in lists aheads.old.items) × Answers result (λ _. ⊤) }
 {
     match aheads.get_mut(at) {
         Some(ahead) => ahead.fill(disk),
@@ -79,13 +83,12 @@ fn fill_all<D: Disk>(aheads: &mut Vec<Ahead>, disk: &mut D) -> Result<(), Archiv
         → AreAhead area lists aheads.old.items
         → AreAhead area lists aheads.new.items × (lefts_in lists aheads.new.items ≡ lefts_in lists aheads.old.items) × Answers result (λ _. ⊤) }
 {
-    let mut at = 0;
-    while at < aheads.len() {
+    let count = aheads.len();
+    for at in 0..count {
         match fill_at(aheads, at, disk) {
             Ok(()) => {}
             Err(fault) => return Err(fault),
         }
-        at += 1;
     }
     Ok(())
 }
