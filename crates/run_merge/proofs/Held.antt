@@ -13,7 +13,7 @@ use Rattle.archive.specs.Answers.{head_of, record_of}
 use Rattle.archive.specs.Runs.{HoldsRun}
 use Rattle.archive.specs.Searches.{Answers, IsFaultOf, IsRefusal}
 use Rattle.run_merge.specs.Cursors.{CursorValue, StandsIn}
-use Rattle.run_merge.specs.Aheads.{AheadValue, passed_ahead, head_held, left_in, IsAhead, IsHeld, IsFilled, Fills}
+use Rattle.run_merge.specs.Aheads.{AheadValue, ahead_of, passed_ahead, head_held, left_in, IsAhead, IsHeld, IsFilled, Fills}
 use Rattle.run_merge.specs.Mergers.{AreAhead, lefts_in, runs_of, IsFaultAmong}
 use Rattle.run_merge.proofs.Nexts.{first_head}
 

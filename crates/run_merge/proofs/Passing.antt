@@ -1,5 +1,5 @@
 -- The next record of several runs and a walk is taken.
-use Rattle.std.proofs.Common.{◌≡◌, ℕ, zero, suc, ◌+◌, ◌<◌, ◌≤◌, Bool, true, false, List, [], ◌∷◌, ◌++◌, length, drop, map, Option, None, Some, refl, ap, sym, subst, ◌∙◌, arith, slice_set}
+use Rattle.std.proofs.Common.{◌≡◌, ℕ, zero, suc, ◌+◌, ◌<◌, ◌≤◌, Bool, true, false, List, [], ◌∷◌, ◌++◌, length, drop, map, Option, None, Some, refl, ap, sym, subst, ◌∙◌, arith, add-one, slice_set}
 use Rattle.std.specs.Prelude.{option_map, slice_get}
 use Rattle.std.specs.List.{AllByRecursion}
 use Rattle.std.proofs.lemmas.List.{map-append}
@@ -11,7 +11,9 @@ use Rattle.archive.specs.Answers.{head_of, record_of}
 use Rattle.archive.specs.Runs.{HoldRuns, HoldsRun}
 use Rattle.run_merge.specs.Aheads.{AheadValue, ahead_of, passed_ahead, head_held, left_in, IsAhead, IsFilled}
 use Rattle.run_merge.specs.Merges.{merged, least_of, is_kept, kept_records}
-use Rattle.run_merge.specs.Mergers.{AreAhead, lefts_in, heads_of, runs_of}
+use Rattle.run_merge.specs.Mergers.{AreAhead, lefts_in, heads_of, runs_of, IsStep}
+use Rattle.run_merge.specs.declared.step.MergeStep.{MergeStep}
+use Rattle.run_merge.specs.declared.step.MergeStep.TheVariants.{Record, Counted, End}
 use Rattle.run_merge.proofs.Nexts.{first_head, passed, none-left, next-is, IsNext}
 use Rattle.run_merge.proofs.Held.{held_taken, heads_first}
 
@@ -126,7 +128,7 @@ none_there [] none = refl
 none_there (r ∷ rs) none = let no : None ≡ Some r = none in cc
 
 pub drop_more : (rs : List ArchiveRecord) (n : ℕ) → drop 1 (drop n rs) ≡ drop (n + 1) rs
-drop_more rs n = by rs n ∙ ap (λ (k : ℕ). drop k rs) (omega arith)
+drop_more rs n = by rs n ∙ ap (λ (k : ℕ). drop k rs) (sym (add-one n))
   where
     by : (xs : List ArchiveRecord) (k : ℕ) → drop 1 (drop k xs) ≡ drop (suc k) xs
     by [] zero = refl
@@ -150,3 +152,26 @@ begins_whole area [] [] holds = refl
 begins_whole area [] (records ∷ lists) holds = absurd holds
 begins_whole area (run ∷ runs) [] holds = absurd holds
 begins_whole area (run ∷ runs) (records ∷ lists) holds = ap (λ (ls : List (List ArchiveRecord)). records ∷ ls) (begins_whole area runs lists holds.1)
+
+-- ---- looks, one after another
+
+pub step_on : (floors : ℕ → ℕ) (old0 old new : List ArchiveRecord) (looked : ℕ) (step : MergeStep) → kept_records floors old0 ≡ kept_records floors old
+    → IsStep floors old new 1 step → IsStep floors old0 new looked step
+step_on floors old0 old new looked (Record head value) same is = same ∙ is
+step_on floors old0 old new looked Counted same is = absurd (omega (arith, is.0))
+step_on floors old0 old new looked End same is = (same ∙ is.0, is.1)
+
+pub look_end : (floors : ℕ → ℕ) (old new : List ArchiveRecord) → (None ≡ slice_get old 0) × (new ≡ drop 1 old)
+    → (new ≡ drop 1 old) × (kept_records floors old ≡ []) × (new ≡ [])
+look_end floors old new is =
+    let none = none_there old is.0 in
+    (is.1, ap (kept_records floors) none, is.1 ∙ ap (drop 1) none)
+
+pub look_kept : (floors : ℕ → ℕ) (old new : List ArchiveRecord) (r : ArchiveRecord) → (Some r ≡ slice_get old 0) × (new ≡ drop 1 old)
+    → is_kept floors r ≡ true → (new ≡ drop 1 old) × (kept_records floors old ≡ r ∷ kept_records floors new)
+look_kept floors old new r is kept =
+    (is.1, kept_is floors old r is.0 kept ∙ ap (λ (rs : List ArchiveRecord). r ∷ kept_records floors rs) (sym is.1))
+
+pub look_passed : (floors : ℕ → ℕ) (old new : List ArchiveRecord) (r : ArchiveRecord) → (Some r ≡ slice_get old 0) × (new ≡ drop 1 old)
+    → is_kept floors r ≡ false → (new ≡ drop 1 old) × (kept_records floors old ≡ kept_records floors new)
+look_passed floors old new r is ended = (is.1, kept_not floors old r is.0 ended ∙ ap (kept_records floors) (sym is.1))

@@ -91,3 +91,12 @@ pub record LooksOn (floors : ℕ → ℕ) (old new : List ArchiveRecord) (result
   pub few : looked ≤ 4096
   pub behind : new ≡ drop looked old
   pub step : MatchResult result (IsStep floors old new looked) (λ fault. IsRefusal fault × (kept_records floors old ≡ kept_records floors new))
+
+-- one record is looked at: it is the next one that is kept, or none is left, or it is not kept
+abbrev pub IsLook : (ℕ → ℕ) → List ArchiveRecord → List ArchiveRecord → Option MergeStep → Type 0
+IsLook floors old new None = kept_records floors old ≡ kept_records floors new
+IsLook floors old new (Some step) = IsStep floors old new 1 step
+
+abbrev pub LooksOnce : (ℕ → ℕ) → List ArchiveRecord → List ArchiveRecord → Result (Option MergeStep) ArchiveFault → Type 0
+LooksOnce floors old new result =
+    MatchResult result (λ o. (new ≡ drop 1 old) × IsLook floors old new o) (λ fault. IsRefusal fault × (new ≡ old))

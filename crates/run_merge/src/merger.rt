@@ -8,7 +8,7 @@ ghost use Rattle.archive.specs.Answers.{head_of, record_of};
 ghost use Rattle.archive.specs.Searches.{archive_of, after_query, Answers};
 ghost use Rattle.run_merge.specs.Aheads.{AheadValue, ahead_of, passed_ahead, head_held, IsFilled};
 ghost use Rattle.run_merge.specs.Merges.{chosen, is_kept, least_of, merged};
-ghost use Rattle.run_merge.specs.Mergers.{AreAhead, IsFaultAmong, LooksOn, TakesNext, heads_of, lefts_in, runs_of, shifted};
+ghost use Rattle.run_merge.specs.Mergers.{AreAhead, IsFaultAmong, LooksOn, LooksOnce, TakesNext, heads_of, lefts_in, runs_of, shifted};
 
 use crate::ahead::Ahead;
 use crate::step::MergeStep;
@@ -221,6 +221,33 @@ fn is_kept(floors: &Floors, head: &Head) -> bool
     floors.at(head.key.relation) < head.to
 }
 
+// Looks at the next record of all, which is behind then: a step where it is kept or none is left.
+fn look_at<W: RecordWalk, D: Disk>(
+    aheads: &mut Vec<Ahead>,
+    walk: &mut W,
+    floors: &Floors,
+    disk: &mut D,
+) -> Result<Option<MergeStep>, ArchiveFault>
+    ensures disk { D.state disk.new ≡ after_query result (D.state disk.old) }
+    ensures damaged { IfErr result (IsFaultAmong (runs_of aheads.old.items)) }
+    ensures runs { runs_of aheads.new.items ≡ runs_of aheads.old.items }
+    ensures all { W.all walk.new ≡ W.all walk.old }
+    ensures only { (area : List ℕ) (lists : List (List ArchiveRecord)) → IsTrue D.tells → archive_of (D.state disk.old) ≡ area
+        → AreAhead area lists aheads.old.items
+        → AreAhead area lists aheads.new.items × LooksOnce (floor_at floors.now) (merged (lefts_in lists aheads.old.items ++ W.left walk.old ∷ []))
+        (merged (lefts_in lists aheads.new.items ++ W.left walk.new ∷ [])) result }
+{
+    let (head, value) = match next_of(aheads, walk, disk) {
+        Ok(Some(found)) => found,
+        Ok(None) => return Ok(Some(MergeStep::End)),
+        Err(fault) => return Err(fault),
+    };
+    if is_kept(floors, &head) {
+        return Ok(Some(MergeStep::Record(head, value)));
+    }
+    Ok(None)
+}
+
 /// The next record of all that is kept, which is behind then, or `Counted` where none of the next 4,096 is.
 pub(crate) fn next_kept_of<W: RecordWalk, D: Disk>(
     aheads: &mut Vec<Ahead>,
@@ -239,13 +266,9 @@ pub(crate) fn next_kept_of<W: RecordWalk, D: Disk>(
 {
     let mut looked = 0;
     while looked < MOST_LOOKED {
-        match next_of(aheads, walk, disk) {
-            Ok(Some((head, value))) => {
-                if is_kept(floors, &head) {
-                    return Ok(MergeStep::Record(head, value));
-                }
-            }
-            Ok(None) => return Ok(MergeStep::End),
+        match look_at(aheads, walk, floors, disk) {
+            Ok(Some(step)) => return Ok(step),
+            Ok(None) => {}
             Err(fault) => return Err(fault),
         }
         looked += 1;

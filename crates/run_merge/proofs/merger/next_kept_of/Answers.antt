@@ -1,0 +1,67 @@
+use Rattle.std.proofs.Common.{◌≡◌, ◌∙◌, ◌+◌, ◌++◌, ◌∷◌, [], List, ap, sym, drop, arith}
+use Rattle.floors.specs.Floors.{floor_at}
+use Rattle.law_image.specs.Reading.{ArchiveRecord}
+use Rattle.archive.specs.Searches.{archive_of}
+use Rattle.run_merge.specs.Merges.{merged, kept_records}
+use Rattle.run_merge.specs.Mergers.{lefts_in}
+use Rattle.run_merge.proofs.Passing.{drop_more, step_on}
+use Rattle.run_merge.proofs.merger.next_kept_of.Goals as goal
+
+pub loop-looked-preserved : goal.loop-looked-preserved
+loop-looked-preserved g c =
+    let kept = c.loop-looked.invariant in
+    record {
+      few = omega (arith, c.loop-looked-test.true);
+      disk = c.in-Ok-None.ensures.disk ∙ kept.disk;
+      runs = c.in-Ok-None.ensures.runs ∙ kept.runs;
+      all = c.in-Ok-None.ensures.all ∙ kept.all;
+      only = λ area lists told same ahead.
+          let before = kept.only area lists told same ahead in
+          let look = c.in-Ok-None.ensures.only area lists told (ap archive_of kept.disk ∙ same) before.0 in
+          let all = merged (lefts_in lists c.args.aheads.now.items ++ g.W.RecordWalk.left c.args.walk.now ∷ []) in
+          (look.0, look.1.0 ∙ ap (drop 1) before.1 ∙ drop_more all c.loop-looked.looked, before.2 ∙ look.1.1);
+    }
+
+pub returns-in-Ok-Some-clause-only : goal.returns-in-Ok-Some-clause-only
+returns-in-Ok-Some-clause-only g c = λ area lists told same ahead.
+    let kept = c.loop-looked.invariant in
+    let before = kept.only area lists told same ahead in
+    let look = c.in-Ok-Some.ensures.only area lists told (ap archive_of kept.disk ∙ same) before.0 in
+    let all = merged (lefts_in lists c.args.aheads.now.items ++ g.W.RecordWalk.left c.args.walk.now ∷ []) in
+    let current = merged (lefts_in lists c.loop-looked.aheads.items ++ g.W.RecordWalk.left c.loop-looked.walk ∷ []) in
+    let new = merged (lefts_in lists c.look_at.new.aheads.items ++ g.W.RecordWalk.left c.look_at.new.walk ∷ []) in (
+      look.0,
+      record {
+        looked = c.loop-looked.looked + 1;
+        few = omega (arith, c.loop-looked-test.true);
+        behind = look.1.0 ∙ ap (drop 1) before.1 ∙ drop_more all c.loop-looked.looked;
+        step = step_on (floor_at c.args.floors.now) all current new (c.loop-looked.looked + 1) c.in-Ok-Some.step before.2 look.1.1;
+      },
+    )
+
+pub returns-in-Err-clause-only : goal.returns-in-Err-clause-only
+returns-in-Err-clause-only g c = λ area lists told same ahead.
+    let kept = c.loop-looked.invariant in
+    let before = kept.only area lists told same ahead in
+    let look = c.in-Err.ensures.only area lists told (ap archive_of kept.disk ∙ same) before.0 in (
+      look.0,
+      record {
+        looked = c.loop-looked.looked;
+        few = kept.few;
+        behind = look.1.1 ∙ before.1;
+        step = (look.1.0, before.2 ∙ ap (kept_records (floor_at c.args.floors.now)) (sym look.1.1));
+      },
+    )
+
+pub returns-clause-only : goal.returns-clause-only
+returns-clause-only g c = λ area lists told same ahead.
+    let kept = c.loop-looked.invariant in
+    let before = kept.only area lists told same ahead in (
+      before.0,
+      record {
+        looked = c.loop-looked.looked;
+        few = kept.few;
+        behind = before.1;
+        step = (let few = kept.few in omega (arith, few, c.loop-looked-test.false), before.2);
+      },
+    )
