@@ -1,9 +1,10 @@
-use Rattle.std.proofs.Common.{◌≡◌, ◌∙◌, ◌+◌, ◌++◌, ◌∷◌, [], List, ap, sym, drop, arith}
+use Rattle.std.proofs.Common.{◌≡◌, ◌∙◌, ◌+◌, ◌++◌, ◌∷◌, [], Option, Some, None, ap, sym, subst, drop, arith}
+use Rattle.std.specs.Prelude.{Ok}
 use Rattle.floors.specs.Floors.{floor_at}
-use Rattle.law_image.specs.Reading.{ArchiveRecord}
 use Rattle.archive.specs.Searches.{archive_of}
 use Rattle.run_merge.specs.Merges.{merged, kept_records}
-use Rattle.run_merge.specs.Mergers.{lefts_in}
+use Rattle.run_merge.specs.Mergers.{LooksOnce, lefts_in}
+use Rattle.run_merge.specs.declared.step.MergeStep.{MergeStep}
 use Rattle.run_merge.proofs.Passing.{drop_more, step_on}
 use Rattle.run_merge.proofs.merger.next_kept_of.Goals as goal
 
@@ -19,7 +20,11 @@ loop-looked-preserved g c =
           let before = kept.only area lists told same ahead in
           let look = c.in-Ok-None.ensures.only area lists told (ap archive_of kept.disk ∙ same) before.0 in
           let all = merged (lefts_in lists c.args.aheads.now.items ++ g.W.RecordWalk.left c.args.walk.now ∷ []) in
-          (look.0, look.1.0 ∙ ap (drop 1) before.1 ∙ drop_more all c.loop-looked.looked, before.2 ∙ look.1.1);
+          let current = merged (lefts_in lists c.loop-looked.aheads.items ++ g.W.RecordWalk.left c.loop-looked.walk ∷ []) in
+          let new = merged (lefts_in lists c.look_at.new.aheads.items ++ g.W.RecordWalk.left c.look_at.new.walk ∷ []) in
+          let once : LooksOnce (floor_at c.args.floors.now) current new (Ok None) =
+              subst (λ (o : Option MergeStep). LooksOnce (floor_at c.args.floors.now) current new (Ok o)) c.in-Ok-None.field-0-is look.1 in
+          (look.0, once.0 ∙ ap (drop 1) before.1 ∙ drop_more all c.loop-looked.looked, before.2 ∙ once.1);
     }
 
 pub returns-in-Ok-Some-clause-only : goal.returns-in-Ok-Some-clause-only
@@ -29,13 +34,15 @@ returns-in-Ok-Some-clause-only g c = λ area lists told same ahead.
     let look = c.in-Ok-Some.ensures.only area lists told (ap archive_of kept.disk ∙ same) before.0 in
     let all = merged (lefts_in lists c.args.aheads.now.items ++ g.W.RecordWalk.left c.args.walk.now ∷ []) in
     let current = merged (lefts_in lists c.loop-looked.aheads.items ++ g.W.RecordWalk.left c.loop-looked.walk ∷ []) in
-    let new = merged (lefts_in lists c.look_at.new.aheads.items ++ g.W.RecordWalk.left c.look_at.new.walk ∷ []) in (
+    let new = merged (lefts_in lists c.look_at.new.aheads.items ++ g.W.RecordWalk.left c.look_at.new.walk ∷ []) in
+    let once : LooksOnce (floor_at c.args.floors.now) current new (Ok (Some c.in-Ok-Some.step)) =
+        subst (λ (o : Option MergeStep). LooksOnce (floor_at c.args.floors.now) current new (Ok o)) c.in-Ok-Some.field-0-is look.1 in (
       look.0,
       record {
         looked = c.loop-looked.looked + 1;
         few = omega (arith, c.loop-looked-test.true);
-        behind = look.1.0 ∙ ap (drop 1) before.1 ∙ drop_more all c.loop-looked.looked;
-        step = step_on (floor_at c.args.floors.now) all current new (c.loop-looked.looked + 1) c.in-Ok-Some.step before.2 look.1.1;
+        behind = once.0 ∙ ap (drop 1) before.1 ∙ drop_more all c.loop-looked.looked;
+        step = step_on (floor_at c.args.floors.now) all current new (c.loop-looked.looked + 1) c.in-Ok-Some.step before.2 once.1;
       },
     )
 
