@@ -1,6 +1,6 @@
 -- Runs whose next records are read one by one.
-use Rattle.std.proofs.Common.{◌≡◌, ℕ, zero, suc, ◌+◌, ◌-◌, ◌<◌, ◌≤◌, Bool, IsTrue, List, [], ◌∷◌, ◌++◌, length, drop, take, map, Option, None, Some, refl, ap, sym, subst, ◌∙◌, arith, add-one, slice_set, slice_index_or}
-use Rattle.std.specs.Prelude.{MatchOption, MatchResult, Result, Ok, Err, OnOk, OnErr, IfErr, option_map, slice_get, ⊤}
+use Rattle.std.proofs.Common.{◌≡◌, ℕ, zero, suc, ◌+◌, ◌-◌, ◌<◌, Bool, IsTrue, List, [], ◌∷◌, length, drop, take, map, Option, None, Some, refl, ap, sym, subst, ◌∙◌, arith, add-one, slice_set, slice_index_or}
+use Rattle.std.specs.Prelude.{MatchOption, Result, Ok, Err, OnOk, OnErr, IfErr, option_map, slice_get, ⊤}
 use Rattle.std.proofs.lemmas.Option.{slice_get_within, slice_get_past}
 use Rattle.std.specs.List.{AllByRecursion}
 use Rattle.law_image.specs.Values.{Value}
@@ -11,10 +11,11 @@ use Rattle.archive.specs.declared.fault.ArchiveFault.{ArchiveFault}
 use Rattle.archive.specs.declared.fault.ArchiveFault.TheVariants.{Device, NoMemory, Damaged}
 use Rattle.archive.specs.Answers.{head_of, record_of}
 use Rattle.archive.specs.Runs.{HoldsRun}
-use Rattle.archive.specs.Searches.{Answers, IsFaultOf, IsRefusal}
-use Rattle.run_merge.specs.Cursors.{CursorValue, StandsIn}
-use Rattle.run_merge.specs.Aheads.{AheadValue, ahead_of, passed_ahead, head_held, left_in, IsAhead, IsHeld, IsFilled, Fills}
-use Rattle.run_merge.specs.Mergers.{AreAhead, lefts_in, runs_of, IsFaultAmong}
+use Rattle.archive.specs.Damages.{IfDamaged}
+use Rattle.archive.specs.Searches.{Answers, IsFaultOf}
+use Rattle.run_merge.specs.Cursors.{CursorValue, HasRead, IsRecordBroken, StandsIn}
+use Rattle.run_merge.specs.Aheads.{AheadValue, ahead_of, passed_ahead, head_held, left_in, IsAhead, IsFilled, Fills}
+use Rattle.run_merge.specs.Mergers.{AreAhead, HaveRead, IsBrokenAmong, ReadsExactly, lefts_in, runs_of, IsFaultAmong}
 use Rattle.run_merge.proofs.Nexts.{first_head}
 
 -- ---- one run
@@ -70,7 +71,7 @@ pub held_taken : (area : List ℕ) (records : List ArchiveRecord) (cursor : Curs
     × (left_in records (record { cursor = cursor; held = None }) ≡ drop 1 (left_in records (record { cursor = cursor; held = held })))
 held_taken area records cursor None next ahead filled first =
     let none = first_dropped records cursor.number ∙ slice_get_past records cursor.number
-        (let count = ahead.holds.records_are in omega (arith, filled, count)) in
+    (let count = ahead.holds.records_are in omega (arith, filled, count)) in
     let no : None ≡ Some next = sym none ∙ first in cc
 held_taken area records cursor (Some p) next ahead filled first =
     let some : suc (cursor.number - 1) ≡ cursor.number = omega (arith, ahead.held.0) in (
@@ -193,12 +194,60 @@ module _ (tells : Bool) (area : List ℕ) (xs : List AheadValue) (n : ℕ) (a b 
       → AreAhead later lists (slice_set xs n b) × (lefts_in lists (slice_set xs n b) ≡ lefts_in lists xs) × Answers result (λ _. ⊤)
   fill_only later lists told same ahead =
       let each : (records : List ArchiveRecord) → IsAhead later records a
-          → IsAhead later records b × (left_in records b ≡ left_in records a) × Answers result (λ _. ⊤) =
-          subst (λ (area : List ℕ). (records : List ArchiveRecord) → IsAhead area records a
-          → IsAhead area records b × (left_in records b ≡ left_in records a) × Answers result (λ _. ⊤)) same (λ records is. fills.only records told is) in
+      → IsAhead later records b × (left_in records b ≡ left_in records a) × Answers result (λ _. ⊤) =
+      subst (λ (area : List ℕ). (records : List ArchiveRecord) → IsAhead area records a
+      → IsAhead area records b × (left_in records b ≡ left_in records a) × Answers result (λ _. ⊤)) same (λ records is. fills.only records told is) in
       let set = set_ahead later lists xs n a b ahead there (λ records is. let done = each records is in (done.0, done.1)) in
       let here = ahead_there later lists xs n a ahead there in
       (set.0, set.1, (each here.0 here.1).2)
+
+-- ---- over any bytes
+
+read_there : (area : List ℕ) (xs : List AheadValue) (n : ℕ) (a : AheadValue) → HaveRead area xs → slice_get xs n ≡ Some a → HasRead area a.cursor
+read_there area [] n a all at = let no : None ≡ Some a = at in cc
+read_there area (x ∷ xs) zero a all at = let is : x ≡ a = cc in subst (λ (y : AheadValue). HasRead area y.cursor) is all.0
+read_there area (x ∷ xs) (suc n) a all at = read_there area xs n a all.1 at
+
+read_set : (area : List ℕ) (xs : List AheadValue) (n : ℕ) (b : AheadValue) → HaveRead area xs → HasRead area b.cursor → HaveRead area (slice_set xs n b)
+read_set area [] n b all is = tt
+read_set area (x ∷ xs) zero b all is = (is, all.1)
+read_set area (x ∷ xs) (suc n) b all is = (all.0, read_set area xs n b all.1 is)
+
+pub read_passed : (area : List ℕ) (xs : List AheadValue) (n : ℕ) (a : AheadValue) → HaveRead area xs → slice_get xs n ≡ Some a
+    → HaveRead area (slice_set xs n (passed_ahead a))
+read_passed area xs n a all at = read_set area xs n (passed_ahead a) all (read_there area xs n a all at)
+
+broken_among : (area : List ℕ) (xs : List AheadValue) (n : ℕ) (a : AheadValue) (fault : ArchiveFault) → slice_get xs n ≡ Some a
+    → IsFaultOf a.cursor.run fault → IfDamaged (λ _. IsRecordBroken area a.cursor.run a.cursor.number) fault
+    → IfDamaged (IsBrokenAmong area (runs_of xs)) fault
+broken_among area xs n a Device at is broken = tt
+broken_among area xs n a NoMemory at is broken = tt
+broken_among area xs n a (Damaged start) at is broken = (n, a.cursor.number, a.cursor.run, run_there xs n a at, is, broken)
+
+pub fill_exact : (tells : Bool) (area : List ℕ) (xs : List AheadValue) (n : ℕ) (a b : AheadValue) (result : Result (Unit {0}) ArchiveFault)
+    → slice_get xs n ≡ Some a → Fills tells area a b result → (later : List ℕ) → IsTrue tells → area ≡ later
+    → ReadsExactly later xs (slice_set xs n b) result
+fill_exact tells area xs n a b result at fills later told same all =
+    let exact = subst (λ (there : List ℕ). HasRead there a.cursor
+    → HasRead there b.cursor × IfErr result (IfDamaged (λ _. IsRecordBroken there a.cursor.run a.cursor.number))) same (fills.exact told)
+    (read_there later xs n a all at) in
+    (read_set later xs n b all exact.0, by result fills.damaged exact.1)
+  where
+    by : (r : Result (Unit {0}) ArchiveFault) → IfErr r (IsFaultOf a.cursor.run)
+        → IfErr r (IfDamaged (λ _. IsRecordBroken later a.cursor.run a.cursor.number)) → IfErr r (IfDamaged (IsBrokenAmong later (runs_of xs)))
+    by (Ok done) is broken = tt
+    by (Err fault) is broken = broken_among later xs n a fault at is broken
+
+abbrev fault_in : {T : Type 0} → Result T ArchiveFault → ArchiveFault
+fault_in (Ok done) = Device
+fault_in (Err fault) = fault
+
+-- want of memory says nothing of a run
+pub full_is : {T : Type 0} (P : ℕ → Type 0) (result : Result T ArchiveFault) → OnErr result (result ≡ Err NoMemory) → IfErr result (IfDamaged P)
+full_is P (Ok done) full = tt
+full_is P (Err Device) full = tt
+full_is P (Err NoMemory) full = tt
+full_is {T} P (Err (Damaged start)) full = let no : Damaged start ≡ NoMemory = ap (fault_in {T = T}) full in cc
 
 -- ---- all are restarted
 

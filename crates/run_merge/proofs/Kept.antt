@@ -1,12 +1,11 @@
 -- What is kept of merged records, and that it is a run.
-use Rattle.std.proofs.Common.{◌≡◌, ◌++◌, ◌==◌, ◌&&◌, ℕ, ◌≤◌, ◌<◌, nat_lt, Bool, true, false, not, cond, List, [], ◌∷◌, refl, ap, sym, subst, ◌∙◌, ◌⊎◌, inl, inr, arith, filter}
+use Rattle.std.proofs.Common.{◌≡◌, ℕ, ◌≤◌, ◌<◌, Bool, true, false, List, [], ◌∷◌, refl, ap, sym, subst, ◌∙◌, inl, inr, arith, filter}
 use Rattle.std.proofs.lemmas.Bool.{cases_Bool}
 use Rattle.std.proofs.lemmas.Bool.Decides.{nat_tests}
-use Rattle.std.specs.declared.cmp.Ordering.TheVariants.{Less}
 use Rattle.std.specs.List.{flat_map, AllByRecursion}
 use Rattle.history.specs.declared.key.Key.{Key}
 use Rattle.history.specs.declared.time.Version.{Version}
-use Rattle.history.specs.Key.{key_cmp, key_lt, same_key}
+use Rattle.history.specs.Key.{key_lt, same_key}
 use Rattle.history.specs.Versions.{ends_after, FollowOneAnotherFrom}
 use Rattle.history.proofs.Keys.{key_lt-from_less, key_cmp-from_lt}
 use Rattle.law_image.specs.Values.{Value}
@@ -27,12 +26,12 @@ kept_front : (floors : ℕ → ℕ) (key : Key) (r : ArchiveRecord) (rs : List A
     → run_versions key (kept_records floors (r ∷ rs)) ≡ filter (ends_after (floors key.relation)) (run_versions key (r ∷ rs))
 kept_front floors key r rs true true kept_is same_is says =
     let test : ends_after (floors key.relation) r.version ≡ true =
-        ap (λ (n : ℕ). ends_after (floors n) r.version) (sym (relation_of key r.key same_is)) ∙ kept_is in
+    ap (λ (n : ℕ). ends_after (floors n) r.version) (sym (relation_of key r.key same_is)) ∙ kept_is in
     rw (kept_is, same_is, test) (ap (λ (vs : List (Version Value)). r.version ∷ vs) says)
 kept_front floors key r rs true false kept_is same_is says = rw (kept_is, same_is) says
 kept_front floors key r rs false true kept_is same_is says =
     let test : ends_after (floors key.relation) r.version ≡ false =
-        ap (λ (n : ℕ). ends_after (floors n) r.version) (sym (relation_of key r.key same_is)) ∙ kept_is in
+    ap (λ (n : ℕ). ends_after (floors n) r.version) (sym (relation_of key r.key same_is)) ∙ kept_is in
     rw (kept_is, same_is, test) says
 kept_front floors key r rs false false kept_is same_is says = rw (kept_is, same_is) says
 
@@ -86,17 +85,22 @@ with_by_key : (rest : List ArchiveRecord → List ArchiveRecord) (r : ArchiveRec
 with_by_key rest r rs [] order each by_key behind = (each (λ (s : ArchiveRecord). goes_first r s ≡ true) [] order.0 tt, by_key [] tt)
 with_by_key rest r rs (s ∷ ss) order each by_key behind = elim (cases_Bool (goes_first r s)) [
   | inl first ↦
-      let behind_r : AllByRecursion (λ (t : ArchiveRecord). goes_first r t ≡ true) (s ∷ ss) =
-          (first, all_more (λ (t : ArchiveRecord). goes_first s t ≡ true) (λ (t : ArchiveRecord). goes_first r t ≡ true) ss
-          (λ (t : ArchiveRecord) (is : goes_first s t ≡ true). through r s t first is) behind.0) in
+      let behind_r : AllByRecursion (λ (t : ArchiveRecord). goes_first r t ≡ true) (s ∷ ss) = (
+        first,
+        all_more (λ (t : ArchiveRecord). goes_first s t ≡ true) (λ (t : ArchiveRecord). goes_first r t ≡ true) ss
+            (λ (t : ArchiveRecord) (is : goes_first s t ≡ true). through r s t first is) behind.0,
+      ) in
       rw first (each (λ (t : ArchiveRecord). goes_first r t ≡ true) (s ∷ ss) order.0 behind_r, by_key (s ∷ ss) behind)
   | inr later ↦
       let less = turned r s later in
       let behind_s : AllByRecursion (λ (t : ArchiveRecord). goes_first s t ≡ true) rs =
-          all_more (λ (t : ArchiveRecord). goes_first r t ≡ true) (λ (t : ArchiveRecord). goes_first s t ≡ true) rs
-          (λ (t : ArchiveRecord) (is : goes_first r t ≡ true). through s r t less is) order.0 in
-      rw later (with_all (λ (t : ArchiveRecord). goes_first s t ≡ true) rest r ss less
-      (λ more all. each (λ (t : ArchiveRecord). goes_first s t ≡ true) more behind_s all) behind.0, with_by_key rest r rs ss order each by_key behind.1)
+      all_more (λ (t : ArchiveRecord). goes_first r t ≡ true) (λ (t : ArchiveRecord). goes_first s t ≡ true) rs
+      (λ (t : ArchiveRecord) (is : goes_first r t ≡ true). through s r t less is) order.0 in
+      rw later (
+        with_all (λ (t : ArchiveRecord). goes_first s t ≡ true) rest r ss less
+            (λ more all. each (λ (t : ArchiveRecord). goes_first s t ≡ true) more behind_s all) behind.0,
+        with_by_key rest r rs ss order each by_key behind.1,
+      )
 ]
 
 into_by_key : (records later : List ArchiveRecord) → AreByKey records → AreByKey later → AreByKey (merge_into records later)
@@ -171,9 +175,11 @@ next_first r s (inr same) =
 by_key_front : (r : ArchiveRecord) (rs : List ArchiveRecord) → AreInOrder (r ∷ rs) → AreByKey rs → AllByRecursion (λ (s : ArchiveRecord). goes_first r s ≡ true) rs
 by_key_front r [] order by_key = tt
 by_key_front r (s ∷ rs) order by_key =
-    let first = next_first r s order.0 in
-    (first, all_more (λ (t : ArchiveRecord). goes_first s t ≡ true) (λ (t : ArchiveRecord). goes_first r t ≡ true) rs
-    (λ (t : ArchiveRecord) (is : goes_first s t ≡ true). through r s t first is) by_key.0)
+    let first = next_first r s order.0 in (
+      first,
+      all_more (λ (t : ArchiveRecord). goes_first s t ≡ true) (λ (t : ArchiveRecord). goes_first r t ≡ true) rs
+          (λ (t : ArchiveRecord) (is : goes_first s t ≡ true). through r s t first is) by_key.0,
+    )
 
 pub run_by_key : (rs : List ArchiveRecord) → AreInOrder rs → AreByKey rs
 run_by_key [] order = tt
@@ -211,7 +217,7 @@ all_between : (mark low : ℕ) (runs : List (ℕ × List ArchiveRecord)) → low
 all_between mark low [] lower runs_are = tt
 all_between mark low (run ∷ runs) lower runs_are = (
   all_more (IsArchived mark (λ (relation : ℕ). 0) run.0) (Between low (last_upto run.0 runs)) run.1
-  (λ r is. archived_between mark run.0 low (last_upto run.0 runs) r lower (rises_to run.0 runs runs_are.2) is) runs_are.1.each,
+      (λ r is. archived_between mark run.0 low (last_upto run.0 runs) r lower (rises_to run.0 runs runs_are.2) is) runs_are.1.each,
   all_between run.0 low runs (omega (arith, lower, runs_are.0)) runs_are.2,
 )
 
@@ -221,8 +227,10 @@ kept_archived mark upto floors [] all = tt
 kept_archived mark upto floors (r ∷ rs) all = elim (cases_Bool (is_kept floors r)) [
   | inl kept ↦
       let above : floors r.key.relation < r.version.to = grind (arith, nat_tests) in
-      rw kept (record { lasts = all.0.lasts; after_mark = all.0.low_is; after_floor = above; by_upto = all.0.high_is },
-      kept_archived mark upto floors rs all.1)
+      rw kept (
+        record { lasts = all.0.lasts; after_mark = all.0.low_is; after_floor = above; by_upto = all.0.high_is },
+        kept_archived mark upto floors rs all.1,
+      )
   | inr ended ↦ rw ended (kept_archived mark upto floors rs all.1)
 ]
 

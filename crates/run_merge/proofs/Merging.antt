@@ -1,5 +1,5 @@
 -- What merged records say of a key.
-use Rattle.std.proofs.Common.{◌≡◌, ◌++◌, ◌==◌, ◌&&◌, ◌||◌, ℕ, nat_lt, Bool, true, false, not, cond, List, [], ◌∷◌, Option, Some, None, refl, ap, sym, ◌∙◌, ◌⊎◌, inl, inr, arith}
+use Rattle.std.proofs.Common.{◌≡◌, ◌++◌, Bool, true, false, not, cond, List, [], ◌∷◌, refl, ap, sym, ◌∙◌, inl, inr, arith}
 use Rattle.std.proofs.lemmas.Bool.{cases_Bool}
 use Rattle.std.proofs.lemmas.List.{append_assoc}
 use Rattle.std.proofs.lemmas.Bool.Decides.{nat_tests}
@@ -9,7 +9,7 @@ use Rattle.history.specs.declared.time.Version.{Version}
 use Rattle.history.specs.Key.{key_lt, same_key}
 use Rattle.law_image.specs.Values.{Value}
 use Rattle.law_image.specs.Reading.{ArchiveRecord}
-use Rattle.law_image.specs.Facts.{run_versions, version_for}
+use Rattle.law_image.specs.Facts.{run_versions}
 use Rattle.run_merge.specs.Merges.{goes_first, merge_with, merge_into, merged}
 use Rattle.run_merge.specs.Laws.{AreByKey}
 

@@ -1,17 +1,16 @@
 -- The next record of several runs and a walk is taken.
-use Rattle.std.proofs.Common.{◌≡◌, ℕ, zero, suc, ◌+◌, ◌<◌, ◌≤◌, Bool, true, false, List, [], ◌∷◌, ◌++◌, length, drop, map, Option, None, Some, refl, ap, sym, subst, ◌∙◌, arith, add-one, slice_set}
+use Rattle.std.proofs.Common.{◌≡◌, ℕ, zero, suc, ◌+◌, ◌-◌, ◌<◌, ◌≤◌, true, false, List, [], ◌∷◌, ◌++◌, length, drop, map, Option, None, Some, refl, ap, sym, subst, ◌∙◌, arith, add-one, slice_set}
 use Rattle.std.specs.Prelude.{option_map, slice_get}
 use Rattle.std.specs.List.{AllByRecursion}
 use Rattle.std.proofs.lemmas.List.{map-append}
-use Rattle.law_image.specs.Values.{Value}
 use Rattle.law_image.specs.Reading.{ArchiveRecord}
 use Rattle.archive.specs.declared.head.Head.{Head}
 use Rattle.archive.specs.declared.run.RunEntry.{RunEntry}
-use Rattle.archive.specs.Answers.{head_of, record_of}
-use Rattle.archive.specs.Runs.{HoldRuns, HoldsRun}
-use Rattle.run_merge.specs.Aheads.{AheadValue, ahead_of, passed_ahead, head_held, left_in, IsAhead, IsFilled}
+use Rattle.archive.specs.Answers.{record_of}
+use Rattle.archive.specs.Runs.{HoldRuns}
+use Rattle.run_merge.specs.Aheads.{AheadValue, ahead_of, passed_ahead, left_in, IsFilled}
 use Rattle.run_merge.specs.Merges.{merged, least_of, is_kept, kept_records}
-use Rattle.run_merge.specs.Mergers.{AreAhead, lefts_in, heads_of, runs_of, IsStep}
+use Rattle.run_merge.specs.Mergers.{AreAhead, HaveRead, lefts_in, heads_of, IsStep}
 use Rattle.run_merge.specs.declared.step.MergeStep.{MergeStep}
 use Rattle.run_merge.specs.declared.step.MergeStep.TheVariants.{Record, Counted, End}
 use Rattle.run_merge.proofs.Nexts.{first_head, passed, none-left, next-is, IsNext}
@@ -90,7 +89,7 @@ module _ (area : List ℕ) (lists : List (List ArchiveRecord)) (aheads : List Ah
   take_of_walk n head is past =
       let next = next_there n head is in
       let taken = walk_taken (lefts_in lists aheads) left n next.list next.next (let same = as_many area lists aheads ahead in omega (arith, past, same))
-          next.at next.first in (
+      next.at next.first in (
         taken.0 ∙ sym (ap (λ (rs : List ArchiveRecord). slice_get rs 0) next.merged_is),
         ap merged taken.1 ∙ sym (ap (drop 1) next.merged_is),
       )
@@ -136,6 +135,10 @@ drop_more rs n = by rs n ∙ ap (λ (k : ℕ). drop k rs) (sym (add-one n))
     by (x ∷ xs) zero = refl
     by (x ∷ xs) (suc k) = by xs k
 
+-- one look more
+pub one_more : (rs : List ArchiveRecord) (before looks : ℕ) → 0 < looks → looks ≤ before → drop 1 (drop (before - looks) rs) ≡ drop (before - (looks - 1)) rs
+one_more rs before looks some fewer = drop_more rs (before - looks) ∙ ap (λ (k : ℕ). drop k rs) (omega (arith, some, fewer))
+
 -- ---- at first
 
 pub begins_ahead : (area : List ℕ) (runs : List RunEntry) (lists : List (List ArchiveRecord)) → HoldRuns area runs lists → AreAhead area lists (map ahead_of runs)
@@ -155,11 +158,11 @@ begins_whole area (run ∷ runs) (records ∷ lists) holds = ap (λ (ls : List (
 
 -- ---- looks, one after another
 
-pub step_on : (floors : ℕ → ℕ) (old0 old new : List ArchiveRecord) (looked : ℕ) (step : MergeStep) → kept_records floors old0 ≡ kept_records floors old
-    → IsStep floors old new 1 step → IsStep floors old0 new looked step
-step_on floors old0 old new looked (Record head value) same is = same ∙ is
-step_on floors old0 old new looked Counted same is = absurd (omega (arith, is.0))
-step_on floors old0 old new looked End same is = (same ∙ is.0, is.1)
+pub step_on : (floors : ℕ → ℕ) (old0 old new : List ArchiveRecord) (looks : ℕ) (step : MergeStep) → kept_records floors old0 ≡ kept_records floors old
+    → IsStep floors old new 1 step → IsStep floors old0 new looks step
+step_on floors old0 old new looks (Record head value) same is = same ∙ is
+step_on floors old0 old new looks Counted same is = absurd (omega (arith, is.0))
+step_on floors old0 old new looks End same is = (same ∙ is.0, is.1)
 
 pub look_end : (floors : ℕ → ℕ) (old new : List ArchiveRecord) → (None ≡ slice_get old 0) × (new ≡ drop 1 old)
     → (new ≡ drop 1 old) × (kept_records floors old ≡ []) × (new ≡ [])
@@ -175,3 +178,7 @@ look_kept floors old new r is kept =
 pub look_passed : (floors : ℕ → ℕ) (old new : List ArchiveRecord) (r : ArchiveRecord) → (Some r ≡ slice_get old 0) × (new ≡ drop 1 old)
     → is_kept floors r ≡ false → (new ≡ drop 1 old) × (kept_records floors old ≡ kept_records floors new)
 look_passed floors old new r is ended = (is.1, kept_not floors old r is.0 ended ∙ ap (kept_records floors) (sym is.1))
+
+pub begins_unread : (area : List ℕ) (runs : List RunEntry) → HaveRead area (map ahead_of runs)
+begins_unread area [] = tt
+begins_unread area (run ∷ runs) = (refl, begins_unread area runs)

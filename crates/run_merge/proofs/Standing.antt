@@ -1,20 +1,19 @@
 -- What a cursor reads of a run, whatever its bytes are, and over a run of these records.
-use Rattle.std.proofs.Common.{◌≡◌, ◌≢◌, ◌⊎◌, inl, inr, ℕ, zero, suc, ◌+◌, ◌-◌, ◌≤◌, ◌<◌, ◌==◌, ◌&&◌, ◌||◌, nat_le, not, Bool, true, false, List, [], ◌∷◌, ◌++◌, length, Option, Some, None, refl, sym, ◌∙◌, ap, subst, arith, add-one}
+use Rattle.std.proofs.Common.{◌≡◌, inl, inr, ℕ, zero, suc, ◌+◌, ◌-◌, ◌≤◌, ◌<◌, ◌==◌, ◌&&◌, ◌||◌, nat_le, not, Bool, true, false, List, [], ◌∷◌, ◌++◌, length, Option, Some, refl, sym, ◌∙◌, ap, subst, arith, add-one}
 use Rattle.std.specs.Prelude.{Result, Ok, Err, MatchResult, option_map}
 use Rattle.std.specs.List.{slice_get, slice_range}
 use Rattle.std.proofs.lemmas.Bool.Decides.{nat_tests}
-use Rattle.std.proofs.lemmas.List.{append-nil}
 use Rattle.law_image.specs.Values.{Value}
 use Rattle.law_image.specs.Reading.{ArchiveRecord}
-use Rattle.wire.specs.Values.{IsValue, value_bytes}
+use Rattle.wire.specs.Values.{value_bytes}
 use Rattle.archive.specs.declared.run.RunEntry.{RunEntry}
 use Rattle.archive.specs.declared.head.Head.{Head}
 use Rattle.archive.specs.declared.fault.ArchiveFault.{ArchiveFault}
 use Rattle.archive.specs.declared.fault.ArchiveFault.TheVariants.{Device, NoMemory, Damaged}
 use Rattle.archive.specs.Answers.{head_at, head_of, record_of}
-use Rattle.archive.specs.Runs.{run_end, place_of}
+use Rattle.archive.specs.Runs.{place_of}
 use Rattle.archive.specs.Searches.{IsPlace, is_before, is_in_range, may_follow_last, IsRefusal}
-use Rattle.archive.specs.Damages.{IsEntryThere, entry_at, head_standing, value_part, placed_at, before_of, IsHeadSound, IsHeadBroken, IsEntryBroken, IsValueAt, IsValueBroken}
+use Rattle.archive.specs.Damages.{IsEntryThere, entry_at, value_part, placed_at, before_of, IsHeadSound, IsHeadBroken, IsEntryBroken, IsValueAt, IsValueBroken}
 use Rattle.archive.specs.Damages.{IsUnbroken, PastEnd, NoPlace, BadEntry, OutOfRange, OutOfOrder, BadEnd, NoRoom, NoValue, IfDamaged}
 use Rattle.archive.specs.Traces.{nth_head}
 use Rattle.run_merge.specs.Cursors.{SpellsAt, may_stand, last_at, last_in, IsRecordRead, IsRecordBroken}

@@ -1,5 +1,5 @@
 -- Which runs are taken, as a slice of their records is gone through from its end.
-use Rattle.std.proofs.Common.{◌≡◌, ℕ, zero, suc, ◌+◌, ◌-◌, ◌<◌, ◌≤◌, ◌^◌, nat_lt, nat_le, Bool, true, false, cond, min, List, [], ◌∷◌, ◌++◌, length, reverse, take, drop, sum, refl, ap, sym, subst, ◌∙◌, ◌⊎◌, inl, inr, arith}
+use Rattle.std.proofs.Common.{◌≡◌, ℕ, zero, suc, ◌+◌, ◌-◌, ◌<◌, ◌≤◌, ◌^◌, nat_lt, nat_le, true, false, cond, min, List, [], ◌∷◌, ◌++◌, length, reverse, take, drop, sum, refl, ap, sym, subst, ◌∙◌, ◌⊎◌, inl, inr, arith}
 use Rattle.std.proofs.lemmas.Bool.{cases_lt, cases_Bool}
 use Rattle.std.proofs.lemmas.List.{reverse-append, length-reverse, length-drop, length-take, take-append-drop}
 use Rattle.std.proofs.lemmas.List.Sorted.{sum_by-IsPermutation, IsPermutation-reverse}
@@ -143,7 +143,7 @@ begins : (xs : List ℕ) (new k : ℕ) → k ≡ length (looked_at (reverse xs))
 begins xs new k is within =
     let rest = drop (length xs - k) xs in
     let turned_is : reverse rest ≡ looked_at (reverse xs) =
-        last_of k xs within ∙ ap (λ (n : ℕ). take n (reverse xs)) is ∙ looked_front (reverse xs) in
+    last_of k xs within ∙ ap (λ (n : ℕ). take n (reverse xs)) is ∙ looked_front (reverse xs) in
     let same = length-reverse rest in
     let shorter = length-drop (length xs - k) xs in
     any_fuel (length rest) (length xs) new (reverse rest) (omega (arith, same)) (omega (arith, same, shorter))

@@ -7,8 +7,9 @@ use Rattle.archive.specs.declared.run.RunEntry.{RunEntry}
 use Rattle.archive.specs.declared.fault.ArchiveFault.{ArchiveFault}
 use Rattle.archive.specs.Answers.{record_of}
 use Rattle.archive.specs.Runs.{HoldsRun}
+use Rattle.archive.specs.Damages.{IfDamaged}
 use Rattle.archive.specs.Searches.{Answers, IsFaultOf}
-use Rattle.run_merge.specs.Cursors.{CursorValue, first_of, StandsIn}
+use Rattle.run_merge.specs.Cursors.{CursorValue, first_of, HasRead, IsRecordBroken, StandsIn}
 
 -- a place in a run, and the record before it, where that was read and is not merged yet
 pub record AheadValue : Type 0 where
@@ -59,3 +60,6 @@ pub record Fills (tells : Bool) (area : List ℕ) (a b : AheadValue) (result : R
   -- over a run that the area holds it is refused at most, and what is left stays the same
   pub only : (records : List ArchiveRecord) → IsTrue tells → IsAhead area records a
       → IsAhead area records b × (left_in records b ≡ left_in records a) × Answers result (λ _. ⊤)
+  -- over any bytes it is damaged only where its next record breaks a rule
+  pub exact : IsTrue tells → HasRead area a.cursor
+      → HasRead area b.cursor × IfErr result (IfDamaged (λ _. IsRecordBroken area a.cursor.run a.cursor.number))

@@ -11,7 +11,7 @@ use Rattle.archive.specs.declared.run.RunEntry.{RunEntry}
 use Rattle.archive.specs.Runs.{HoldRuns}
 use Rattle.run_merge.specs.Classes.{class_of, count_taken}
 use Rattle.run_merge.specs.Merges.{goes_first, merged, kept_merge}
-use Rattle.run_merge.specs.Mergers.{AreAhead, left_of, merger_of}
+use Rattle.run_merge.specs.Mergers.{AreAhead, HaveRead, left_of, merger_of}
 
 -- ---- classes
 
@@ -94,3 +94,8 @@ abbrev pub MergersBeginWhole : Type 0
 MergersBeginWhole =
     (area : List ℕ) (runs : List RunEntry) (lists : List (List ArchiveRecord)) (all : List ArchiveRecord) (floors : FloorsValue) → HoldRuns area runs lists
     → AreAhead area lists (merger_of runs all floors).aheads × (left_of lists (merger_of runs all floors) ≡ merged (lists ++ all ∷ []))
+
+-- and has read nothing that does not stand there
+abbrev pub MergersBeginUnread : Type 0
+MergersBeginUnread =
+    (area : List ℕ) (runs : List RunEntry) (all : List ArchiveRecord) (floors : FloorsValue) → HaveRead area (merger_of runs all floors).aheads

@@ -1,5 +1,5 @@
 -- Runs in one order with the records of a walk, which come behind theirs.
-use Rattle.std.specs.Prelude.{ℕ, zero, suc, ◌+◌, ◌≡◌, ◌≤◌, List, [], ◌∷◌, ◌++◌, map, drop, slice_get, Option, None, Some, option_map, Result, MatchResult}
+use Rattle.std.specs.Prelude.{ℕ, ◌+◌, ◌-◌, ◌≡◌, ◌≤◌, List, [], ◌∷◌, ◌++◌, map, drop, slice_get, Option, None, Some, option_map, Result, MatchResult, IfErr}
 use Rattle.law_image.specs.Values.{Value}
 use Rattle.law_image.specs.Reading.{ArchiveRecord}
 use Rattle.floors.specs.Floors.{FloorsValue, floor_at}
@@ -12,6 +12,9 @@ use Rattle.archive.specs.Searches.{IsRefusal}
 use Rattle.run_merge.specs.declared.step.MergeStep.{MergeStep}
 use Rattle.run_merge.specs.declared.step.MergeStep.TheVariants.{Record, Counted, End}
 use Rattle.run_merge.specs.Aheads.{AheadValue, ahead_of, head_held, left_in, IsAhead}
+use Rattle.std.specs.List.{AllByRecursion}
+use Rattle.archive.specs.Damages.{IfDamaged}
+use Rattle.run_merge.specs.Cursors.{HasRead, IsRecordBroken}
 use Rattle.run_merge.specs.Merges.{merged, kept_records}
 
 -- places in the runs, and a walk: all of its records, and those that are left
@@ -61,6 +64,21 @@ IsFaultAmong runs Device = Unit {0}
 IsFaultAmong runs NoMemory = Unit {0}
 IsFaultAmong runs (Damaged start) = (n : ℕ) × (run : RunEntry) × (slice_get runs n ≡ Some run) × (start ≡ run.slot.start)
 
+-- ---- over any bytes
+
+-- all places have read what the area's bytes have
+abbrev pub HaveRead : List ℕ → List AheadValue → Type 0
+HaveRead area aheads = AllByRecursion (λ (a : AheadValue). HasRead area a.cursor) aheads
+
+-- one of these runs begins here, and one of its records breaks a rule
+abbrev pub IsBrokenAmong : List ℕ → List RunEntry → ℕ → Type 0
+IsBrokenAmong area runs start =
+    (n : ℕ) × (number : ℕ) × (run : RunEntry) × (slice_get runs n ≡ Some run) × (start ≡ run.slot.start) × IsRecordBroken area run number
+
+-- what is read is what stands there, and a run is damaged only where one of its records breaks a rule
+abbrev pub ReadsExactly : {T : Type 0} → List ℕ → List AheadValue → List AheadValue → Result T ArchiveFault → Type 0
+ReadsExactly area old new result = HaveRead area old → HaveRead area new × IfErr result (IfDamaged (IsBrokenAmong area (runs_of old)))
+
 -- ---- which record is next
 
 -- the heads of the next records, as far as they are read
@@ -79,18 +97,17 @@ abbrev pub TakesNext : List ArchiveRecord → List ArchiveRecord → Result (Opt
 TakesNext old new result =
     MatchResult result (λ o. (option_map (λ p. record_of p.0 p.1) o ≡ slice_get old 0) × (new ≡ drop 1 old)) (λ fault. IsRefusal fault × (new ≡ old))
 
--- what is said of those that are kept: the next one, that none was among many, or that none is left
+-- what is said of those that are kept: the next one, that none was among as many as may be looked at, or that none is left
 abbrev pub IsStep : (ℕ → ℕ) → List ArchiveRecord → List ArchiveRecord → ℕ → MergeStep → Type 0
-IsStep floors old new looked (Record head value) = kept_records floors old ≡ record_of head value ∷ kept_records floors new
-IsStep floors old new looked Counted = (looked ≡ 4096) × (kept_records floors old ≡ kept_records floors new)
-IsStep floors old new looked End = (kept_records floors old ≡ []) × (new ≡ [])
+IsStep floors old new looks (Record head value) = kept_records floors old ≡ record_of head value ∷ kept_records floors new
+IsStep floors old new looks Counted = (looks ≡ 0) × (kept_records floors old ≡ kept_records floors new)
+IsStep floors old new looks End = (kept_records floors old ≡ []) × (new ≡ [])
 
--- At most 4,096 of these records are looked at.
-pub record LooksOn (floors : ℕ → ℕ) (old new : List ArchiveRecord) (result : Result MergeStep ArchiveFault) : Type 0 where
-  pub looked : ℕ
-  pub few : looked ≤ 4096
-  pub behind : new ≡ drop looked old
-  pub step : MatchResult result (IsStep floors old new looked) (λ fault. IsRefusal fault × (kept_records floors old ≡ kept_records floors new))
+-- So many of these records may be looked at, and then so many fewer as were.
+pub record LooksOn (floors : ℕ → ℕ) (before after : ℕ) (old new : List ArchiveRecord) (result : Result MergeStep ArchiveFault) : Type 0 where
+  pub fewer : after ≤ before
+  pub behind : new ≡ drop (before - after) old
+  pub step : MatchResult result (IsStep floors old new after) (λ fault. IsRefusal fault × (kept_records floors old ≡ kept_records floors new))
 
 -- one record is looked at: it is the next one that is kept, or none is left, or it is not kept
 abbrev pub IsLook : (ℕ → ℕ) → List ArchiveRecord → List ArchiveRecord → Option MergeStep → Type 0

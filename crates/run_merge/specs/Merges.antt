@@ -1,6 +1,5 @@
 -- Records of several runs in one order.
 use Rattle.std.specs.Prelude.{ℕ, suc, Bool, not, if◌then◌else◌, List, [], ◌∷◌, filter, Option, None, Some}
-use Rattle.history.specs.declared.key.Key.{Key}
 use Rattle.history.specs.Key.{key_lt}
 use Rattle.history.specs.Versions.{ends_after}
 use Rattle.law_image.specs.Reading.{ArchiveRecord}

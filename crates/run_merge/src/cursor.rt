@@ -61,10 +61,7 @@ impl RunCursor {
     ///
     /// `Damaged` with the run's start where the record breaks a rule, by itself or beside the one before it; `Device`, `NoMemory`. Then the
     /// cursor stays where it is, and may be asked again.
-    pub fn next<D: Disk>(
-        &mut self,
-        disk: &mut D,
-    ) -> Result<Option<(Head, Value)>, ArchiveFault>
+    pub fn next<D: Disk>(&mut self, disk: &mut D) -> Result<Option<(Head, Value)>, ArchiveFault>
         ensures disk { D.state disk.new ≡ after_query result (D.state disk.old) }
         ensures damaged { IfErr result (IsFaultOf self.old.run) }
         ensures same { OnErr result (self.new ≡ self.old) }
@@ -81,11 +78,10 @@ impl RunCursor {
         if self.number == self.run.slot.records {
             return Ok(None);
         }
-        let (last, value) =
-            match read_nth(self.alloc, disk, &self.run, self.number, &self.last) {
-                Ok(found) => found,
-                Err(fault) => return Err(fault),
-            };
+        let (last, value) = match read_nth(self.alloc, disk, &self.run, self.number, &self.last) {
+            Ok(found) => found,
+            Err(fault) => return Err(fault),
+        };
         self.number += 1;
         self.last = Some(last);
         Ok(Some((last.1, value)))

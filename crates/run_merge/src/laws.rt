@@ -1,5 +1,5 @@
 //! What the definitions say, as functions that are proved and do nothing.
-ghost use Rattle.run_merge.specs.Laws.{ClassesAreGreatest, AreTakenAsWorked, MergeKeepsVersions, KeptMergeKeepsVersions, KeptMergeIsRun, RunsAreByKey, MergersBeginWhole};
+ghost use Rattle.run_merge.specs.Laws.{ClassesAreGreatest, AreTakenAsWorked, MergeKeepsVersions, KeptMergeKeepsVersions, KeptMergeIsRun, RunsAreByKey, MergersBeginWhole, MergersBeginUnread};
 
 /// The class of a run of n records is the greatest c with 8^c at most n, and 0 for no records.
 pub fn classes_are_greatest()
@@ -30,5 +30,6 @@ pub fn kept_merge_is_run()
 
 /// A merger that begins has all records of its runs and of its walk left, in one order.
 pub fn mergers_begin_whole()
-    ensures { MergersBeginWhole }
+    ensures whole { MergersBeginWhole }
+    ensures unread { MergersBeginUnread }
 {}

@@ -13,5 +13,5 @@ mod step;
 
 pub use classes::{class_of, count_taken};
 pub use cursor::RunCursor;
-pub use run_merger::RunMerger;
+pub use run_merger::{MOST_LOOKED, RunMerger};
 pub use step::MergeStep;

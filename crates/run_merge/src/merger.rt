@@ -8,7 +8,7 @@ ghost use Rattle.archive.specs.Answers.{head_of, record_of};
 ghost use Rattle.archive.specs.Searches.{archive_of, after_query, Answers};
 ghost use Rattle.run_merge.specs.Aheads.{AheadValue, ahead_of, passed_ahead, head_held, IsFilled};
 ghost use Rattle.run_merge.specs.Merges.{chosen, is_kept, least_of, merged};
-ghost use Rattle.run_merge.specs.Mergers.{AreAhead, IsFaultAmong, LooksOn, LooksOnce, TakesNext, heads_of, lefts_in, runs_of, shifted};
+ghost use Rattle.run_merge.specs.Mergers.{AreAhead, HaveRead, IsFaultAmong, LooksOn, LooksOnce, ReadsExactly, TakesNext, heads_of, lefts_in, runs_of, shifted};
 
 use crate::ahead::Ahead;
 use crate::step::MergeStep;
@@ -17,9 +17,6 @@ use disk::Disk;
 use floors::Floors;
 use std::alloc::{AllocError, Global};
 use wire::Value;
-
-/// How many records one call looks at.
-const MOST_LOOKED: u32 = 4096;
 
 /// In front of the first record of each run.
 pub(crate) fn aheads_of(alloc: Global, runs: &[RunEntry]) -> Result<Vec<Ahead>, AllocError>
@@ -52,11 +49,7 @@ pub(crate) fn restart_all(aheads: &mut Vec<Ahead>)
 }
 
 // Reads the next record of one run, where it is not read.
-fn fill_at<D: Disk>(
-    aheads: &mut Vec<Ahead>,
-    at: usize,
-    disk: &mut D,
-) -> Result<(), ArchiveFault>
+fn fill_at<D: Disk>(aheads: &mut Vec<Ahead>, at: usize, disk: &mut D) -> Result<(), ArchiveFault>
     requires { at < length aheads.old.items }
     ensures disk { D.state disk.new ≡ after_query result (D.state disk.old) }
     ensures damaged { IfErr result (IsFaultAmong (runs_of aheads.old.items)) }
@@ -66,6 +59,7 @@ fn fill_at<D: Disk>(
     ensures only { (area : List ℕ) (lists : List (List ArchiveRecord)) → IsTrue D.tells → archive_of (D.state disk.old) ≡ area
         → AreAhead area lists aheads.old.items
         → AreAhead area lists aheads.new.items × (lefts_in lists aheads.new.items ≡ lefts_in lists aheads.old.items) × Answers result (λ _. ⊤) }
+    ensures exact { (area : List ℕ) → IsTrue D.tells → archive_of (D.state disk.old) ≡ area → ReadsExactly area aheads.old.items aheads.new.items result }
 {
     match aheads.get_mut(at) {
         Some(ahead) => ahead.fill(disk),
@@ -82,6 +76,7 @@ fn fill_all<D: Disk>(aheads: &mut Vec<Ahead>, disk: &mut D) -> Result<(), Archiv
     ensures only { (area : List ℕ) (lists : List (List ArchiveRecord)) → IsTrue D.tells → archive_of (D.state disk.old) ≡ area
         → AreAhead area lists aheads.old.items
         → AreAhead area lists aheads.new.items × (lefts_in lists aheads.new.items ≡ lefts_in lists aheads.old.items) × Answers result (λ _. ⊤) }
+    ensures exact { (area : List ℕ) → IsTrue D.tells → archive_of (D.state disk.old) ≡ area → ReadsExactly area aheads.old.items aheads.new.items result }
 {
     let count = aheads.len();
     for at in 0..count {
@@ -178,6 +173,7 @@ fn take_next<W: RecordWalk>(
         → AllByRecursion IsFilled aheads.old.items → least_of (heads_of aheads.old.items (W.left walk.old)) ≡ Some (place, head)
         → AreAhead area lists aheads.new.items × TakesNext (merged (lefts_in lists aheads.old.items ++ W.left walk.old ∷ []))
         (merged (lefts_in lists aheads.new.items ++ W.left walk.new ∷ [])) result }
+    ensures exact { (area : List ℕ) → HaveRead area aheads.old.items → HaveRead area aheads.new.items }
 {
     if place < aheads.len() {
         return Ok(take_at(aheads, place));
@@ -202,6 +198,7 @@ pub(crate) fn next_of<W: RecordWalk, D: Disk>(
         → AreAhead area lists aheads.old.items
         → AreAhead area lists aheads.new.items × TakesNext (merged (lefts_in lists aheads.old.items ++ W.left walk.old ∷ []))
         (merged (lefts_in lists aheads.new.items ++ W.left walk.new ∷ [])) result }
+    ensures exact { (area : List ℕ) → IsTrue D.tells → archive_of (D.state disk.old) ≡ area → ReadsExactly area aheads.old.items aheads.new.items result }
 {
     match fill_all(aheads, disk) {
         Ok(()) => {}
@@ -236,6 +233,7 @@ fn look_at<W: RecordWalk, D: Disk>(
         → AreAhead area lists aheads.old.items
         → AreAhead area lists aheads.new.items × LooksOnce (floor_at floors.now) (merged (lefts_in lists aheads.old.items ++ W.left walk.old ∷ []))
         (merged (lefts_in lists aheads.new.items ++ W.left walk.new ∷ [])) result }
+    ensures exact { (area : List ℕ) → IsTrue D.tells → archive_of (D.state disk.old) ≡ area → ReadsExactly area aheads.old.items aheads.new.items result }
 {
     let (head, value) = match next_of(aheads, walk, disk) {
         Ok(Some(found)) => found,
@@ -248,11 +246,12 @@ fn look_at<W: RecordWalk, D: Disk>(
     Ok(None)
 }
 
-/// The next record of all that is kept, which is behind then, or `Counted` where none of the next 4,096 is.
+/// The next record of all that is kept, which is behind then, or `Counted` where as many were looked at as may be.
 pub(crate) fn next_kept_of<W: RecordWalk, D: Disk>(
     aheads: &mut Vec<Ahead>,
     walk: &mut W,
     floors: &Floors,
+    looks: &mut u32,
     disk: &mut D,
 ) -> Result<MergeStep, ArchiveFault>
     ensures disk { D.state disk.new ≡ after_query result (D.state disk.old) }
@@ -261,17 +260,20 @@ pub(crate) fn next_kept_of<W: RecordWalk, D: Disk>(
     ensures all { W.all walk.new ≡ W.all walk.old }
     ensures only { (area : List ℕ) (lists : List (List ArchiveRecord)) → IsTrue D.tells → archive_of (D.state disk.old) ≡ area
         → AreAhead area lists aheads.old.items
-        → AreAhead area lists aheads.new.items × LooksOn (floor_at floors.now) (merged (lefts_in lists aheads.old.items ++ W.left walk.old ∷ []))
-        (merged (lefts_in lists aheads.new.items ++ W.left walk.new ∷ [])) result }
+        → AreAhead area lists aheads.new.items × LooksOn (floor_at floors.now) looks.old looks.new
+        (merged (lefts_in lists aheads.old.items ++ W.left walk.old ∷ [])) (merged (lefts_in lists aheads.new.items ++ W.left walk.new ∷ [])) result }
+    ensures exact { (area : List ℕ) → IsTrue D.tells → archive_of (D.state disk.old) ≡ area → ReadsExactly area aheads.old.items aheads.new.items result }
 {
-    let mut looked = 0;
-    while looked < MOST_LOOKED {
+    while *looks > 0 {
         match look_at(aheads, walk, floors, disk) {
-            Ok(Some(step)) => return Ok(step),
+            Ok(Some(step)) => {
+                *looks -= 1;
+                return Ok(step);
+            }
             Ok(None) => {}
             Err(fault) => return Err(fault),
         }
-        looked += 1;
+        *looks -= 1;
     }
     Ok(MergeStep::Counted)
 }

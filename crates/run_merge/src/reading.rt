@@ -26,12 +26,7 @@ const MOST_SPELLED: usize = 4097;
 const SHORT_SPELLED: usize = 256;
 
 /// The bytes of the archive from a place on; false where it ends before `end`.
-fn read_there<D: Disk>(
-    disk: &mut D,
-    end: u64,
-    at: u64,
-    buf: &mut [u8],
-) -> Result<bool, DeviceFault>
+fn read_there<D: Disk>(disk: &mut D, end: u64, at: u64, buf: &mut [u8]) -> Result<bool, DeviceFault>
     requires { at + length buf.old ≤ end }
     ensures disk { D.state disk.new ≡ looked result (D.state disk.old) }
     ensures exact { (area : List ℕ) → IsTrue D.tells → archive_of (D.state disk.old) ≡ area

@@ -6,7 +6,7 @@ use wire::Value;
 pub enum MergeStep {
     /// The next record that is kept.
     Record(Head, Value),
-    /// Of as many records as one call looks at none is kept.
+    /// As many records were looked at as may be.
     Counted,
     /// No record is left.
     End,

@@ -1,5 +1,4 @@
-use Rattle.std.proofs.Common.{◌≡◌, ◌+◌, ap, sym, ◌∙◌, arith}
-use Rattle.run_merge.specs.Classes as classes
+use Rattle.std.proofs.Common.{arith}
 use Rattle.run_merge.proofs.Eighths.{low_class, next_class}
 use Rattle.run_merge.proofs.classes.class_of.Goals as goal
 

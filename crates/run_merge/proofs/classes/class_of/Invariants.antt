@@ -1,4 +1,4 @@
-use Rattle.std.proofs.Common.{◌+◌, ◌-◌, ◌≡◌, ◌≤◌}
+use Rattle.std.proofs.Common.{◌+◌, ◌≡◌, ◌≤◌}
 use Rattle.run_merge.specs.Classes as classes
 use Rattle.run_merge.proofs.classes.class_of.Given as goal
 

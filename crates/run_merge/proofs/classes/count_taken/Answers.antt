@@ -1,6 +1,6 @@
-use Rattle.std.proofs.Common.{◌≡◌, ℕ, ◌∙◌, ap, reverse, arith}
+use Rattle.std.proofs.Common.{ℕ, ◌∙◌, ap, reverse, arith}
 use Rattle.run_merge.specs.Classes as classes
-use Rattle.run_merge.proofs.Taking.{begins_at, begins_small_at, ends, goes_at, goes_small_at}
+use Rattle.run_merge.proofs.Taking.{begins_at, begins_small_at, goes_at, goes_small_at}
 use Rattle.run_merge.proofs.classes.count_taken.Goals as goal
 
 pub loop-count-init : goal.loop-count-init
@@ -22,7 +22,7 @@ loop-count-preserved c =
     let parts = c.split_at-in-loop-count.ensures in
     let before = c.split_at-in-loop-count.result.0.now in
     let goes = goes_at c.loop-count.rest.now before c.split_at-in-loop-count.result.1.now c.loop-count.all c.sum_upto-all.result c.loop-count.count
-        parts.front parts.back c.sum_upto-all.ensures kept.next (omega (arith, c.loop-count-test.true)) kept.within kept.small in
+    parts.front parts.back c.sum_upto-all.ensures kept.next (omega (arith, c.loop-count-test.true)) kept.within kept.small in
     record {
       counted = omega (arith, kept.counted, goes);
       next = c.count_upto-count-in-loop-count.ensures.is

@@ -1,5 +1,4 @@
-use Rattle.std.proofs.Common.{ℕ, ◌∙◌, ◌≡◌, ◌<◌, ap, arith}
-use Rattle.run_merge.specs.Classes.{class_of}
+use Rattle.std.proofs.Common.{arith}
 use Rattle.run_merge.proofs.Eighths.{low_class, reaches, greatest}
 use Rattle.run_merge.proofs.laws.classes_are_greatest.Goals as goal
 

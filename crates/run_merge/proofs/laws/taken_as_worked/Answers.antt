@@ -1,4 +1,4 @@
-use Rattle.std.proofs.Common.{◌≡◌, ◌∙◌, ◌^◌, ◌≤◌, ◌+◌, ◌∷◌, ◌++◌, replicate, ap, suc, refl, arith}
+use Rattle.std.proofs.Common.{◌≡◌, ◌∙◌, ◌^◌, ◌+◌, ◌∷◌, ◌++◌, replicate, ap, suc, refl, arith}
 use Rattle.run_merge.specs.Classes.{class_of, count_taken}
 use Rattle.run_merge.specs.Laws.{ones}
 use Rattle.run_merge.proofs.Eighths.{low_class, next_class}

@@ -24,7 +24,7 @@ returns-then-is_kept-clause-only g c = λ area lists told same ahead.
     let new = merged (lefts_in lists c.next_of.new.aheads.items ++ g.W.RecordWalk.left c.next_of.new.walk ∷ []) in
     let taken = c.in-Ok-Some.ensures.only area lists told same ahead in
     let found : TakesNext old new (Ok (Some c.in-Ok-Some.found)) =
-        subst (λ (o : Option (Head × Value)). TakesNext old new (Ok o)) c.in-Ok-Some.field-0-is taken.1 in
+    subst (λ (o : Option (Head × Value)). TakesNext old new (Ok o)) c.in-Ok-Some.field-0-is taken.1 in
     let r = record_of c.in-Ok-Some.found.0 c.in-Ok-Some.found.1 in
     let kept : is_kept (floor_at c.args.floors.now) r ≡ true = cc (c.is_kept.ensures, c.if-is_kept.true) in
     let look = look_kept (floor_at c.args.floors.now) old new r found kept in
@@ -36,7 +36,7 @@ returns-clause-only g c = λ area lists told same ahead.
     let new = merged (lefts_in lists c.next_of.new.aheads.items ++ g.W.RecordWalk.left c.next_of.new.walk ∷ []) in
     let taken = c.in-Ok-Some.ensures.only area lists told same ahead in
     let found : TakesNext old new (Ok (Some c.in-Ok-Some.found)) =
-        subst (λ (o : Option (Head × Value)). TakesNext old new (Ok o)) c.in-Ok-Some.field-0-is taken.1 in
+    subst (λ (o : Option (Head × Value)). TakesNext old new (Ok o)) c.in-Ok-Some.field-0-is taken.1 in
     let r = record_of c.in-Ok-Some.found.0 c.in-Ok-Some.found.1 in
     let ended : is_kept (floor_at c.args.floors.now) r ≡ false = cc (c.is_kept.ensures, c.if-is_kept.false) in
     let look = look_passed (floor_at c.args.floors.now) old new r found ended in

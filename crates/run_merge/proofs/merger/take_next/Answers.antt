@@ -1,4 +1,4 @@
-use Rattle.std.proofs.Common.{◌≡◌, ◌∙◌, ◌<◌, ◌++◌, ◌∷◌, [], List, Option, ap, sym, subst, refl, length, arith}
+use Rattle.std.proofs.Common.{◌∙◌, ◌++◌, ◌∷◌, [], List, Option, ap, sym, subst, refl, arith}
 use Rattle.std.specs.Prelude.{option_map}
 use Rattle.law_image.specs.Values.{Value}
 use Rattle.law_image.specs.Reading.{ArchiveRecord}
@@ -6,8 +6,8 @@ use Rattle.archive.specs.declared.head.Head.{Head}
 use Rattle.archive.specs.Answers.{record_of}
 use Rattle.run_merge.specs.Aheads.{AheadValue, passed_ahead}
 use Rattle.run_merge.specs.Merges.{merged}
-use Rattle.run_merge.specs.Mergers.{AreAhead, lefts_in, runs_of}
-use Rattle.run_merge.proofs.Held.{get_there, set_runs}
+use Rattle.run_merge.specs.Mergers.{AreAhead, HaveRead, lefts_in, runs_of}
+use Rattle.run_merge.proofs.Held.{get_there, read_passed, set_runs}
 use Rattle.run_merge.proofs.Passing.{take_of_run, take_of_walk}
 use Rattle.run_merge.proofs.merger.take_next.Goals as goal
 
@@ -39,3 +39,9 @@ returns-in-Ok-clause-only g c = λ area lists head ahead filled is.
       ahead,
       (c.in-Ok.ensures.record ∙ taken.0, ap (λ (l : List ArchiveRecord). merged (lefts_in lists xs ++ l ∷ [])) c.in-Ok.ensures.left ∙ taken.1),
     )
+
+pub returns-then-place-len-clause-exact : goal.returns-then-place-len-clause-exact
+returns-then-place-len-clause-exact g c = λ area read.
+    let xs = c.args.aheads.now.items in
+    let a = get_there xs c.args.place (omega (arith, c.if-place-len.true, c.len.ensures, c.args.aheads.now.ok.0)) in
+    subst (HaveRead area) (sym (c.take_at.ensures.behind a.0 a.1)) (read_passed area xs c.args.place a.0 read a.1)

@@ -46,5 +46,5 @@ returns-clause-exact g c = λ area told same behind.
       entry.0,
       head_read area run c.args.last.now c.args.n c.in-Ok.place c.read_part.new.buf c.decode_head-head.result behind entry placed read.1 c.decode_head-head.ensures,
       head_sound area run c.args.last.now c.args.n c.in-Ok.place c.read_part.new.buf c.decode_head-head.result behind entry placed read.1 c.decode_head-head.ensures
-      c.requires fits stands,
+          c.requires fits stands,
     )

@@ -1,4 +1,4 @@
-use Rattle.std.proofs.Common.{◌≡◌, ◌∙◌}
+use Rattle.std.proofs.Common.{◌∙◌}
 use Rattle.run_merge.proofs.Standing.{IsKnown, nth_answer}
 use Rattle.run_merge.proofs.reading.read_nth.Goals as goal
 

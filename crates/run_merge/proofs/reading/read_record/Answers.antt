@@ -1,8 +1,7 @@
-use Rattle.std.proofs.Common.{◌≡◌, ◌∙◌, ◌+◌, ℕ, Some, ap, sym, inl, inr, add-one}
-use Rattle.archive.specs.declared.head.Head.{Head}
+use Rattle.std.proofs.Common.{◌∙◌, ap, inl, inr}
 use Rattle.archive.specs.Searches.{archive_of}
-use Rattle.archive.specs.Damages.{before_of, entry_at, IsHeadBroken, IsValueBroken}
-use Rattle.run_merge.specs.Cursors.{last_at, IsRecordBroken}
+use Rattle.archive.specs.Damages.{before_of, IsHeadBroken, IsValueBroken}
+use Rattle.run_merge.specs.Cursors.{IsRecordBroken}
 use Rattle.run_merge.proofs.Standing.{if_damaged, last_next}
 use Rattle.run_merge.proofs.reading.read_record.Goals as goal
 

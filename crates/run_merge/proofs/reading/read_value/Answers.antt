@@ -1,4 +1,4 @@
-use Rattle.std.proofs.Common.{◌≡◌, ◌∙◌, ◌+◌, ap, true, false, arith}
+use Rattle.std.proofs.Common.{◌≡◌, ◌∙◌, ◌+◌, ap, true, arith}
 use Rattle.archive.specs.Searches.{archive_of}
 use Rattle.archive.specs.Damages.{IsEntryBroken, IsValueBroken, BadEnd}
 use Rattle.run_merge.proofs.Standing.{if_damaged, value_answer, no_room}
