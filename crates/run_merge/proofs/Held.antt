@@ -1,5 +1,6 @@
 -- Runs whose next records are read one by one.
-use Rattle.std.proofs.Common.{◌≡◌, ℕ, zero, suc, ◌+◌, ◌-◌, ◌<◌, Bool, IsTrue, List, [], ◌∷◌, length, drop, take, map, Option, None, Some, refl, ap, sym, subst, ◌∙◌, arith, add-one, slice_set, slice_index_or}
+use Rattle.std.proofs.Common.{◌≡◌, ℕ, zero, suc, ◌+◌, ◌-◌, ◌<◌, Bool, IsTrue, List, [], ◌∷◌, length, drop, take, map, Option, None, Some, refl, ap, sym}
+use Rattle.std.proofs.Common.{subst, ◌∙◌, arith, add-one, slice_set, slice_index_or}
 use Rattle.std.specs.Prelude.{MatchOption, Result, Ok, Err, OnOk, OnErr, IfErr, option_map, slice_get, ⊤}
 use Rattle.std.proofs.lemmas.Option.{slice_get_within, slice_get_past}
 use Rattle.std.specs.List.{AllByRecursion}

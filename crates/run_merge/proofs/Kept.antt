@@ -172,7 +172,8 @@ next_first r s (inr same) =
     let second : r.key.record ≡ s.key.record = ap (λ (k : Key). k.record) same.0 in
     grind (arith, nat_tests)
 
-by_key_front : (r : ArchiveRecord) (rs : List ArchiveRecord) → AreInOrder (r ∷ rs) → AreByKey rs → AllByRecursion (λ (s : ArchiveRecord). goes_first r s ≡ true) rs
+by_key_front : (r : ArchiveRecord) (rs : List ArchiveRecord) → AreInOrder (r ∷ rs) → AreByKey rs
+    → AllByRecursion (λ (s : ArchiveRecord). goes_first r s ≡ true) rs
 by_key_front r [] order by_key = tt
 by_key_front r (s ∷ rs) order by_key =
     let first = next_first r s order.0 in (

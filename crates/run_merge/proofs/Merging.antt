@@ -27,7 +27,8 @@ skips : (key : Key) (r : ArchiveRecord) (rs : List ArchiveRecord) → same_key r
 skips key r rs other = rw other refl
 
 -- what stands behind a greater key says nothing of the lesser one
-all-above : (key : Key) (r : ArchiveRecord) (rs : List ArchiveRecord) → key_lt key r.key ≡ true → AllByRecursion (λ (s : ArchiveRecord). goes_first r s ≡ true) rs
+all-above : (key : Key) (r : ArchiveRecord) (rs : List ArchiveRecord) → key_lt key r.key ≡ true
+    → AllByRecursion (λ (s : ArchiveRecord). goes_first r s ≡ true) rs
     → run_versions key rs ≡ []
 all-above key r [] less each = refl
 all-above key r (s ∷ ss) less each =
@@ -75,7 +76,9 @@ with-says : (key : Key) (rest : List ArchiveRecord → List ArchiveRecord) (r : 
     → run_versions key (merge_with rest r later) ≡ run_versions key (r ∷ rs) ++ run_versions key later
 with-says key rest r rs [] order says = led key r rs [] (rest []) (says [])
 with-says key rest r rs (s ∷ ss) order says = elim (cases_Bool (goes_first r s)) [
-  | inl first ↦ ap (λ (b : Bool). run_versions key (cond b (r ∷ rest (s ∷ ss)) (s ∷ merge_with rest r ss))) first ∙ led key r rs (s ∷ ss) (rest (s ∷ ss)) (says (s ∷ ss))
+  | inl first ↦
+      ap (λ (b : Bool). run_versions key (cond b (r ∷ rest (s ∷ ss)) (s ∷ merge_with rest r ss))) first
+      ∙ led key r rs (s ∷ ss) (rest (s ∷ ss)) (says (s ∷ ss))
   | inr later ↦
       ap (λ (b : Bool). run_versions key (cond b (r ∷ rest (s ∷ ss)) (s ∷ merge_with rest r ss))) later
       ∙ front key s (merge_with rest r ss)

@@ -18,6 +18,9 @@ passed n [] = []
 passed zero (rs ∷ lists) = drop 1 rs ∷ lists
 passed (suc n) (rs ∷ lists) = rs ∷ passed n lists
 
+none-some : (p : ℕ × Head) → Some p ≡ None → ⊥
+none-some p is = cc
+
 -- where none is next, none is left
 pub none-left : (lists : List (List ArchiveRecord)) → least_of (map first_head lists) ≡ None → merged lists ≡ []
 none-left [] none = refl
@@ -29,10 +32,10 @@ none-left ([] ∷ lists) none = none-left lists (behind-none (least_of (map firs
 none-left ((r ∷ rs) ∷ lists) none = absurd (some-chosen (least_of (map first_head lists)) none)
   where
     some-chosen : (o : Option (ℕ × Head)) → chosen (Some (head_of r)) o ≡ None → ⊥
-    some-chosen None is = cc
+    some-chosen None is = none-some (0, head_of r) is
     some-chosen (Some p) is = elim (cases_Bool (key_lt p.1.key r.key)) [
-      | inl less ↦ let no : Some (suc p.0, p.1) ≡ None = sym (ap (λ (b : Bool). cond b (Some (suc p.0, p.1)) (Some (0, head_of r))) less) ∙ is in cc
-      | inr other ↦ let no : Some (0, head_of r) ≡ None = sym (ap (λ (b : Bool). cond b (Some (suc p.0, p.1)) (Some (0, head_of r))) other) ∙ is in cc
+      | inl less ↦ none-some (suc p.0, p.1) (sym (ap (λ (b : Bool). cond b (Some (suc p.0, p.1)) (Some (0, head_of r))) less) ∙ is)
+      | inr other ↦ none-some (0, head_of r) (sym (ap (λ (b : Bool). cond b (Some (suc p.0, p.1)) (Some (0, head_of r))) other) ∙ is)
     ]
 
 -- The record at this place, with this head, is the first of those that are merged, and the others are merged without it.
@@ -107,7 +110,7 @@ next-is [] n head is = cc
 next-is ([] ∷ lists) n head is = by (least_of (map first_head lists)) (λ p least. next-is lists p.0 p.1 least) is
   where
     by : (o : Option (ℕ × Head)) → ((p : ℕ × Head) → o ≡ Some p → IsNext lists p.0 p.1) → one_behind o ≡ Some (n, head) → IsNext ([] ∷ lists) n head
-    by None some is = let no : None ≡ Some (n, head) = is in cc
+    by None some is = absurd (none-some (n, head) (sym is))
     by (Some p) some is =
         let parts = both_parts (suc p.0, p.1) (n, head) is in
         let n_is : suc p.0 ≡ n = parts.0 in

@@ -1,5 +1,6 @@
 -- The next record of several runs and a walk is taken.
-use Rattle.std.proofs.Common.{◌≡◌, ℕ, zero, suc, ◌+◌, ◌-◌, ◌<◌, ◌≤◌, true, false, List, [], ◌∷◌, ◌++◌, length, drop, map, Option, None, Some, refl, ap, sym, subst, ◌∙◌, arith, add-one, slice_set}
+use Rattle.std.proofs.Common.{◌≡◌, ℕ, zero, suc, ◌+◌, ◌-◌, ◌<◌, ◌≤◌, true, false, List, [], ◌∷◌, ◌++◌, length, drop, map, Option, None, Some, refl, ap, sym}
+use Rattle.std.proofs.Common.{subst, ◌∙◌, arith, add-one, slice_set}
 use Rattle.std.specs.Prelude.{option_map, slice_get}
 use Rattle.std.specs.List.{AllByRecursion}
 use Rattle.std.proofs.lemmas.List.{map-append}
@@ -66,7 +67,8 @@ heads_are area lists aheads left ahead filled =
     ap (λ (hs : List (Option Head)). hs ++ first_head left ∷ []) (heads_first area lists aheads ahead filled)
     ∙ sym (map-append first_head (lefts_in lists aheads) (left ∷ []))
 
-module _ (area : List ℕ) (lists : List (List ArchiveRecord)) (aheads : List AheadValue) (left : List ArchiveRecord) (ahead : AreAhead area lists aheads) (filled : AllByRecursion IsFilled aheads) where
+module _ (area : List ℕ) (lists : List (List ArchiveRecord)) (aheads : List AheadValue) (left : List ArchiveRecord) (ahead : AreAhead area lists
+    aheads) (filled : AllByRecursion IsFilled aheads) where
   next_there : (n : ℕ) (head : Head) → least_of (heads_of aheads left) ≡ Some (n, head) → IsNext (lefts_in lists aheads ++ left ∷ []) n head
   next_there n head is =
       next-is (lefts_in lists aheads ++ left ∷ []) n head (ap least_of (sym (heads_are area lists aheads left ahead filled)) ∙ is)
@@ -141,7 +143,8 @@ one_more rs before looks some fewer = drop_more rs (before - looks) ∙ ap (λ (
 
 -- ---- at first
 
-pub begins_ahead : (area : List ℕ) (runs : List RunEntry) (lists : List (List ArchiveRecord)) → HoldRuns area runs lists → AreAhead area lists (map ahead_of runs)
+pub begins_ahead : (area : List ℕ) (runs : List RunEntry) (lists : List (List ArchiveRecord)) → HoldRuns area runs lists
+    → AreAhead area lists (map ahead_of runs)
 begins_ahead area [] [] holds = tt
 begins_ahead area [] (records ∷ lists) holds = absurd holds
 begins_ahead area (run ∷ runs) [] holds = absurd holds
@@ -150,7 +153,8 @@ begins_ahead area (run ∷ runs) (records ∷ lists) holds = (
   begins_ahead area runs lists holds.1,
 )
 
-pub begins_whole : (area : List ℕ) (runs : List RunEntry) (lists : List (List ArchiveRecord)) → HoldRuns area runs lists → lefts_in lists (map ahead_of runs) ≡ lists
+pub begins_whole : (area : List ℕ) (runs : List RunEntry) (lists : List (List ArchiveRecord)) → HoldRuns area runs lists
+    → lefts_in lists (map ahead_of runs) ≡ lists
 begins_whole area [] [] holds = refl
 begins_whole area [] (records ∷ lists) holds = absurd holds
 begins_whole area (run ∷ runs) [] holds = absurd holds

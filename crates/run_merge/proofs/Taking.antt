@@ -1,5 +1,6 @@
 -- Which runs are taken, as a slice of their records is gone through from its end.
-use Rattle.std.proofs.Common.{◌≡◌, ℕ, zero, suc, ◌+◌, ◌-◌, ◌<◌, ◌≤◌, ◌^◌, nat_lt, nat_le, true, false, cond, min, List, [], ◌∷◌, ◌++◌, length, reverse, take, drop, sum, refl, ap, sym, subst, ◌∙◌, ◌⊎◌, inl, inr, arith}
+use Rattle.std.proofs.Common.{◌≡◌, ℕ, zero, suc, ◌+◌, ◌-◌, ◌<◌, ◌≤◌, ◌^◌, nat_lt, nat_le, true, false, cond, min, List, [], ◌∷◌, ◌++◌, length, reverse}
+use Rattle.std.proofs.Common.{take, drop, sum, refl, ap, sym, subst, ◌∙◌, ◌⊎◌, inl, inr, arith}
 use Rattle.std.proofs.lemmas.Bool.{cases_lt, cases_Bool}
 use Rattle.std.proofs.lemmas.List.{reverse-append, length-reverse, length-drop, length-take, take-append-drop}
 use Rattle.std.proofs.lemmas.List.Sorted.{sum_by-IsPermutation, IsPermutation-reverse}
@@ -78,7 +79,8 @@ none_taken zero all ns few = refl
 none_taken (suc f) all ns few = let is : nat_lt (count_upto (class_of all) ns) 7 ≡ true = grind arith in rw is refl
 
 some_taken : (f all : ℕ) (ns : List ℕ) → 7 ≤ count_upto (class_of all) ns
-    → taken_in (suc f) all ns ≡ count_upto (class_of all) ns + taken_in f (all + sum (take (count_upto (class_of all) ns) ns)) (drop (count_upto (class_of all) ns) ns)
+    → taken_in (suc f) all ns
+    ≡ count_upto (class_of all) ns + taken_in f (all + sum (take (count_upto (class_of all) ns) ns)) (drop (count_upto (class_of all) ns) ns)
 some_taken f all ns many = let is : nat_lt (count_upto (class_of all) ns) 7 ≡ false = grind arith in rw is refl
 
 upto_few : (class : ℕ) (ns : List ℕ) → count_upto class ns ≤ length ns

@@ -1,5 +1,6 @@
 -- Going through a run, record by record.
-use Rattle.std.specs.Prelude.{◌≡◌, ◌≢◌, ◌⊎◌, ℕ, zero, suc, ◌+◌, ◌<◌, ◌≤◌, nat_le, Bool, ◌&&◌, true, List, Option, Some, None, length, option_map, slice_get, slice_range, Result, MatchResult}
+use Rattle.std.specs.Prelude.{◌≡◌, ◌≢◌, ◌⊎◌, ℕ, zero, suc, ◌+◌, ◌<◌, ◌≤◌, nat_le, Bool, ◌&&◌, true, List, Option, Some, None, length, option_map, slice_get}
+use Rattle.std.specs.Prelude.{slice_range, Result, MatchResult}
 use Rattle.law_image.specs.Values.{Value}
 use Rattle.law_image.specs.Reading.{ArchiveRecord}
 use Rattle.archive.specs.declared.run.RunEntry.{RunEntry}

@@ -1,5 +1,6 @@
 //! What the definitions say, as functions that are proved and do nothing.
-ghost use Rattle.run_merge.specs.Laws.{ClassesAreGreatest, AreTakenAsWorked, MergeKeepsVersions, KeptMergeKeepsVersions, KeptMergeIsRun, RunsAreByKey, MergersBeginWhole, MergersBeginUnread};
+ghost use Rattle.run_merge.specs.Laws.{ClassesAreGreatest, AreTakenAsWorked, MergeKeepsVersions, KeptMergeKeepsVersions, KeptMergeIsRun, RunsAreByKey};
+ghost use Rattle.run_merge.specs.Laws.{MergersBeginWhole, MergersBeginUnread};
 
 /// The class of a run of n records is the greatest c with 8^c at most n, and 0 for no records.
 pub fn classes_are_greatest()

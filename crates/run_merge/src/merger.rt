@@ -1,5 +1,6 @@
 //! Records of several runs, in the order of the log, and of a walk behind them, one by one in one order.
-ghost use Rattle.std.specs.Prelude.{◌≡◌, ◌+◌, ◌<◌, ◌≤◌, ℕ, List, Option, None, [], ◌∷◌, ◌++◌, Err, Some, IsTrue, IfOk, OnOk, OnErr, IfErr, ⊤, map, drop, take, length, option_map, slice_get, slice_set};
+ghost use Rattle.std.specs.Prelude.{◌≡◌, ◌+◌, ◌<◌, ◌≤◌, ℕ, List, Option, None, [], ◌∷◌, ◌++◌, Err, Some, IsTrue, IfOk, OnOk, OnErr, IfErr, ⊤, map, drop};
+ghost use Rattle.std.specs.Prelude.{take, length, option_map, slice_get, slice_set};
 ghost use Rattle.std.specs.List.{AllByRecursion};
 ghost use Rattle.floors.specs.Floors.{floor_at};
 ghost use Rattle.law_image.specs.Reading.{ArchiveRecord};

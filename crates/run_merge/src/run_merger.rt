@@ -102,7 +102,8 @@ impl<W: RecordWalk> RunMerger<W> {
         ensures floors { self.new.floors ≡ self.old.floors }
         ensures only { (area : List ℕ) (lists : List (List ArchiveRecord)) → IsTrue D.tells → archive_of (D.state disk.old) ≡ area
             → AreAhead area lists self.old.aheads
-            → AreAhead area lists self.new.aheads × LooksOn (floor_at self.old.floors) looks.old looks.new (left_of lists self.old) (left_of lists self.new) result }
+            → AreAhead area lists self.new.aheads
+            × LooksOn (floor_at self.old.floors) looks.old looks.new (left_of lists self.old) (left_of lists self.new) result }
         ensures exact { (area : List ℕ) → IsTrue D.tells → archive_of (D.state disk.old) ≡ area
             → ReadsExactly area self.old.aheads self.new.aheads result }
     {

@@ -35,7 +35,8 @@ pub returns-in-Ok-clause-only : goal.returns-in-Ok-clause-only
 returns-in-Ok-clause-only g c = λ area lists head ahead filled is.
     let xs = c.args.aheads.now.items in
     let left = g.W.RecordWalk.left c.args.walk.now in
-    let taken = take_of_walk area lists xs left ahead filled c.args.place head is (omega (arith, c.if-place-len.false, c.len.ensures, c.args.aheads.now.ok.0)) in (
+    let taken = take_of_walk area lists xs left ahead filled c.args.place head is
+    (omega (arith, c.if-place-len.false, c.len.ensures, c.args.aheads.now.ok.0)) in (
       ahead,
       (c.in-Ok.ensures.record ∙ taken.0, ap (λ (l : List ArchiveRecord). merged (lefts_in lists xs ++ l ∷ [])) c.in-Ok.ensures.left ∙ taken.1),
     )

@@ -10,7 +10,8 @@ pub returns-in-Err-clause-exact : goal.returns-in-Err-clause-exact
 returns-in-Err-clause-exact g c = λ area told same behind.
     let run = c.args.run.now in
     let n = c.args.n in
-    if_damaged (IsEntryBroken area run n) (IsHeadBroken area run (before_of area run n) n) c.in-Err.fault (λ is. BadEntry is) (c.in-Err.ensures.exact area told same)
+    if_damaged (IsEntryBroken area run n) (IsHeadBroken area run (before_of area run n) n) c.in-Err.fault (λ is. BadEntry is)
+    (c.in-Err.ensures.exact area told same)
 
 pub returns-in-Err-read_part-clause-exact : goal.returns-in-Err-read_part-clause-exact
 returns-in-Err-read_part-clause-exact g c = λ area told same behind.
@@ -44,7 +45,9 @@ returns-clause-exact g c = λ area told same behind.
     let fits : is_in_range c.decode_head-head.result run ≡ true = cc (c.is_in_range.ensures, c.if-not-is_in_range.false) in
     let stands : may_stand c.args.last.now c.in-Ok.place c.decode_head-head.result ≡ true = cc (c.may_stand.ensures, c.if-not-may_stand.false) in (
       entry.0,
-      head_read area run c.args.last.now c.args.n c.in-Ok.place c.read_part.new.buf c.decode_head-head.result behind entry placed read.1 c.decode_head-head.ensures,
-      head_sound area run c.args.last.now c.args.n c.in-Ok.place c.read_part.new.buf c.decode_head-head.result behind entry placed read.1 c.decode_head-head.ensures
+      head_read area run c.args.last.now c.args.n c.in-Ok.place c.read_part.new.buf c.decode_head-head.result behind entry placed read.1
+          c.decode_head-head.ensures,
+      head_sound area run c.args.last.now c.args.n c.in-Ok.place c.read_part.new.buf c.decode_head-head.result behind entry placed read.1
+          c.decode_head-head.ensures
           c.requires fits stands,
     )

@@ -9,4 +9,5 @@ returns-clause-damaged g c =
 
 pub returns-clause-exact : goal.returns-clause-exact
 returns-clause-exact g c = λ area told same.
-    subst (λ (m : MergerValue). ReadsExactly area m.aheads c.next_kept_of.new.aheads.items c.next_kept_of.result) c.self.view_is (c.next_kept_of.ensures.exact area told same)
+    subst (λ (m : MergerValue). ReadsExactly area m.aheads c.next_kept_of.new.aheads.items c.next_kept_of.result) c.self.view_is
+    (c.next_kept_of.ensures.exact area told same)
