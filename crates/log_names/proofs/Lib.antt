@@ -4,3 +4,4 @@ pub mod Looking
 pub mod Right
 pub mod Sorting
 pub mod Walking
+pub mod Worked

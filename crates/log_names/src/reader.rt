@@ -11,7 +11,7 @@ pub struct NamesReader {
 }
 
 impl NamesReader {
-    ghost use Rattle.std.specs.Prelude.{◌≡◌, ◌⊎◌, ℕ, ◌+◌, ◌*◌, ◌<◌, ◌≤◌, false, true, None, Some, IfOk, length};
+    ghost use Rattle.std.specs.Prelude.{◌≡◌, ◌⊎◌, ℕ, ◌+◌, ◌-◌, ◌^◌, ◌<◌, ◌≤◌, min, false, true, None, Some, IfOk, length};
     ghost use Rattle.archive.specs.Digits.{digits};
     ghost use Rattle.log_entries.specs.Ranges.{IsRoll};
     ghost use Rattle.log_names.specs.Looks.{LooksAt, Follows};
@@ -45,7 +45,7 @@ impl NamesReader {
         requires few { n < name_count roll.now }
         ensures looks { LooksAt roll.now.start roll.now.len D.tells (D.state disk.old) (D.state disk.new) (P.kept parts.old) (P.kept parts.new) result }
         ensures rises { self.old.names ≤ self.new.names }
-        ensures counted { self.new.names ≤ self.old.names + 1 }
+        ensures counted { self.new.names ≡ min (self.old.names + 1) (2 ^ 64 - 1) }
         ensures exact { Follows D.tells (D.state disk.old) (P.kept parts.old) result
             (λ area name. (name ≡ name_at area roll.now.start n) × (standing.is_in_time upto name ≡ true))
             (λ area _. (length area < roll_end roll.now) ⊎ (standing.is_in_time upto (name_at area roll.now.start n) ≡ false)) }
