@@ -1,6 +1,6 @@
 -- The history that rolls name.
-use Rattle.std.proofs.Common.{ℕ, zero, suc, ◌≡◌, ◌⊎◌, inl, inr, ◌+◌, ◌*◌, ◌-◌, ◌≤◌, ◌<◌, ◌==◌, nat_lt, nat_le, Bool, true, false, cond, List, [], ◌∷◌, ◌++◌, length, map}
-use Rattle.std.proofs.Common.{refl, sym, ◌∙◌, ap, subst, arith, append_assoc, length-append}
+use Rattle.std.proofs.Common.{ℕ, zero, suc, ◌≡◌, inl, inr, ◌-◌, ◌≤◌, ◌<◌, ◌==◌, nat_lt, nat_le, Bool, true, false, cond, List, [], ◌∷◌, ◌++◌, length, map}
+use Rattle.std.proofs.Common.{refl, sym, ◌∙◌, ap, subst, arith}
 use Rattle.std.specs.Prelude.{filter, flat_map, max}
 use Rattle.std.specs.List.{AllByRecursion}
 use Rattle.std.proofs.Math.Nat.{le-max_left}
@@ -28,10 +28,9 @@ use Rattle.log_entries.specs.declared.entry.Entry.TheVariants.{Group, Archived, 
 use Rattle.log_entries.specs.declared.entry.Entry.TheVariants as entries
 use Rattle.log_entries.specs.declared.entry.Roll.{Roll}
 use Rattle.log_entries.specs.Ranges.{IsRoll, IsEntry}
-use Rattle.law_log_layout.specs.HeapLog.{PlacedChain, PlacedRoll, HeapLog, IsPlaced, base_told, chain_told, chains_told, rolls_in, name_bytes, AreNamesOf, HoldsRoll, IsStoredRoll}
+use Rattle.law_log_layout.specs.HeapLog.{PlacedChain, PlacedRoll, IsPlaced, base_told, chain_told, chains_told, rolls_in, AreNamesOf, HoldsRoll, IsStoredRoll}
 use Rattle.law_log_layout.specs.HeapLog.{HeapStandsFor}
-use Rattle.log_names.specs.Standing.{roll_end}
-use Rattle.log_names.specs.Rolls.{times_named, AreUpTo, RollsEndBy, HoldRolls}
+use Rattle.log_names.specs.Rolls.{times_named, AreUpTo, RollsEndBy}
 use Rattle.log_names.specs.Laws.{times_upto, times_after, rolls_named, NameHistory}
 use Rattle.log_names.proofs.Right.{names-long}
 
@@ -174,11 +173,12 @@ all-named names rolls (c ∷ chains) named are may = by c.entry named may where
   by (Floor floor) named may = without (Floor floor) named may
   by (entries.Base base) named may =
       let b = base_told names base in
-      let all = up-rising b.upto 0 names may.0.3.rising may.0.3.named in
-      (early-from b.upto 0 (base_slots b) (chains_told names chains) (tells-base b may.0.3) may.1
-      ∙ ap (early b.upto) (base-heads b)
-      ∙ all-early b.upto names all,
-      all)
+      let all = up-rising b.upto 0 names may.0.3.rising may.0.3.named in (
+        early-from b.upto 0 (base_slots b) (chains_told names chains) (tells-base b may.0.3) may.1
+            ∙ ap (early b.upto) (base-heads b)
+            ∙ all-early b.upto names all,
+        all,
+      )
 
 -- ---- the times
 

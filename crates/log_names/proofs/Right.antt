@@ -1,5 +1,5 @@
 -- What a search of rolls that are right finds.
-use Rattle.std.proofs.Common.{ℕ, zero, suc, ◌≡◌, ◌≢◌, ◌⊎◌, inl, inr, ◌+◌, ◌-◌, ◌*◌, ◌/◌, ◌^◌, ◌≤◌, ◌<◌, ◌==◌, ◌&&◌, nat_lt, nat_le, Bool, true, false, cond}
+use Rattle.std.proofs.Common.{ℕ, zero, suc, ◌≡◌, ◌≢◌, inl, inr, ◌+◌, ◌-◌, ◌*◌, ◌/◌, ◌^◌, ◌≤◌, ◌<◌, ◌==◌, ◌&&◌, nat_lt, Bool, true, false, cond}
 use Rattle.std.proofs.Common.{List, [], ◌∷◌, ◌++◌, length, map, take, drop, refl, sym, ◌∙◌, ap, subst, arith, length-append}
 use Rattle.std.specs.Prelude.{Option, Some, None, option_map, option_and_then, if◌then◌else◌, filter, flat_map}
 use Rattle.std.specs.List.{AllByRecursion, slice_range}
@@ -20,7 +20,7 @@ use Rattle.log_entries.specs.declared.entry.Roll.{Roll}
 use Rattle.law_layout.proofs.Lists.{both}
 use Rattle.law_log_layout.specs.HeapLog.{name_bytes, IsName, IsNamedBefore, AreNamedInOrder}
 use Rattle.log_names.specs.declared.name.Name.{Name}
-use Rattle.log_names.specs.Standing.{name_in, name_at, name_count, roll_end, is_in_time, may_follow, halved, walked, first_in, times_behind, times_there, IsBroken}
+use Rattle.log_names.specs.Standing.{name_in, name_at, name_count, is_in_time, may_follow, halved, walked, first_in, times_behind, times_there, IsBroken}
 use Rattle.log_names.specs.Standing.{PastEnd, BadName}
 use Rattle.log_names.specs.Rolls.{times_named, AreUpTo, HoldsNames}
 
@@ -90,10 +90,11 @@ are-read area start n (head ∷ heads) are held =
     let rest = flat_map name_bytes heads in
     let front : slice_range area (start + 16 * n) (start + 16 * n + 16) ≡ name_bytes head =
     ap (λ (k : ℕ). slice_range area (start + 16 * n) (start + 16 * n + k)) (sym long) ∙ part-front (start + 16 * n) (name_bytes head) rest area held in
-    let next : start + 16 * n + length (name_bytes head) ≡ start + 16 * (n + 1) = omega (arith, long) in
-    (ap name_in front ∙ name-again head are.0,
-    are-read area start (n + 1) heads are.1
-    (subst (λ (k : ℕ). HoldsPart k rest area) next (part-rest (start + 16 * n) (name_bytes head) rest area held)))
+    let next : start + 16 * n + length (name_bytes head) ≡ start + 16 * (n + 1) = omega (arith, long) in (
+      ap name_in front ∙ name-again head are.0,
+      are-read area start (n + 1) heads are.1
+          (subst (λ (k : ℕ). HoldsPart k rest area) next (part-rest (start + 16 * n) (name_bytes head) rest area held)),
+    )
 
 read-drop : (names : ℕ → Name) (k n : ℕ) (heads : List Head) → AreRead names n heads → AreRead names (n + k) (drop k heads)
 read-drop names zero n heads are = let same : n ≡ n + 0 = omega arith in subst (λ (m : ℕ). AreRead names m heads) same are
@@ -135,9 +136,10 @@ at-place names P (head ∷ heads) n are all i le less =
 of-place : (names : ℕ → Name) (P : Name → Type 0) (heads : List Head) (n : ℕ) → AreRead names n heads
     → ((i : ℕ) → n ≤ i → i < n + length heads → P (names i)) → AllByRecursion (λ (head : Head). P (name_of head)) heads
 of-place names P [] n are at = tt
-of-place names P (head ∷ heads) n are at =
-    (subst P are.0 (at n (omega arith) (omega arith)),
-    of-place names P heads (n + 1) are.1 (λ i le less. at i (omega arith) (omega arith)))
+of-place names P (head ∷ heads) n are at = (
+  subst P are.0 (at n (omega arith) (omega arith)),
+  of-place names P heads (n + 1) are.1 (λ i le less. at i (omega arith) (omega arith)),
+)
 
 label-above : (head : Head) (heads : List Head) → AllByRecursion (IsNamedBefore head) heads
     → AllByRecursion (λ (other : Head). head.label ≤ (name_of other).label) heads
@@ -198,12 +200,15 @@ module _ (names : ℕ → Name) (upto label count : ℕ) (timed : (i : ℕ) → 
 
   at-end : (steps low high : ℕ) → low ≤ high → high ≤ count → high ≤ low → ((i : ℕ) → i < low → (names i).label < label)
       → ((i : ℕ) → high ≤ i → i < count → label ≤ (names i).label) → (n : ℕ) × (halved names upto label steps low high ≡ Some n) × IsFirst names label count n
-  at-end steps low high order within past below above =
-      (low, ended steps low high past, record {
-        within = omega arith;
-        below = below;
-        above = λ i le less. above i (omega arith) less;
-      })
+  at-end steps low high order within past below above = (
+    low,
+    ended steps low high past,
+    record {
+      within = omega arith;
+      below = below;
+      above = λ i le less. above i (omega arith) less;
+    },
+  )
 
   halves : (steps low high : ℕ) → low ≤ high → high ≤ count → high - low ≤ steps → ((i : ℕ) → i < low → (names i).label < label)
       → ((i : ℕ) → high ≤ i → i < count → label ≤ (names i).label) → (n : ℕ) × (halved names upto label steps low high ≡ Some n) × IsFirst names label count n

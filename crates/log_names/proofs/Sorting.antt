@@ -1,12 +1,11 @@
 -- Times that are sorted, of rolls that are right.
-use Rattle.std.proofs.Common.{ℕ, zero, suc, ◌≡◌, ◌≢◌, ◌⊎◌, inl, inr, ◌+◌, ◌≤◌, ◌<◌, ◌==◌, nat_lt, Bool, true, false, cond, List, [], ◌∷◌, ◌++◌, length, map}
-use Rattle.std.proofs.Common.{refl, sym, ◌∙◌, ap, subst, arith, length-append, get_or}
-use Rattle.std.specs.Prelude.{Option, Some, None, option_map, option_and_then, if◌then◌else◌, filter, flat_map, Contains}
+use Rattle.std.proofs.Common.{ℕ, suc, ◌≡◌, inl, inr, ◌+◌, ◌≤◌, ◌<◌, ◌==◌, Bool, true, false, cond, List, [], ◌∷◌, ◌++◌, length, map}
+use Rattle.std.proofs.Common.{refl, sym, ◌∙◌, ap, subst, arith, length-append}
+use Rattle.std.specs.Prelude.{Some, option_map, option_and_then, if◌then◌else◌, filter, flat_map, Contains}
 use Rattle.std.specs.List.{AllByRecursion, sum_by}
-use Rattle.std.specs.List.Sorted.{IsPermutation, IsNonDecreasing}
-use Rattle.std.proofs.lemmas.Bool.{cases_lt, cases_eq}
+use Rattle.std.specs.List.Sorted.{IsNonDecreasing}
+use Rattle.std.proofs.lemmas.Bool.{cases_lt}
 use Rattle.std.proofs.lemmas.Bool.Decides.{nat_tests}
-use Rattle.std.proofs.lemmas.List.{append-nil}
 use Rattle.std.proofs.lemmas.List.Sums.{sum_by-cons, sum_by-append}
 use Rattle.std.proofs.lemmas.List.Sorted.{sum_by-IsPermutation}
 use Rattle.std.proofs.lemmas.List.Elements.{recursion_from_All, filter-append, Contains-append_left, Contains-append_right, Contains-append_cases, All-contains}
@@ -15,8 +14,8 @@ use Rattle.history.proofs.Members.{Contains-cons_cases, Contains-head, Contains-
 use Rattle.law_image.specs.Reading.{Head}
 use Rattle.law_image.specs.Log.{AreRisingAfter}
 use Rattle.log_entries.specs.declared.entry.Roll.{Roll}
-use Rattle.law_log_layout.specs.HeapLog.{PlacedRoll, HoldsRoll, IsStoredRoll, AreNamesOf}
-use Rattle.log_names.specs.Standing.{times_there, times_in_all, IsInOrder, IsBroken, IsFirstBroken}
+use Rattle.law_log_layout.specs.HeapLog.{PlacedRoll, HoldsRoll, IsStoredRoll}
+use Rattle.log_names.specs.Standing.{times_in_all, IsInOrder, IsFirstBroken}
 use Rattle.log_names.specs.Rolls.{times_named, AreUpTo, HoldsNames, HoldRolls}
 use Rattle.log_names.proofs.Right.{right_finds, right_whole}
 
@@ -32,9 +31,10 @@ AreUp (x ∷ xs) = AllByRecursion (λ (y : ℕ). x ≤ y) xs × AreUp xs
 
 up-from : (xs : List ℕ) → IsNonDecreasing xs → AreUp xs
 up-from [] up = tt
-up-from (x ∷ xs) up =
-    (recursion_from_All (λ (y : ℕ). x ≤ y) xs (λ k d less. up 0 (suc k) d (omega arith) (omega (arith, less))),
-    up-from xs (λ i j d le less. up (suc i) (suc j) d (omega (arith, le)) (omega (arith, less))))
+up-from (x ∷ xs) up = (
+  recursion_from_All (λ (y : ℕ). x ≤ y) xs (λ k d less. up 0 (suc k) d (omega arith) (omega (arith, less))),
+  up-from xs (λ i j d le less. up (suc i) (suc j) d (omega (arith, le)) (omega (arith, less))),
+)
 
 -- one for this number
 abbrev one_at : ℕ → ℕ → ℕ
@@ -186,13 +186,14 @@ AreHeld area upto rolls = AllByRecursion (λ (r : PlacedRoll). HoldsNames area u
 are-held : (area : List ℕ) (upto : ℕ) (rolls : List PlacedRoll) → AllByRecursion (HoldsRoll area) rolls → AllByRecursion IsStoredRoll rolls
     → ((h : Head) → Contains (names_in rolls) h → h.time ≤ upto) → AreHeld area upto rolls
 are-held area upto [] held stored early = tt
-are-held area upto (r ∷ rolls) held stored early =
-    (record {
-      held = held.0;
-      stored = stored.0;
-      early = early-in r.names (λ h has. early h (Contains-append_left r.names (names_in rolls) h has));
-    },
-    are-held area upto rolls held.1 stored.1 (λ h has. early h (Contains-append_right r.names (names_in rolls) h has)))
+are-held area upto (r ∷ rolls) held stored early = (
+  record {
+    held = held.0;
+    stored = stored.0;
+    early = early-in r.names (λ h has. early h (Contains-append_left r.names (names_in rolls) h has));
+  },
+  are-held area upto rolls held.1 stored.1 (λ h has. early h (Contains-append_right r.names (names_in rolls) h has)),
+)
   where
     early-in : (names : List Head) → ((h : Head) → Contains names h → h.time ≤ upto) → AreUpTo upto names
     early-in [] le = tt

@@ -1,5 +1,5 @@
 -- The walk forward.
-use Rattle.std.proofs.Common.{ℕ, zero, suc, ◌≡◌, ◌≢◌, ◌⊎◌, inl, inr, ◌+◌, ◌-◌, ◌≤◌, ◌<◌, ◌==◌, Bool, true, false, List, [], ◌∷◌, ◌++◌, length, refl, sym, ◌∙◌, ap, subst, arith}
+use Rattle.std.proofs.Common.{ℕ, suc, ◌≡◌, ◌≢◌, ◌⊎◌, inl, inr, ◌+◌, ◌-◌, ◌≤◌, ◌<◌, ◌==◌, Bool, true, false, List, [], ◌∷◌, ◌++◌, length, refl, sym, ◌∙◌, ap, subst, arith}
 use Rattle.std.proofs.Common.{append_assoc}
 use Rattle.std.specs.Prelude.{Option, Some, None, option_map, option_and_then, if◌then◌else◌, ◌&&◌}
 use Rattle.std.proofs.lemmas.List.{append-nil}
@@ -97,23 +97,25 @@ module _ (area : List ℕ) (upto label : ℕ) (roll : Roll) (first n : ℕ) (las
 
   pub walk_past : name_count roll ≤ n → IsWalkOf area upto label roll first old into
   walk_past past =
-      let none : name_count roll - n ≡ 0 = omega arith in
-      (walking.times,
-      sym walking.same
-      ∙ ap (λ (k : ℕ). option_map (λ (more : List ℕ). walking.times ++ more) (walked (name_at area roll.start) upto label k n last)) none
-      ∙ ap Some (append-nil walking.times),
-      walking.pushed)
+      let none : name_count roll - n ≡ 0 = omega arith in (
+        walking.times,
+        sym walking.same
+            ∙ ap (λ (k : ℕ). option_map (λ (more : List ℕ). walking.times ++ more) (walked (name_at area roll.start) upto label k n last)) none
+            ∙ ap Some (append-nil walking.times),
+        walking.pushed,
+      )
 
   pub walk_ends : (name : Name) → n < name_count roll → name ≡ here → is_in_time upto name ≡ true → may_follow last name ≡ true → (name.label == label) ≡ false
       → IsWalkOf area upto label roll first old into
   walk_ends name less is timed follows other =
       let sound = both-true (is_in_time upto here) (may_follow last here) (ap (is_in_time upto) (sym is) ∙ timed) (ap (may_follow last) (sym is) ∙ follows) in
-      let test : (here.label == label) ≡ false = ap (λ (m : Name). m.label == label) (sym is) ∙ other in
-      (walking.times,
-      sym (one-left less)
-      ∙ ap (option_map (λ (more : List ℕ). walking.times ++ more)) (sound-goes true false sound test)
-      ∙ ap Some (append-nil walking.times),
-      walking.pushed)
+      let test : (here.label == label) ≡ false = ap (λ (m : Name). m.label == label) (sym is) ∙ other in (
+        walking.times,
+        sym (one-left less)
+            ∙ ap (option_map (λ (more : List ℕ). walking.times ++ more)) (sound-goes true false sound test)
+            ∙ ap Some (append-nil walking.times),
+        walking.pushed,
+      )
 
   broken-goes : n < name_count roll → (is_in_time upto here && may_follow last here) ≡ false → found ≡ None
   broken-goes less broken =
@@ -227,8 +229,9 @@ pub all_goes : (area : List ℕ) (upto label : ℕ) (rolls done : List Roll) (ro
     → rolls ≡ done ++ roll ∷ behind → times_in_all area upto label done ≡ Some old → (later : List ℕ) → later ≡ area
     → (times : List ℕ) × (times_there later upto label roll ≡ Some times) × (into ≡ old ++ times)
     → (more : List Roll) × (rolls ≡ more ++ behind) × (times_in_all area upto label more ≡ Some into)
-all_goes area upto label rolls done roll behind old into among found later same there =
-    (done ++ roll ∷ [],
-    among ∙ sym (append_assoc done (roll ∷ []) behind),
-    all_more area upto label done roll old there.0 found (subst (λ (a : List ℕ). times_there a upto label roll ≡ Some there.0) same there.1)
-    ∙ ap Some (sym there.2))
+all_goes area upto label rolls done roll behind old into among found later same there = (
+  done ++ roll ∷ [],
+  among ∙ sym (append_assoc done (roll ∷ []) behind),
+  all_more area upto label done roll old there.0 found (subst (λ (a : List ℕ). times_there a upto label roll ≡ Some there.0) same there.1)
+      ∙ ap Some (sym there.2),
+)

@@ -1,5 +1,5 @@
 -- What the rolls of a log say of the history that its image stands for.
-use Rattle.std.specs.Prelude.{ℕ, ◌≡◌, ◌<◌, ◌≤◌, ◌++◌, nat_lt, nat_le, List, map, filter, length}
+use Rattle.std.specs.Prelude.{ℕ, ◌≡◌, ◌++◌, nat_lt, nat_le, List, map, filter, length}
 use Rattle.std.specs.List.{AllByRecursion}
 use Rattle.history.specs.Histories.{History, IsHistory}
 use Rattle.history.specs.Answers.{times_of}
@@ -9,7 +9,6 @@ use Rattle.law_image.specs.Log.{reclaim_mark}
 use Rattle.log_entries.specs.declared.entry.Roll.{Roll}
 use Rattle.log_entries.specs.Ranges.{IsRoll}
 use Rattle.law_log_layout.specs.HeapLog.{PlacedRoll, HeapLog, HeapStandsFor}
-use Rattle.log_names.specs.Standing.{roll_end}
 use Rattle.log_names.specs.Rolls.{HoldRolls, RollsEndBy, times_named}
 
 -- the times of a label in a history up to a time, and those that are later

@@ -1,5 +1,5 @@
 -- Rolls that are right, and what a search of them gives.
-use Rattle.std.specs.Prelude.{ℕ, ◌≡◌, ◌+◌, ◌<◌, ◌≤◌, ◌==◌, List, [], ◌∷◌, map, filter, Contains}
+use Rattle.std.specs.Prelude.{ℕ, ◌≡◌, ◌+◌, ◌≤◌, ◌==◌, List, [], ◌∷◌, map, filter, Contains}
 use Rattle.std.specs.List.{AllByRecursion}
 use Rattle.law_image.specs.Reading.{Head}
 use Rattle.archive.specs.Digits.{digits}

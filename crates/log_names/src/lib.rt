@@ -8,5 +8,5 @@ mod reader;
 mod walk;
 
 pub(crate) use name::{NAME_BYTES, NAME_LEN, Name, decode_name, is_in_time, may_follow};
-pub use parts::{UncachedParts, ReadsParts};
+pub use parts::{ReadsParts, UncachedParts};
 pub use reader::NamesReader;

@@ -1,7 +1,6 @@
-use Rattle.std.proofs.Common.{ℕ, ◌≡◌, ◌∙◌, ◌++◌, ◌∷◌, [], List, ap, sym, arith, append_assoc, length-append, false, true}
+use Rattle.std.proofs.Common.{ℕ, ◌∙◌, ◌++◌, ◌∷◌, [], List, ap, sym, arith, append_assoc, length-append}
 use Rattle.std.proofs.lemmas.Result.{err_from_is_err_and}
 use Rattle.archive.specs.Searches.{archive_of}
-use Rattle.log_names.specs.Standing.{may_follow}
 use Rattle.log_names.proofs.Looking.{right_again, keeps_on, map_damaged}
 use Rattle.log_names.proofs.Walking.{here_goes, here_ends, here_late, here_apart}
 use Rattle.log_names.proofs.reader.NamesReader.add_times.Goals as goal
@@ -33,11 +32,11 @@ loop-n-preserved g c = record {
   rises = omega (arith, c.loop-n.invariant.rises, c.in_ok-name.ensures.rises);
   within = omega arith;
   front = let front = c.loop-n.invariant.front in (
-        front.0 ++ c.in_ok-name.name.time ∷ [],
-        c.in_ok-push.ensures.items ∙ ap (λ (l : List ℕ). l ++ c.in_ok-name.name.time ∷ []) front.1
+    front.0 ++ c.in_ok-name.name.time ∷ [],
+    c.in_ok-push.ensures.items ∙ ap (λ (l : List ℕ). l ++ c.in_ok-name.name.time ∷ []) front.1
         ∙ append_assoc c.args.into.now.items front.0 (c.in_ok-name.name.time ∷ []),
-        omega (arith, front.2, c.in_ok-name.ensures.counted, length-append front.0 (c.in_ok-name.name.time ∷ [])),
-      );
+    omega (arith, front.2, c.in_ok-name.ensures.counted, length-append front.0 (c.in_ok-name.name.time ∷ [])),
+  );
   disk = c.in_ok-name.ensures.looks.disk ∙ c.loop-n.invariant.disk;
   kept = keeps_on c.loop-n.invariant.disk c.loop-n.invariant.kept c.in_ok-name.ensures.looks.kept;
   walking = λ told right.

@@ -3,7 +3,6 @@ use Rattle.std.proofs.lemmas.Result.{err_from_is_err_and}
 use Rattle.archive.specs.Searches.{archive_of}
 use Rattle.log_names.proofs.Halving.{digits_half, half_ends, here_below, here_above, here_broken}
 use Rattle.log_names.proofs.Looking.{right_again, keeps_on, map_damaged}
-use Rattle.std.proofs.Common.{inr}
 use Rattle.log_names.proofs.reader.NamesReader.first_in.Goals as goal
 
 pub returns-in_err-name-clause-names : goal.returns-in_err-name-clause-names

@@ -1,4 +1,4 @@
-use Rattle.std.proofs.Common.{ℕ, ◌≡◌, ◌++◌, List, length, map, arith, ◌∙◌, ap, sym, subst, length-append}
+use Rattle.std.proofs.Common.{ℕ, ◌++◌, List, length, map, arith, ◌∙◌, ap, sym, subst, length-append}
 use Rattle.std.specs.Prelude.{Contains}
 use Rattle.std.specs.List.{AllByRecursion}
 use Rattle.std.proofs.lemmas.Result.{err_from_is_err_and}

@@ -1,4 +1,3 @@
-use Rattle.std.proofs.Common.{arith}
 use Rattle.std.proofs.lemmas.List.Sorted.{IsNonDecreasingBy-from_sort}
 use Rattle.std.proofs.lemmas.Result.{err_from_is_err_and}
 use Rattle.log_names.proofs.Right.{refused}
@@ -18,8 +17,11 @@ returns-clause-only g c = λ heads told right holds.
     })
 
 pub returns-clause-exact : goal.returns-clause-exact
-returns-clause-exact g c = λ told right.
-    (_, c.in_ok-times.ensures.exact told right, record {
-      same = c.sort_unstable.ensures.permutation;
-      rising = IsNonDecreasingBy-from_sort (λ x. x) _ c.sort_unstable.ensures.sorted;
-    })
+returns-clause-exact g c = λ told right. (
+  _,
+  c.in_ok-times.ensures.exact told right,
+  record {
+    same = c.sort_unstable.ensures.permutation;
+    rising = IsNonDecreasingBy-from_sort (λ x. x) _ c.sort_unstable.ensures.sorted;
+  },
+)
