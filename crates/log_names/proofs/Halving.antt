@@ -1,5 +1,6 @@
 -- The search by halves.
-use Rattle.std.proofs.Common.{ℕ, zero, suc, ◌≡◌, ◌⊎◌, inl, inr, ◌+◌, ◌-◌, ◌/◌, ◌≤◌, ◌<◌, nat_lt, Bool, true, false, List, length, refl, sym, ◌∙◌, ap, subst, arith}
+use Rattle.std.proofs.Common.{ℕ, zero, suc, ◌≡◌, ◌⊎◌, inl, inr, ◌+◌, ◌-◌, ◌/◌, ◌≤◌, ◌<◌, nat_lt, Bool, true, false}
+use Rattle.std.proofs.Common.{List, length, refl, sym, ◌∙◌, ap, subst, arith}
 use Rattle.std.specs.Prelude.{Option, Some, None, if◌then◌else◌}
 use Rattle.std.proofs.lemmas.Bool.Decides.{nat_tests}
 use Rattle.archive.specs.Digits.{digits_in, digits}
@@ -53,15 +54,18 @@ module _ (area : List ℕ) (upto label : ℕ) (roll : Roll) (low high : ℕ) (ha
 
   going : (below : Bool) → low < high → is_in_time upto middle ≡ true → nat_lt middle.label label ≡ below
       → (steps : ℕ) × (high - low ≤ suc steps)
-      × (halved (name_at area roll.start) upto label steps (if below then low + (high - low) / 2 + 1 else low) (if below then high else low + (high - low) / 2) ≡ found)
+      × (halved (name_at area roll.start) upto label steps (if below then low + (high - low) / 2 + 1 else low)
+      (if below then high else low + (high - low) / 2) ≡ found)
   going below less timed test =
       let step = stepped less in
       let first : nat_lt low high ≡ true = grind (arith, nat_tests) in
       let gone : halved (name_at area roll.start) upto label (suc step.0) low high
-      ≡ halved (name_at area roll.start) upto label step.0 (if below then low + (high - low) / 2 + 1 else low) (if below then high else low + (high - low) / 2) =
+      ≡ halved (name_at area roll.start) upto label step.0 (if below then low + (high - low) / 2 + 1 else low)
+      (if below then high else low + (high - low) / 2) =
       λ i. if first i
       then (if timed i
-      then halved (name_at area roll.start) upto label step.0 (if test i then low + (high - low) / 2 + 1 else low) (if test i then high else low + (high - low) / 2)
+      then halved (name_at area roll.start) upto label step.0 (if test i then low + (high - low) / 2 + 1 else low)
+      (if test i then high else low + (high - low) / 2)
       else None)
       else Some low in
       (step.0, step.1, sym gone ∙ step.2)
@@ -86,7 +90,8 @@ module _ (area : List ℕ) (upto label : ℕ) (roll : Roll) (low high : ℕ) (ha
       let gone : halved (name_at area roll.start) upto label (suc step.0) low high ≡ None =
       λ i. if first i
       then (if late i
-      then halved (name_at area roll.start) upto label step.0 (if below then low + (high - low) / 2 + 1 else low) (if below then high else low + (high - low) / 2)
+      then halved (name_at area roll.start) upto label step.0 (if below then low + (high - low) / 2 + 1 else low)
+      (if below then high else low + (high - low) / 2)
       else None)
       else Some low in
       sym step.2 ∙ gone
@@ -101,7 +106,8 @@ module _ (area : List ℕ) (upto label : ℕ) (roll : Roll) (low high : ℕ) (ha
         let gone : halved (name_at area roll.start) upto label (suc steps) low high ≡ Some low =
         λ i. if first i
         then (if is_in_time upto middle
-        then halved (name_at area roll.start) upto label steps (if below then low + (high - low) / 2 + 1 else low) (if below then high else low + (high - low) / 2)
+        then halved (name_at area roll.start) upto label steps (if below then low + (high - low) / 2 + 1 else low)
+        (if below then high else low + (high - low) / 2)
         else None)
         else Some low in
         sym same ∙ gone

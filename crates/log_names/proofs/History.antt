@@ -19,7 +19,8 @@ use Rattle.law_image.specs.Log.{heads_of, last_time_after, reclaim_mark, told_ti
 use Rattle.law_image.specs.HeapPlans.{marks_of, first_runs}
 use Rattle.law_image.specs.StandsFor.{head_of}
 use Rattle.law_image.proofs.Logs.{heads_of-append}
-use Rattle.law_log.specs.Chains.{LogChain, OfBase, OfGroup, OfRun, OfFloor, Base, commits_slot, later_heads, floor_slot, base_slots, heads_in, told_behind, told_from}
+use Rattle.law_log.specs.Chains.{LogChain, OfBase, OfGroup, OfRun, OfFloor, Base, commits_slot, later_heads, floor_slot, base_slots, heads_in}
+use Rattle.law_log.specs.Chains.{told_behind, told_from}
 use Rattle.law_log.specs.Chains.{told, reclaimed_by, commits_in, MayFollow, MayAllFollow, KeepsChainRules}
 use Rattle.law_log.specs.Chains as logs
 use Rattle.law_log.proofs.Telling.{commits-heads, last-rises, TellsSo, tells-base, tells-behind, tells-none, tells-all}

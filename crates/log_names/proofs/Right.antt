@@ -159,7 +159,8 @@ labels-rise names (head ∷ heads) n are up i j low le less =
             | inl same ↦ let e : (names i).label ≡ (names j).label = ap (λ (k : ℕ). (names k).label) (first ∙ sym same) in omega (arith, e)
             | inr other ↦
                 let e : (names i).label ≡ head.label = ap (λ (k : ℕ). (names k).label) first ∙ ap (λ (m : Name). m.label) are.0 in
-                let far = at-place names (λ (m : Name). head.label ≤ m.label) heads (n + 1) are.1 (label-above head heads up.0) j (omega (arith, other)) (omega arith) in
+                let above = label-above head heads up.0 in
+                let far = at-place names (λ (m : Name). head.label ≤ m.label) heads (n + 1) are.1 above j (omega (arith, other)) (omega arith) in
                 omega (arith, e, far)
           ]
       | inr other ↦ labels-rise names heads (n + 1) are.1 up.1 i j (omega (arith, other)) le (omega arith)
@@ -258,7 +259,8 @@ named-other label head heads other =
     let test : (head.label == label) ≡ false = grind (arith, nat_tests) in
     λ i. map (λ (h : Head). h.time) (cond (test i) (head ∷ filter (λ (h : Head). h.label == label) heads) (filter (λ (h : Head). h.label == label) heads))
 
-none-above : (label least : ℕ) (heads : List Head) → label < least → AllByRecursion (λ (head : Head). least ≤ (name_of head).label) heads → times_named label heads ≡ []
+none-above : (label least : ℕ) (heads : List Head) → label < least → AllByRecursion (λ (head : Head). least ≤ (name_of head).label) heads
+    → times_named label heads ≡ []
 none-above label least [] less all = refl
 none-above label least (head ∷ heads) less all =
     named-other label head heads (λ e. absurd (omega (arith, e, all.0, less))) ∙ none-above label least heads less all.1
@@ -314,7 +316,8 @@ module _ (names : ℕ → Name) (upto label : ℕ) where
 all-timed : (upto : ℕ) (heads : List Head) → AllByRecursion IsName heads → AreUpTo upto heads → AllByRecursion (IsTimed upto) heads
 all-timed upto heads are early = both IsName (λ (head : Head). head.time ≤ upto) (IsTimed upto) heads (λ head is le. (is.1, le)) are early
 
-timed-names : (upto : ℕ) (heads : List Head) → AllByRecursion (IsTimed upto) heads → AllByRecursion (λ (head : Head). is_in_time upto (name_of head) ≡ true) heads
+timed-names : (upto : ℕ) (heads : List Head) → AllByRecursion (IsTimed upto) heads
+    → AllByRecursion (λ (head : Head). is_in_time upto (name_of head) ≡ true) heads
 timed-names upto [] all = tt
 timed-names upto (head ∷ heads) all = (timed-name upto head all.0, timed-names upto heads all.1)
 
@@ -340,7 +343,8 @@ module _ (area : List ℕ) (upto label : ℕ) (roll : Roll) (heads : List Head) 
   first : (n : ℕ) × (first_in area upto label roll ≡ Some n) × IsFirst names label (name_count roll) n
   first =
       halves names upto label (name_count roll)
-      (λ i less. at-place names (λ (m : Name). is_in_time upto m ≡ true) heads 0 read (timed-names upto heads timed) i (omega arith) (omega (arith, many, less)))
+      (λ i less. at-place names (λ (m : Name). is_in_time upto m ≡ true) heads 0 read (timed-names upto heads timed) i (omega arith)
+      (omega (arith, many, less)))
       (λ i j le less. labels-rise names heads 0 read holds.stored.in_order i j (omega arith) le (omega (arith, many, less)))
       (name_count roll) 0 (name_count roll) (omega arith) (omega arith) (omega arith)
       (λ i less. absurd (omega arith)) (λ i le less. absurd (omega arith))

@@ -224,7 +224,8 @@ module _ (area : List ℕ) (upto label : ℕ) (rolls : List Roll) (heads : List 
   held : AreHeld area upto holds.placed
   held =
       are-held area upto holds.placed holds.held holds.stored
-      (λ h has. All-contains (λ (x : Head). x.time ≤ upto) heads h (All-from_recursion (λ (x : Head). x.time ≤ upto) heads holds.early) ((holds.named.same h).1 has))
+      (λ h has. All-contains (λ (x : Head). x.time ≤ upto) heads h (All-from_recursion (λ (x : Head). x.time ≤ upto) heads holds.early)
+      ((holds.named.same h).1 has))
 
   -- the times that were found, by rising time, are those of the commits
   pub all_right : (times found : List ℕ) → times_in_all area upto label rolls ≡ Some times → IsInOrder times found → found ≡ times_named label heads

@@ -21,7 +21,8 @@ pub record LooksAt {T : Type 0} (start len : ℕ) (tells : Bool) (old new : Disk
   pub kept : Keeps (start + len) tells (archive_of old) before after
   pub damaged : IfErr result (IsFaultAt start)
 
--- The answer follows from the archive's bytes, where the disk tells them and what is kept is right: this of the answer, or that of the start of what is damaged.
+-- The answer follows from the archive's bytes, where the disk tells them and what is kept is right: this of the answer, or that of the start of what is
+-- damaged.
 abbrev pub Follows : {T : Type 0} → Bool → DiskState → List (ℕ × List ℕ) → Result T ArchiveFault → (List ℕ → T → Type 0) → (List ℕ → ℕ → Type 0) → Type 0
 Follows tells state kept result Is Breaks =
     IsTrue tells → IsRight kept (archive_of state) → MatchResult result (Is (archive_of state)) (IfDamaged (Breaks (archive_of state)))

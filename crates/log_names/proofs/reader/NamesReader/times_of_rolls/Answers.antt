@@ -7,7 +7,8 @@ use Rattle.log_names.proofs.reader.NamesReader.times_of_rolls.Goals as goal
 pub returns-in_err-times-clause-only : goal.returns-in_err-times-clause-only
 returns-in_err-times-clause-only g c = λ heads told right holds.
     let p = err_from_is_err_and c.from_residual.result c.from_residual.ensures.1 in
-    rw (p.1, p.2) (refused _ (λ start is. none_broken _ c.args.upto c.args.label c.args.rolls.now heads holds start is) (c.in_err-times.ensures.exact told right))
+    rw (p.1, p.2) (refused _ (λ start is. none_broken _ c.args.upto c.args.label c.args.rolls.now heads holds start is)
+    (c.in_err-times.ensures.exact told right))
 
 pub returns-clause-only : goal.returns-clause-only
 returns-clause-only g c = λ heads told right holds.
