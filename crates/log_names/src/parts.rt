@@ -10,6 +10,11 @@ pub trait ReadsParts {
     /// What is kept.
     ghost kept: { Self → List (ℕ × List ℕ) };
 
+    /// All that a reader has beside it, which a read leaves as it is.
+    ghost Rest: { Type 0 };
+
+    ghost rest: { Self → Rest };
+
     /// The bytes from `at` on, of what lies from `start` on and has `len` bytes. Damaged, with the start, only where
     /// the archive ends before that does.
     fn read_at<D: Disk>(
@@ -23,6 +28,7 @@ pub trait ReadsParts {
         requires inside { at + length buf.old ≤ len }
         requires end { start + len < 2 ^ 63 }
         ensures looks { LooksAt start len D.tells (D.state disk.old) (D.state disk.new) (kept self.old) (kept self.new) result }
+        ensures rest { rest self.new ≡ rest self.old }
         ensures exact { Follows D.tells (D.state disk.old) (kept self.old) result
             (λ area _. buf.new ≡ slice_range area (start + at) (start + at + length buf.old))
             (λ area _. length area < start + len) };
@@ -36,6 +42,10 @@ impl ReadsParts for UncachedParts {
     ghost use Rattle.std.specs.Prelude.{[]};
 
     ghost kept = { λ parts. [] };
+
+    ghost Rest = { Unit {0} };
+
+    ghost rest = { λ parts. tt };
 
     fn read_at<D: Disk>(
         &mut self,

@@ -44,6 +44,7 @@ impl NamesReader {
         requires is { IsRoll roll.now }
         requires few { n < name_count roll.now }
         ensures looks { LooksAt roll.now.start roll.now.len D.tells (D.state disk.old) (D.state disk.new) (P.kept parts.old) (P.kept parts.new) result }
+        ensures rest { P.rest parts.new ≡ P.rest parts.old }
         ensures rises { self.old.names ≤ self.new.names }
         ensures counted { self.new.names ≡ min (self.old.names + 1) (2 ^ 64 - 1) }
         ensures exact { Follows D.tells (D.state disk.old) (P.kept parts.old) result
@@ -71,6 +72,7 @@ impl NamesReader {
     ) -> Result<u64, ArchiveFault>
         requires { IsRoll roll.now }
         ensures looks { LooksAt roll.now.start roll.now.len D.tells (D.state disk.old) (D.state disk.new) (P.kept parts.old) (P.kept parts.new) result }
+        ensures rest { P.rest parts.new ≡ P.rest parts.old }
         ensures rises { self.old.names ≤ self.new.names }
         ensures few { IfOk result (λ n. n ≤ name_count roll.now) }
         ensures names { self.new.names ≤ self.old.names + digits (name_count roll.now) }

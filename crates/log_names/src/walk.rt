@@ -33,6 +33,7 @@ impl NamesReader {
         requires is { IsRoll roll.now }
         requires few { first ≤ name_count roll.now }
         ensures looks { LooksAt roll.now.start roll.now.len D.tells (D.state disk.old) (D.state disk.new) (P.kept parts.old) (P.kept parts.new) result }
+        ensures rest { P.rest parts.new ≡ P.rest parts.old }
         ensures rises { self.old.names ≤ self.new.names }
         ensures front { (times : List ℕ) × (into.new.items ≡ into.old.items ++ times) × (self.new.names ≤ self.old.names + (length times + 1)) }
         ensures exact { Follows D.tells (D.state disk.old) (P.kept parts.old) result
@@ -74,6 +75,7 @@ impl NamesReader {
     ) -> Result<(), ArchiveFault>
         requires { IsRoll roll.now }
         ensures looks { LooksAt roll.now.start roll.now.len D.tells (D.state disk.old) (D.state disk.new) (P.kept parts.old) (P.kept parts.new) result }
+        ensures rest { P.rest parts.new ≡ P.rest parts.old }
         ensures rises { self.old.names ≤ self.new.names }
         ensures front { (times : List ℕ) × (into.new.items ≡ into.old.items ++ times)
             × (self.new.names ≤ self.old.names + (digits (name_count roll.now) + (length times + 1))) }
@@ -103,6 +105,7 @@ impl NamesReader {
         ensures disk { D.state disk.new ≡ after_query result (D.state disk.old) }
         ensures kept { (limit : ℕ) → RollsEndBy limit rolls.now
             → Keeps limit D.tells (archive_of (D.state disk.old)) (P.kept parts.old) (P.kept parts.new) }
+        ensures rest { P.rest parts.new ≡ P.rest parts.old }
         ensures damaged { IfErr result (IsFaultIn rolls.now) }
         ensures rises { self.old.names ≤ self.new.names }
         ensures names { IfOk result (λ found. self.new.names ≤ self.old.names + names_to_read rolls.now + length found.items) }
@@ -135,6 +138,7 @@ impl NamesReader {
         ensures disk { D.state disk.new ≡ after_query result (D.state disk.old) }
         ensures kept { (limit : ℕ) → RollsEndBy limit rolls.now
             → Keeps limit D.tells (archive_of (D.state disk.old)) (P.kept parts.old) (P.kept parts.new) }
+        ensures rest { P.rest parts.new ≡ P.rest parts.old }
         ensures damaged { IfErr result (IsFaultIn rolls.now) }
         ensures rises { self.old.names ≤ self.new.names }
         ensures names { IfOk result (λ found. self.new.names ≤ self.old.names + names_to_read rolls.now + length found.items) }

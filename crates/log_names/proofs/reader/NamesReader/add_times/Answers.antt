@@ -38,6 +38,7 @@ loop-n-preserved g c = record {
     omega (arith, front.2, c.in_ok-name.ensures.counted, length-append front.0 (c.in_ok-name.name.time ∷ [])),
   );
   disk = c.in_ok-name.ensures.looks.disk ∙ c.loop-n.invariant.disk;
+  rest = c.in_ok-name.ensures.rest ∙ c.loop-n.invariant.rest;
   kept = keeps_on c.loop-n.invariant.disk c.loop-n.invariant.kept c.in_ok-name.ensures.looks.kept;
   walking = λ told right.
       let now = right_again told right c.loop-n.invariant.disk c.loop-n.invariant.kept in

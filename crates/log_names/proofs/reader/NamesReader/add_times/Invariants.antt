@@ -11,6 +11,7 @@ invariant-loop-n g l = record {
   within : l.n ≤ name_count l.roll;
   front : (times : List ℕ) × (l.into.items ≡ l.initial.into.items ++ times) × (l.self.names ≤ l.initial.self.names + length times);
   disk : g.D.Disk.state l.disk ≡ g.D.Disk.state l.initial.disk;
+  rest : g.P.ReadsParts.rest l.parts ≡ g.P.ReadsParts.rest l.initial.parts;
   kept : Keeps (l.roll.start + l.roll.len) g.D.Disk.tells (archive_of (g.D.Disk.state l.initial.disk)) (g.P.ReadsParts.kept l.initial.parts)
       (g.P.ReadsParts.kept l.parts);
   walking : IsTrue g.D.Disk.tells → IsRight (g.P.ReadsParts.kept l.initial.parts) (archive_of (g.D.Disk.state l.initial.disk))

@@ -33,6 +33,7 @@ loop-low-preserved-then-name-label g c =
             c.in_ok-name.ensures.counted,
           );
       disk = c.in_ok-name.ensures.looks.disk ∙ c.loop-low.invariant.disk;
+      rest = c.in_ok-name.ensures.rest ∙ c.loop-low.invariant.rest;
       kept = keeps_on c.loop-low.invariant.disk c.loop-low.invariant.kept c.in_ok-name.ensures.looks.kept;
       half = λ told right.
           let now = right_again told right c.loop-low.invariant.disk c.loop-low.invariant.kept in
@@ -55,6 +56,7 @@ loop-low-preserved g c =
             c.in_ok-name.ensures.counted,
           );
       disk = c.in_ok-name.ensures.looks.disk ∙ c.loop-low.invariant.disk;
+      rest = c.in_ok-name.ensures.rest ∙ c.loop-low.invariant.rest;
       kept = keeps_on c.loop-low.invariant.disk c.loop-low.invariant.kept c.in_ok-name.ensures.looks.kept;
       half = λ told right.
           let now = right_again told right c.loop-low.invariant.disk c.loop-low.invariant.kept in

@@ -13,6 +13,7 @@ invariant-loop-low g l = record {
   within : l.high ≤ name_count l.roll;
   names : l.self.names + digits (l.high - l.low) ≤ l.initial.self.names + digits (name_count l.roll);
   disk : g.D.Disk.state l.disk ≡ g.D.Disk.state l.initial.disk;
+  rest : g.P.ReadsParts.rest l.parts ≡ g.P.ReadsParts.rest l.initial.parts;
   kept : Keeps (l.roll.start + l.roll.len) g.D.Disk.tells (archive_of (g.D.Disk.state l.initial.disk)) (g.P.ReadsParts.kept l.initial.parts)
       (g.P.ReadsParts.kept l.parts);
   half : IsTrue g.D.Disk.tells → IsRight (g.P.ReadsParts.kept l.initial.parts) (archive_of (g.D.Disk.state l.initial.disk))

@@ -45,6 +45,7 @@ loop-rest-preserved g c =
             c.loop-rest.invariant.names,
           );
       disk = c.in_ok-times_in.ensures.looks.disk ∙ c.loop-rest.invariant.disk;
+      rest = c.in_ok-times_in.ensures.rest ∙ c.loop-rest.invariant.rest;
       kept = λ limit by.
           let ends = subst (RollsEndBy limit) split (c.loop-rest.invariant.ends limit by) in
           keeps_on c.loop-rest.invariant.disk (c.loop-rest.invariant.kept limit by) (keeps_later ends.0 c.in_ok-times_in.ensures.looks.kept);

@@ -15,6 +15,7 @@ invariant-loop-rest g l = record {
   rises : l.initial.self.names ≤ l.self.names;
   names : l.self.names + names_to_read l.rest ≤ l.initial.self.names + names_to_read l.rolls + length l.times.items;
   disk : g.D.Disk.state l.disk ≡ g.D.Disk.state l.initial.disk;
+  rest : g.P.ReadsParts.rest l.parts ≡ g.P.ReadsParts.rest l.initial.parts;
   kept : (limit : ℕ) → RollsEndBy limit l.rolls
       → Keeps limit g.D.Disk.tells (archive_of (g.D.Disk.state l.initial.disk)) (g.P.ReadsParts.kept l.initial.parts) (g.P.ReadsParts.kept l.parts);
   ends : (limit : ℕ) → RollsEndBy limit l.rolls → RollsEndBy limit l.rest;
