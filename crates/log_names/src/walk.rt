@@ -60,10 +60,11 @@ impl NamesReader {
 
     /// Adds the times of the label in the roll, where rolls go up to the time `upto` (microseconds since 1970): by
     /// halving it finds the first name whose label is not below this one, and then it reads on while the label is this
-    /// one. Damaged, with the roll's start, exactly where a name that it reads has a time of 0 or above `upto`, or where
+    /// one. Damaged, with the roll's start, where a name that it reads has a time of 0 or above `upto`, or where
     /// the walk forward reads one that is not above the one read just before it, by label and then by time. The names that
     /// the halving reads are not compared with others: it does not read them in their order. What is not read is not
-    /// looked at. Where there is a fault, times that were found before it may be added.
+    /// looked at. It may also be Damaged where the archive ends before the roll does. Where there is a fault, times that
+    /// were found before it may be added.
     pub fn times_in<P: ReadsParts, D: Disk>(
         &mut self,
         parts: &mut P,
