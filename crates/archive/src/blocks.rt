@@ -1,10 +1,9 @@
-ghost use Rattle.std.specs.Prelude.{◌≡◌, ◌+◌, ◌≤◌, ◌<◌, IsTrue, IfOk, IfErr, MatchResult, ⊤, [], length, take, slice_range};
+ghost use Rattle.std.specs.Prelude.{◌≡◌, ◌+◌, ◌≤◌, ◌<◌, ◌^◌, IsTrue, IfOk, IfErr, MatchResult, ⊤, [], length, take, slice_range};
 ghost use Rattle.disk.specs.Calls.{looked};
 ghost use Rattle.archive.specs.Parts.{IsRight, Keeps};
-ghost use Rattle.archive.specs.Runs.{run_end};
-ghost use Rattle.archive.specs.Searches.{archive_of, after_query, Answers, IsFaultOf};
+ghost use Rattle.archive.specs.Searches.{archive_of, after_query, Answers, IsFaultAt};
 
-use crate::{ArchiveFault, BlockCache, RunEntry};
+use crate::{ArchiveFault, BlockCache};
 use disk::{Area, DeviceFault, Disk};
 use std::alloc::{AllocError, Global};
 
@@ -13,7 +12,7 @@ const BLOCK_LEN: usize = 4096;
 
 const BLOCK_BYTES: u64 = BLOCK_LEN as u64;
 
-/// Reads parts of runs by blocks of 4,096 bytes, counted from the run's start.
+/// Reads parts of runs and of what else the archive has by blocks of 4,096 bytes, counted from the start of each.
 #[derive(Drop)]
 pub(crate) struct BlockReader {
     cache: BlockCache,
@@ -115,56 +114,60 @@ impl BlockReader {
         Ok(true)
     }
 
-    /// The bytes from a place in the run on, as far as one block has them.
+    /// The bytes from a place on, of what lies from `start` on and has `len` bytes, as far as one block has them.
     fn read_front<D: Disk>(
         &mut self,
         disk: &mut D,
-        run: &RunEntry,
+        start: u64,
+        len: u64,
         at: u64,
         out: &mut [u8],
     ) -> Result<usize, ArchiveFault>
         requires some { 0 < length out.old }
-        requires inside { at + length out.old ≤ run.now.slot.len }
+        requires inside { at + length out.old ≤ len }
+        requires end { start + len < 2 ^ 63 }
         ensures disk { D.state disk.new ≡ after_query result (D.state disk.old) }
-        ensures kept { Keeps (run_end run.now) D.tells (archive_of (D.state disk.old)) (parts_in self.old.cache.blocks) (parts_in self.new.cache.blocks) }
-        ensures damaged { IfErr result (IsFaultOf run.now) }
+        ensures kept { Keeps (start + len) D.tells (archive_of (D.state disk.old)) (parts_in self.old.cache.blocks) (parts_in self.new.cache.blocks) }
+        ensures damaged { IfErr result (IsFaultAt start) }
         ensures some { IfOk result (λ n. 0 < n) }
         ensures most { IfOk result (λ n. n ≤ length out.old) }
         ensures bytes { IsTrue D.tells → IsRight (parts_in self.old.cache.blocks) (archive_of (D.state disk.old))
-            → IfOk result (λ n. take n out.new ≡ slice_range (archive_of (D.state disk.old)) (run.now.slot.start + at) (run.now.slot.start + at + n)) }
-        ensures answers { IsTrue D.tells → run_end run.now ≤ length (archive_of (D.state disk.old)) → Answers result (λ n. ⊤) }
+            → IfOk result (λ n. take n out.new ≡ slice_range (archive_of (D.state disk.old)) (start + at) (start + at + n)) }
+        ensures answers { IsTrue D.tells → start + len ≤ length (archive_of (D.state disk.old)) → Answers result (λ n. ⊤) }
     {
         let skip = at % BLOCK_BYTES;
-        let len = (run.slot.len - (at - skip)).min(BLOCK_BYTES) as usize;
+        let block_len = (len - (at - skip)).min(BLOCK_BYTES) as usize;
         let skip = skip as usize;
-        let n = out.len().min(len - skip);
-        let start = run.slot.start + at - skip as u64;
-        if !self.read_block(disk, start, len, skip, &mut out[..n])? {
-            return Err(ArchiveFault::Damaged(run.slot.start));
+        let n = out.len().min(block_len - skip);
+        let place = start + at - skip as u64;
+        if !self.read_block(disk, place, block_len, skip, &mut out[..n])? {
+            return Err(ArchiveFault::Damaged(start));
         }
         Ok(n)
     }
 
-    /// The bytes of a part of the run. Damaged, with the run's start, where the archive ends before
-    /// a block of them does.
+    /// The bytes from `at` on, of what lies from `start` on and has `len` bytes. Damaged, with the start, where
+    /// the archive ends before a block of them does.
     pub fn read<D: Disk>(
         &mut self,
         disk: &mut D,
-        run: &RunEntry,
+        start: u64,
+        len: u64,
         at: u64,
         buf: &mut [u8],
     ) -> Result<(), ArchiveFault>
-        requires inside { at + length buf.old ≤ run.now.slot.len }
+        requires inside { at + length buf.old ≤ len }
+        requires end { start + len < 2 ^ 63 }
         ensures disk { D.state disk.new ≡ after_query result (D.state disk.old) }
-        ensures kept { Keeps (run_end run.now) D.tells (archive_of (D.state disk.old)) (parts_in self.old.cache.blocks) (parts_in self.new.cache.blocks) }
-        ensures damaged { IfErr result (IsFaultOf run.now) }
+        ensures kept { Keeps (start + len) D.tells (archive_of (D.state disk.old)) (parts_in self.old.cache.blocks) (parts_in self.new.cache.blocks) }
+        ensures damaged { IfErr result (IsFaultAt start) }
         ensures bytes { IsTrue D.tells → IsRight (parts_in self.old.cache.blocks) (archive_of (D.state disk.old))
-            → IfOk result (λ _. buf.new ≡ slice_range (archive_of (D.state disk.old)) (run.now.slot.start + at) (run.now.slot.start + at + length buf.old)) }
-        ensures answers { IsTrue D.tells → run_end run.now ≤ length (archive_of (D.state disk.old)) → Answers result (λ _. ⊤) }
+            → IfOk result (λ _. buf.new ≡ slice_range (archive_of (D.state disk.old)) (start + at) (start + at + length buf.old)) }
+        ensures answers { IsTrue D.tells → start + len ≤ length (archive_of (D.state disk.old)) → Answers result (λ _. ⊤) }
     {
         let mut done = 0;
         while done < buf.len() {
-            done += self.read_front(disk, run, at + done as u64, &mut buf[done..])?;
+            done += self.read_front(disk, start, len, at + done as u64, &mut buf[done..])?;
         }
         Ok(())
     }

@@ -65,7 +65,8 @@ impl ArchiveReader {
             → MatchResult result (λ _. buf.new ≡ slice_range (archive_of (D.state disk.old)) (run.now.slot.start + at)
             (run.now.slot.start + at + length buf.old)) (IfDamaged (λ _. length (archive_of (D.state disk.old)) < run_end run.now)) }
     {
-        self.blocks.read(disk, run, at, buf)?;
+        self.blocks
+            .read(disk, run.slot.start, run.slot.len, at, buf)?;
         Ok(())
     }
 

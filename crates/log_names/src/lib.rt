@@ -1,6 +1,7 @@
 //! The times of a label in rolls: the names of commits that the archive has.
 #![tactic(auto)]
 
+mod cached;
 pub mod laws;
 mod name;
 mod parts;

@@ -1,12 +1,15 @@
 //! What a store has of its archive, and the queries over it.
-ghost use Rattle.std.specs.Prelude.{◌≡◌, ◌++◌, ◌∷◌, [], IfOk, OnOk, OnErr};
+ghost use Rattle.std.specs.Prelude.{◌≡◌, ◌+◌, ◌<◌, ◌≤◌, ◌^◌, ◌++◌, ◌∷◌, [], IfOk, IfErr, OnOk, OnErr, IsTrue, MatchResult, length, slice_range};
+ghost use Rattle.archive.specs.Parts.{IsRight, Keeps};
+ghost use Rattle.archive.specs.Searches.{archive_of, after_query, IsFaultAt};
+ghost use Rattle.archive.specs.Damages.{IfDamaged};
 ghost use Rattle.timequery.specs.Archives.{same_run, is_front, with_next_run, IsUnread};
 ghost use Rattle.timequery.specs.Asked.{alone, is_own, AnswersAtView, AnswersScanAt, AnswersRows, AnswersScanRows};
 
 use crate::fault::QueryFault;
 use crate::runs::Runs;
 use crate::view::View;
-use archive::{ArchiveReader, RunEntry};
+use archive::{ArchiveFault, ArchiveReader, RunEntry};
 use chains::SharedValue;
 use disk::Disk;
 use history::{Key, Version};
@@ -87,6 +90,33 @@ impl StoreArchive {
         ensures { IfOk result (λ runs. runs ≡ self.now.runs) }
     {
         self.runs.share()
+    }
+
+    /// The bytes from `at` on, of what lies in the archive from `start` on and has `len` bytes, as a roll. The runs stay
+    /// as they are.
+    ///
+    /// # Errors
+    ///
+    /// `Damaged`, with the start, where the archive ends before a block of them does.
+    pub fn read_at<D: Disk>(
+        &mut self,
+        disk: &mut D,
+        start: u64,
+        len: u64,
+        at: u64,
+        buf: &mut [u8],
+    ) -> Result<(), ArchiveFault>
+        requires inside { at + length buf.old ≤ len }
+        requires end { start + len < 2 ^ 63 }
+        ensures disk { D.state disk.new ≡ after_query result (D.state disk.old) }
+        ensures kept { Keeps (start + len) D.tells (archive_of (D.state disk.old)) self.old.kept self.new.kept }
+        ensures rest { self.new ≡ record self.old { kept = self.new.kept } }
+        ensures damaged { IfErr result (IsFaultAt start) }
+        ensures exact { IsTrue D.tells → IsRight self.old.kept (archive_of (D.state disk.old))
+            → MatchResult result (λ _. buf.new ≡ slice_range (archive_of (D.state disk.old)) (start + at) (start + at + length buf.old))
+            (IfDamaged (λ _. length (archive_of (D.state disk.old)) < start + len)) }
+    {
+        self.reader.read_at(disk, start, len, at, buf)
     }
 
     /// Makes the place of one more run behind those of the log.
