@@ -15,6 +15,7 @@ invariant_of-self-2 c =
       heads = i.order.heads;
       published = i.order.published;
       versions = i.versions;
+      pending = versions_in i.pending;
       queue = i.queue.items;
       group = i.group;
       floors = i.floors;
@@ -41,4 +42,4 @@ invariant_of-self-2 c =
     ap (λ o. o.heads) c.push_reserved.ensures ∙ ap (λ (xs : List CommitHead). xs ++ head ∷ []) same.heads in
     let published_is : c.push_reserved.new.self.published ≡ v.published = ap (λ o. o.published) c.push_reserved.ensures ∙ same.published in
     let early : latest (with_commit (ordered v) time writes) ≤ time = subst (λ (m : List KeyWrites). latest m ≤ time) after_is c.in_ok-after.ensures.latest in
-    rw (queue_is, heads_are, published_is) (keeps-waiting v label time writes c.self.invariant early later)
+    rw (queue_is, heads_are, published_is) (keeps-waiting v label time writes c.self.invariant.0 early later c.requires.in_range)
