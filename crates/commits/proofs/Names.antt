@@ -1,9 +1,9 @@
 -- The names of the commits in memory: those that wait, and those that a reclaim leaves.
-use Rattle.std.proofs.Common.{◌≡◌, ℕ, zero, suc, ◌+◌, ◌-◌, ◌<◌, ◌≤◌, ◌==◌, ◌&&◌, ◌||◌, nat_lt, nat_le, max, Bool, true, false, cond, List, [], ◌∷◌, ◌++◌, length, take}
+use Rattle.std.proofs.Common.{◌≡◌, ℕ, zero, suc, ◌+◌, ◌-◌, ◌<◌, ◌≤◌, ◌==◌, ◌&&◌, ◌||◌, nat_lt, nat_le, max, Bool, true, false, cond, List, [], ◌∷◌, ◌++◌, length, take, get_or}
 use Rattle.std.proofs.Common.{drop, refl, arith, ap, sym, subst, ◌∙◌, append_assoc}
 use Rattle.std.specs.List.{AllByRecursion}
 use Rattle.std.proofs.lemmas.Bool.Decides.{nat_tests}
-use Rattle.std.proofs.lemmas.List.{take-append-drop}
+use Rattle.std.proofs.lemmas.List.{take-append-drop, take_rest}
 use Rattle.std.proofs.lemmas.List.Elements.{filter-append}
 use Rattle.group.specs.declared.commit_order.CommitHead.{CommitHead}
 use Rattle.group.specs.CommitOrder.{CommitOrderValue, IsRisingAfter, last_time, last_time_after, is_awaited, redeemed, after_redeem, last_published}
@@ -178,3 +178,12 @@ one-put mark first heads names x xs fits are = by-stay (stays mark x) refl
       published_is = are.published_is;
       room = let room = are.room in omega (arith, room);
     }
+
+-- so where the first of the rest is read by its place
+pub next-put : (mark : ℕ) (first : CommitOrderValue) (heads : List CommitHead) (names new : CommitOrderValue) (rest : List CommitHead) (d : CommitHead)
+    → 1 ≤ length rest → length heads ≤ first.room → new ≡ with_left mark (get_or rest 0 d) names → ArePut mark first heads names rest
+    → ArePut mark first heads new (take (length rest - 1) (drop 1 rest))
+next-put mark first heads names new [] d some fits is are = absurd (omega (arith, some))
+next-put mark first heads names new (x ∷ xs) d some fits is are =
+    subst (λ (hs : List CommitHead). ArePut mark first heads new hs) (sym (take_rest (x ∷ xs) 1))
+    (subst (λ (v : CommitOrderValue). ArePut mark first heads v xs) (sym is) (one-put mark first heads names x xs fits are))

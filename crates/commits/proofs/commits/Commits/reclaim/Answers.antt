@@ -25,4 +25,9 @@ invariant_of-self c =
     let mark = c.args.mark in
     let ready : IsPrepared mark v = subst (λ (w : CommitsValue). IsPrepared mark w) (sym c.self.view_is) c.requires.prepared in
     let low : v.reclaimed ≤ mark = subst (λ (w : CommitsValue). w.reclaimed ≤ mark) (sym c.self.view_is) c.requires.later in
-    ?
+    let made : Path (Option (List KeyWrites)) (Some c.in-Some.pending.versions) (Some (forgotten mark i.versions)) =
+    ap (λ (o : Option PendingValue). versions_in o) c.in-Some.ensures.value ∙ ready in
+    let versions_are : c.settle-versions.result.versions ≡ forgotten mark i.versions =
+    c.settle-versions.ensures.versions ∙ (let same : c.in-Some.pending.versions ≡ forgotten mark i.versions = cc in same) in
+    rw (c.settle-versions.ensures.heads, c.settle-versions.ensures.published, versions_are, c.in-Some.ensures.after)
+    (keeps-reclaimed v mark c.self.invariant.0 low c.requires.in_range, tt)
