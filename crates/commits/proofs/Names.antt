@@ -1,6 +1,6 @@
 -- The names of the commits in memory: those that wait, and those that a reclaim leaves.
-use Rattle.std.proofs.Common.{◌≡◌, ℕ, zero, suc, ◌+◌, ◌-◌, ◌<◌, ◌≤◌, ◌==◌, ◌&&◌, ◌||◌, nat_lt, nat_le, max, Bool, true, false, cond, List, [], ◌∷◌, ◌++◌, length, take, get_or}
-use Rattle.std.proofs.Common.{drop, refl, arith, ap, sym, subst, ◌∙◌, append_assoc}
+use Rattle.std.proofs.Common.{◌≡◌, ℕ, zero, suc, ◌+◌, ◌-◌, ◌<◌, ◌≤◌, ◌==◌, ◌&&◌, ◌||◌, nat_lt, nat_le, max, Bool, true, false, cond, List, [], ◌∷◌, ◌++◌}
+use Rattle.std.proofs.Common.{length, take, drop, get_or, refl, arith, ap, sym, subst, ◌∙◌, append_assoc}
 use Rattle.std.specs.List.{AllByRecursion}
 use Rattle.std.proofs.lemmas.Bool.Decides.{nat_tests}
 use Rattle.std.proofs.lemmas.List.{take-append-drop, take_rest}
@@ -161,20 +161,23 @@ pub one-put : (mark : ℕ) (first : CommitOrderValue) (heads : List CommitHead) 
     → length heads ≤ first.room → ArePut mark first heads names (x ∷ xs) → ArePut mark first heads (with_left mark x names) xs
 one-put mark first heads names x xs fits are = by-stay (stays mark x) refl
   where
+    whole : (b : Bool) → stays mark x ≡ b
+        → names.heads ++ cond b (x ∷ left_after mark xs) (left_after mark xs) ≡ first.heads ++ left_after mark heads
+    whole b is =
+        subst (λ (t : Bool). names.heads ++ cond t (x ∷ left_after mark xs) (left_after mark xs) ≡ first.heads ++ left_after mark heads) is are.heads_are
+
     by-stay : (b : Bool) → stays mark x ≡ b
         → ArePut mark first heads (cond b (record names { heads = names.heads ++ x ∷ []; room = names.room - 1 }) names) xs
     by-stay true left =
-        let was : names.heads ++ (x ∷ left_after mark xs) ≡ first.heads ++ left_after mark heads =
-        subst (λ (b : Bool). names.heads ++ cond b (x ∷ left_after mark xs) (left_after mark xs) ≡ first.heads ++ left_after mark heads) left are.heads_are in
         record {
           rising = subst (λ (t : ℕ). IsRisingAfter t xs) (sym (last_time-push 0 names.heads x)) are.rising.2;
-          heads_are = append_assoc names.heads (x ∷ []) (left_after mark xs) ∙ was;
+          heads_are = append_assoc names.heads (x ∷ []) (left_after mark xs) ∙ whole true left;
           published_is = are.published_is;
           room = let room = are.room in omega (arith, room, fits);
         }
     by-stay false gone = record {
       rising = earlier (last_time names.heads) x.time xs are.rising.0 are.rising.2;
-      heads_are = subst (λ (b : Bool). names.heads ++ cond b (x ∷ left_after mark xs) (left_after mark xs) ≡ first.heads ++ left_after mark heads) gone are.heads_are;
+      heads_are = whole false gone;
       published_is = are.published_is;
       room = let room = are.room in omega (arith, room);
     }

@@ -1,5 +1,6 @@
 -- What a reclaim makes memory forget.
-use Rattle.std.specs.Prelude.{ℕ, ◌≡◌, ◌-◌, ◌||◌, Bool, false, nat_lt, List, [], ◌∷◌, ◌++◌, length, take, filter, slice_get, slice_set, Option, Some, None, if◌then◌else◌}
+use Rattle.std.specs.Prelude.{ℕ, ◌≡◌, ◌-◌, ◌||◌, Bool, false, nat_lt, List, [], ◌∷◌, ◌++◌, length, take, filter, slice_get, slice_set, Option, Some, None}
+use Rattle.std.specs.Prelude.{if◌then◌else◌}
 use Rattle.chains.specs.KeyWrites.{forgotten}
 use Rattle.group.specs.CommitOrder.{CommitOrderValue}
 use Rattle.group.specs.declared.commit_order.CommitHead.{CommitHead}

@@ -44,7 +44,8 @@ invariant_of-self-2 c =
     let published_is : c.push_reserved.new.self.published ≡ v.published = ap (λ o. o.published) c.push_reserved.ensures ∙ same.published in
     let early : latest (with_commit (ordered v) time writes) ≤ time = subst (λ (m : List KeyWrites). latest m ≤ time) after_is c.in_ok-after.ensures.latest in
     let longer : length (v.heads ++ head ∷ []) ≡ length v.heads + 1 = simp length-append refl in
-    let names_are : length c.heads.result.now + 1 ≡ length (v.heads ++ head ∷ []) = ap (λ (hs : List CommitHead). length hs + 1) c.heads.ensures.is ∙ sym longer in
+    let names_are : length c.heads.result.now + 1 ≡ length (v.heads ++ head ∷ []) =
+    ap (λ (hs : List CommitHead). length hs + 1) c.heads.ensures.is ∙ sym longer in
     let room : HasRoom c.reserve_names.new.pending (length (v.heads ++ head ∷ [])) =
     subst (λ (n : ℕ). HasRoom c.reserve_names.new.pending n) names_are c.in_ok-reserve_names.ensures.ok in
     rw (queue_is, heads_are, published_is, c.in_ok-reserve_names.ensures.versions)
