@@ -1,6 +1,6 @@
 #!/usr/bin/env python3
 """Two processes and one store: who comes second is refused, nothing is touched, and a process that is
-killed gives the store up. A folder without a store stays as it is.
+killed gives the store up. A folder without a store stays as it is. The threads of `stress` count their commits.
 
     tests/two_processes.py PROGRAM
 """
@@ -94,6 +94,12 @@ def wrong_folders(program, base):
     assert sorted(os.listdir(empty)) == ["archive", "heap", "status"]
 
 
+def threads_count(program):
+    """Each round of each writer is a commit, a microsecond after the one before."""
+    assert run(program, ["stress", "4", "2", "25"]) == (0, "commits 100 last 100\n", "")
+    assert run(program, ["stress", "1", "0", "1"]) == (0, "commits 1 last 1\n", "")
+
+
 def main():
     program = os.path.abspath(sys.argv[1])
     with tempfile.TemporaryDirectory() as base:
@@ -103,6 +109,7 @@ def main():
         second_is_refused(program, folder)
         killed_gives_up(program, folder)
         wrong_folders(program, base)
+    threads_count(program)
     print("two processes: ok")
 
 
