@@ -177,6 +177,9 @@ class Endless(Machine):
         self.job = EndlessJob("reclaim", mark, order=order, front=front)
         return ["started"]
 
+    def grow(self) -> list[str]:
+        return ["refused: not growable"]
+
     # ---- whole lines
 
     def flush(self) -> list[str]:
