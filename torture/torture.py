@@ -348,7 +348,7 @@ KINDS = {
 
 
 # the kinds that try stores of profile 4 too
-WITH_ENDLESS = ("stops", "kills", "full")
+WITH_ENDLESS = ("stops", "kills", "full", "refused")
 # what of a kind is left out where there is no compiler
 NEEDS_COMPILER = {"stops": CALLS_UNSEEN, "refused": "refused calls"}
 
