@@ -177,9 +177,6 @@ class Endless(Machine):
         self.job = EndlessJob("reclaim", mark, order=order, front=front)
         return ["started"]
 
-    def grow(self) -> list[str]:
-        return ["refused: not growable"]
-
     # ---- whole lines
 
     def flush(self) -> list[str]:
