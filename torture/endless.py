@@ -179,6 +179,10 @@ class Endless(Machine):
 
     # ---- whole lines
 
+    def grow(self) -> list[str]:
+        """It has no slots, whether a job runs or not."""
+        return ["refused: not growable"]
+
     def flush(self) -> list[str]:
         while self.queue:
             if self.turn is None and self.bars_groups():
