@@ -46,7 +46,7 @@ def _news(before: timestore.Fields, fields: timestore.Fields) -> tuple[bytes, ..
 
 
 class _Scale(NamedTuple):
-    """Where the times from the first change to the last commit are drawn. What still stands reaches beyond them."""
+    """Where the times from the first change to the last commit are drawn. What still holds reaches beyond them."""
 
     start: int
     last: int

@@ -15,7 +15,7 @@ CHART_MOST = 60
 
 
 class Frame(NamedTuple):
-    """What stands around each page."""
+    """What is around each page."""
 
     folder: str
     copied: str  # when the copy was made that is shown; empty where there is none
@@ -143,7 +143,7 @@ def records(past: Past, moment: Moment) -> Markup:
     shown = rows[first : first + ROWS_MOST]
     lines = [_row(element("a", record, href=f"/relations/{number}/records/{record}"), _value(names, fields)) for record, fields in shown]
     return join(
-        element("p", f"Change {step + 1:,} of {len(moments):,}: what stood at ", _moment(time), " UTC", id="moment"),
+        element("p", f"Change {step + 1:,} of {len(moments):,}: the records at ", _moment(time), " UTC", id="moment"),
         element("p", _steps(number, moments, step), class_="links"),
         element("p", _relation_links(past, number, time, step), class_="links"),
         _table(_counted(len(rows), "record"), ("Record", "Value"), lines) if rows else element("p", "No record had a value then."),
@@ -191,7 +191,7 @@ def record(frame: Frame, past: Past, number: int, name: int) -> str:
     picture = chart.timeline(found[-CHART_MOST:], f"record {name}", past.last)
     cut = element("p", f"The picture shows the last {CHART_MOST} of {len(found):,} spans.") if len(found) > CHART_MOST else None
     links = element("p", back, element("a", "These versions as CSV", href=f"/relations/{number}/records/{name}.csv", download=True), class_="links")
-    columns = ("Version", "From", "Up to", "Stood for", "Label", "Value")
+    columns = ("Version", "From", "Up to", "Lasted", "Label", "Value")
     before = {span.version: span.fields for span in found if span.version}
     lines = [_span_row(past, number, span, before.get(span.version - 1)) for span in reversed(found)]
     return frame.page(title, links, picture, cut, _table(f"{_counted(len(rows), 'version')}, the last one first", columns, lines))

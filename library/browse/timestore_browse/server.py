@@ -104,7 +104,7 @@ class Browser:
         self.past = None
 
     def frame(self) -> pages.Frame:
-        """What stands around the pages."""
+        """What is around the pages."""
         notice = ""
         if self.past is not None and self._is_in_use:
             notice = f"Another process has the store open: this is still the copy of {self._copied}."

@@ -35,7 +35,7 @@ def records_csv(past: Past, relation: int, time: int) -> str:
 
 
 def versions_csv(past: Past, rows: list[timestore.Row]) -> str:
-    """Versions with the times from and up to which they stood; `to` is empty where one still stands."""
+    """Versions with the times from and up to which they held; `to` is empty where one still holds."""
     columns = _columns(row.fields for row in rows)
     lines = (_version_cells(past, row, len(columns)) for row in rows)
     return _csv([["record", "from", "from_utc", "to", "to_utc", "label", "fields", *columns], *lines])

@@ -50,7 +50,7 @@ def time_of(text: str) -> int:
 
 
 def lasting(micros: int) -> str:
-    """How long a version stood, in the largest unit and the one below it."""
+    """How long a version lasted, in the largest unit and the one below it."""
     units = (("d", 86_400_000_000), ("h", 3_600_000_000), ("min", 60_000_000), ("s", 1_000_000), ("ms", 1_000), ("µs", 1))
     for place, (name, size) in enumerate(units):
         if micros >= size:
