@@ -8,7 +8,8 @@ Each case has a seed of its own: `--seed N --only KIND` begins with the one that
 of `pump` and `job` lines makes one device call a line, so the files after each line are all that a
 stop may find; what was written since the last sync of a file may be torn, and is: to a prefix, to
 what stood there before, or to other bytes. What is left is opened and asked for every record, and
-compared with the small machine (machine.py) and with a plain reader of the format (image.py).
+compared with the small machine (machine.py) and with a plain reader of the format (image.py); of
+profile 4 with those of endless.py and chains.py. That profile is tried by all kinds but forged.
 
 KIND: stops, kills, full (a disk without room), forged, refused (a call of the system). The status
 is 1 where a case fails; a script is left that shows it (`sh SCRIPT PROGRAM`). It is 3 where there
