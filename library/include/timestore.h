@@ -108,7 +108,7 @@ enum {
     TS_NOT_YET = -16,       /* a: the time of the last commit; a later one may still change the answer */
     TS_EMPTY_INTERVAL = -17,
     TS_DAMAGED = -18,       /* what a stop cannot leave. b: the area; a: of the status area the slot, of the heap
-                               the chain's first extent, of the archive the run's first byte */
+                               the chain's first extent, of the archive the first byte of the run or of the roll */
     TS_NOT_A_STORE = -19,
     TS_BUSY = -20,          /* one slot is written at a time: pump the other one; ts_open: the handle is full */
     TS_JOB_BUSY = -21,      /* an archive, a reclaim, a floor or a growth is being made */
@@ -228,9 +228,10 @@ int32_t ts_scan_between(ts *h, uint64_t view, uint16_t relation, uint64_t from, 
                         const uint8_t *archive, size_t archive_len, ts_row *rows, size_t row_count,
                         uint8_t *out, size_t len, ts_info *info);
 
-/* The times of the commits with a label, rising; a: how many. A store whose log lies in the heap, once it is opened
-   again, tells no commit up to its last reclaim. */
-int32_t ts_times_of(ts *h, uint64_t label, uint64_t *times, size_t count, ts_info *info);
+/* The times of the commits with a label, rising; a: how many. It is lent the archive as those queries are: where the log
+   lies in the heap, the names of the commits up to the last reclaim are read there. */
+int32_t ts_times_of(ts *h, uint64_t label, const uint8_t *archive, size_t archive_len, uint64_t *times, size_t count,
+                    ts_info *info);
 
 /* Begins a copy of the versions that ended by a time into the archive. It takes a slot or, where the log lies in the
    heap, an extent. */

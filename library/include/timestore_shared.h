@@ -104,7 +104,7 @@ int32_t ts_shared_between(ts_shared *store, uint64_t view, uint16_t relation, ui
 int32_t ts_shared_scan_between(ts_shared *store, uint64_t view, uint16_t relation, uint64_t from, uint64_t upto,
                                ts_row *rows, size_t row_count, uint8_t *out, size_t len, ts_info *info);
 
-/* The times of the commits with a label, rising, as ts_times_of; a: how many. */
+/* The times of the commits with a label, rising, as ts_times_of; a: how many. The archive is read where that needs it. */
 int32_t ts_shared_times_of(ts_shared *store, uint64_t label, uint64_t *times, size_t count, ts_info *info);
 
 /* ---- jobs, which return once they are done, while commits go on. One is made at a time: TS_JOB_BUSY. */

@@ -13,6 +13,8 @@ typedef struct words {
     uint64_t *times;
     const uint8_t *value;
     size_t len;
+    struct ts_shared *of; /* of a call that may read the archive: the store, and where it notes why that can't be read */
+    ts_cause *cause;
 } words;
 
 typedef int32_t asking(ts *store, const words *words, ts_info *info);

@@ -198,7 +198,18 @@ static int32_t submit(ts *store, const words *w, ts_info *info) { return ts_subm
 
 static int32_t resume(ts *store, const words *w, ts_info *info) { return ts_redeem(store, w->a, info); }
 
-static int32_t times_of(ts *store, const words *w, ts_info *info) { return ts_times_of(store, w->a, w->times, w->len, info); }
+/* It is lent the archive where it needs it. */
+static int32_t times_of(ts *store, const words *w, ts_info *info) {
+    static const uint8_t none[1];
+    const uint8_t *archive;
+    size_t len;
+    int32_t code = ts_times_of(store, w->a, none, 0, w->times, w->len, info);
+    if (code != TS_NEEDS_ARCHIVE) return code;
+    code = ts_file_archive(w->of->file, &archive, &len);
+    if (code == TS_OK) return ts_times_of(store, w->a, archive, len, w->times, w->len, info);
+    if (code == TS_SYSTEM) *w->cause = *tsi_last_cause(); /* another thread may have asked */
+    return code;
+}
 
 static int32_t archive(ts *store, const words *w, ts_info *info) { return ts_archive(store, w->a, info); }
 
@@ -226,11 +237,11 @@ static int32_t go_on(ts *store, const words *w, ts_info *info) {
 
 int32_t ts_shared_put(ts_shared *s, uint16_t relation, uint64_t record, const uint8_t *value, size_t value_len,
                       uint64_t label, uint64_t now, ts_info *info) {
-    return ask_one(s, put_one, (words){record, label, now, relation, NULL, value, value_len}, info);
+    return ask_one(s, put_one, (words){.a = record, .b = label, .c = now, .relation = relation, .value = value, .len = value_len}, info);
 }
 
 int32_t ts_shared_delete(ts_shared *s, uint16_t relation, uint64_t record, uint64_t label, uint64_t now, ts_info *info) {
-    return ask_one(s, delete_one, (words){record, label, now, relation, NULL, NULL, 0}, info);
+    return ask_one(s, delete_one, (words){.a = record, .b = label, .c = now, .relation = relation}, info);
 }
 
 int32_t ts_shared_begin(ts_shared *s, ts_info *info) { return ask(s, ANSWERS, begin, (words){.a = 0}, info); }
@@ -242,7 +253,10 @@ int32_t ts_shared_commit(ts_shared *s, uint64_t txn, uint64_t label, uint64_t no
 int32_t ts_shared_resume(ts_shared *s, uint64_t ticket, ts_info *info) { return ask(s, COMMITS, resume, (words){.a = ticket}, info); }
 
 int32_t ts_shared_times_of(ts_shared *s, uint64_t label, uint64_t *times, size_t count, ts_info *info) {
-    return ask(s, ANSWERS, times_of, (words){.a = label, .times = times, .len = count}, info);
+    words w = {.a = label, .times = times, .len = count, .of = s, .cause = tsi_last_cause()};
+    int32_t code = ask(s, ANSWERS, times_of, w, info);
+    if (code == TS_SYSTEM) errno = tsi_last_cause()->number;
+    return code;
 }
 
 int32_t ts_shared_archive(ts_shared *s, uint64_t upto, ts_info *info) { return ask(s, JOBS, archive, (words){.a = upto}, info); }

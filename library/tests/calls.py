@@ -131,6 +131,7 @@ def test_refused_call(folder: Path) -> None:
 def has_all(store: timestore.Store) -> None:
     assert [store.at(1, 7, time) for time in (99, 199, 200, 300)] == [None, (b"a",), (b"b",), (b"c",)]
     assert [row[1:] for row in store.between(1, 7, 100, 301)] == [(100, 200, (b"a",)), (200, 300, (b"b",)), (300, 301, (b"c",))]
+    assert store.times_of(9) == [100, 200, 300] and store.times_of(8) == []
 
 
 def test_endless(folder: Path) -> None:
@@ -142,7 +143,7 @@ def test_endless(folder: Path) -> None:
     step = timestore.Step
     with timestore.Store(folder) as store:
         for time, value in ((100, b"a"), (200, b"b"), (300, b"c")):
-            store.put(1, 7, value, now=time)
+            store.put(1, 7, value, label=9, now=time)
         refuses(timestore.NothingToDo, store.reclaim)
         assert refuses(timestore.NotYet, store.archive, 301).last == 300
         store.archive_start(200)

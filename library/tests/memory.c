@@ -37,7 +37,7 @@ static void answers(life *l, uint64_t time) {
 static void times(life *l, uint64_t last) {
     uint64_t found[8];
     ts_info info;
-    DOES(ts_times_of(ts_file_store(l->file), 9, found, 8, &info));
+    DOES(ts_times_of(ts_file_store(l->file), 9, NONE, found, 8, &info));
     HOLDS(are_times(found, info.a, last));
 }
 

@@ -106,7 +106,7 @@ static int file_has(ts_file *file, uint64_t record, uint64_t time, const char *t
 static void has_times(ts *h, int groups) {
     ts_info info;
     uint64_t times[8];
-    CHECK(TS_OK, ts_times_of(h, 9, times, 8, &info));
+    CHECK(TS_OK, ts_times_of(h, 9, NONE, times, 8, &info));
     HOLDS(info.a == (uint64_t)(2 * groups));
     for (int group = 1; group <= groups; group++)
         HOLDS(times[2 * group - 2] == LASTS[group] - 1 && times[2 * group - 1] == LASTS[group]);

@@ -166,9 +166,9 @@ static void test_rows(ts_file *file) {
     CHECK(TS_OK, ts_scan_between(h, view.a, 1, 150, 401, NONE, rows, 8, out, sizeof out, &info));
     HOLDS(info.a == 4 && rows[2].record == 8 && rows[2].from == 200 && rows[2].upto == 400);
     uint64_t times[4];
-    CHECK(TS_OK, ts_times_of(h, 9, times, 4, &info));
+    CHECK(TS_OK, ts_times_of(h, 9, NONE, times, 4, &info));
     HOLDS(info.a == 2 && times[0] == 100 && times[1] == 400);
-    CHECK(TS_SMALL, ts_times_of(h, 9, times, 1, &info));
+    CHECK(TS_SMALL, ts_times_of(h, 9, NONE, times, 1, &info));
     HOLDS(info.a == 2);
     uint64_t later = commit_text(file, 7, "d", 9, 0);
     HOLDS(later == 401);
@@ -481,10 +481,46 @@ static int had(ts_file *file, uint64_t time, const char *text) {
     return code == TS_OK && info.a == count && memcmp(value, wanted, count) == 0;
 }
 
-/* What stood when, whatever is archived and reclaimed. */
+/* All commits have label 9. They come at 100, 200, 300, 400 and 500, and from then on just behind one another. */
+static void has_times(ts_file *file) {
+    enum { MOST = 128 };
+    uint64_t times[MOST];
+    const uint8_t *archive;
+    size_t len;
+    ts_info last, info;
+    ts *h = ts_file_store(file);
+    CHECK(TS_OK, ts_last(h, &last));
+    CHECK(TS_OK, ts_file_archive(file, &archive, &len));
+    CHECK(TS_OK, ts_times_of(h, 9, archive, len, times, MOST, &info));
+    for (uint64_t n = 0; n < info.a; n++) HOLDS(times[n] == (n < 5 ? 100 * (n + 1) : 496 + n));
+    HOLDS(info.a > 0 && times[info.a - 1] == last.a);
+    CHECK(TS_OK, ts_times_of(h, 8, archive, len, times, MOST, &info));
+    HOLDS(info.a == 0);
+}
+
+/* What stood when, and the times of the label, whatever is archived and reclaimed. */
 static void has_all(ts_file *file) {
     HOLDS(had(file, 99, NULL) && had(file, 199, "a") && had(file, 200, "b") && had(file, 300, "c"));
     HOLDS(had(file, 400, "d"));
+    has_times(file);
+}
+
+/* The names of two commits lie in a roll of the archive, behind a run of 37 bytes. */
+static void test_endless_roll(ts_file *file, const uint8_t *archive, size_t len) {
+    uint8_t broken[37 + 32];
+    uint64_t times[8];
+    ts_info info;
+    ts *h = ts_file_store(file);
+    HOLDS(len == sizeof broken);
+    CHECK(TS_NEEDS_ARCHIVE, ts_times_of(h, 9, NONE, times, 8, &info));
+    CHECK(TS_SMALL, ts_times_of(h, 9, archive, len, times, 4, &info));
+    HOLDS(info.a == 5);
+    CHECK(TS_DAMAGED, ts_times_of(h, 9, archive, len - 1, times, 8, &info));
+    HOLDS(info.a == 37 && info.b == TS_ARCHIVE);
+    memcpy(broken, archive, len);
+    memset(broken + 37 + 8, 0, 8); /* the first one's time */
+    CHECK(TS_DAMAGED, ts_times_of(h, 9, broken, len, times, 8, &info));
+    HOLDS(info.a == 37 && info.b == TS_ARCHIVE);
 }
 
 /* Archives until the heap has no extent for another one; that of all that is published takes the last. A reclaim makes
@@ -551,7 +587,7 @@ static void test_endless(const char *folder) {
     CHECK(TS_NOTHING_TO_DO, ts_archive(h, 200, &info));
     CHECK(TS_NOTHING_TO_DO, ts_reclaim(h, &info));
     CHECK(TS_OK, ts_file_archive(file, &archive, &len));
-    HOLDS(len == 37 + 32); /* a version, and the names of two commits */
+    test_endless_roll(file, archive, len);
     has_all(file);
     test_endless_room(file);
     ts_file_close(file);

@@ -105,7 +105,7 @@ static void compare(const work *works) {
     uint64_t view = info.a;
     for (const work *w = works; w < works + THREADS; w++) {
         uint64_t times[COMMITS + 1];
-        CHECK(TS_OK, ts_times_of(h, w->number, times, COMMITS + 1, &info));
+        CHECK(TS_OK, ts_times_of(h, w->number, NONE, times, COMMITS + 1, &info));
         HOLDS(info.a == w->done || info.a == w->done + 1);
         for (uint64_t n = 0; n < w->done; n++) {
             snprintf(text, sizeof text, "%" PRIu64, n + 1);
@@ -401,8 +401,17 @@ static void vacuumed(void) {
     ts_file_close(file);
 }
 
-/* The same where the log lies in the heap, and it is refused nothing. */
+/* The times of a label that commits 1 to this one have. */
+static bool has_times(uint64_t label, uint64_t last) {
+    uint64_t times[16];
+    bool same = ts_shared_times_of(s, label, times, 16, &info) == TS_OK && info.a == last;
+    for (uint64_t n = 0; n < last && same; n++) same = times[n] == n + 1;
+    return same;
+}
+
+/* The same where the log lies in the heap, and it is refused nothing. Up to its mark the labels are in the archive. */
 static void vacuumed_in_the_heap(void) {
+    uint64_t times[16];
     ts_policy policy = {.every = 1000, .keep = 2, .grows = true};
     snprintf(folder, sizeof folder, "%s/vacuumed-in-the-heap", top);
     endless_format(folder);
@@ -422,6 +431,7 @@ static void vacuumed_in_the_heap(void) {
     open_it();
     CHECK(TS_OK, ts_shared_view(s, &info));
     uint64_t view = info.a;
+    HOLDS(has_times(1, 11));
     HOLDS(view_has(view, 7, 1, "1") && view_has(view, 7, 11, "11"));
     CHECK(TS_OK, ts_shared_archive(s, 11, &info));
     CHECK(TS_NOTHING_TO_DO, ts_shared_archive(s, 11, &info));
@@ -431,6 +441,13 @@ static void vacuumed_in_the_heap(void) {
     HOLDS(view_has(view, 7, 1, "1"));
     CHECK(TS_OK, ts_shared_view(s, &info));
     HOLDS(view_has(info.a, 7, 1, "1") && view_has(info.a, 7, 11, "11"));
+    ts_shared_free(s);
+    open_it();
+    faults_refuse_reads(EIO);
+    CHECK(TS_SYSTEM, ts_shared_times_of(s, 1, times, 16, &info));
+    HOLDS(errno == EIO && was_caused(NULL, "pread", "archive", EIO));
+    faults_refuse_reads(0);
+    HOLDS(has_times(1, 11) && has_times(2, 0));
     ts_shared_free(s);
 }
 

@@ -273,7 +273,7 @@ static void compare_files(const char *folder) {
         check_rows(record, rows, info.a, out, end);
     }
     for (uint64_t label = 0; label < 3; label++) {
-        CHECK(TS_OK, ts_times_of(h, label, times, count + 1, &info));
+        CHECK(TS_OK, ts_times_of(h, label, archive, len, times, count + 1, &info));
         check_times(times, info.a, label);
     }
     ts_file_close(file);

@@ -698,7 +698,8 @@ static void a_refused_sync_behind_the_gate(void) {
     for (int n = 0; n < 2; n++) { /* the gate was written */
         reopen();
         HOLDS(!tells_a_refusal(file));
-        CHECK(TS_OK, ts_times_of(h, 9, times, 2, &info));
+        lent area = archive();
+        CHECK(TS_OK, ts_times_of(h, 9, area.at, area.len, times, 2, &info));
         HOLDS(info.a == 1 && times[0] == 140);
     }
 }

@@ -1,9 +1,8 @@
 -- What the store's calls do, each in one word: what its engine's call does.
-use Rattle.std.specs.Prelude.{◌≡◌, ◌==◌, ℕ, Bool, true, List, Result}
+use Rattle.std.specs.Prelude.{◌==◌, ℕ, Bool, true, Result}
 use Rattle.floors.specs.Floors.{FloorsValue}
 use Rattle.snapshot.specs.Txn.{TxnValue}
 use Rattle.group.specs.Tickets.{TicketValue}
-use Rattle.group.specs.CommitOrder.{times_of}
 use Rattle.group.specs.declared.answers.BeginFault.{BeginFault}
 use Rattle.group.specs.declared.answers.PumpFault.{PumpFault}
 use Rattle.group.specs.declared.answers.Redeemed.{Redeemed}
@@ -16,7 +15,7 @@ use Rattle.log_store.specs.Submits as log_submits
 use Rattle.any_store.specs.declared.engine.Engine.TheVariants.{Slots, Log}
 use Rattle.any_store.specs.declared.steps.Did.{Did}
 use Rattle.any_store.specs.Steps.{PumpsSlots, PumpsLog}
-use Rattle.any_store.specs.Values.{StoreValue, OfEngine, ByEngine}
+use Rattle.any_store.specs.Values.{StoreValue, ByEngine}
 
 -- the time of the last published commit
 abbrev pub last : StoreValue → ℕ
@@ -53,7 +52,3 @@ Redeems old ticket answer new = ByEngine (λ s s'. slots.Redeems s ticket answer
 -- a step of a group
 abbrev pub Pumps : Bool → StoreValue → Result Did PumpFault → StoreValue → Type 0
 Pumps tells old answer new = ByEngine (PumpsSlots tells answer) (PumpsLog tells answer) old new
-
--- the times of the published commits with a label that are in memory, rising
-abbrev pub IsTimesOf : StoreValue → ℕ → List ℕ → Type 0
-IsTimesOf v label times = OfEngine (λ s. slots.IsTimesOf s label times) (λ l. times ≡ times_of label (commits.order_of l.commits)) v

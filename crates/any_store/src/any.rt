@@ -1,9 +1,9 @@
 //! The store, and its calls but queries and jobs.
-ghost use Rattle.std.specs.Prelude.{◌≡◌, IsTrue, IfOk};
+ghost use Rattle.std.specs.Prelude.{◌≡◌, IsTrue};
 ghost use Rattle.disk.specs.Areas.{AreSound};
 ghost use Rattle.any_store.specs.Values.{disk_of, profile_of};
 ghost use Rattle.any_store.specs.Places.{log_area, job_area};
-ghost use Rattle.any_store.specs.Calls.{last, floors, has_own_floors, Begins, Aborts, Submits, Redeems, Pumps, IsTimesOf};
+ghost use Rattle.any_store.specs.Calls.{last, floors, has_own_floors, Begins, Aborts, Submits, Redeems, Pumps};
 
 use crate::engine::Engine;
 use crate::steps::{Did, pump_log, pump_slots};
@@ -12,7 +12,6 @@ use floors::Floors;
 use group::{BeginFault, PumpFault, Redeemed, SubmitFault, Submitted, Ticket};
 use log_store::LogStore;
 use snapshot::Txn;
-use std::alloc::AllocError;
 use std::marker::Model;
 use store::Store as SlotStore;
 
@@ -159,16 +158,6 @@ impl<D: Disk> Store<D> {
         match &mut self.engine {
             Engine::Slots(store) => store.redeem(ticket),
             Engine::Log(store) => store.redeem(ticket),
-        }
-    }
-
-    /// The times of the published commits with a label, rising, in microseconds since 1970.
-    pub fn times_of(&self, label: u64) -> Result<Vec<u64>, AllocError>
-        ensures { IfOk result (λ times. IsTimesOf self.now label times.items) }
-    {
-        match &self.engine {
-            Engine::Slots(store) => store.times_of(label),
-            Engine::Log(store) => store.times_of(label),
         }
     }
 }

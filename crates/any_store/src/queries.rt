@@ -1,6 +1,7 @@
-//! Views, and the queries over them.
+//! Views and the queries over them, and the times of a label.
 ghost use Rattle.std.specs.Prelude.{◌≡◌, IfOk};
-ghost use Rattle.any_store.specs.Queries.{IsViewOf, AnswersAtView, AnswersScanAt, AnswersRows, AnswersScanRows};
+ghost use Rattle.any_store.specs.Queries.{IsViewOf, AnswersAtView, AnswersScanAt, AnswersRows, AnswersScanRows, AnswersTimes, has_rolls};
+ghost use Rattle.any_store.specs.Values.{with_disk};
 
 use crate::any::Store;
 use crate::engine::Engine;
@@ -94,6 +95,39 @@ impl<D: Disk> Store<D> {
         match &mut self.engine {
             Engine::Slots(store) => store.scan_between(view, relation, a, b),
             Engine::Log(store) => store.scan_between(view, relation, a, b),
+        }
+    }
+
+    /// The times of the published commits with a label, rising, in microseconds since 1970. Where the log
+    /// lies in the heap those up to its reclaim mark are read in the archive: `Device`, `NoMemory` and
+    /// `Damaged` where they are met. Else `NoMemory` alone is a refusal.
+    pub fn times_of(&mut self, label: u64) -> Result<Vec<u64>, QueryFault>
+        ensures { AnswersTimes D.tells self.old label result self.new }
+    {
+        match &mut self.engine {
+            Engine::Slots(store) => Ok(store.times_of(label)?),
+            Engine::Log(store) => store.times_of(label),
+        }
+    }
+
+    /// The same where the archive is read on this disk, in place of the store's. What it holds is the caller's to
+    /// see to.
+    pub fn times_over<E: Disk>(&self, disk: &mut E, label: u64) -> Result<Vec<u64>, QueryFault>
+        ensures { AnswersTimes E.tells (with_disk self.now (E.state disk.old)) label result (with_disk self.now (E.state disk.new)) }
+    {
+        match &self.engine {
+            Engine::Slots(slots) => Ok(slots.times_of(label)?),
+            Engine::Log(log) => log.times_over(disk, label),
+        }
+    }
+
+    /// Whether some times of labels are read in the archive: names of commits lie there.
+    pub fn has_rolls(&self) -> bool
+        ensures { result ≡ has_rolls self.now }
+    {
+        match &self.engine {
+            Engine::Slots(_) => false,
+            Engine::Log(log) => log.has_rolls(),
         }
     }
 }

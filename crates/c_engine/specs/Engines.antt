@@ -1,6 +1,8 @@
 -- What the calls of an engine do to its store.
 use Rattle.std.specs.Prelude.{◌≡◌, ◌≢◌, ◌⊎◌, ◌==◌, ◌&&◌, ◌%◌, ℕ, Bool, true, false, ℤ, List, [], filter, length, take, nat_le, Result, Ok, Err, Option, Some}
 use Rattle.std.specs.Prelude.{None, MatchBool, MatchOption}
+use Rattle.std.specs.declared.alloc.Global.{Global}
+use Rattle.std.specs.declared.vec.Vec.{Vec}
 use Rattle.disk.specs.Areas.{Areas, AreSound, Image}
 use Rattle.disk.specs.Calls.{fresh_on}
 use Rattle.group.specs.Tickets.{TicketValue}
@@ -18,7 +20,7 @@ use Rattle.recovery.specs.declared.fault.OpenFault.{OpenFault}
 use Rattle.recovery.specs.declared.fault.OpenFault.TheVariants.{Device}
 use Rattle.snapshot.specs.Txn.{TxnValue, AreTxnWrites}
 use Rattle.snapshot.specs.declared.txn.TxnFault.{TxnFault}
-use Rattle.any_store.specs.Calls.{Begins, Aborts, Submits, Redeems, Pumps, IsTimesOf, last, floors}
+use Rattle.any_store.specs.Calls.{Begins, Aborts, Submits, Redeems, Pumps, last, floors}
 use Rattle.any_store.specs.Jobs.{StartsArchive, StartsReclaim, StartsFloor, StartsGrowth, PumpsJob}
 use Rattle.any_store.specs.Opens.{Opens}
 use Rattle.any_store.specs.Places.{log_area, job_area}
@@ -28,10 +30,12 @@ use Rattle.any_store.specs.declared.steps.Did.{Did}
 use Rattle.any_store.specs.declared.steps.JobDid.{JobDid}
 use Rattle.store.specs.declared.job.StartFault.{StartFault}
 use Rattle.timequery.specs.View.{ViewValue}
+use Rattle.timequery.specs.declared.fault.QueryFault.{QueryFault}
 use Rattle.c_engine.specs.Codes.{IsOpenCode, begin_code, txn_code, IsSubmitCode, pump_code, IsStartCode, code_number}
 use Rattle.c_engine.specs.FreePlaces.{AllTaken}
 use Rattle.c_engine.specs.Held.{transaction_under, ticket_under, view_in, named, last_number, SameNumbers, IsKept, IsTaken, IsWritten}
 use Rattle.c_engine.specs.HostCalls.{HostCall, call_in, Tells}
+use Rattle.c_engine.specs.Queries.{LentTimes, IsFaultCode}
 use Rattle.c_engine.specs.Steps.{call_of, told_step, told_due, of_group, of_job}
 use Rattle.c_engine.specs.declared.code.Call.{Call}
 use Rattle.c_engine.specs.declared.code.Code.{Code}
@@ -293,10 +297,15 @@ abbrev pub AreTimesTold : List ℕ → Code → Info → List ℕ → Type 0
 AreTimesTold found said info times =
     (info.a ≡ length found) × MatchBool (nat_le (length found) (length times)) ((said ≡ code.Ok) × (take info.a times ≡ found)) (said ≡ code.Small)
 
--- the times of the commits with a label; after a refused call of those that were published before it
-abbrev pub TellsLabels : ℕ → Engine → Code → Info → List ℕ → Type 0
-TellsLabels label e said info times = MatchBool (asks e.state) (said ≡ code.Pending)
-    ((said ≡ code.NoMemory) ⊎ ((found : List ℕ) × IsTimesOf e.store label found × AreTimesTold (published_of e.state e.before found) said info times))
+-- the times that were found are told, after a refused call those that were published before it; or the code says why they are not told
+abbrev pub TellsFound : Result (Vec ℕ Global) QueryFault → Engine → Code → Info → List ℕ → Type 0
+TellsFound (Ok found) e said info times = AreTimesTold (published_of e.state e.before found.items) said info times
+TellsFound (Err why) e said info times = IsFaultCode why said info
+
+-- the times of the commits with a label, over the archive that is lent
+abbrev pub TellsLabels : List ℕ → ℕ → Engine → Code → Info → List ℕ → Type 0
+TellsLabels archive label e said info times = MatchBool (asks e.state) (said ≡ code.Pending)
+    ((answer : Result (Vec ℕ Global) QueryFault) × LentTimes archive e.store label answer × TellsFound answer e said info times)
 
 -- ---- views
 

@@ -18,7 +18,8 @@ use Rattle.archive.specs.Readers.{kept_of}
 use Rattle.archive.specs.declared.run.RunEntry.{RunEntry}
 use Rattle.c_engine.specs.RelayState.{slices_state}
 use Rattle.snapshot.specs.Txn.{seen_by}
-use Rattle.any_store.specs.Values.{archive_of}
+use Rattle.any_store.specs.Queries.{AnswersTimes, has_rolls}
+use Rattle.any_store.specs.Values.{StoreValue, archive_of, with_disk}
 use Rattle.timequery.specs.Archives.{ArchiveValue}
 use Rattle.timequery.specs.Asked.{alone, FindsAt, FindsScanAt, FindsRows, FindsScanRows}
 use Rattle.timequery.specs.View.{ViewValue, AnswersAt, AnswersBetween, RefusesRecent, RefusesRecentScan, RefusesRecentRows}
@@ -101,6 +102,16 @@ abbrev pub LentScanRows : List ℕ → ArchiveValue → ViewValue → ℕ → �
 LentScanRows archive runs view relation a b answer =
     MatchBool (is_none archive view) (RecentScanRows view relation a b answer) (Over archive runs
     (λ old new. FindsScanRows alone true old view relation a b answer new))
+
+-- no byte is lent, though names of commits lie in the archive
+abbrev pub lacks_rolls : List ℕ → StoreValue → Bool
+lacks_rolls archive v = (length archive == 0) && has_rolls v
+
+-- the times of a label over the archive that is lent; where none is and some lie there, it is needed
+abbrev pub LentTimes : List ℕ → StoreValue → ℕ → Result (Vec ℕ Global) QueryFault → Type 0
+LentTimes archive v label answer =
+    MatchBool (lacks_rolls archive v) (answer ≡ Err NeedsDisk) ((before after : Lent) × IsOver archive before
+    × AnswersTimes true (with_disk v (slices_state before.disk)) label answer (with_disk v (slices_state after.disk)))
 
 -- ---- codes and bytes
 

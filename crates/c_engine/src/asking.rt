@@ -1,9 +1,11 @@
 //! The store's views and queries: nothing else of this crate asks for them.
 ghost use Rattle.std.specs.Prelude.{true, IfOk};
-ghost use Rattle.any_store.specs.Queries.{IsViewOf};
+ghost use Rattle.any_store.specs.Queries.{IsViewOf, AnswersTimes};
+ghost use Rattle.any_store.specs.Values.{with_disk};
 ghost use Rattle.timequery.specs.Archives.{ArchiveValue};
 ghost use Rattle.timequery.specs.Asked.{alone, FindsAt, FindsScanAt, FindsRows, FindsScanRows};
 ghost use Rattle.c_engine.specs.Queries.{IsOver, over};
+ghost use Rattle.c_engine.specs.RelayState.{slices_state};
 
 use crate::{RelayDisk, SliceDisk};
 use any_store::{QueryFault, SharedValue, Store, View};
@@ -89,5 +91,12 @@ impl<'a> Lent<'a> {
         ensures { (runs : ArchiveValue) → FindsScanRows alone true (over self.old runs) view.now relation a b result (over self.new runs) }
     {
         view.scan_rows_between(self.alloc, &mut self.reader, &mut self.disk, relation, a, b)
+    }
+
+    /// The times of the published commits with a label, rising, in microseconds since 1970; why not, where they are not told.
+    pub fn times_of(&mut self, store: &Kept, label: u64) -> Result<Vec<u64>, QueryFault>
+        ensures { AnswersTimes true (with_disk store.now (slices_state self.old.disk)) label result (with_disk store.now (slices_state self.new.disk)) }
+    {
+        store.times_over(&mut self.disk, label)
     }
 }

@@ -3,9 +3,9 @@ ghost use Rattle.std.specs.Prelude.{◌≡◌, option_copied};
 ghost use Rattle.timequery.specs.Archives.{ArchiveValue};
 ghost use Rattle.c_engine.specs.Engines.{AreTimesTold};
 ghost use Rattle.c_engine.specs.Held.{view_of};
-ghost use Rattle.c_engine.specs.Queries.{is_none, takes_bytes, TellsRecent, TellsAt, LentScanAt, LentRows, LentScanRows};
+ghost use Rattle.c_engine.specs.Queries.{is_none, lacks_rolls, takes_bytes, TellsRecent, TellsAt, LentScanAt, LentRows, LentScanRows, LentTimes};
 
-use crate::asking::{self, Lent};
+use crate::asking::{self, Kept, Lent};
 use crate::code::{Code, Info, Row};
 use crate::codes::query_code;
 use crate::engine::{Engine, EngineState, Published};
@@ -122,6 +122,24 @@ fn scan_between(
     }
     let mut lent = Lent::new(alloc, archive);
     lent.scan_between(view, relation, a, b)
+}
+
+// Whether no byte is lent, though names of commits lie in the archive.
+fn lacks_rolls(archive: &[u8], store: &Kept) -> bool
+    ensures { result ≡ lacks_rolls archive.now store.now }
+{
+    archive.is_empty() && store.has_rolls()
+}
+
+// The times of a label, over the archive that is lent; where none is, it may be needed.
+fn times_of(alloc: Global, archive: &[u8], store: &Kept, label: u64) -> Result<Vec<u64>, QueryFault>
+    ensures { LentTimes archive.now store.now label result }
+{
+    if lacks_rolls(archive, store) {
+        return Err(QueryFault::NeedsDisk);
+    }
+    let mut lent = Lent::new(alloc, archive);
+    lent.times_of(store, label)
 }
 
 // How many times there are is told, and they are copied out where there is room.
@@ -307,17 +325,20 @@ impl Engine {
         }
     }
 
-    /// The times of the commits with a label, rising, and how many there are.
-    pub fn times_of(&self, label: u64, times: &mut [u64], info: &mut Info) -> Code
-        ensures { TellsLabels label self.now result info.new times.new }
+    /// The times of the commits with a label, rising, and how many there are. Where the log lies in the heap those
+    /// up to its reclaim mark are read in the archive, which is lent.
+    pub fn times_of(&self, label: u64, archive: &[u8], times: &mut [u64], info: &mut Info) -> Code
+        ensures { TellsLabels archive.now label self.now result info.new times.new }
     {
         if self.asks() {
             return Code::Pending;
         }
-        let Ok(mut found) = self.store.times_of(label) else {
-            return Code::NoMemory;
-        };
-        self.keep_published(&mut found);
-        times_out(&found, times, info)
+        match times_of(self.alloc, archive, &self.store, label) {
+            Err(fault) => query_code(fault, info),
+            Ok(mut found) => {
+                self.keep_published(&mut found);
+                times_out(&found, times, info)
+            }
+        }
     }
 }

@@ -423,22 +423,23 @@ pub extern "C" fn ts_scan_between(
     put_back(handle, engine, code)
 }
 
-/// The times of the commits with a label.
+/// The times of the commits with a label. The archive is lent.
 #[unsafe(no_mangle)]
 pub extern "C" fn ts_times_of(
     alloc: Global,
     handle: &mut Handle,
     label: u64,
+    archive: &[u8],
     times: &mut [u64],
     info: &mut Info,
 ) -> i32
     ensures same { StaysSame handle.old.engine handle.new.engine }
-    ensures answers { AnswersOn (λ e said. TellsLabels label e said info.new times.new) handle.old.engine result }
+    ensures answers { AnswersOn (λ e said. TellsLabels archive.now label e said info.new times.new) handle.old.engine result }
 {
     let Some(engine) = handle.take(alloc) else {
         return Code::Closed.number();
     };
-    let code = engine.times_of(label, times, info);
+    let code = engine.times_of(label, archive, times, info);
     put_back(handle, engine, code)
 }
 

@@ -124,8 +124,7 @@ it open, the answer is `refused: device`.";
 pub const VACUUM: &str =
     "Up to the time, which is read as that of `at`, what was replaced or deleted by
 then goes to the archive, and the heap gives up its space. Both take a slot, or
-extents where there are no slots. Every answer stays as it was, but that `times`
-tells no commit up to then of profile 4. The lines are:
+extents where there are no slots. Every answer stays as it was. The lines are:
   archived N    N versions went to the archive
   reclaimed N   N versions that stand at the time were written anew
 It stops at the first refusal, after the line of what was done before it:

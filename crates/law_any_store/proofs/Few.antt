@@ -526,3 +526,12 @@ scan_between-few tells (Slots s) (Log l') view relation a b answer asks = absurd
 scan_between-few tells (Log l) (Slots s') view relation a b answer asks = absurd asks
 scan_between-few tells (Log l) (Log l') view relation a b answer asks =
     asked in_log_store tells (view_own l.commits.mark l.archive view) l l' view a _ _ _ _ answer (λ x archive disk. refl) asks
+
+pub times-few : (tells : Bool) (v new : StoreValue) (label : ℕ) (answer : Result (Vec ℕ Global) QueryFault) → queries.AnswersTimes tells v label answer new
+    → MakesFew v new
+times-few tells (Slots s) (Slots s') label answer asks =
+    let made = ap (λ (x : slot_values.StoreValue). x.disk.made) asks.new_is in omega (arith, made)
+times-few tells (Slots s) (Log l') label answer asks = absurd asks
+times-few tells (Log l) (Slots s') label answer asks = absurd asks
+times-few tells (Log l) (Log l') label answer asks =
+    let made = ap (λ (x : LogStoreValue). x.disk.made) asks.new_is ∙ after-made answer l.disk in omega (arith, made)

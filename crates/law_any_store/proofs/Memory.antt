@@ -1,10 +1,9 @@
 -- What a store of slots has in memory stands for the machine in the words of both layouts.
-use Rattle.std.proofs.Common.{◌≡◌, ℕ, Bool, List, [], ◌∷◌, map, filter, nat_lt, Some, refl, arith, ap, ◌∙◌}
+use Rattle.std.proofs.Common.{◌≡◌, ℕ, Bool, List, [], ◌∷◌, map, Some, refl, arith}
 use Rattle.std.specs.Prelude.{Contains}
 use Rattle.std.proofs.lemmas.List.Sorted.{IsPermutation-sym, Contains-permutation}
 use Rattle.history.specs.declared.key.Key.{Key}
 use Rattle.history.specs.Time.{value_at}
-use Rattle.history.specs.Answers as answers
 use Rattle.history.specs.Histories.{History}
 use Rattle.history.specs.Histories as histories
 use Rattle.history.specs.Machine.{Machine, IsMachine, IsKeptSnapshot}
@@ -23,11 +22,9 @@ use Rattle.law_refinement.specs.Standing.{snapshots_of}
 use Rattle.law_refinement.proofs.Memory as slot_memory
 use Rattle.law_refinement.proofs.Memory.{all-of}
 use Rattle.law_refinement.proofs.Openings.{closed_one}
-use Rattle.law_refinement.proofs.Answering as slot_answers
 use Rattle.law_commits.specs.Standing.{StandsInMemory, AllWait}
 use Rattle.law_commits.proofs.Memory.{sees-at}
 use Rattle.law_commits.proofs.Names.{last-is}
-use Rattle.law_commits.proofs.Tickets.{late-times}
 use Rattle.law_any_store.specs.Standing.{Stands}
 
 all-wait : (reclaimed : ℕ) (before : List KeyWrites) (qs : List QueuedValue) (cs : History Value) → slots.AllWait reclaimed before qs cs
@@ -80,14 +77,6 @@ memory-stands tells (Log l) m is = let store = (is.1).store in (store.memory, st
 pub last-published : (tells : Bool) (v : StoreValue) (m : Machine Value) → Stands tells v m → stores.last v ≡ histories.last m.published
 last-published tells (Slots s) m is = slot_memory.last-is s.transactions m is.memory
 last-published tells (Log l) m is = let store = (is.1).store in last-is l.commits m store.memory
-
-pub late-times-are : (tells : Bool) (v : StoreValue) (m : Machine Value) (label : ℕ) (times : List ℕ) → Stands tells v m → stores.IsTimesOf v label times
-    → filter (nat_lt (commits_of v).reclaimed) times ≡ filter (nat_lt (commits_of v).reclaimed) (answers.times_of m.published label)
-late-times-are tells (Slots s) m label times is of =
-    ap (λ (ts : List ℕ). filter (nat_lt s.transactions.reclaimed) ts) (of ∙ slot_answers.times-of_label s.transactions m label is.memory)
-late-times-are tells (Log l) m label times is of =
-    let store = (is.1).store in
-    ap (λ (ts : List ℕ). filter (nat_lt l.commits.reclaimed) ts) of ∙ late-times l.commits m label store.memory
 
 -- ---- what transactions see
 

@@ -1,109 +1,91 @@
--- The names of commits that memory has, and the times of a label.
-use Rattle.std.proofs.Common.{◌≡◌, ◌<◌, ◌==◌, ℕ, zero, suc, nat_lt, Bool, true, false, cond, List, [], ◌∷◌, map, take, filter, Option, Result}
-use Rattle.std.proofs.Common.{refl, arith, ap, sym, subst, ◌∙◌}
-use Rattle.std.proofs.lemmas.Bool.Decides.{nat_tests}
+-- The times of a label, in either layout, and the names that memory has.
+use Rattle.std.proofs.Common.{◌≡◌, ℕ, Bool, true, false, Option, Result, Ok, Err, refl, ap, sym, subst, ◌∙◌}
+use Rattle.std.specs.declared.alloc.Global.{Global}
+use Rattle.std.specs.declared.vec.Vec.{Vec}
 use Rattle.history.specs.Answers as answers
-use Rattle.history.specs.Histories.{Commit, History, HasRisingTimes, MayAllFollow}
-use Rattle.history.specs.Machine.{Machine, IsMachine}
-use Rattle.history.proofs.Histories.{rising-from_following, may_follow-front}
-use Rattle.law_image.specs.Values.{Value, IsValue}
+use Rattle.history.specs.Machine.{Machine}
+use Rattle.law_image.specs.Values.{Value}
 use Rattle.snapshot.specs.Txn.{TxnValue}
-use Rattle.group.specs.CommitOrder as orders
-use Rattle.group.specs.CommitOrder.{IsRisingAfter}
 use Rattle.group.specs.Tickets.{TicketValue}
-use Rattle.group.specs.declared.commit_order.CommitHead.{CommitHead}
 use Rattle.group.specs.declared.answers.BeginFault.{BeginFault}
 use Rattle.group.specs.declared.answers.PumpFault.{PumpFault}
 use Rattle.group.specs.declared.answers.Redeemed.{Redeemed}
 use Rattle.group.specs.declared.answers.Submitted.{Submitted}
 use Rattle.group.specs.declared.answers.SubmitFault.{SubmitFault}
-use Rattle.commits.specs.Values.{CommitsValue, order_of}
+use Rattle.archive.specs.Searches.{archive_of}
+use Rattle.commits.specs.Values.{CommitsValue}
 use Rattle.store.specs.declared.job.StartFault.{StartFault}
-use Rattle.log_store.specs.Values.{LogStoreValue}
+use Rattle.timequery.specs.Faults.{after_query}
+use Rattle.timequery.specs.declared.fault.QueryFault.{QueryFault}
+use Rattle.store.specs.Values as slot_values
+use Rattle.log_store.specs.Names as logs
+use Rattle.log_store.specs.Values.{LogStoreValue, IsInStep}
 use Rattle.any_store.specs.declared.engine.Engine.TheVariants.{Slots, Log}
 use Rattle.any_store.specs.declared.steps.Did.{Did}
 use Rattle.any_store.specs.declared.steps.JobDid.{JobDid}
-use Rattle.any_store.specs.Values.{StoreValue, commits_of}
+use Rattle.any_store.specs.Values.{StoreValue, is_log, commits_in, commits_of}
 use Rattle.any_store.specs.Calls as stores
 use Rattle.any_store.specs.Jobs.{StartsArchive, StartsReclaim, StartsFloor, StartsGrowth, PumpsJob}
+use Rattle.any_store.specs.Queries as queries
+use Rattle.law_refinement.specs.Homes as slot_homes
+use Rattle.law_refinement.specs.Stands as slots
 use Rattle.law_refinement.proofs.Answering.{times-of_label}
-use Rattle.law_commits.specs.Standing.{StandsInMemory}
+use Rattle.law_refinement.proofs.RunsKept.{up_to-same}
+use Rattle.law_refinement.proofs.RunsStep.{goes-same}
 use Rattle.law_log_store.proofs.Calls.{begin-alone, abort-alone, redeem-alone}
 use Rattle.law_log_queries.proofs.Leaving.{alone-leaves}
 use Rattle.law_log_queries.proofs.Leaving as log_leaves
+use Rattle.law_log_queries.specs.Names.{SaysTimes}
+use Rattle.law_log_queries.proofs.Asking as log_asked
+use Rattle.law_log_queries.proofs.Times.{times-answered}
 use Rattle.law_any_store.specs.Standing.{Stands, GoesOn}
-use Rattle.law_any_store.specs.Names.{names_from, AreTimesFrom, KeepsNames}
+use Rattle.law_any_store.specs.Names.{names_from, KeepsNames}
+use Rattle.law_any_store.specs.Views.{IsKept}
 use Rattle.law_any_store.proofs.Leaving.{log-job-leaves}
-use Rattle.law_any_store.proofs.Memory.{late-times-are}
+use Rattle.law_any_store.proofs.Views.{asked-in_step}
 
--- ---- where every name is in memory
+-- ---- what is told
 
--- a head of this label, among others
-abbrev is_label : ℕ → CommitHead → Bool
-is_label label head = head.label == label
+slots-told : (tells : Bool) (s s' : slot_values.StoreValue) (m : Machine Value) (label : ℕ) (answer : Result (Vec ℕ Global) QueryFault)
+    → slots.Stands tells s m → queries.AnswersTimesOfSlots s label answer s' → SaysTimes tells false 0 (answers.times_of m.published label) answer
+slots-told tells s s' m label (Ok found) is asks = let are = asks.is ∙ times-of_label s.transactions m label is.memory in (λ sure. are, are)
+slots-told tells s s' m label (Err why) is asks =
+    subst (λ (w : QueryFault). SaysTimes tells false 0 (answers.times_of m.published label) (Err w)) (sym asks.refused) tt
 
--- all heads that rise from a time on are late
-late-heads : (t label n : ℕ) (heads : List CommitHead) → IsRisingAfter t heads
-    → filter (nat_lt 0) (map (λ (head : CommitHead). head.time) (filter (is_label label) (take n heads)))
-    ≡ map (λ (head : CommitHead). head.time) (filter (is_label label) (take n heads))
-late-heads t label zero heads rising = refl
-late-heads t label (suc n) [] rising = refl
-late-heads t label (suc n) (x ∷ xs) rising = by-label (is_label label x) (late-heads x.time label n xs rising.2)
-  where
-    late : nat_lt 0 x.time ≡ true
-    late = let later = rising.0 in let some : 0 < x.time = omega (arith, later) in grind (arith, nat_tests)
+pub times-told : (tells : Bool) (v new : StoreValue) (m : Machine Value) (label : ℕ) (answer : Result (Vec ℕ Global) QueryFault)
+    → Stands tells v m → queries.AnswersTimes tells v label answer new → SaysTimes tells (is_log v) (names_from v) (answers.times_of m.published label) answer
+times-told tells (Slots s) (Slots s') m label answer is asks = slots-told tells s s' m label answer is asks
+times-told tells (Slots s) (Log l') m label answer is asks = absurd asks
+times-told tells (Log l) (Slots s') m label answer is asks = absurd asks
+times-told tells (Log l) (Log l') m label answer is asks = times-answered tells l m label is.1 l' answer asks
 
-    by-label : (b : Bool)
-        → filter (nat_lt 0) (map (λ (head : CommitHead). head.time) (filter (is_label label) (take n xs)))
-        ≡ map (λ (head : CommitHead). head.time) (filter (is_label label) (take n xs))
-        → filter (nat_lt 0) (map (λ (head : CommitHead). head.time) (cond b (x ∷ filter (is_label label) (take n xs)) (filter (is_label label) (take n xs))))
-        ≡ map (λ (head : CommitHead). head.time) (cond b (x ∷ filter (is_label label) (take n xs)) (filter (is_label label) (take n xs)))
-    by-label true rest = rw late (ap (λ (l : List ℕ). x.time ∷ l) rest)
-    by-label false rest = rest
+-- ---- what is left
 
--- so are all commits of a history
-abbrev has_label : ℕ → Commit Value → Bool
-has_label label c = c.label == label
+slots-kept : (tells : Bool) (s s' : slot_values.StoreValue) (m : Machine Value) → slots.Stands tells s m → s' ≡ s → IsKept tells (Slots s) (Slots s') m
+slots-kept tells s s' m is same = record {
+  stands = subst (λ (x : slot_values.StoreValue). slots.Stands tells x m) (sym same) is;
+  goes = subst (λ (x : slot_values.StoreValue). slot_homes.GoesOn tells s x) (sym same)
+      (goes-same tells s s (record { runs = refl; kept = refl; archived = refl; runs_end = refl; mark = refl })
+      (λ told. up_to-same s.runs_end (archive_of s.disk)));
+  commits = ap (λ (x : slot_values.StoreValue). commits_in x.transactions) same;
+}
 
-late-commits : (t label : ℕ) (h : History Value) → HasRisingTimes t h → filter (nat_lt 0) (answers.times_of h label) ≡ answers.times_of h label
-late-commits t label [] rising = refl
-late-commits t label (c ∷ cs) rising = by-label (has_label label c) (late-commits c.time label cs rising.2)
-  where
-    late : nat_lt 0 c.time ≡ true
-    late = let later = rising.0 in let some : 0 < c.time = omega (arith, later) in grind (arith, nat_tests)
+log-kept : (tells : Bool) (l l' : LogStoreValue) (m : Machine Value) (label : ℕ) (answer : Result (Vec ℕ Global) QueryFault)
+    → Stands tells (Log l) m → logs.AnswersTimes tells l label answer l' → IsKept tells (Log l) (Log l') m
+log-kept tells l l' m label answer is asks =
+    let done = log_asked.times-stand tells l l' m label answer is.1 asks in
+    record {
+      stands = (subst IsInStep (sym asks.new_is) (asked-in_step l l.archive (after_query answer l.disk) is.0), done.0);
+      goes = done.1;
+      commits = ap (λ (x : LogStoreValue). x.commits) asks.new_is;
+    }
 
-    by-label : (b : Bool)
-        → filter (nat_lt 0) (map (λ (d : Commit Value). d.time) (filter (has_label label) cs))
-        ≡ map (λ (d : Commit Value). d.time) (filter (has_label label) cs)
-        → filter (nat_lt 0) (map (λ (d : Commit Value). d.time) (cond b (c ∷ filter (has_label label) cs) (filter (has_label label) cs)))
-        ≡ map (λ (d : Commit Value). d.time) (cond b (c ∷ filter (has_label label) cs) (filter (has_label label) cs))
-    by-label true rest = rw late (ap (λ (l : List ℕ). c.time ∷ l) rest)
-    by-label false rest = rest
-
--- so where no name has left memory the times that are told are those of the history
-whole-times : (v : CommitsValue) (m : Machine Value) (label : ℕ) → StandsInMemory v m → IsMachine IsValue m
-    → filter (nat_lt 0) (orders.times_of label (order_of v)) ≡ filter (nat_lt 0) (answers.times_of m.published label)
-    → orders.times_of label (order_of v) ≡ answers.times_of m.published label
-whole-times v m label stands machine same =
-    let front : MayAllFollow IsValue [] m.published = may_follow-front IsValue [] m.published m.queue machine.history in
-    sym (late-heads 0 label v.published v.heads stands.rising) ∙ same ∙ late-commits 0 label m.published (rising-from_following IsValue [] m.published front)
-
-pub times-are : (tells : Bool) (v : StoreValue) (m : Machine Value) (label : ℕ) (times : List ℕ) → Stands tells v m → stores.IsTimesOf v label times
-    → AreTimesFrom (names_from v) times (answers.times_of m.published label)
-times-are tells (Slots s) m label times is of = of ∙ times-of_label s.transactions m label is.memory
-times-are tells (Log l) m label times is of = by-mark l.commits.reclaimed refl
-  where
-    late : filter (nat_lt l.commits.reclaimed) times ≡ filter (nat_lt l.commits.reclaimed) (answers.times_of m.published label)
-    late = late-times-are tells (Log l) m label times is of
-
-    by-mark : (n : ℕ) → l.commits.reclaimed ≡ n → AreTimesFrom n times (answers.times_of m.published label)
-    by-mark zero none =
-        let store = (is.1).store in
-        of ∙ whole-times l.commits m label store.memory store.machine
-        (subst (λ (r : ℕ). filter (nat_lt r) (orders.times_of label (order_of l.commits)) ≡ filter (nat_lt r) (answers.times_of m.published label)) none
-        (subst (λ (ts : List ℕ). filter (nat_lt l.commits.reclaimed) ts
-        ≡ filter (nat_lt l.commits.reclaimed) (answers.times_of m.published label)) of late))
-    by-mark (suc n) some = subst (λ (r : ℕ). filter (nat_lt r) times ≡ filter (nat_lt r) (answers.times_of m.published label)) some late
+pub times-stand : (tells : Bool) (v new : StoreValue) (m : Machine Value) (label : ℕ) (answer : Result (Vec ℕ Global) QueryFault)
+    → Stands tells v m → queries.AnswersTimes tells v label answer new → IsKept tells v new m
+times-stand tells (Slots s) (Slots s') m label answer is asks = slots-kept tells s s' m is asks.new_is
+times-stand tells (Slots s) (Log l') m label answer is asks = absurd asks
+times-stand tells (Log l) (Slots s') m label answer is asks = absurd asks
+times-stand tells (Log l) (Log l') m label answer is asks = log-kept tells l l' m label answer is asks
 
 -- ---- what no call takes from memory
 

@@ -3,6 +3,7 @@ use Rattle.std.proofs.Common.{◌≡◌, ◌⊎◌, ℕ, Bool, true, false, cond
 use Rattle.std.specs.Prelude.{MatchBool}
 use Rattle.std.specs.declared.alloc.Global.{Global}
 use Rattle.std.specs.declared.vec.Vec.{Vec}
+use Rattle.disk.specs.Calls.{DiskState}
 use Rattle.history.specs.declared.key.Key.{Key}
 use Rattle.history.specs.declared.time.Version.{Version}
 use Rattle.history.specs.Answers as answers
@@ -10,7 +11,9 @@ use Rattle.history.specs.Histories.{History}
 use Rattle.history.specs.Machine.{Machine}
 use Rattle.law_image.specs.Values.{Value}
 use Rattle.snapshot.specs.Txn.{TxnValue}
+use Rattle.timequery.specs.Archives.{ArchiveValue}
 use Rattle.timequery.specs.Asked.{Finds, OrStranger, is_own}
+use Rattle.timequery.specs.Faults.{after_query}
 use Rattle.timequery.specs.View.{ViewValue}
 use Rattle.timequery.specs.declared.fault.QueryFault.{QueryFault}
 use Rattle.timequery.specs.declared.fault.QueryFault.TheVariants as query
@@ -134,6 +137,22 @@ slots-asked tells s s' m view from Refuses Recent OfHistory Exact answer is says
     by-own true finds = ap (λ (x : slot_values.StoreValue). commits_in x.transactions) finds.asks.new_is
     by-own false strange = ap (λ (x : slot_values.StoreValue). commits_in x.transactions) strange.1
 
+-- what a query changes is no part of what is in step
+pub asked-in_step : (l : LogStoreValue) (archive : ArchiveValue) (disk : DiskState) → IsInStep l → IsInStep (record l { archive = archive; disk = disk })
+asked-in_step l archive disk is = record {
+  contents = is.contents;
+  bytes = is.bytes;
+  promised = is.promised;
+  few = is.few;
+  many = is.many;
+  counted = is.counted;
+  turn = is.turn;
+  beside = is.beside;
+  place = is.place;
+  live = is.live;
+  reclaim = is.reclaim;
+}
+
 log-asked : {T : Type 0} (tells : Bool) (l l' : LogStoreValue) (m : Machine Value) (view : ViewValue) (from : ℕ) (Refuses : QueryFault
     → Type 0) (Recent : T → Type 0) (OfHistory : History Value → T → Type 0) (Exact : Result T QueryFault → Type 0) (answer : Result T QueryFault)
     → Stands tells (Log l) m
@@ -149,19 +168,7 @@ log-asked tells l l' m view from Refuses Recent OfHistory Exact answer is says =
         → (l'.commits ≡ l.commits) × IsInStep l'
     by-own true finds = (
       ap (λ (x : LogStoreValue). x.commits) finds.asks.new_is,
-      subst IsInStep (sym finds.asks.new_is) (record {
-        contents = (is.0).contents;
-        bytes = (is.0).bytes;
-        promised = (is.0).promised;
-        few = (is.0).few;
-        many = (is.0).many;
-        counted = (is.0).counted;
-        turn = (is.0).turn;
-        beside = (is.0).beside;
-        place = (is.0).place;
-        live = (is.0).live;
-        reclaim = (is.0).reclaim;
-      }),
+      subst IsInStep (sym finds.asks.new_is) (asked-in_step l (record l.archive { kept = l'.archive.kept }) (after_query answer l.disk) is.0),
     )
     by-own false strange = (ap (λ (x : LogStoreValue). x.commits) strange.1, subst IsInStep (sym strange.1) is.0)
 

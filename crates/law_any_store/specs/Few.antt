@@ -98,3 +98,8 @@ abbrev pub ScanBetweenMakesFew : Type 0
 ScanBetweenMakesFew =
     (tells : Bool) (v new : StoreValue) (view : ViewValue) (relation a b : ℕ) (answer : Result (Vec (ℕ × Version Value) Global) QueryFault)
     → queries.AnswersScanRows tells v view relation a b answer new → MakesFew v new
+
+-- so it is where the times of a label are asked
+abbrev pub TimesMakesFew : Type 0
+TimesMakesFew =
+    (tells : Bool) (v new : StoreValue) (label : ℕ) (answer : Result (Vec ℕ Global) QueryFault) → queries.AnswersTimes tells v label answer new → MakesFew v new

@@ -1,6 +1,5 @@
 -- What the calls leave in memory, and what they tell of what they did.
-use Rattle.std.specs.Prelude.{ℕ, ◌≡◌, ◌≤◌, true, Bool, List, [], ◌∷◌, ◌++◌, length, filter, nat_lt, Option, None, Result, Ok, Err, MatchBool, if◌then◌else◌}
-use Rattle.history.specs.Answers as answers
+use Rattle.std.specs.Prelude.{ℕ, ◌≡◌, ◌≤◌, true, Bool, [], ◌∷◌, ◌++◌, length, Option, None, Result, Ok, Err, MatchBool, if◌then◌else◌}
 use Rattle.history.specs.Histories as histories
 use Rattle.history.specs.Machine.{Machine, IsMachine}
 use Rattle.law_image.specs.Values.{Value, IsValue}
@@ -35,12 +34,6 @@ MemoryStands = (tells : Bool) (v : StoreValue) (m : Machine Value) → Stands te
 -- the last commit is that of the published history
 abbrev pub LastIsPublished : Type 0
 LastIsPublished = (tells : Bool) (v : StoreValue) (m : Machine Value) → Stands tells v m → stores.last v ≡ histories.last m.published
-
--- the times of a label that are later than the reclaim mark are those of the published history
-abbrev pub LateTimesAreOfLabel : Type 0
-LateTimesAreOfLabel =
-    (tells : Bool) (v : StoreValue) (m : Machine Value) (label : ℕ) (times : List ℕ) → Stands tells v m → stores.IsTimesOf v label times
-    → filter (nat_lt (commits_of v).reclaimed) times ≡ filter (nat_lt (commits_of v).reclaimed) (answers.times_of m.published label)
 
 -- ---- what no step changes
 

@@ -1,5 +1,7 @@
--- The names of commits that memory has, and the times of a label.
-use Rattle.std.specs.Prelude.{ℕ, ◌≡◌, zero, suc, Bool, List, filter, nat_lt, Option, Result}
+-- The times of a label, and the names of commits that memory has.
+use Rattle.std.specs.Prelude.{ℕ, ◌≡◌, Bool, Option, Result}
+use Rattle.std.specs.declared.alloc.Global.{Global}
+use Rattle.std.specs.declared.vec.Vec.{Vec}
 use Rattle.history.specs.Answers as answers
 use Rattle.history.specs.Machine.{Machine}
 use Rattle.law_image.specs.Values.{Value}
@@ -10,14 +12,18 @@ use Rattle.group.specs.declared.answers.PumpFault.{PumpFault}
 use Rattle.group.specs.declared.answers.Redeemed.{Redeemed}
 use Rattle.group.specs.declared.answers.Submitted.{Submitted}
 use Rattle.group.specs.declared.answers.SubmitFault.{SubmitFault}
+use Rattle.timequery.specs.declared.fault.QueryFault.{QueryFault}
 use Rattle.store.specs.declared.job.StartFault.{StartFault}
 use Rattle.any_store.specs.declared.steps.Did.{Did}
 use Rattle.any_store.specs.declared.steps.JobDid.{JobDid}
 use Rattle.any_store.specs.declared.engine.Engine.TheVariants.{Slots, Log}
-use Rattle.any_store.specs.Values.{StoreValue, commits_of}
+use Rattle.any_store.specs.Values.{StoreValue, is_log, commits_of}
 use Rattle.any_store.specs.Calls as stores
 use Rattle.any_store.specs.Jobs.{StartsArchive, StartsReclaim, StartsFloor, StartsGrowth, PumpsJob}
+use Rattle.any_store.specs.Queries as queries
+use Rattle.law_log_queries.specs.Names.{SaysTimes}
 use Rattle.law_any_store.specs.Standing.{Stands, GoesOn}
+use Rattle.law_any_store.specs.Views.{IsKept}
 
 -- The time up to which names of commits may have left memory. A store whose log is slots has them all.
 abbrev pub names_from : StoreValue → ℕ
@@ -26,16 +32,18 @@ names_from (Log l) = l.commits.reclaimed
 
 -- ---- labels
 
--- just these times are told; where names may have left memory up to a time, so it is of the later ones
-abbrev pub AreTimesFrom : ℕ → List ℕ → List ℕ → Type 0
-AreTimesFrom zero told times = told ≡ times
-AreTimesFrom (suc from) told times = filter (nat_lt (suc from)) told ≡ filter (nat_lt (suc from)) times
-
--- so the times of a label are those of the published history
+-- The times of a label are those of the published history. Of a store whose log lies in the heap a part of them is read on the disk: they are told for sure
+-- where it tells its bytes.
 abbrev pub TimesAreOfLabel : Type 0
 TimesAreOfLabel =
-    (tells : Bool) (v : StoreValue) (m : Machine Value) (label : ℕ) (times : List ℕ) → Stands tells v m → stores.IsTimesOf v label times
-    → AreTimesFrom (names_from v) times (answers.times_of m.published label)
+    (tells : Bool) (v new : StoreValue) (m : Machine Value) (label : ℕ) (answer : Result (Vec ℕ Global) QueryFault)
+    → Stands tells v m → queries.AnswersTimes tells v label answer new → SaysTimes tells (is_log v) (names_from v) (answers.times_of m.published label) answer
+
+-- where they are asked nothing changes of what the store stands for
+abbrev pub TimesStand : Type 0
+TimesStand =
+    (tells : Bool) (v new : StoreValue) (m : Machine Value) (label : ℕ) (answer : Result (Vec ℕ Global) QueryFault)
+    → Stands tells v m → queries.AnswersTimes tells v label answer new → IsKept tells v new m
 
 -- ---- what memory keeps
 

@@ -2,7 +2,7 @@
 ghost use Rattle.law_any_store.specs.Standing.{LayoutStays};
 ghost use Rattle.law_any_store.specs.Calls.{BeginStands, AbortStands, SubmitStands, PumpStands, RedeemStands, ArchiveStartStands, ReclaimStartStands};
 ghost use Rattle.law_any_store.specs.Calls.{FloorStartStands, GrowStartStands, JobPumpStands};
-ghost use Rattle.law_any_store.specs.Leaving.{MemoryStands, LastIsPublished, LateTimesAreOfLabel, PumpLeaves, ArchiveStartLeaves, ReclaimStartLeaves};
+ghost use Rattle.law_any_store.specs.Leaving.{MemoryStands, LastIsPublished, PumpLeaves, ArchiveStartLeaves, ReclaimStartLeaves};
 ghost use Rattle.law_any_store.specs.Leaving.{FloorStartLeaves, GrowStartLeaves, JobPumpLeaves, BeginLeaves, AbortLeaves, SubmitLeaves, RedeemLeaves};
 ghost use Rattle.law_any_store.specs.Views.{ViewIsOfHistory, ViewGoesOn, AtIsAnswered, ScanAtIsAnswered, BetweenIsAnswered, ScanBetweenIsAnswered};
 ghost use Rattle.law_any_store.specs.Views.{AtStands, ScanAtStands, BetweenStands, ScanBetweenStands, BeginGoesOn, AbortGoesOn, SubmitGoesOn, RedeemGoesOn};
@@ -12,7 +12,6 @@ ghost use Rattle.law_any_store.specs.Views.{PumpGoesOn, JobPumpGoesOn, ArchiveSt
 pub fn memory_stands()
     ensures memory { MemoryStands }
     ensures last { LastIsPublished }
-    ensures times { LateTimesAreOfLabel }
 {}
 
 /// A begin, an abort, a submit and a ticket that is shown are steps of the machine, with its answers.

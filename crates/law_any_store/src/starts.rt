@@ -1,12 +1,12 @@
 //! Laws of what the calls say and leave beside the machine's steps, whatever the layout.
-ghost use Rattle.law_any_store.specs.Names.{TimesAreOfLabel, BeginKeepsNames, AbortKeepsNames, SubmitKeepsNames};
+ghost use Rattle.law_any_store.specs.Names.{TimesAreOfLabel, TimesStand, BeginKeepsNames, AbortKeepsNames, SubmitKeepsNames};
 ghost use Rattle.law_any_store.specs.Names.{RedeemKeepsNames, PumpKeepsNames, SameKeepsNames};
 ghost use Rattle.law_any_store.specs.Names.{ArchiveStartKeepsNames, ReclaimStartKeepsNames, FloorStartKeepsNames, GrowStartKeepsNames, JobPumpKeepsNames};
 ghost use Rattle.law_any_store.specs.Starts.{ArchiveStartSays, ReclaimStartSays, GrowStartSays};
 ghost use Rattle.law_any_store.specs.Few.{BeginMakesFew, AbortMakesFew, SubmitMakesFew, RedeemMakesFew};
 ghost use Rattle.law_any_store.specs.Few.{PumpMakesFew, ArchiveStartMakesFew, ReclaimStartMakesFew};
 ghost use Rattle.law_any_store.specs.Few.{FloorStartMakesFew, GrowStartMakesFew, JobPumpMakesFew, AtMakesFew};
-ghost use Rattle.law_any_store.specs.Few.{ScanAtMakesFew, BetweenMakesFew, ScanBetweenMakesFew};
+ghost use Rattle.law_any_store.specs.Few.{ScanAtMakesFew, BetweenMakesFew, ScanBetweenMakesFew, TimesMakesFew};
 
 /// What the starts of jobs say of the machine, whether one begins or is refused. Of a floor the machine decides itself.
 pub fn starts_say()
@@ -15,9 +15,12 @@ pub fn starts_say()
     ensures grow { GrowStartSays }
 {}
 
-/// The times of a label are those of the published history, from the time on up to which names may have left memory.
+/// The times of a label are those of the published history, from the time on up to which names may have left memory. Where the log lies in the heap the
+/// earlier ones are those of the history where the disk tells its bytes, and only there may the device refuse or a part of the archive be damaged. Nothing
+/// changes of what the store stands for.
 pub fn times_are_of_label()
-    ensures { TimesAreOfLabel }
+    ensures says { TimesAreOfLabel }
+    ensures stands { TimesStand }
 {}
 
 /// No name leaves memory in a call.
@@ -51,4 +54,5 @@ pub fn calls_make_few()
     ensures scan_at { ScanAtMakesFew }
     ensures between { BetweenMakesFew }
     ensures scan_between { ScanBetweenMakesFew }
+    ensures times { TimesMakesFew }
 {}

@@ -1,5 +1,6 @@
 -- A store that is opened stands for the history of its image over another disk too, if that has the same areas.
 use Rattle.std.proofs.Common.{◌≡◌, ℕ, ◌≤◌, Bool, true, false, List, Option, Some, None, MatchBool, refl, sym, ◌∙◌, subst, inl, inr}
+use Rattle.std.specs.List.{AllByRecursion}
 use Rattle.disk.specs.Areas.{Areas, AreSound, Image, LeavesImage, settled_on}
 use Rattle.disk.specs.Calls.{DiskState, fresh_on}
 use Rattle.archive.specs.Runs.{HoldRuns}
@@ -21,14 +22,14 @@ use Rattle.store.specs.Values as slots
 use Rattle.any_store.specs.declared.engine.Engine.TheVariants.{Slots, Log}
 use Rattle.any_store.specs.Opens.{Opens}
 use Rattle.any_store.specs.Values.{StoreValue, disk_of, with_disk}
-use Rattle.law_log_layout.specs.HeapLog.{HeapLog, heap_parts, placed_group, turn_of}
+use Rattle.law_log_layout.specs.HeapLog.{HeapLog, HoldsRoll, heap_parts, placed_group, turn_of}
 use Rattle.law_log_layout.specs.Laws.{KeepsArchive, KeepsLog}
 use Rattle.law_log_layout.specs.Turns.{IsAt}
 use Rattle.law_log_store.specs.Reclaiming.{HasReclaim, HasRoots}
 use Rattle.law_log_store.specs.Standing.{HasCommits, HasTurn, HasJob, HasStage, IsAtRest, StandsOnHeap, StopsBy, StopsOnHeap}
 use Rattle.law_log_store.specs.Standing.{HasAllWritten, placed_entry}
 use Rattle.law_log_steps.specs.Store.{IsLeft, IsStoreOf, IsWriting}
-use Rattle.law_log_queries.specs.Archive.{RunsStand}
+use Rattle.law_log_queries.specs.Archive.{RunsStand, NamesStand}
 use Rattle.law_refinement.proofs.Growing.{as-still}
 use Rattle.law_refinement.specs.OnDisk as slot_images
 use Rattle.law_refinement.specs.Stands as slot_stands
@@ -171,9 +172,36 @@ module _ (l : LogStoreValue) (disk : DiskState) (same : disk.areas ≡ l.disk.ar
     named = is.named;
   }
 
+  -- what the log names of commits in the archive
+  over-names : (h : History Value) → NamesStand l h → NamesStand other h
+  over-names h is = record {
+    rolls = is.rolls;
+    names = is.names;
+    lie = record {
+      rolls_are = is.lie.rolls_are;
+      each = is.lie.each;
+      held = subst (λ (a : Areas). AllByRecursion (HoldsRoll a.archive.bytes) is.rolls) (sym same) is.lie.held;
+      stored = is.lie.stored;
+      are_names = is.lie.are_names;
+      by_mark = is.lie.by_mark;
+    };
+    ends = is.ends;
+    others = is.others;
+    are = is.are;
+    late = is.late;
+    by_last = is.by_last;
+  }
+
   over-log : (m : Machine Value) → Stands true (Log l) m → Stands true (Log other) m
-  over-log m is =
-      (over-step is.0, record { store = over-store m is.1.store; place = is.1.place; runs = λ told. over-runs m.published m.floors (is.1.runs told) })
+  over-log m is = (
+    over-step is.0,
+    record {
+      store = over-store m is.1.store;
+      place = is.1.place;
+      runs = λ told. over-runs m.published m.floors (is.1.runs told);
+      names = λ told. over-names m.published (is.1.names told);
+    },
+  )
 
 -- ---- in either layout
 

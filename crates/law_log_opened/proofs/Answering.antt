@@ -1,8 +1,10 @@
 -- Views are answered by the history, after a stop as before it.
-use Rattle.std.proofs.Common.{◌≡◌, inl, inr, ℕ, zero, suc, ◌≤◌, ◌==◌, nat_lt, Bool, true, false, IsTrue, List, [], ◌∷◌, ◌++◌, map, take, Option, Result}
+use Rattle.std.proofs.Common.{◌≡◌, inl, inr, ℕ, zero, suc, ◌≤◌, ◌==◌, nat_lt, Bool, true, false, IsTrue, List, [], ◌∷◌, ◌++◌, map, take, Option, Result, Ok}
 use Rattle.std.proofs.Common.{◌⊎◌, MatchOption, refl, arith, ap, sym, subst, ◌∙◌}
 use Rattle.std.specs.List.{filter}
 use Rattle.std.proofs.lemmas.Bool.Decides.{nat_tests}
+use Rattle.std.specs.declared.alloc.Global.{Global}
+use Rattle.std.specs.declared.vec.Vec.{Vec}
 use Rattle.std.proofs.lemmas.List.{append-nil, map-append}
 use Rattle.std.proofs.lemmas.List.Elements.{filter-append}
 use Rattle.disk.specs.Calls.{DiskState}
@@ -12,21 +14,19 @@ use Rattle.history.specs.Answers.{at_answer, times_of}
 use Rattle.history.specs.Floors.{Raising, covers, raised}
 use Rattle.history.specs.Fronts.{OnFront, with_group}
 use Rattle.history.specs.Machine.{Machine, MayRaise, opened_by}
-use Rattle.history.proofs.Filters.{filter-filter}
 use Rattle.history.proofs.Histories.{state-append, last_after-append, rising-from_following, times-earlier, may_follow-behind}
 use Rattle.law_image.specs.Values.{Value, IsValue}
-use Rattle.group.specs.CommitOrder as orders
-use Rattle.commits.specs.Values.{order_of}
 use Rattle.timequery.specs.View.{ViewValue}
 use Rattle.timequery.specs.declared.fault.QueryFault.{QueryFault}
 use Rattle.log_store.specs.Values.{LogStoreValue, IsInStep}
+use Rattle.log_store.specs.Names.{AnswersTimes}
 use Rattle.log_store.specs.Queries.{IsViewOf, AnswersAtView}
-use Rattle.law_commits.proofs.Tickets.{late-times}
 use Rattle.law_refinement.specs.Homes.{IsSure}
 use Rattle.law_refinement.specs.Laws.{SaysAt}
 use Rattle.law_refinement.proofs.Growing.{front-map}
 use Rattle.law_refinement.proofs.Queries.{recent-answered}
 use Rattle.law_log_queries.specs.Archive.{Stands, GoesOn}
+use Rattle.law_log_queries.proofs.Times.{times-answered}
 use Rattle.law_log_queries.proofs.Views.{view-of-history, view-goes-on, at-answered, scan_at-answered, between-answered, scan_between-answered}
 use Rattle.law_log_opened.specs.Laws.{OpensAgain}
 use Rattle.law_log_opened.specs.Answers.{AnswersBy, IsKeptThen}
@@ -127,55 +127,35 @@ times-append label h more =
     ap (λ (l : History Value). map (λ (c : Commit Value). c.time) l) (filter-append (λ (c : Commit Value). c.label == label) h more)
     ∙ map-append (λ (c : Commit Value). c.time) (filter (λ (c : Commit Value). c.label == label) h) (filter (λ (c : Commit Value). c.label == label) more)
 
--- what agrees from a mark on agrees from a later time on
-late-more : (since mark : ℕ) (xs ys : List ℕ) → mark ≤ since → filter (nat_lt mark) xs ≡ filter (nat_lt mark) ys
-    → filter (nat_lt since) xs ≡ filter (nat_lt since) ys
-late-more since mark xs ys le same =
-    sym (filter-filter (nat_lt since) (nat_lt mark) xs later) ∙ ap (filter (nat_lt since)) same ∙ filter-filter (nat_lt since) (nat_lt mark) ys later
-  where
-    later : (t : ℕ) → nat_lt since t ≡ true → nat_lt mark t ≡ true
-    later t is = grind (arith, nat_tests)
+-- what is told is what the history has
+told-of : (tells : Bool) (v new : LogStoreValue) (m : Machine Value) (label : ℕ) (found : Vec ℕ Global) → IsTrue tells → Stands tells v m
+    → AnswersTimes tells v label (Ok found) new → found.items ≡ times_of m.published label
+told-of tells v new m label found told stands says = (times-answered tells v m label stands new (Ok found) says).0 (λ heap. told)
 
--- the late times of a label are those of the published history
-late-of : (tells : Bool) (v : LogStoreValue) (m : Machine Value) (label since : ℕ) → Stands tells v m → v.commits.reclaimed ≤ since
-    → filter (nat_lt since) (orders.times_of label (order_of v.commits)) ≡ filter (nat_lt since) (times_of m.published label)
-late-of tells v m label since stands le =
-    late-more since v.commits.reclaimed (orders.times_of label (order_of v.commits)) (times_of m.published label) le
-    (late-times v.commits m label stands.store.memory)
-
-pub labels-stay : (tells : Bool) (v : LogStoreValue) (m : Machine Value) (disk : DiskState) (mark : ℕ) (again : LogStoreValue) (label since : ℕ)
-    → IsInStep v → Stands tells v m → IsTrue tells → OpensAgain tells v disk mark again → v.commits.reclaimed ≤ since → again.commits.reclaimed ≤ since
-    → (more : List ℕ)
-    × (filter (nat_lt since) (orders.times_of label (order_of again.commits))
-    ≡ filter (nat_lt since) (orders.times_of label (order_of v.commits)) ++ more)
-labels-stay tells v m disk mark again label since step stands told opens from to =
+pub labels-stay : (tells : Bool) (v asked : LogStoreValue) (m : Machine Value) (disk : DiskState) (mark : ℕ) (again new : LogStoreValue) (label : ℕ)
+    (before after : Vec ℕ Global) → IsInStep v → Stands tells v m → IsTrue tells → OpensAgain tells v disk mark again
+    → AnswersTimes tells v label (Ok before) asked → AnswersTimes tells again label (Ok after) new → (more : List ℕ) × (after.items ≡ before.items ++ more)
+labels-stay tells v asked m disk mark again new label before after step stands told opens then now =
     by-front
     (each-front (λ h floors. Stands tells again (opened_by 1024 h floors)) m (reopen-stands tells v m disk mark again step stands told opens))
   where
-    before : List ℕ
-    before = filter (nat_lt since) (orders.times_of label (order_of v.commits))
+    was : before.items ≡ times_of m.published label
+    was = told-of tells v asked m label before told stands then
 
-    same : (floors : ℕ → ℕ) → Stands tells again (opened_by 1024 m.published floors)
-        → (more : List ℕ) × (filter (nat_lt since) (orders.times_of label (order_of again.commits))
-        ≡ filter (nat_lt since) (orders.times_of label (order_of v.commits)) ++ more)
-    same floors now = (
+    same : (floors : ℕ → ℕ) → Stands tells again (opened_by 1024 m.published floors) → (more : List ℕ) × (after.items ≡ before.items ++ more)
+    same floors is = (
       [],
-      late-of tells again (opened_by 1024 m.published floors) label since now to
-          ∙ sym (late-of tells v m label since stands from)
-          ∙ sym (append-nil (filter (nat_lt since) (orders.times_of label (order_of v.commits)))),
+      told-of tells again new (opened_by 1024 m.published floors) label after told is now ∙ sym was ∙ sym (append-nil before.items),
     )
 
     by-front : Stands tells again (opened_by 1024 m.published m.floors) ⊎ Stands tells again (opened_by 1024 (with_group m) m.floors)
         ⊎ WithFloor (λ h floors. Stands tells again (opened_by 1024 h floors)) m
-        → (more : List ℕ) × (filter (nat_lt since) (orders.times_of label (order_of again.commits))
-        ≡ filter (nat_lt since) (orders.times_of label (order_of v.commits)) ++ more)
-    by-front (inl now) = same m.floors now
+        → (more : List ℕ) × (after.items ≡ before.items ++ more)
+    by-front (inl is) = same m.floors is
     by-front (inr (inr floor)) = same (raised (floor.0).scope (floor.0).floor m.floors) floor.2
-    by-front (inr (inl now)) =
+    by-front (inr (inl is)) =
         let group : History Value = take m.group m.queue in (
-          filter (nat_lt since) (times_of group label),
-          late-of tells again (opened_by 1024 (with_group m) m.floors) label since now to
-              ∙ ap (filter (nat_lt since)) (times-append label m.published group)
-              ∙ filter-append (nat_lt since) (times_of m.published label) (times_of group label)
-              ∙ ap (λ (ts : List ℕ). ts ++ filter (nat_lt since) (times_of group label)) (sym (late-of tells v m label since stands from)),
+          times_of group label,
+          told-of tells again new (opened_by 1024 (with_group m) m.floors) label after told is now ∙ times-append label m.published group
+              ∙ ap (λ (ts : List ℕ). ts ++ times_of group label) (sym was),
         )

@@ -20,6 +20,7 @@ use Rattle.law_log_store.proofs.Opened.{leaves-room}
 use Rattle.law_log_steps.specs.Store.{IsStoreOf}
 use Rattle.law_log_steps.proofs.Resting.{stands-opened}
 use Rattle.law_log_queries.specs.Archive.{RunsStand, Stands}
+use Rattle.law_log_queries.proofs.Names.{names-of-heap}
 use Rattle.law_log_opened.proofs.Empty.{empty_log, empty-stands, empty-is_log}
 use Rattle.law_log_opened.proofs.Formatted.{new-in_range, headed-reads, zeroed-closed}
 
@@ -129,7 +130,7 @@ module _ (mark extents : ℕ) (old : Areas) (disk : DiskState) (size : IsHeapSiz
   }
 
   pub created : (tells : Bool) → Stands tells v (opened_by 1024 [] (λ relation. 0))
-  created tells = record { store = store tells; place = (tt, tt); runs = λ told. runs }
+  created tells = record { store = store tells; place = (tt, tt); runs = λ told. runs; names = λ told. names-of-heap v [] [] (λ relation. 0) on-heap }
 
 pub create-stands : (tells : Bool) (old : DiskState) (mark extents : ℕ) (v : LogStoreValue) → IsHeapSize extents → AreSound v.disk.areas
     → Creates tells old mark extents v → IsTrue tells → Stands tells v (opened_by 1024 [] (λ relation. 0))

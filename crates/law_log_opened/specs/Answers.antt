@@ -1,5 +1,5 @@
 -- Views and labels are answered after a stop as before it.
-use Rattle.std.specs.Prelude.{ℕ, ◌≡◌, ◌≤◌, ◌++◌, nat_lt, Bool, IsTrue, List, filter, Option, Result, MatchOption, MatchResult}
+use Rattle.std.specs.Prelude.{ℕ, ◌≡◌, ◌≤◌, ◌++◌, Bool, IsTrue, List, Option, Result, Ok, MatchOption, MatchResult}
 use Rattle.std.specs.declared.alloc.Global.{Global}
 use Rattle.std.specs.declared.vec.Vec.{Vec}
 use Rattle.disk.specs.Calls.{DiskState}
@@ -13,11 +13,10 @@ use Rattle.history.specs.Machine.{Machine}
 use Rattle.history.specs.Time.{value_at}
 use Rattle.law_image.specs.Values.{Value}
 use Rattle.chains.specs.KeyWrites.{writes_of}
-use Rattle.group.specs.CommitOrder.{times_of}
-use Rattle.commits.specs.Values.{order_of}
 use Rattle.timequery.specs.View.{ViewValue, AnswersAt, RefusesRecent}
 use Rattle.timequery.specs.declared.fault.QueryFault.{QueryFault}
 use Rattle.log_store.specs.Values.{LogStoreValue, IsInStep}
+use Rattle.log_store.specs.Names.{AnswersTimes}
 use Rattle.log_store.specs.Queries.{IsViewOf, AnswersAtView, AnswersScanAt, AnswersRows, AnswersScanRows}
 use Rattle.law_refinement.specs.Homes.{IsSure}
 use Rattle.law_refinement.specs.Laws.{SaysAt, SaysScanAt, SaysBetween, SaysScanBetween}
@@ -77,11 +76,10 @@ AnswersStay =
 
 -- ---- labels
 
--- The times of a label that were told before the stop are told after it, with at most later ones behind them: all that are later than a time from both reclaim
--- marks on. Of earlier ones memory may have forgotten the names.
+-- The times of a label that were told before the stop are told after it, with at most later ones behind them.
 abbrev pub LabelsStay : Type 0
 LabelsStay =
-    (tells : Bool) (v : LogStoreValue) (m : Machine Value) (disk : DiskState) (mark : ℕ) (again : LogStoreValue) (label since : ℕ)
-    → IsInStep v → Stands tells v m → IsTrue tells → OpensAgain tells v disk mark again → v.commits.reclaimed ≤ since → again.commits.reclaimed ≤ since
-    → (more : List ℕ)
-    × (filter (nat_lt since) (times_of label (order_of again.commits)) ≡ filter (nat_lt since) (times_of label (order_of v.commits)) ++ more)
+    (tells : Bool) (v asked : LogStoreValue) (m : Machine Value) (disk : DiskState) (mark : ℕ) (again new : LogStoreValue) (label : ℕ)
+    (before after : Vec ℕ Global)
+    → IsInStep v → Stands tells v m → IsTrue tells → OpensAgain tells v disk mark again → AnswersTimes tells v label (Ok before) asked
+    → AnswersTimes tells again label (Ok after) new → (more : List ℕ) × (after.items ≡ before.items ++ more)

@@ -36,6 +36,8 @@ use Rattle.timequery.specs.View.{mark_of}
 use Rattle.law_layout.specs.Runs.{run_bytes}
 use Rattle.log_entries.specs.declared.entry.Archive.{Archive}
 use Rattle.log_roots.specs.Roots.{root_of}
+use Rattle.log_base.specs.Bases.{mark_of as mark_of_log}
+use Rattle.log_store.specs.Live.{LiveValue}
 use Rattle.log_store.specs.Named.{NamedValue}
 use Rattle.log_store.specs.Values.{LogStoreValue}
 use Rattle.log_store.specs.declared.job.Job.{Job}
@@ -45,8 +47,9 @@ use Rattle.law_refinement.proofs.RunsStep.{mark-more}
 use Rattle.law_log_store.specs.Standing.{StandsOnHeap, StopsOnHeap, IsNextArchive, HasAllWritten, MayAllEnter, run_made}
 use Rattle.law_log_store.proofs.Joining as joins
 use Rattle.law_log_store.proofs.Plans.{drop-all}
-use Rattle.law_log_queries.specs.Archive.{RunHasPlace, JobHasPlace, RunsStand, Stands, GoesOn, end_of}
+use Rattle.law_log_queries.specs.Archive.{RunHasPlace, JobHasPlace, NamesStand, RunsStand, Stands, GoesOn, end_of}
 use Rattle.law_log_queries.proofs.Leaving.{AddsRun}
+use Rattle.law_log_queries.proofs.Names.{names-later}
 use Rattle.law_log_queries.proofs.Runs.{end-more, end-within, one-run}
 
 -- ---- the mark of all runs
@@ -115,6 +118,15 @@ module _ (tells : Bool) (old new : LogStoreValue) (m after : Machine Value) (sta
     runs = runs-are;
     bytes = λ told. up_to-is (end_of old.archive.runs) (archive_of old.disk) (archive_of new.disk) (adds.bytes told);
   }
+
+  -- the log names the same rolls
+  pub names-added : IsTrue tells → IsLater m after → NamesStand new after.published
+  names-added told later =
+      let named-end : new.named.end ≡ adds.a.start + adds.a.len = ap (λ (n : NamedValue). n.end) adds.named in
+      let behind = (place).behind in
+      names-later old new m after later
+      (record { rolls = ap (λ (n : NamedValue). n.rolls) adds.named; mark = ap (λ (l : LiveValue). mark_of_log l.chains) adds.live })
+      (omega (arith, named-end, behind)) (up_to-is old.named.end (archive_of old.disk) (archive_of new.disk) (adds.bytes told)) (stands.names told)
 
   module _ (told : IsTrue tells) (up : HasRisingTimes 0 m.published) (later : IsLater m after) where
     s : StandsOnHeap old m.published m.queue m.floors

@@ -2,6 +2,8 @@
 use Rattle.std.proofs.Common.{◌≡◌, ℕ, ◌==◌, Bool, true, false, IsTrue, [], Option, None, Some, Result, Err, MatchBool, refl, arith}
 use Rattle.std.proofs.Common.{ap, sym, subst, ◌∙◌, inl, inr}
 use Rattle.std.proofs.lemmas.List.{append-nil}
+use Rattle.std.specs.declared.alloc.Global.{Global}
+use Rattle.std.specs.declared.vec.Vec.{Vec}
 use Rattle.disk.specs.Calls.{DiskState}
 use Rattle.history.specs.Histories.{History}
 use Rattle.history.specs.Machine.{Machine}
@@ -19,13 +21,14 @@ use Rattle.log_store.specs.declared.job.Job.{Job}
 use Rattle.log_store.specs.declared.job.JobStage.{JobStage}
 use Rattle.log_store.specs.declared.job.JobStage.TheVariants.{Writing, Ready, Entering}
 use Rattle.log_store.specs.declared.job.JobWork.{JobWork}
+use Rattle.log_store.specs.Names.{AnswersTimes}
 use Rattle.log_store.specs.Queries.{in_log_store}
 use Rattle.law_refinement.proofs.Asking.{after-is, own-front}
 use Rattle.law_refinement.proofs.RunsKept.{up_to-same}
 use Rattle.law_refinement.proofs.RunsStep.{front-ends}
 use Rattle.law_log_store.specs.Standing.{StandsOnHeap, StopsOnHeap, HasTurn, HasJob, HasStage}
 use Rattle.law_log_steps.specs.Store.{IsLeft, IsStoreOf}
-use Rattle.law_log_queries.specs.Archive.{RunsStand, Stands, GoesOn, end_of}
+use Rattle.law_log_queries.specs.Archive.{NamesStand, RunsStand, Stands, GoesOn, end_of}
 use Rattle.law_log_queries.proofs.Runs.{ends-all}
 use Rattle.law_log_queries.proofs.Leaving.{leaves-same, leaves-goes}
 
@@ -114,6 +117,25 @@ module _ (v : LogStoreValue) (archive : ArchiveValue) (refused : ℕ) where
     disk = λ told. asked-disk v.commits.failed m.published m.queue m.floors (is.disk told);
   }
 
+  asked-names : (h : History Value) → NamesStand v h → NamesStand asked h
+  asked-names h n = record {
+    rolls = n.rolls;
+    names = n.names;
+    lie = record {
+      rolls_are = (n.lie).rolls_are;
+      each = (n.lie).each;
+      held = (n.lie).held;
+      stored = (n.lie).stored;
+      are_names = (n.lie).are_names;
+      by_mark = (n.lie).by_mark;
+    };
+    ends = n.ends;
+    others = n.others;
+    are = n.are;
+    late = n.late;
+    by_last = n.by_last;
+  }
+
 pub asks-stands : {T : Type 0} (tells : Bool) (v new : LogStoreValue) (m : Machine Value) (view : ViewValue) (answer : Result T QueryFault)
     → Stands tells v m → is_front view.runs v.archive.runs ≡ true → Asks in_log_store tells v view answer new
     → Stands tells new m × GoesOn tells v new
@@ -144,7 +166,12 @@ asks-stands tells v new m view answer stands front asks =
       bytes = λ told. up_to-same end (archive_of v.disk);
     } in (
       subst (λ (x : LogStoreValue). Stands tells x m) (sym is)
-          (record { store = asked-store v archive refused tells m stands.store; place = stands.place; runs = runs }),
+          (record {
+            store = asked-store v archive refused tells m stands.store;
+            place = stands.place;
+            runs = runs;
+            names = λ told. asked-names v archive refused m.published (stands.names told);
+          }),
       subst (λ (x : LogStoreValue). GoesOn tells v x) (sym is) goes,
     )
 
@@ -164,4 +191,40 @@ query-stands tells v new m view from Refuses Recent OfHistory Exact answer stand
     by-own false is strange = (
       subst (λ (x : LogStoreValue). Stands tells x m) (sym strange.1) stands,
       subst (λ (x : LogStoreValue). GoesOn tells v x) (sym strange.1) (leaves-goes tells v v (leaves-same tells v)),
+    )
+
+-- a store whose names were asked
+pub times-stand : (tells : Bool) (v new : LogStoreValue) (m : Machine Value) (label : ℕ) (answer : Result (Vec ℕ Global) QueryFault) → Stands tells v m
+    → AnswersTimes tells v label answer new → Stands tells new m × GoesOn tells v new
+times-stand tells v new m label answer stands says =
+    let refused : ℕ = (after_query answer v.disk).refused in
+    let is : new ≡ asked v v.archive refused = says.new_is ∙ ap (λ (d : DiskState). record v { disk = d }) (after-is answer v.disk) in
+    let end = end_of v.archive.runs in
+    let runs : IsTrue tells → RunsStand (asked v v.archive refused) m.published m.floors = λ told.
+    let r = stands.runs told in
+    record {
+      lists = r.lists;
+      held = r.held;
+      marks = r.marks;
+      by_last = r.by_last;
+      archived = r.archived;
+      right = r.right;
+      near = r.near;
+      ends = r.ends;
+      named = r.named;
+    } in
+    let goes : GoesOn tells v (asked v v.archive refused) = record {
+      mark = refl;
+      more = [];
+      runs = sym (append-nil v.archive.runs);
+      bytes = λ told. up_to-same end (archive_of v.disk);
+    } in (
+      subst (λ (x : LogStoreValue). Stands tells x m) (sym is)
+          (record {
+            store = asked-store v v.archive refused tells m stands.store;
+            place = stands.place;
+            runs = runs;
+            names = λ told. asked-names v v.archive refused m.published (stands.names told);
+          }),
+      subst (λ (x : LogStoreValue). GoesOn tells v x) (sym is) goes,
     )

@@ -38,13 +38,15 @@ use Rattle.law_log_steps.proofs.FloorStarts.{floor-starts}
 use Rattle.law_log_steps.proofs.ReclaimStarts.{reclaim-starts}
 use Rattle.law_log_queries.specs.Archive.{HasPlace, JobHasPlace, ReclaimHasPlace, Stands, GoesOn, end_of}
 use Rattle.law_log_queries.specs.Calls.{IsCall, LeadsTo, OfBegin, OfAbort, OfRedeem, OfSubmit, OfPump, OfFloor, OfArchive, OfReclaim, OfJob, OfAt}
-use Rattle.law_log_queries.specs.Calls.{OfScanAt, OfBetween, OfScanBetween}
+use Rattle.law_log_queries.specs.Calls.{OfScanAt, OfBetween, OfScanBetween, OfTimes}
 use Rattle.law_log_queries.specs.Laws.{GoesTo}
 use Rattle.law_log_queries.proofs.Runs.{end-more}
-use Rattle.law_log_queries.proofs.Leaving.{LeavesArchive, AddsRun, BaseIsPast, alone-leaves, submit-leaves, pump-leaves, floor-leaves, archive-leaves}
+use Rattle.law_log_queries.proofs.Leaving.{LeavesArchive, AddsRun, BaseIsPast, IsPastAll, alone-leaves, submit-leaves, pump-leaves, floor-leaves}
+use Rattle.law_log_queries.proofs.Leaving.{archive-leaves}
 use Rattle.law_log_queries.proofs.Leaving.{beside-place, job-moves, leaves-goes, leaves-same, reclaim-leaves, runs-left}
-use Rattle.law_log_queries.proofs.Adding.{added-goes, runs-added}
-use Rattle.law_log_queries.proofs.Asking.{query-stands}
+use Rattle.law_log_queries.proofs.Adding.{added-goes, names-added, runs-added}
+use Rattle.law_log_queries.proofs.Names.{names-left}
+use Rattle.law_log_queries.proofs.Asking.{query-stands, times-stand}
 
 -- ---- one call
 
@@ -56,6 +58,7 @@ kept tells old new m after stands leaves later is = (
     store = is;
     place = leaves.place stands.place;
     runs = λ told. runs-left tells old new m after (machine-rises m stands.store.machine) later leaves told (stands.runs told);
+    names = λ told. names-left tells old new m after later leaves is told (stands.names told);
   },
   leaves-goes tells old new leaves,
 )
@@ -73,13 +76,14 @@ added tells old new m after stands adds later is = (
           adds.is-job stands.place.1),
     );
     runs = λ told. runs-added tells old new m after stands adds told (machine-rises m stands.store.machine) later;
+    names = λ told. names-added tells old new m after stands adds told later;
   },
   added-goes tells old new m after stands adds,
 )
 
--- a run goes behind those that stand
+-- a run goes behind those that stand, and behind all that the log names
 pub run-past : (tells : Bool) (old : LogStoreValue) (m : Machine Value) → Stands tells old m → (writer : InWriting) (job : Job) → old.commits.failed ≡ false
-    → old.job ≡ Some job → job.stage ≡ stages.Writing writer → IsTrue tells → end_of old.archive.runs ≤ writer.at
+    → old.job ≡ Some job → job.stage ≡ stages.Writing writer → IsTrue tells → IsPastAll old writer
 run-past tells old m stands writer job works-on is-job e told =
     let s : StandsOnHeap old m.published m.queue m.floors =
     subst (λ (b : Bool). MatchBool b (StopsOnHeap old m.published m.queue m.floors) (StandsOnHeap old m.published m.queue m.floors)) works-on
@@ -89,10 +93,11 @@ run-past tells old m stands writer job works-on is-job e told =
     (subst (λ (j : Option Job). HasAllWritten s.made j old.disk.areas.archive) is-job s.written))
   where
     by-work : (made : List ArchiveRecord) (work : JobWork) → HasPlace old.named old.archive.runs old.archive.next work
-        → HasWritten work made (stages.Writing writer) old.disk.areas.archive → end_of old.archive.runs ≤ writer.at
+        → HasWritten work made (stages.Writing writer) old.disk.areas.archive → IsPastAll old writer
     by-work made (works.Floor floor kept) place has = absurd has
     by-work made (works.Archive a archives) place has =
-        let end = (stands.runs told).ends in let behind = place.behind in let at = has.place in omega (arith, end, behind, at)
+        let end = (stands.runs told).ends in let behind = place.behind in let at = has.place in
+        (omega (arith, end, behind, at), omega (arith, behind, at))
 
 -- and so does the roll of a reclaim
 pub base-past : (tells : Bool) (old : LogStoreValue) (m : Machine Value) → Stands tells old m → BaseIsPast tells old
@@ -144,6 +149,7 @@ call-keeps tells old new m after events stands call run is = by-call call
         asked tells old new m after later is (query-stands tells old new m view a _ _ _ _ answer stands says)
     by-call (OfScanBetween view relation a b answer says) =
         asked tells old new m after later is (query-stands tells old new m view a _ _ _ _ answer stands says)
+    by-call (OfTimes label answer says) = asked tells old new m after later is (times-stand tells old new m label answer stands says)
 
 -- ---- there is a state after it
 
@@ -203,6 +209,7 @@ module _ (tells : Bool) (old new : LogStoreValue) (m : Machine Value) (told : Is
   by-call (OfScanAt view relation time answer says) = queried (query-stands tells old new m view time _ _ _ _ answer stands says)
   by-call (OfBetween view key a b answer says) = queried (query-stands tells old new m view a _ _ _ _ answer stands says)
   by-call (OfScanBetween view relation a b answer says) = queried (query-stands tells old new m view a _ _ _ _ answer stands says)
+  by-call (OfTimes label answer says) = queried (times-stand tells old new m label answer stands says)
 
   pub call-stands : GoesTo tells old new
   call-stands = by-call call

@@ -27,6 +27,7 @@ use Rattle.timequery.specs.View.{mark_of}
 use Rattle.vacuum.specs.Archives.{unwritten}
 use Rattle.log_entries.specs.declared.entry.Archive.{Archive}
 use Rattle.log_entries.specs.Spelling.{entry_bytes}
+use Rattle.log_base.specs.Bases.{mark_of as mark_of_log}
 use Rattle.log_base.specs.Rolls.{InRoll}
 use Rattle.log_roots.specs.Turning.{RootTurnState}
 use Rattle.log_roots.specs.Turning as turning
@@ -35,9 +36,10 @@ use Rattle.log_writer.specs.Whole.{WholeState}
 use Rattle.log_writer.specs.Writer.{WriterState, turn, with_stage}
 use Rattle.log_writer.specs.Writer as writers
 use Rattle.commits.specs.Values.{CommitsValue, is_own}
-use Rattle.commits.specs.Steps.{grouped}
+use Rattle.commits.specs.Steps.{group_last, grouped}
 use Rattle.log_recovery.specs.Live.{part_of}
-use Rattle.log_store.specs.Live.{with_live}
+use Rattle.log_recovery.specs.declared.live.LivePart.TheVariants.{Commits}
+use Rattle.log_store.specs.Live.{LiveValue, is_base, with_live}
 use Rattle.log_store.specs.Archives.{archive_refusal, records_to, run_to, with_archive, BeginsArchive, BeginsRun, StartsArchive}
 use Rattle.log_store.specs.Named.{NamedValue, with_archives}
 use Rattle.log_store.specs.Runs as run_calls
@@ -76,9 +78,19 @@ use Rattle.law_log_store.proofs.Calls.{AreNamesAlone}
 use Rattle.law_log_steps.specs.Store.{BaseReaches, ReclaimReaches}
 use Rattle.law_log_steps.proofs.ArchiveStarts.{may-archive}
 use Rattle.law_log_steps.proofs.FloorStarts.{may-begin}
+use Rattle.law_log_steps.proofs.Pumping.{mark-more}
 use Rattle.law_log_steps.proofs.ReclaimStarts.{may-reclaim}
 use Rattle.law_log_queries.specs.Archive.{JobHasPlace, WaitsBehind, GoesBehind, BaseHasPlace, ReclaimHasPlace, IsPlaced, RunsStand, GoesOn, end_of}
 use Rattle.law_log_queries.proofs.Runs.{ends-all}
+
+-- the log names the same rolls, and its reclaim mark is the same
+pub record SameNames (old new : LogStoreValue) : Type 0 where
+  pub rolls : new.named.rolls ≡ old.named.rolls
+  pub mark : mark_of_log new.live.chains ≡ mark_of_log old.live.chains
+
+-- so it is, or the store works
+abbrev pub NamesOrWorks : LogStoreValue → LogStoreValue → Type 0
+NamesOrWorks old new = SameNames old new ⊎ (new.commits.failed ≡ false)
 
 -- what of a store its archive rests on is as it was
 pub record LeavesArchive (tells : Bool) (old new : LogStoreValue) : Type 0 where
@@ -90,8 +102,10 @@ pub record LeavesArchive (tells : Bool) (old new : LogStoreValue) : Type 0 where
   pub reclaimed : new.commits.reclaimed ≡ old.commits.reclaimed
   pub mark : new.commits.mark ≡ old.commits.mark
   pub place : IsPlaced old → IsPlaced new
-  -- no byte of its runs is written
+  pub names : NamesOrWorks old new
+  -- no byte of its runs is written, nor of anything else that the log names
   pub bytes : IsTrue tells → KeepsUpTo (end_of old.archive.runs) (archive_of old.disk) (archive_of new.disk)
+  pub all : IsTrue tells → KeepsUpTo old.named.end (archive_of old.disk) (archive_of new.disk)
 
 -- what is in memory of that
 record LeavesMemory (old new : LogStoreValue) : Type 0 where
@@ -102,17 +116,28 @@ record LeavesMemory (old new : LogStoreValue) : Type 0 where
   reclaimed : new.commits.reclaimed ≡ old.commits.reclaimed
   mark : new.commits.mark ≡ old.commits.mark
   place : IsPlaced old → IsPlaced new
+  names : NamesOrWorks old new
 
 same-memory : (v : LogStoreValue) → LeavesMemory v v
-same-memory v = record { runs = refl; kept = refl; upto = refl; end = omega arith; reclaimed = refl; mark = refl; place = λ place. place }
+same-memory v = record {
+  runs = refl;
+  kept = refl;
+  upto = refl;
+  end = omega arith;
+  reclaimed = refl;
+  mark = refl;
+  place = λ place. place;
+  names = inl (record { rolls = refl; mark = refl });
+}
 
 moved-memory : (old next new : LogStoreValue) → new ≡ next → LeavesMemory old next → LeavesMemory old new
 moved-memory old next new is leaves = subst (λ (v : LogStoreValue). LeavesMemory old v) (sym is) leaves
 
--- where the disk is the same, or says the same up to where the runs end
+-- where the disk is the same, or says the same up to where the runs end, and up to where all ends that the log names
 on-disk : (tells : Bool) (old new : LogStoreValue) → LeavesMemory old new
-    → (IsTrue tells → KeepsUpTo (end_of old.archive.runs) (archive_of old.disk) (archive_of new.disk)) → LeavesArchive tells old new
-on-disk tells old new is bytes = record {
+    → (IsTrue tells → (end : ℕ) → (end ≡ end_of old.archive.runs) ⊎ (end ≡ old.named.end) → KeepsUpTo end (archive_of old.disk) (archive_of new.disk))
+    → LeavesArchive tells old new
+on-disk tells old new is keeps = record {
   runs = is.runs;
   kept = is.kept;
   upto = is.upto;
@@ -120,12 +145,19 @@ on-disk tells old new is bytes = record {
   reclaimed = is.reclaimed;
   mark = is.mark;
   place = is.place;
-  bytes = bytes;
+  names = is.names;
+  bytes = λ told. keeps told (end_of old.archive.runs) (inl refl);
+  all = λ told. keeps told old.named.end (inr refl);
 }
 
 same-disk : (tells : Bool) (old new : LogStoreValue) → LeavesMemory old new → archive_of new.disk ≡ archive_of old.disk → LeavesArchive tells old new
 same-disk tells old new is same =
-    on-disk tells old new is (λ told. up_to-is (end_of old.archive.runs) (archive_of old.disk) (archive_of new.disk) same)
+    on-disk tells old new is (λ told end either. up_to-is end (archive_of old.disk) (archive_of new.disk) same)
+
+-- what has the same of both names the same
+names-as : (old new : LogStoreValue) → new.named ≡ old.named → new.live ≡ old.live → SameNames old new
+names-as old new named live =
+    record { rolls = ap (λ (n : NamedValue). n.rolls) named; mark = ap (λ (l : LiveValue). mark_of_log l.chains) live }
 
 pub leaves-same : (tells : Bool) (v : LogStoreValue) → LeavesArchive tells v v
 leaves-same tells v = same-disk tells v v (same-memory v) refl
@@ -156,8 +188,8 @@ none-place after end (Some r) none = absurd (let no : Some r ≡ None = none in 
 moved : (tells : Bool) (old next new : LogStoreValue) → new ≡ next → LeavesArchive tells old next → LeavesArchive tells old new
 moved tells old next new is leaves = subst (λ (v : LogStoreValue). LeavesArchive tells old v) (sym is) leaves
 
-both-leave : (tells : Bool) (a b c : LogStoreValue) → LeavesArchive tells a b → LeavesArchive tells b c → LeavesArchive tells a c
-both-leave tells a b c first next = record {
+both-leave : (tells : Bool) (a b c : LogStoreValue) → SameNames a b → LeavesArchive tells a b → LeavesArchive tells b c → LeavesArchive tells a c
+both-leave tells a b c same first next = record {
   runs = next.runs ∙ first.runs;
   kept = next.kept ∙ first.kept;
   upto = next.upto ∙ first.upto;
@@ -165,9 +197,15 @@ both-leave tells a b c first next = record {
   reclaimed = next.reclaimed ∙ first.reclaimed;
   mark = next.mark ∙ first.mark;
   place = λ place. next.place (first.place place);
+  names = by-names next.names;
   bytes = λ told at part low held.
       next.bytes told at part (subst (λ (runs : List RunEntry). at + length part ≤ end_of runs) (sym first.runs) low) (first.bytes told at part low held);
+  all = λ told at part low held. next.all told at part (let later = first.end in omega (arith, low, later)) (first.all told at part low held);
 }
+  where
+    by-names : NamesOrWorks b c → NamesOrWorks a c
+    by-names (inl is) = inl (record { rolls = is.rolls ∙ same.rolls; mark = is.mark ∙ same.mark })
+    by-names (inr works) = inr works
 
 -- ---- transactions and tickets
 
@@ -183,6 +221,7 @@ alone-leaves tells old new alone is =
       mark = ap (λ (c : CommitsValue). c.mark) alone.new_is;
       place = same-place old new (ap (λ (v : LogStoreValue). v.archive) is) (ap (λ (v : LogStoreValue). v.named) is) (ap (λ (v : LogStoreValue). v.job) is)
           (ap (λ (v : LogStoreValue). v.reclaim) is);
+      names = inl (names-as old new (ap (λ (v : LogStoreValue). v.named) is) (ap (λ (v : LogStoreValue). v.live) is));
     }) (ap (λ (v : LogStoreValue). archive_of v.disk) is)
 
 answer-leaves : (tells : Bool) (v new : LogStoreValue) (txn : TxnValue) (label now : ℕ) (answer : Result Submitted SubmitFault)
@@ -191,7 +230,16 @@ answer-leaves tells v new txn label now (Ok (ReadOnly snapshot)) is = moved tell
 answer-leaves tells v new txn label now (Ok (Queued ticket)) is =
     let queued : LogStoreValue = with_queued v label ticket.time txn.writes in
     moved tells v queued new is.2 (same-disk tells v queued
-    (record { runs = refl; kept = refl; upto = refl; end = omega arith; reclaimed = refl; mark = refl; place = λ place. place }) refl)
+    (record {
+      runs = refl;
+      kept = refl;
+      upto = refl;
+      end = omega arith;
+      reclaimed = refl;
+      mark = refl;
+      place = λ place. place;
+      names = inl (record { rolls = refl; mark = refl });
+    }) refl)
 answer-leaves tells v new txn label now (Err why) is = moved tells v v new is.1 (leaves-same tells v)
 
 own-leaves : (tells : Bool) (v new : LogStoreValue) (txn : TxnValue) (label now : ℕ) (answer : Result Submitted SubmitFault)
@@ -211,9 +259,18 @@ submit-leaves tells old new txn label now answer submits = by-own (is_own old.co
         → MatchBool b (SubmitsOwn (spent old txn.number) txn label now answer new) ((answer ≡ Err refused.Stranger) × (new ≡ old))
         → LeavesArchive tells old new
     by-own true is =
-        both-leave tells old (spent old txn.number) new
+        both-leave tells old (spent old txn.number) new (record { rolls = refl; mark = refl })
         (same-disk tells old (spent old txn.number)
-        (record { runs = refl; kept = refl; upto = refl; end = omega arith; reclaimed = refl; mark = refl; place = λ place. place }) refl)
+        (record {
+          runs = refl;
+          kept = refl;
+          upto = refl;
+          end = omega arith;
+          reclaimed = refl;
+          mark = refl;
+          place = λ place. place;
+          names = inl (record { rolls = refl; mark = refl });
+        }) refl)
         (own-leaves tells (spent old txn.number) new txn label now answer is)
     by-own false is = moved tells old old new is.1 (leaves-same tells old)
 
@@ -232,26 +289,75 @@ call-bytes t Done result old new call = absurd call
 -- and memory has the same archive
 after-leaves : (old : LogStoreValue) (w : WriterState) (stage : Stage) → LeavesMemory old (after_call old w stage)
 after-leaves old w (Writing done rest) =
-    record { runs = refl; kept = refl; upto = refl; end = omega arith; reclaimed = refl; mark = refl; place = λ place. place }
-after-leaves old w Syncing = record { runs = refl; kept = refl; upto = refl; end = omega arith; reclaimed = refl; mark = refl; place = λ place. place }
-after-leaves old w Opening = record { runs = refl; kept = refl; upto = refl; end = omega arith; reclaimed = refl; mark = refl; place = λ place. place }
-after-leaves old w Settling = record { runs = refl; kept = refl; upto = refl; end = omega arith; reclaimed = refl; mark = refl; place = λ place. place }
+    record {
+      runs = refl;
+      kept = refl;
+      upto = refl;
+      end = omega arith;
+      reclaimed = refl;
+      mark = refl;
+      place = λ place. place;
+      names = inl (record { rolls = refl; mark = refl });
+    }
+after-leaves old w Syncing = record {
+  runs = refl;
+  kept = refl;
+  upto = refl;
+  end = omega arith;
+  reclaimed = refl;
+  mark = refl;
+  place = λ place. place;
+  names = inl (record { rolls = refl; mark = refl });
+}
+after-leaves old w Opening = record {
+  runs = refl;
+  kept = refl;
+  upto = refl;
+  end = omega arith;
+  reclaimed = refl;
+  mark = refl;
+  place = λ place. place;
+  names = inl (record { rolls = refl; mark = refl });
+}
+after-leaves old w Settling = record {
+  runs = refl;
+  kept = refl;
+  upto = refl;
+  end = omega arith;
+  reclaimed = refl;
+  mark = refl;
+  place = λ place. place;
+  names = inl (record { rolls = refl; mark = refl });
+}
 after-leaves old w Done = same-memory old
 
 -- over another disk too
 other-disk : (old next : LogStoreValue) (disk : DiskState) → LeavesMemory old next → LeavesMemory old (record next { disk = disk })
 other-disk old next disk is =
-    record { runs = is.runs; kept = is.kept; upto = is.upto; end = is.end; reclaimed = is.reclaimed; mark = is.mark; place = is.place }
+    record { runs = is.runs; kept = is.kept; upto = is.upto; end = is.end; reclaimed = is.reclaimed; mark = is.mark; place = is.place; names = other is.names }
+  where
+    other : NamesOrWorks old next → NamesOrWorks old (record next { disk = disk })
+    other (inl same) = inl (record { rolls = same.rolls; mark = same.mark })
+    other (inr works) = inr works
 
 -- and where the device refuses a call
 failed-memory : (v : LogStoreValue) → LeavesMemory v (with_failure v)
-failed-memory v = record { runs = refl; kept = refl; upto = refl; end = omega arith; reclaimed = refl; mark = refl; place = λ place. place }
+failed-memory v = record {
+  runs = refl;
+  kept = refl;
+  upto = refl;
+  end = omega arith;
+  reclaimed = refl;
+  mark = refl;
+  place = λ place. place;
+  names = inl (record { rolls = refl; mark = refl });
+}
 
 advance-leaves : (tells : Bool) (w : WriterState) (old new : LogStoreValue) (answer : Result Did PumpFault) → Advances tells w old answer new
     → LeavesArchive tells old new
 advance-leaves tells w old new answer advances =
-    on-disk tells old new (memory answer advances.answer) (λ told.
-    up_to-is (end_of old.archive.runs) (archive_of old.disk) (archive_of new.disk)
+    on-disk tells old new (memory answer advances.answer) (λ told end either.
+    up_to-is end (archive_of old.disk) (archive_of new.disk)
     (call-bytes (turn w) w.stage (disk_answer answer) old.disk.areas new.disk.areas (advances.call told)))
   where
     memory : (a : Result Did PumpFault)
@@ -272,6 +378,14 @@ grouped-same f c same =
       | false ↦ refl
     ]
 
+-- the group's chain is behind the base
+begun-names : (old begun : LogStoreValue) → Begins old begun → SameNames old begun
+begun-names old begun begins = record {
+  rolls = ap (λ (v : LogStoreValue). v.named.rolls) begins.new_is;
+  mark = ap (λ (v : LogStoreValue). mark_of_log v.live.chains) begins.new_is
+      ∙ mark-more old.live.chains (record { numbers = begins.numbers; part = Commits (group_last (grouped 1024 old.commits)) }) refl;
+}
+
 begin-leaves : (tells : Bool) (old begun : LogStoreValue) → Begins old begun → LeavesArchive tells old begun
 begin-leaves tells old begun begins =
     let is = begins.new_is in
@@ -284,6 +398,7 @@ begin-leaves tells old begun begins =
       mark = ap (λ (v : LogStoreValue). v.commits.mark) is ∙ grouped-same (λ (c : CommitsValue). c.mark) old.commits refl;
       place = same-place old begun (ap (λ (v : LogStoreValue). v.archive) is) (ap (λ (v : LogStoreValue). v.named) is) (ap (λ (v : LogStoreValue). v.job) is)
           (ap (λ (v : LogStoreValue). v.reclaim) is);
+      names = inl (begun-names old begun begins);
     }) (ap (λ (v : LogStoreValue). archive_of v.disk) is)
 
 pub pump-leaves : (tells : Bool) (old new : LogStoreValue) (answer : Result Did PumpFault) → Pumps tells old answer new → LeavesArchive tells old new
@@ -292,14 +407,14 @@ pump-leaves tells old new answer pumps = by-failed old.commits.failed pumps
     same : new ≡ old → LeavesArchive tells old new
     same is = moved tells old old new is (leaves-same tells old)
 
-    advanced : (begun : LogStoreValue) (t : Option WriterState) → LeavesArchive tells old begun → AdvancesGroup tells begun t answer new
-        → LeavesArchive tells old new
-    advanced begun None leaves advances = absurd advances
-    advanced begun (Some w) leaves advances = both-leave tells old begun new leaves (advance-leaves tells w begun new answer advances)
+    advanced : (begun : LogStoreValue) (t : Option WriterState) → Begins old begun → AdvancesGroup tells begun t answer new → LeavesArchive tells old new
+    advanced begun None begins advances = absurd advances
+    advanced begun (Some w) begins advances =
+        both-leave tells old begun new (begun-names old begun begins) (begin-leaves tells old begun begins) (advance-leaves tells w begun new answer advances)
 
     begins : BeginsGroup tells old answer new → LeavesArchive tells old new
     begins (inl none) = same none.1
-    begins (inr begun) = advanced begun.0 begun.0.turn (begin-leaves tells old begun.0 begun.1) begun.2
+    begins (inr begun) = advanced begun.0 begun.0.turn begun.1 begun.2
 
     by-job : (b : Bool) → MatchBool b ((answer ≡ Err pump.Busy) × (new ≡ old)) (BeginsGroup tells old answer new) → LeavesArchive tells old new
     by-job true busy = same busy.1
@@ -338,6 +453,7 @@ pub record AddsRun (tells : Bool) (old new : LogStoreValue) : Type 0 where
   pub reclaim : new.reclaim ≡ old.reclaim
   pub reclaimed : new.commits.reclaimed ≡ old.commits.reclaimed
   pub mark : new.commits.mark ≡ old.commits.mark
+  pub live : new.live ≡ old.live
   pub bytes : IsTrue tells → archive_of new.disk ≡ archive_of old.disk
 
 -- its job at another stage
@@ -353,6 +469,7 @@ stage-leaves old job stage is-job = record {
     subst (λ (j : Option Job). JobHasPlace old.named old.archive.runs old.archive.next j) is-job place.0,
     beside-place old.job (Some (record job { stage = stage })) job old.named.end old.named.end old.reclaim is-job place.1,
   );
+  names = inl (record { rolls = refl; mark = refl });
 }
 
 -- a call of the entry's chain: the last one of an archive's adds its run
@@ -370,8 +487,8 @@ module _ (tells : Bool) (work : JobWork) (w : WriterState) (old new : LogStoreVa
 
       leaving : (next : LogStoreValue) → LeavesMemory old next → new ≡ record next { disk = new.disk } → LeavesArchive tells old new
       leaving next leaves is =
-          on-disk tells old new (moved-memory old (record next { disk = new.disk }) new is (other-disk old next new.disk leaves)) (λ told.
-          up_to-is (end_of old.archive.runs) (archive_of old.disk) (archive_of new.disk) (same told))
+          on-disk tells old new (moved-memory old (record next { disk = new.disk }) new is (other-disk old next new.disk leaves)) (λ told end either.
+          up_to-is end (archive_of old.disk) (archive_of new.disk) (same told))
 
       further : (next : WriterState) → new ≡ record (at_stage old entering-job (Entering next)) { disk = new.disk } → LeavesArchive tells old new
       further next is = leaving (at_stage old entering-job (Entering next)) (stage-leaves old entering-job (Entering next) is-job) is
@@ -388,6 +505,7 @@ module _ (tells : Bool) (work : JobWork) (w : WriterState) (old new : LogStoreVa
             reclaimed = refl;
             mark = refl;
             place = λ place. (tt, beside-place old.job None entering-job old.named.end old.named.end old.reclaim is-job place.1);
+            names = inl (record { rolls = refl; mark = refl });
           }) is)
       ended (works.Archive a archives) kind-is is = inr (record {
         worked = works-on;
@@ -402,6 +520,7 @@ module _ (tells : Bool) (work : JobWork) (w : WriterState) (old new : LogStoreVa
         reclaim = ap (λ (v : LogStoreValue). v.reclaim) is;
         reclaimed = ap (λ (v : LogStoreValue). v.commits.reclaimed) is;
         mark = ap (λ (v : LogStoreValue). v.commits.mark) is;
+        live = ap (λ (v : LogStoreValue). v.live) is;
         bytes = same;
       })
 
@@ -425,21 +544,28 @@ module _ (tells : Bool) (work : JobWork) (w : WriterState) (old new : LogStoreVa
       by-answer (Ok what) is = by-stage w.stage refl is.1
       by-answer (Err why) is = inl (leaving (with_failure old) (failed-memory old) is.1)
 
+-- the place where a run is written is behind the others, and behind all that the log names
+abbrev pub IsPastAll : LogStoreValue → InWriting → Type 0
+IsPastAll v writer = (end_of v.archive.runs ≤ writer.at) × (v.named.end ≤ writer.at)
+
 -- a call of the writing of a run, which goes behind the others
 module _ (tells : Bool) (job : Job) (writer : InWriting) (old new : LogStoreValue) (is-job : old.job ≡ Some job) (e : job.stage ≡ stages.Writing writer)
-    (past : IsTrue tells → end_of old.archive.runs ≤ writer.at) where
-  run-bytes : (result : Result (Unit {0}) DeviceFault) (left : List ℕ) → end_of old.archive.runs ≤ writer.at
-      → CallsWith left writer result old.disk.areas new.disk.areas
-      → KeepsUpTo (end_of old.archive.runs) (archive_of old.disk) (archive_of new.disk)
-  run-bytes result [] low call =
-      up_to-is (end_of old.archive.runs) (archive_of old.disk) (archive_of new.disk) (archive-synced result old.disk.areas new.disk.areas call)
-  run-bytes result (b ∷ bs) low call =
-      up_to-in_part (end_of old.archive.runs) writer.at (length (piece_of writer)) old.disk.areas new.disk.areas low call.in_part
+    (past : IsTrue tells → IsPastAll old writer) where
+  run-bytes : (result : Result (Unit {0}) DeviceFault) (left : List ℕ) (end : ℕ) → end ≤ writer.at
+      → CallsWith left writer result old.disk.areas new.disk.areas → KeepsUpTo end (archive_of old.disk) (archive_of new.disk)
+  run-bytes result [] end low call =
+      up_to-is end (archive_of old.disk) (archive_of new.disk) (archive-synced result old.disk.areas new.disk.areas call)
+  run-bytes result (b ∷ bs) end low call =
+      up_to-in_part end writer.at (length (piece_of writer)) old.disk.areas new.disk.areas low call.in_part
+
+  low : IsTrue tells → (end : ℕ) → (end ≡ end_of old.archive.runs) ⊎ (end ≡ old.named.end) → end ≤ writer.at
+  low told end (inl is) = let before = (past told).0 in omega (arith, before, is)
+  low told end (inr is) = let before = (past told).1 in omega (arith, before, is)
 
   run-leaves : (answer : Result JobDid PumpFault) → WritesRun tells job old answer new → LeavesArchive tells old new
   run-leaves answer writes =
-      on-disk tells old new (memory answer writes.answer) (λ told.
-      run-bytes (run_calls.disk_answer answer) writer.left (past told)
+      on-disk tells old new (memory answer writes.answer) (λ told end either.
+      run-bytes (run_calls.disk_answer answer) writer.left end (low told end either)
       (subst (λ (k : JobStage). CallsAt k (run_calls.disk_answer answer) old.disk.areas new.disk.areas) e (writes.call told)))
     where
       memory : (a : Result JobDid PumpFault)
@@ -455,7 +581,16 @@ module _ (tells : Bool) (job : Job) (writer : InWriting) (old new : LogStoreValu
           let left = stage-leaves old job (stage_behind job.stage false) is-job in
           moved-memory old (record (with_failure next) { disk = new.disk }) new is.1
           (other-disk old (with_failure next) new.disk
-          (record { runs = left.runs; kept = left.kept; upto = left.upto; end = left.end; reclaimed = left.reclaimed; mark = left.mark; place = left.place }))
+          (record {
+            runs = left.runs;
+            kept = left.kept;
+            upto = left.upto;
+            end = left.end;
+            reclaimed = left.reclaimed;
+            mark = left.mark;
+            place = left.place;
+            names = inl (record { rolls = refl; mark = refl });
+          }))
 
 -- an entry begins, and its first call is made
 entry-begins-leaves : (tells : Bool) (old new : LogStoreValue) (job : Job) (begun : LogStoreValue) (answer : Result JobDid PumpFault)
@@ -471,14 +606,22 @@ entry-begins-leaves tells old new job begun answer works-on is-job b advances =
     let target : LogStoreValue =
     record (at_stage old job (Entering writer)) { room = b.room; live = with_live old.live b.numbers (part_of (entry_of job.work)) } in
     let on = stage-leaves old job (Entering writer) is-job in
-    both-leave tells old target new
+    let names : SameNames old target = record {
+      rolls = refl;
+      mark = mark-more old.live.chains (record { numbers = b.numbers; part = part_of (entry_of job.work) }) (no-base job.work);
+    } in
+    both-leave tells old target new names
     (same-disk tells old target
-    (record { runs = refl; kept = refl; upto = refl; end = omega arith; reclaimed = refl; mark = refl; place = on.place }) refl)
+    (record { runs = refl; kept = refl; upto = refl; end = omega arith; reclaimed = refl; mark = refl; place = on.place; names = inl names }) refl)
     (first writer.stage
     (λ at. let no : Writing [] (chain_turn b.numbers b.link (entry_bytes (entry_of job.work))).parts ≡ Settling = at in cc)
     (entry-call-moves tells job.work writer target new works-on refl answer
     (subst (λ (x : LogStoreValue). AdvancesEntry tells x.job x answer new) b.new_is advances)))
   where
+    no-base : (work : JobWork) → is_base (part_of (entry_of work)) ≡ false
+    no-base (Floor floor kept) = refl
+    no-base (works.Archive a archives) = refl
+
     -- which is no last one
     first : {X Y : Type 0} (k : Stage) → (k ≡ Settling → ⊥) → X ⊎ ((k ≡ Settling) × Y) → X
     first k never (inl x) = x
@@ -492,66 +635,68 @@ pub record BaseIsPast (tells : Bool) (v : LogStoreValue) : Type 0 where
   pub reaches : ReclaimReaches v.named.upto v.reclaim
   pub place : ReclaimHasPlace v.job v.named.end v.reclaim
 
-module _ (v : LogStoreValue) (r : ReclaimValue) (runs : v.reclaim ≡ Some r) (reaches : BaseReaches v.named.upto r) (past : BaseHasPlace v.job v.named.end r)
-  where
-    -- it is further, and names the same
-    goes-further : (after : ReclaimValue) → after.named ≡ r.named → WaitsBehind v.named.end after.roll → GoesBehind v.named.end after.stage
-        → LeavesMemory v (with_reclaim_as v after)
-    goes-further after named waits goes = record {
-      runs = refl;
-      kept = refl;
-      upto = refl;
-      end = omega arith;
-      reclaimed = refl;
-      mark = refl;
-      place = λ place. (
-        place.0,
-        record {
-          alone = past.alone;
-          waits = waits;
-          goes = goes;
-          named = (let low = past.named in let same = ap (λ (n : NamedValue). n.end) named in omega (arith, low, same));
-        },
-      );
-    }
+module _ (v : LogStoreValue) (r : ReclaimValue) (works-on : v.commits.failed ≡ false) (runs : v.reclaim ≡ Some r) (reaches : BaseReaches v.named.upto r)
+    (past : BaseHasPlace v.job v.named.end r) where
+  -- it is further, and names the same
+  goes-further : (after : ReclaimValue) → after.named ≡ r.named → WaitsBehind v.named.end after.roll → GoesBehind v.named.end after.stage
+      → LeavesMemory v (with_reclaim_as v after)
+  goes-further after named waits goes = record {
+    runs = refl;
+    kept = refl;
+    upto = refl;
+    end = omega arith;
+    reclaimed = refl;
+    mark = refl;
+    place = λ place. (
+      place.0,
+      record {
+        alone = past.alone;
+        waits = waits;
+        goes = goes;
+        named = (let low = past.named in let same = ap (λ (n : NamedValue). n.end) named in omega (arith, low, same));
+      },
+    );
+    names = inl (record { rolls = refl; mark = refl });
+  }
 
-    -- the base is the log's
-    base-leaves : LeavesMemory v (with_base v r)
-    base-leaves = record {
-      runs = refl;
-      kept = refl;
-      upto = reaches.named;
-      end = past.named;
-      reclaimed = refl;
-      mark = refl;
-      place = λ place. (subst (λ (j : Option Job). JobHasPlace r.named v.archive.runs v.archive.next j) (sym past.alone) tt, tt);
-    }
+  -- the base is the log's
+  base-leaves : LeavesMemory v (with_base v r)
+  base-leaves = record {
+    runs = refl;
+    kept = refl;
+    upto = reaches.named;
+    end = past.named;
+    reclaimed = refl;
+    mark = refl;
+    place = λ place. (subst (λ (j : Option Job). JobHasPlace r.named v.archive.runs v.archive.next j) (sym past.alone) tt, tt);
+    names = inr works-on;
+  }
 
-    roll-begins : (roll : Option InRoll) → r.roll ≡ roll → LeavesMemory v (with_reclaim_as v (begins_roll v.roots r roll))
-    roll-begins None none = goes-further (begins_roll v.roots r None) refl past.waits tt
-    roll-begins (Some roll) some =
-        goes-further (begins_roll v.roots r (Some roll)) refl tt (subst (WaitsBehind v.named.end) some past.waits)
+  roll-begins : (roll : Option InRoll) → r.roll ≡ roll → LeavesMemory v (with_reclaim_as v (begins_roll v.roots r roll))
+  roll-begins None none = goes-further (begins_roll v.roots r None) refl past.waits tt
+  roll-begins (Some roll) some =
+      goes-further (begins_roll v.roots r (Some roll)) refl tt (subst (WaitsBehind v.named.end) some past.waits)
 
-    extents-go : (anchors base : WholeState) (xs ys : List Part) → LeavesMemory v (with_reclaim_as v (behind_extents v.roots r anchors base xs ys))
-    extents-go anchors base (x ∷ xs) ys = goes-further (behind_extents v.roots r anchors base (x ∷ xs) ys) refl past.waits tt
-    extents-go anchors base [] (y ∷ ys) = goes-further (behind_extents v.roots r anchors base [] (y ∷ ys)) refl past.waits tt
-    extents-go anchors base [] [] = roll-begins r.roll refl
+  extents-go : (anchors base : WholeState) (xs ys : List Part) → LeavesMemory v (with_reclaim_as v (behind_extents v.roots r anchors base xs ys))
+  extents-go anchors base (x ∷ xs) ys = goes-further (behind_extents v.roots r anchors base (x ∷ xs) ys) refl past.waits tt
+  extents-go anchors base [] (y ∷ ys) = goes-further (behind_extents v.roots r anchors base [] (y ∷ ys)) refl past.waits tt
+  extents-go anchors base [] [] = roll-begins r.roll refl
 
-    pieces-go : (roll : InRoll) (bs : List ℕ) → v.named.end ≤ roll.at → LeavesMemory v (with_reclaim_as v (behind_roll v.roots r roll bs))
-    pieces-go roll [] low = goes-further (behind_roll v.roots r roll []) refl past.waits tt
-    pieces-go roll (b ∷ bs) low = goes-further (behind_roll v.roots r roll (b ∷ bs)) refl past.waits (omega (arith, low))
+  pieces-go : (roll : InRoll) (bs : List ℕ) → v.named.end ≤ roll.at → LeavesMemory v (with_reclaim_as v (behind_roll v.roots r roll bs))
+  pieces-go roll [] low = goes-further (behind_roll v.roots r roll []) refl past.waits tt
+  pieces-go roll (b ∷ bs) low = goes-further (behind_roll v.roots r roll (b ∷ bs)) refl past.waits (omega (arith, low))
 
-    turn-goes : (t : RootTurnState) (k : turning.Stage) → LeavesMemory v (behind_turn v r t k)
-    turn-goes t turning.Writing = goes-further (at_turn r t turning.Syncing) refl past.waits tt
-    turn-goes t turning.Syncing = goes-further (at_turn r t turning.Turning) refl past.waits tt
-    turn-goes t turning.Turning = goes-further (at_turn r t turning.Settling) refl past.waits tt
-    turn-goes t turning.Settling = base-leaves
-    turn-goes t turning.Done = same-memory v
+  turn-goes : (t : RootTurnState) (k : turning.Stage) → LeavesMemory v (behind_turn v r t k)
+  turn-goes t turning.Writing = goes-further (at_turn r t turning.Syncing) refl past.waits tt
+  turn-goes t turning.Syncing = goes-further (at_turn r t turning.Turning) refl past.waits tt
+  turn-goes t turning.Turning = goes-further (at_turn r t turning.Settling) refl past.waits tt
+  turn-goes t turning.Settling = base-leaves
+  turn-goes t turning.Done = same-memory v
 
-    call-goes : (k : ReclaimStage) → r.stage ≡ k → LeavesMemory v (reclaim_calls.behind v r k)
-    call-goes (reclaims.Writing anchors base) e = extents-go anchors base anchors.left base.left
-    call-goes (Rolling roll) e = pieces-go roll roll.left (subst (GoesBehind v.named.end) e past.goes)
-    call-goes (Turning t) e = turn-goes t t.stage
+  call-goes : (k : ReclaimStage) → r.stage ≡ k → LeavesMemory v (reclaim_calls.behind v r k)
+  call-goes (reclaims.Writing anchors base) e = extents-go anchors base anchors.left base.left
+  call-goes (Rolling roll) e = pieces-go roll roll.left (subst (GoesBehind v.named.end) e past.goes)
+  call-goes (Turning t) e = turn-goes t t.stage
 
 -- it writes to the archive behind all runs alone
 extents-bytes : (parts : List Part) (result : Result (Unit {0}) DeviceFault) (old new : Areas) → CallsExtents parts result old new
@@ -585,9 +730,9 @@ base-bytes end (Turning t) result old new low call =
 up_to-less : (less end : ℕ) (old new : List ℕ) → less ≤ end → KeepsUpTo end old new → KeepsUpTo less old new
 up_to-less less end old new low keeps = λ at part within held. keeps at part (omega (arith, within, low)) held
 
-reclaim-step-leaves : (tells : Bool) (r : ReclaimValue) (old new : LogStoreValue) (answer : Result JobDid PumpFault) → old.reclaim ≡ Some r
-    → BaseIsPast tells old → StepsReclaim tells r old answer new → LeavesArchive tells old new
-reclaim-step-leaves tells r old new answer runs base steps = by-gate (waits_at old.turn r.stage) steps
+reclaim-step-leaves : (tells : Bool) (r : ReclaimValue) (old new : LogStoreValue) (answer : Result JobDid PumpFault) → old.commits.failed ≡ false
+    → old.reclaim ≡ Some r → BaseIsPast tells old → StepsReclaim tells r old answer new → LeavesArchive tells old new
+reclaim-step-leaves tells r old new answer works-on runs base steps = by-gate (waits_at old.turn r.stage) steps
   where
     reaches : BaseReaches old.named.upto r
     reaches = subst (ReclaimReaches old.named.upto) runs base.reaches
@@ -601,21 +746,25 @@ reclaim-step-leaves tells r old new answer runs base steps = by-gate (waits_at o
     memory (Ok what) is =
         let next : LogStoreValue = reclaim_calls.behind old r r.stage in
         moved-memory old (record next { disk = new.disk }) new is.1
-        (other-disk old next new.disk (call-goes old r runs reaches past r.stage refl))
+        (other-disk old next new.disk (call-goes old r works-on runs reaches past r.stage refl))
     memory (Err why) is =
         moved-memory old (record (with_failure old) { disk = new.disk }) new is.1 (other-disk old (with_failure old) new.disk (failed-memory old))
+
+    low : IsTrue tells → (end : ℕ) → (end ≡ end_of old.archive.runs) ⊎ (end ≡ old.named.end) → end ≤ old.named.end
+    low told end (inl is) = let before = base.ends told in omega (arith, before, is)
+    low told end (inr is) = omega (arith, is)
 
     by-gate : (b : Bool) → MatchBool b ((answer ≡ Err pump.Busy) × (new ≡ old)) (AdvancesReclaim tells r old answer new) → LeavesArchive tells old new
     by-gate true busy = moved tells old old new busy.1 (leaves-same tells old)
     by-gate false advances =
-        on-disk tells old new (memory answer advances.answer) (λ told.
-        up_to-less (end_of old.archive.runs) old.named.end (archive_of old.disk) (archive_of new.disk) (base.ends told)
+        on-disk tells old new (memory answer advances.answer) (λ told end either.
+        up_to-less end old.named.end (archive_of old.disk) (archive_of new.disk) (low told end either)
         (base-bytes old.named.end r.stage (run_calls.disk_answer answer) old.disk.areas new.disk.areas past.goes (advances.call told)))
 
 -- a step of a job leaves the archive, or adds a run
 pub job-moves : (tells : Bool) (old new : LogStoreValue) (answer : Result JobDid PumpFault)
     → ((writer : InWriting) (job : Job) → old.commits.failed ≡ false → old.job ≡ Some job → job.stage ≡ stages.Writing writer → IsTrue tells
-    → end_of old.archive.runs ≤ writer.at)
+    → IsPastAll old writer)
     → BaseIsPast tells old
     → PumpsJob tells old answer new → LeavesArchive tells old new ⊎ AddsRun tells old new
 job-moves tells old new answer past base pumps = by-failed old.commits.failed refl pumps
@@ -652,7 +801,7 @@ job-moves tells old new answer past base pumps = by-failed old.commits.failed re
         → MatchOption o (StepsJob tells old.job old answer new) (λ r. StepsReclaim tells r old answer new)
         → LeavesArchive tells old new ⊎ AddsRun tells old new
     by-reclaim works-on None none step = by-job works-on old.job refl step
-    by-reclaim works-on (Some r) runs step = inl (reclaim-step-leaves tells r old new answer runs base step)
+    by-reclaim works-on (Some r) runs step = inl (reclaim-step-leaves tells r old new answer works-on runs base step)
 
     by-failed : (b : Bool) → old.commits.failed ≡ b
         → MatchBool b ((answer ≡ Err pump.Failed) × (new ≡ old))
@@ -692,6 +841,7 @@ archive-leaves tells old new upto answer starts = by-refusal (archive_refusal ol
             },
             none-place next.job next.named.end next.reclaim (may-archive old upto none).unmade,
           );
+          names = inl (record { rolls = refl; mark = refl });
         }) refl)
 
     begins : archive_refusal old upto ≡ None → (a : Result (Unit {0}) StartFault) → BeginsRun old upto a new → LeavesArchive tells old new
@@ -723,6 +873,7 @@ floor-leaves tells old new scope floor answer starts = by-refusal (floor_refusal
           reclaimed = refl;
           mark = refl;
           place = λ place. (tt, none-place next.job next.named.end next.reclaim (may-begin old relation floor none).unmade);
+          names = inl (record { rolls = refl; mark = refl });
         }) refl)
     begins (Some relation) (Err why) none begun = same begun.1
 
@@ -762,6 +913,7 @@ reclaim-leaves tells old new answer starts = by-refusal (reclaim_refusal old) re
               named = omega arith;
             },
           );
+          names = inl (record { rolls = refl; mark = refl });
         }) refl)
 
     begins : reclaim_refusal old ≡ None → (a : Result (Unit {0}) StartFault) → BeginsReclaim old a new → LeavesArchive tells old new

@@ -1,7 +1,9 @@
 pub mod Runs
 pub mod Leaving
+pub mod Names
 pub mod Adding
 pub mod Asking
+pub mod Times
 pub mod Views
 pub mod Opening
 pub mod Calls

@@ -1,6 +1,6 @@
 -- A store that was opened on an image has the archive that the image's log names.
 use Rattle.std.proofs.Common.{◌≡◌, ℕ, Bool, List, [], map, Option, arith, ap, sym, subst, ◌∙◌}
-use Rattle.std.specs.Prelude.{IsTrue}
+use Rattle.std.specs.Prelude.{IsTrue, MatchBool}
 use Rattle.disk.specs.Areas.{Areas, AreSound, LeavesImage, image_of}
 use Rattle.disk.specs.Calls.{DiskState}
 use Rattle.history.specs.Fronts.{OnFront}
@@ -39,13 +39,14 @@ use Rattle.log_store.specs.Values.{LogStoreValue, ReclaimValue, IsInStep}
 use Rattle.log_store.specs.Opens.{Opens, AreEntriesFrom}
 use Rattle.log_store.specs.declared.job.Job.{Job}
 use Rattle.law_log_store.specs.Named.{IsNamedBy}
-use Rattle.law_log_store.specs.Standing.{IsImageOf}
+use Rattle.law_log_store.specs.Standing.{IsImageOf, StandsOnHeap, StopsOnHeap}
 use Rattle.law_log_store.proofs.Opening.{read as read-is, same as same-log, named as opened-named}
 use Rattle.law_log_store.proofs.Spans.{stored-ends}
 use Rattle.law_log_steps.specs.Store.{IsStoreOf}
 use Rattle.law_log_steps.proofs.Fronts.{leaves-fronts}
 use Rattle.law_log_steps.proofs.Opening.{is-opened}
 use Rattle.law_log_queries.specs.Archive.{JobHasPlace, ReclaimHasPlace, RunsStand, Stands, end_of}
+use Rattle.law_log_queries.proofs.Names.{names-of-heap}
 use Rattle.law_log_queries.proofs.Runs.{entries-within, runs-hold, mark-is}
 
 module _ (tells : Bool) (old : DiskState) (mark : ℕ) (v : LogStoreValue) (roots : Roots) (h : History Value) (floors : ℕ → ℕ) (tells_so : IsTrue tells)
@@ -151,6 +152,10 @@ module _ (tells : Bool) (old : DiskState) (mark : ℕ) (v : LogStoreValue) (root
       subst (λ (x : Option ReclaimValue). ReclaimHasPlace v.job v.named.end x) (sym (ap (λ (x : LogStoreValue). x.reclaim) opens.new_is)) tt,
     );
     runs = λ told. runs-stand;
+    names = λ told.
+        names-of-heap v h [] floors
+        (subst (λ (b : Bool). MatchBool b (StopsOnHeap v h [] floors) (StandsOnHeap v h [] floors)) (ap (λ (x : LogStoreValue). x.commits.failed) opens.new_is)
+        ((is-opened tells old mark v roots h floors tells_so are_sound image opens).disk told));
   }
 
 -- ---- after a stop

@@ -1,9 +1,11 @@
 -- The archive of a store whose log lies in the heap, what its views need of it, and what stays of it while the store goes on.
-use Rattle.std.specs.Prelude.{ℕ, ◌≡◌, ◌≤◌, max, Bool, true, IsTrue, List, [], ◌∷◌, ◌++◌, Option, None, Some}
+use Rattle.std.specs.Prelude.{ℕ, ◌≡◌, ◌+◌, ◌<◌, ◌≤◌, max, Bool, true, IsTrue, List, [], ◌∷◌, ◌++◌, map, Option, None, Some}
+use Rattle.std.specs.List.{AllByRecursion}
 use Rattle.history.specs.Histories.{History, last}
 use Rattle.history.specs.Machine.{Machine}
 use Rattle.law_image.specs.Values.{Value}
-use Rattle.law_image.specs.Reading.{ArchiveRecord}
+use Rattle.law_image.specs.Reading.{ArchiveRecord, Head}
+use Rattle.law_image.specs.StandsFor.{head_of}
 use Rattle.archive.specs.declared.run.RunEntry.{RunEntry}
 use Rattle.archive.specs.Parts.{IsRight, EndBy}
 use Rattle.archive.specs.Runs.{HoldRuns, run_end}
@@ -14,7 +16,9 @@ use Rattle.floors.specs.Floors.{no_floors}
 use Rattle.log_entries.specs.declared.entry.Archive.{Archive}
 use Rattle.log_entries.specs.Ranges.{run_of}
 use Rattle.log_base.specs.Rolls.{InRoll}
+use Rattle.law_log_layout.specs.HeapLog.{PlacedRoll}
 use Rattle.log_store.specs.Named.{NamedValue}
+use Rattle.log_store.specs.Names.{NamesLie, names_mark}
 use Rattle.log_store.specs.Values.{LogStoreValue, ReclaimValue}
 use Rattle.log_store.specs.declared.job.Job.{Job}
 use Rattle.log_store.specs.declared.job.JobWork.{JobWork}
@@ -86,11 +90,25 @@ pub record RunsStand (v : LogStoreValue) (h : History Value) (floors : ℕ → �
   pub ends : end_of v.archive.runs ≤ v.named.end
   pub named : mark_of v.archive.runs ≡ v.named.upto
 
+-- The archive's bytes hold the rolls that the log names, and these have the names of the history's commits up to the reclaim mark.
+pub record NamesStand (v : LogStoreValue) (h : History Value) : Type 0 where
+  pub rolls : List PlacedRoll
+  pub names : List Head
+  pub lie : NamesLie v (archive_of v.disk) rolls names
+  -- they lie before all that the log will yet name
+  pub ends : AllByRecursion (λ (r : PlacedRoll). r.roll.start + r.roll.len ≤ v.named.end) rolls
+  -- the other commits are later
+  pub others : List Head
+  pub are : map head_of h ≡ names ++ others
+  pub late : AllByRecursion (λ (head : Head). names_mark v < head.time) others
+  pub by_last : names_mark v ≤ last h
+
 -- Memory, disk and archive stand for one state of the machine. Of the archive it is said where the disk tells its bytes.
 pub record Stands (tells : Bool) (v : LogStoreValue) (m : Machine Value) : Type 0 where
   pub store : IsStoreOf tells v m
   pub place : IsPlaced v
   pub runs : IsTrue tells → RunsStand v m.published m.floors
+  pub names : IsTrue tells → NamesStand v m.published
 
 -- ---- views
 

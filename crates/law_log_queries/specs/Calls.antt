@@ -25,6 +25,7 @@ use Rattle.log_store.specs.Jobs.{StartsFloor, PumpsJob}
 use Rattle.log_store.specs.declared.job.JobDid.{JobDid}
 use Rattle.log_store.specs.declared.job.StartFault.{StartFault}
 use Rattle.log_store.specs.Queries.{AnswersAtView, AnswersScanAt, AnswersRows, AnswersScanRows}
+use Rattle.log_store.specs.Names.{AnswersTimes}
 use Rattle.log_store.specs.declared.pump.Did.{Did}
 
 -- a call that changes the store, whatever its answer
@@ -47,6 +48,7 @@ pub data IsCall (tells : Bool) (old new : LogStoreValue) : Type 0 where
       → AnswersRows tells old view key a b answer new → IsCall tells old new
   OfScanBetween : (view : ViewValue) (relation a b : ℕ) (answer : Result (Vec (ℕ × Version Value) Global) QueryFault)
       → AnswersScanRows tells old view relation a b answer new → IsCall tells old new
+  OfTimes : (label : ℕ) (answer : Result (Vec ℕ Global) QueryFault) → AnswersTimes tells old label answer new → IsCall tells old new
 
 -- calls lead from one store through these to another; each call is made on a store that is in step
 abbrev pub LeadsTo : Bool → LogStoreValue → List LogStoreValue → LogStoreValue → Type 0

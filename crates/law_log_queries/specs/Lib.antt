@@ -1,4 +1,5 @@
 pub mod Archive
 pub mod Calls
 pub mod Laws
+pub mod Names
 pub mod Views

@@ -1,5 +1,6 @@
 //! Laws of the queries of a store whose log lies in the heap.
 ghost use Rattle.law_log_queries.specs.Laws.{OpenStands, StopReopens, CallKeeps, CallStands, CallsGoOn};
+ghost use Rattle.law_log_queries.specs.Names.{TimesAreAnswered, TimesStand};
 ghost use Rattle.law_log_queries.specs.Views.{ViewIsOfHistory, ViewGoesOn, AtIsAnswered, ScanAtIsAnswered, BetweenIsAnswered, ScanBetweenIsAnswered};
 ghost use Rattle.law_log_queries.specs.Views.{AtIsFrozen, ScanAtIsFrozen, BetweenIsFrozen, ScanBetweenIsFrozen};
 ghost use Rattle.law_log_queries.specs.Views.{AtIsAnsweredRecently, ScanAtIsAnsweredRecently, BetweenIsAnsweredRecently, ScanBetweenIsAnsweredRecently};
@@ -43,4 +44,10 @@ pub fn recent_is_answered()
     ensures scan_at { ScanAtIsAnsweredRecently }
     ensures between { BetweenIsAnsweredRecently }
     ensures scan_between { ScanBetweenIsAnsweredRecently }
+{}
+
+/// The times of a label are those of the published history, those up to the reclaim mark too, which rolls of the archive have.
+pub fn times_are_answered()
+    ensures answered { TimesAreAnswered }
+    ensures stands { TimesStand }
 {}

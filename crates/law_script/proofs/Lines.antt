@@ -25,7 +25,7 @@ use Rattle.any_store.specs.declared.steps.JobDid.{JobDid}
 use Rattle.any_store.specs.declared.steps.JobDid.TheVariants as job_did
 use Rattle.any_store.specs.Values.{StoreValue, disk_of}
 use Rattle.any_store.specs.Queries as stores
-use Rattle.law_any_store.proofs.Few.{pump-few, start-few, reclaim-few, floor-few, grow-few, pumped-few, at-few, scan_at-few, between-few}
+use Rattle.law_any_store.proofs.Few.{pump-few, start-few, reclaim-few, floor-few, grow-few, pumped-few, at-few, scan_at-few, between-few, times-few}
 use Rattle.store.specs.declared.job.StartFault.{StartFault}
 use Rattle.run.specs.declared.calls.Call.{Call}
 use Rattle.run.specs.declared.calls.Call.TheVariants as call
@@ -371,43 +371,18 @@ between-line tells m is key a b r new step names = by-taken step.1.0 step.1.1
 
 -- ---- labels
 
-pub times-line : (tells : Bool) (m : ScriptMoment) → IsScriptMoment tells m → (label : ℕ) (r : Reply) (new : State) → TimesStep m.state.store label r → new
-    ≡ m.state → LeadsTo tells (line.Times label) r m new
-times-line tells m is label r new step same = subst (λ (s : State). LeadsTo tells (line.Times label) r m s) (sym same) (by-reply r step)
-  where
-    xs : List Held
-    xs = held_of m.state
+times-silent : (o : Result (Vec ℕ Global) QueryFault) (done : List ℕ) → with_reply (session.times_found o) done ≡ done
+times-silent (Ok times) done = refl
+times-silent (Err why) done = refl
 
-    refused : (r : Reply) → r ≡ reply.Refused fault.NoMemory → LeadsTo tells (line.Times label) r m m.state
-    refused r is_refused =
-        by-call tells m is (line.Times label) r (call.TimesOf label) (answer.TimesOf (Err alloc_error)) (
-          Err alloc_error,
-          refl,
-          is_refused,
-        ) (silent r _ m.done is_refused refl)
-        m.state.store (xs ++ held.Nothing
-        ∷ []) (times-goes tells m.state.store xs label (Err alloc_error) tt) (same-few m.state.store) m.state refl
-        (front-of xs (held.Nothing ∷ []))
-
-    by-reply : (r : Reply) → TimesStep m.state.store label r → LeadsTo tells (line.Times label) r m m.state
-    by-reply (reply.Times times) of =
-        by-call tells m is (line.Times label) (reply.Times times) (call.TimesOf label) (answer.TimesOf (Ok times)) (Ok times, refl, refl) refl
-        m.state.store (xs ++ held.Nothing
-        ∷ []) (times-goes tells m.state.store xs label (Ok times) of) (same-few m.state.store) m.state refl (front-of xs (held.Nothing
-        ∷ []))
-    by-reply (reply.Snapshot x) of = refused _ of
-    by-reply reply.Ok of = refused _ of
-    by-reply (reply.Found x) of = refused _ of
-    by-reply reply.Queued of = refused _ of
-    by-reply (reply.ReadOnly x) of = refused _ of
-    by-reply (reply.Done x) of = refused _ of
-    by-reply reply.Waiting of = refused _ of
-    by-reply reply.InDoubt of = refused _ of
-    by-reply (reply.Did x) of = refused _ of
-    by-reply reply.Started of = refused _ of
-    by-reply (reply.JobDid x) of = refused _ of
-    by-reply (reply.Rows x) of = refused _ of
-    by-reply (reply.Records x) of = refused _ of
-    by-reply (reply.Opened x y) of = refused _ of
-    by-reply (reply.OpenedByRelation x y) of = refused _ of
-    by-reply (reply.Refused x) of = refused _ of
+pub times-line : (tells : Bool) (m : ScriptMoment) → IsScriptMoment tells m → (label : ℕ) (r : Reply) (new : State)
+    → TimesStep tells m.state.store label r new.store → KeepsNames m.state new → LeadsTo tells (line.Times label) r m new
+times-line tells m is label r new step names =
+    by-call tells m is (line.Times label) r (call.TimesOf label) (answer.TimesOf step.0) (
+      step.0,
+      refl,
+      step.2,
+    ) (silent r _ m.done step.2 (times-silent step.0 m.done))
+    new.store (held_of m.state ++ held.Nothing
+    ∷ []) (times-goes tells m.state.store new.store (held_of m.state) label step.0 step.1)
+    (times-few tells m.state.store new.store label step.0 step.1) new refl (kept-more m new names)

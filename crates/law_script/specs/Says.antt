@@ -77,11 +77,6 @@ of_redeem told.Waiting = reply.Waiting
 of_redeem told.InDoubt = reply.InDoubt
 of_redeem told.Stranger = reply.Refused fault.Stranger
 
--- the reply with the times of a label, or that there is no memory for them
-abbrev pub of_times : Result (Vec ℕ Global) AllocError → Reply
-of_times (Ok times) = reply.Times times
-of_times (Err why) = reply.Refused fault.NoMemory
-
 -- ---- lines
 
 -- no call is made, since the name stands for nothing or is taken
@@ -159,9 +154,10 @@ SaysBetween m key a b made r =
     LacksView made r ⊎ ((said : Result (Vec (Version (List Text)) Global) QueryFault)
     × ByView m made (call.Between (length (held_of m.state)) key a b) (answer.Between said) r (session.rows_found said))
 
--- the store is asked for the times of the label
+-- the store is asked for the times of the label, and they are replied, or why that is refused
 abbrev pub SaysTimes : ℕ → Exchange → Reply → Type 0
-SaysTimes label made r = (said : Result (Vec ℕ Global) AllocError) × (made ≡ one_call (call.TimesOf label) (answer.TimesOf said)) × (r ≡ of_times said)
+SaysTimes label made r =
+    (said : Result (Vec ℕ Global) QueryFault) × (made ≡ one_call (call.TimesOf label) (answer.TimesOf said)) × (r ≡ session.times_found said)
 
 -- an archive is started, or refused
 abbrev pub SaysArchive : ℕ → Exchange → Reply → Type 0

@@ -251,7 +251,7 @@ names-more rolls more names between new mark upto heads are added is in_rolls up
     to-names head (inr has) = Contains-append_right names between head (subst (λ (l : List Head). Contains l head) is ((added.same head).0 has))
 
 -- the names are those of the base, where rolls have them
-names-rolled : (names : List Head) (rolls : List PlacedRoll) (chains : List PlacedChain)
+pub names-rolled : (names : List Head) (rolls : List PlacedRoll) (chains : List PlacedChain)
     → map (λ (r : PlacedRoll). r.roll) rolls ≡ flat_map (λ (c : PlacedChain). rolls_in c.entry) chains → AreNamesOf rolls names
     → MayAllFollow (reclaimed_by (chains_told names chains)) 0 [] (chains_told names chains) → rolled (chains_told names chains) ≡ names
 names-rolled names rolls [] named are may = sym (no-names names rolls named are)

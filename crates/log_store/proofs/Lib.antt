@@ -13,3 +13,4 @@ pub mod Heads
 pub mod Entries
 pub mod Entering
 mod Archives
+pub mod Times

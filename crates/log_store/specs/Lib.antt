@@ -1,4 +1,5 @@
 pub mod Named
+pub mod Names
 pub mod Live
 pub mod Values
 pub mod Submits

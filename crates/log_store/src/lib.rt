@@ -7,6 +7,7 @@ mod job;
 mod jobs;
 mod live;
 mod named;
+mod names;
 mod opening;
 mod over;
 mod pump;

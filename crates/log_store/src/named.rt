@@ -47,6 +47,13 @@ impl Named {
         Named::new(Vec::new(alloc), Vec::new(alloc), 0, 0)
     }
 
+    /// Its rolls, in their order.
+    pub fn rolls(&self) -> &[Roll]
+        ensures { result.now ≡ self.now.rolls }
+    {
+        self.rolls.as_slice()
+    }
+
     /// The archive mark, in microseconds since 1970.
     pub fn upto(&self) -> u64
         ensures { result ≡ self.now.upto }

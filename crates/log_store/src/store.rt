@@ -1,7 +1,6 @@
 //! The store, and its calls that ask nothing of the disk.
-ghost use Rattle.std.specs.Prelude.{◌≡◌, IfOk};
-ghost use Rattle.group.specs.CommitOrder.{times_of};
-ghost use Rattle.commits.specs.Values.{last, order_of};
+ghost use Rattle.std.specs.Prelude.{◌≡◌};
+ghost use Rattle.commits.specs.Values.{last};
 ghost use Rattle.log_store.specs.Calls.{Begins, Aborts, Redeems};
 
 use crate::job::Job;
@@ -16,7 +15,7 @@ use log_room::{Content, HeapRoom};
 use log_roots::Roots;
 use log_writer::ChainWriter;
 use snapshot::Txn;
-use std::alloc::{AllocError, Global};
+use std::alloc::Global;
 use std::collections::VecDeque;
 use std::marker::Model;
 use timequery::StoreArchive;
@@ -139,12 +138,5 @@ impl<D: Disk> LogStore<D> {
         ensures { Redeems self.old ticket result self.new }
     {
         self.commits.redeem(ticket)
-    }
-
-    /// The times of the published commits with a label that are in memory, rising, in microseconds since 1970.
-    pub fn times_of(&self, label: u64) -> Result<Vec<u64>, AllocError>
-        ensures { IfOk result (λ times. times.items ≡ times_of label (order_of self.now.commits)) }
-    {
-        self.commits.times_of(self.alloc, label)
     }
 }

@@ -15,19 +15,18 @@ use Rattle.history.specs.Time.{value_at}
 use Rattle.timequery.specs.View.{ViewValue, AnswersAt, RefusesRecent}
 use Rattle.timequery.specs.declared.fault.QueryFault.{QueryFault}
 use Rattle.timequery.specs.declared.fault.QueryFault.TheVariants as query
-use Rattle.any_store.specs.Values.{StoreValue, commits_of}
-use Rattle.any_store.specs.Calls as stores
+use Rattle.any_store.specs.Values.{StoreValue, is_log, commits_of}
 use Rattle.any_store.specs.Queries as queries
 use Rattle.history.specs.Histories.{History}
 use Rattle.law_refinement.specs.Homes.{ViewStands}
 use Rattle.law_refinement.specs.Views as views
 use Rattle.law_refinement.proofs.Queries.{recent-answered}
 use Rattle.law_opening.specs.Laws.{AnswersRecent}
-use Rattle.law_any_store.specs.Names.{AreTimesFrom}
+use Rattle.law_log_queries.specs.Names.{SaysTimes}
 use Rattle.law_any_store.specs.Standing.{ViewReads}
 use Rattle.law_any_store.specs.Views.{IsKept}
 use Rattle.law_any_store.proofs.Marks.{view-mark}
-use Rattle.law_any_store.proofs.Names.{kept-names, times-are}
+use Rattle.law_any_store.proofs.Names.{kept-names, times-told, times-stand}
 use Rattle.law_any_store.proofs.Views.{view-of-history, at-answered, scan_at-answered, between-answered, scan_between-answered}
 use Rattle.law_any_store.proofs.Views.{at-stands, scan_at-stands, between-stands, scan_between-stands}
 use Rattle.run.specs.declared.calls.Call.TheVariants as call
@@ -204,19 +203,19 @@ end-leads tells v v' xs i view here unchanged w is =
       }),
     )
 
-times-leads : (tells : Bool) (v : StoreValue) (xs : List Held) (label : ℕ) (r : Result (Vec ℕ Global) AllocError)
-    → IfOk r (λ times. stores.IsTimesOf v label times.items) → Leads tells v xs (call.TimesOf label) (answer.TimesOf r) v (xs ++ held.Nothing ∷ [])
-times-leads tells v xs label (Ok times) of w is = (
+times-leads : (tells : Bool) (v v' : StoreValue) (xs : List Held) (label : ℕ) (r : Result (Vec ℕ Global) QueryFault)
+    → queries.AnswersTimes tells v label r v' → Leads tells v xs (call.TimesOf label) (answer.TimesOf r) v' (xs ++ held.Nothing ∷ [])
+times-leads tells v v' xs label r says w is = (
   same w,
   (
-    subst (λ (from : ℕ). AreTimesFrom from times.items (answers.times_of w.machine.published label)) (sym is.names)
-        (times-are tells v w.machine label times.items is.stands of),
+    subst (λ (b : Bool). SaysTimes tells b w.names_from (answers.times_of w.machine.published label) r) (sym is.layout)
+        (subst (λ (from : ℕ). SaysTimes tells (is_log v) from (answers.times_of w.machine.published label) r) (sym is.names)
+        (times-told tells v v' w.machine label r is.stands says)),
     refl,
   ),
   no-step w.machine,
-  same-world tells v xs w is,
+  asked-world tells v v' xs w is (times-stand tells v v' w.machine label r is.stands says),
 )
-times-leads tells v xs label (Err why) of w is = (same w, (tt, refl), no-step w.machine, same-world tells v xs w is)
 
 -- ---- as the store's own clauses say
 
@@ -262,6 +261,6 @@ pub end-goes : (tells : Bool) (v v' : StoreValue) (xs : List Held) (i : ℕ) (vi
 end-goes tells v v' xs i view here unchanged =
     record { makes = inr (view, here, unchanged, (refl, refl)); leads = end-leads tells v v' xs i view here unchanged }
 
-pub times-goes : (tells : Bool) (v : StoreValue) (xs : List Held) (label : ℕ) (r : Result (Vec ℕ Global) AllocError)
-    → IfOk r (λ times. stores.IsTimesOf v label times.items) → Goes tells v xs (call.TimesOf label) (answer.TimesOf r) v (xs ++ held.Nothing ∷ [])
-times-goes tells v xs label r of = record { makes = inr (r, of, refl, (refl, refl)); leads = times-leads tells v xs label r of }
+pub times-goes : (tells : Bool) (v v' : StoreValue) (xs : List Held) (label : ℕ) (r : Result (Vec ℕ Global) QueryFault)
+    → queries.AnswersTimes tells v label r v' → Goes tells v xs (call.TimesOf label) (answer.TimesOf r) v' (xs ++ held.Nothing ∷ [])
+times-goes tells v v' xs label r says = record { makes = inr (r, says, (refl, refl)); leads = times-leads tells v v' xs label r says }

@@ -128,8 +128,7 @@ MakesCall tells old xs (call.Recent i key time) a new ys =
 MakesCall tells old xs (call.End i) a new ys =
     (view : ViewValue) × (slice_get xs i ≡ Some (held.View view)) × (new ≡ old) × LeavesPlaces a answer.End (slice_set xs i held.Nothing) ys
 MakesCall tells old xs (call.TimesOf label) a new ys =
-    (said : Result (Vec ℕ Global) AllocError) × IfOk said (λ times. stores.IsTimesOf old label times.items) × (new ≡ old)
-    × LeavesPlaces a (answer.TimesOf said) xs ys
+    (said : Result (Vec ℕ Global) QueryFault) × queries.AnswersTimes tells old label said new × LeavesPlaces a (answer.TimesOf said) xs ys
 MakesCall tells old xs (call.Archive upto) a new ys =
     (said : Result (Unit {0}) StartFault) × StartsArchive old upto said new × LeavesPlaces a (answer.Archive said) xs ys
 MakesCall tells old xs call.Reclaim a new ys = (said : Result (Unit {0}) StartFault) × StartsReclaim old said new × LeavesPlaces a (answer.Reclaim said) xs ys

@@ -37,7 +37,7 @@ use Rattle.store.specs.declared.job.StartFault.TheVariants as start
 use Rattle.law_refinement.specs.Homes.{IsSure}
 use Rattle.law_refinement.specs.Calls.{raising_to}
 use Rattle.law_any_store.specs.Calls.{pumped_in, job_ends_in}
-use Rattle.law_any_store.specs.Names.{AreTimesFrom}
+use Rattle.law_log_queries.specs.Names.{SaysTimes}
 use Rattle.law_refinement.specs.Laws.{SaysAt, SaysScanAt, SaysBetween, SaysScanBetween}
 use Rattle.run.specs.declared.calls.Call.{Call}
 use Rattle.run.specs.declared.calls.Call.TheVariants as call
@@ -213,10 +213,10 @@ abbrev pub Closes : World → ℕ → Place → World → Type 0
 Closes w i (Views history floors reclaimed) next = next ≡ spent w i
 Closes w i place next = ⊥
 
--- the times of the published commits with a label, or there is no memory for them; where names may have left memory up to a time, the later ones alone are
--- sure
-abbrev pub ListsTimes : World → ℕ → Result (Vec ℕ Global) AllocError → World → Type 0
-ListsTimes w label said next = IfOk said (λ times. AreTimesFrom w.names_from times.items (answers.times_of w.machine.published label)) × (next ≡ same w)
+-- The times of the published commits with a label, or there is no memory for them. Where names may have left memory up to a time, the earlier ones are read on
+-- the disk: they are told for sure where it tells its bytes, the later ones always.
+abbrev pub ListsTimes : Bool → World → ℕ → Result (Vec ℕ Global) QueryFault → World → Type 0
+ListsTimes tells w label said next = SaysTimes tells w.in_heap w.names_from (answers.times_of w.machine.published label) said × (next ≡ same w)
 
 -- ---- archives
 
@@ -342,7 +342,7 @@ Does tells w (call.Between i key a b) (answer.Between said) next = AsksBetween t
 Does tells w (call.ScanBetween i relation a b) (answer.ScanBetween said) next = AsksScanBetween tells w relation a b (place_at w.places i) said next
 Does tells w (call.Recent i key time) (answer.Recent said) next = AsksRecent w key time (place_at w.places i) said next
 Does tells w (call.End i) answer.End next = Closes w i (place_at w.places i) next
-Does tells w (call.TimesOf label) (answer.TimesOf said) next = ListsTimes w label said next
+Does tells w (call.TimesOf label) (answer.TimesOf said) next = ListsTimes tells w label said next
 Does tells w (call.Archive upto) (answer.Archive said) next = Archives w upto said next
 Does tells w call.Reclaim (answer.Reclaim said) next = Reclaims w said next
 Does tells w (call.Floor scope floor) (answer.Floor said) next = Raises w scope floor said next

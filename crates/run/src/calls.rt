@@ -142,7 +142,7 @@ pub enum Answer {
     ScanBetween(Result<Vec<(u64, Version<SharedValue>)>, QueryFault>),
     Recent(Result<Option<SharedValue>, QueryFault>),
     End,
-    TimesOf(Result<Vec<u64>, AllocError>),
+    TimesOf(Result<Vec<u64>, QueryFault>),
     Archive(Result<(), StartFault>),
     Reclaim(Result<(), StartFault>),
     Floor(Result<(), StartFault>),

@@ -131,8 +131,9 @@ pub(crate) fn end<D: Disk>(store: &mut Store<D>, places: &mut [Held], view: usiz
     Answer::End
 }
 
-pub(crate) fn times_of<D: Disk>(store: &Store<D>, places: &[Held], label: u64) -> Answer
-    ensures { Goes D.tells store.now places.now (Call.TimesOf label) result store.now (places.now ++ Held.Nothing ∷ []) }
+pub(crate) fn times_of<D: Disk>(store: &mut Store<D>, places: &[Held], label: u64) -> Answer
+    ensures goes { Goes D.tells store.old places.now (Call.TimesOf label) result store.new (places.now ++ Held.Nothing ∷ []) }
+    ensures made { MakesFew store.old store.new }
 {
     let _ = places;
     Answer::TimesOf(store.times_of(label))

@@ -31,7 +31,7 @@ use Rattle.any_store.specs.declared.steps.JobDid.{JobDid}
 use Rattle.any_store.specs.declared.steps.JobDid.TheVariants as job_did
 use Rattle.any_store.specs.Values.{StoreValue, disk_of}
 use Rattle.any_store.specs.Calls as stores
-use Rattle.any_store.specs.Queries.{IsViewOf, AnswersAtView, AnswersScanAt, AnswersRows}
+use Rattle.any_store.specs.Queries.{IsViewOf, AnswersAtView, AnswersScanAt, AnswersRows, AnswersTimes}
 use Rattle.any_store.specs.Jobs.{StartsArchive, StartsReclaim, StartsFloor, StartsGrowth, PumpsJob}
 use Rattle.any_store.specs.Opens.{Opens, OpenRefuses}
 use Rattle.script.specs.declared.line.Line.{Line}
@@ -345,10 +345,14 @@ abbrev pub BetweenStep : Bool → StoreValue → Key → ℕ → ℕ → Reply �
 BetweenStep tells old key a b r new =
     (answer : Result (Vec (Version (List Text)) Global) QueryFault) × AsksRows tells old key a b answer new × (r ≡ rows_found answer)
 
--- the times of a label, or no memory for them
-abbrev pub TimesStep : StoreValue → ℕ → Reply → Type 0
-TimesStep s label (reply.Times times) = stores.IsTimesOf s label times.items
-TimesStep s label r = r ≡ reply.Refused fault.NoMemory
+-- the answer to `times`: the times, or why the query is refused
+abbrev pub times_found : Result (Vec ℕ Global) QueryFault → Reply
+times_found (Ok times) = reply.Times times
+times_found (Err f) = reply.Refused (fault.Query f)
+
+-- `times`: what the store says of the commits with a label
+abbrev pub TimesStep : Bool → StoreValue → ℕ → Reply → StoreValue → Type 0
+TimesStep tells old label r new = (answer : Result (Vec ℕ Global) QueryFault) × AnswersTimes tells old label answer new × (r ≡ times_found answer)
 
 -- a step of the store alone
 abbrev pub KeepsNames : State → State → Type 0
@@ -406,7 +410,7 @@ Step tells old line.Flush r new = Flushes tells old.store r new.store × KeepsNa
 Step tells old (line.At key time) r new = AtStep tells old.store key time r new.store × KeepsNames old new
 Step tells old (line.Between key a b) r new = BetweenStep tells old.store key a b r new.store × KeepsNames old new
 Step tells old (line.Scan relation time) r new = ScanStep tells old.store relation time r new.store × KeepsNames old new
-Step tells old (line.Times label) r new = TimesStep old.store label r × (new ≡ old)
+Step tells old (line.Times label) r new = TimesStep tells old.store label r new.store × KeepsNames old new
 Step tells old (line.Archive upto) r new = ArchiveStep old.store upto r new.store × KeepsNames old new
 Step tells old line.Reclaim r new = ReclaimStep old.store r new.store × KeepsNames old new
 Step tells old (line.Floor scope time) r new = FloorStep old.store scope time r new.store × KeepsNames old new

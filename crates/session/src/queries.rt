@@ -88,12 +88,13 @@ impl<D: Disk> Session<D> {
         }
     }
 
-    pub(crate) fn times(&self, label: u64) -> Reply
-        ensures { told.TimesStep self.now.store label result }
+    pub(crate) fn times(&mut self, label: u64) -> Reply
+        ensures steps { told.TimesStep D.tells self.old.store label result self.new.store }
+        ensures names { told.KeepsNames self.old self.new }
     {
         match self.store.times_of(label) {
             Ok(times) => Reply::Times(times),
-            Err(_) => Reply::Refused(Fault::NoMemory),
+            Err(fault) => Reply::Refused(Fault::Query(fault)),
         }
     }
 }

@@ -1,5 +1,5 @@
 -- What the store under the lock answers to a view is what the history of the view's moment says.
-use Rattle.std.proofs.Common.{◌≡◌, ℕ, Bool, Option, Result, Vec, subst}
+use Rattle.std.proofs.Common.{◌≡◌, ◌∙◌, ℕ, Bool, Option, Result, Vec, ap, subst}
 use Rattle.std.specs.declared.alloc.Global.{Global}
 use Rattle.atomic_table.specs.Seated.{TableId}
 use Rattle.history.specs.declared.key.Key.{Key}
@@ -19,6 +19,12 @@ use Rattle.shared.specs.Moments.{ViewMoment, OfSeen}
 use Rattle.shared.specs.Seen.{SightValue}
 use Rattle.shared.specs.Shared.{IsShared, Shows}
 use Rattle.shared.proofs.Moments.{still-reads}
+
+-- what was asked by the view that was shown was asked by the one that was lent
+pub as-lent : (Asks : StoreValue → ViewValue → Type 0) (v v' : StoreValue) (shown : ViewValue) (asked lent : ViewMoment) → v ≡ v' → shown ≡ asked.shown
+    → asked ≡ lent → Asks v shown → Asks v' lent.shown
+as-lent Asks v v' shown asked lent same is kept asks =
+    subst (λ (w : ViewValue). Asks v' w) (is ∙ ap (λ (m : ViewMoment). m.shown) kept) (subst (λ (x : StoreValue). Asks x shown) same asks)
 
 -- the view as it was shown, and as it was lent
 module _ (tells : Bool) (start : Machine Value) (kind : Kind) (brand : ℕ) (table : TableId) (v new : StoreValue) (shares : ℕ) (at : TableId) (pass : SightValue)

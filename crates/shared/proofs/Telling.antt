@@ -20,6 +20,7 @@ use Rattle.group.specs.declared.answers.BeginFault.TheVariants as begin
 use Rattle.group.specs.declared.answers.Redeemed.{Redeemed}
 use Rattle.group.specs.declared.answers.Redeemed.TheVariants as redeemed
 use Rattle.timequery.specs.View.{ViewValue}
+use Rattle.timequery.specs.declared.fault.QueryFault.{QueryFault}
 use Rattle.group.specs.Calls as calls
 use Rattle.group.specs.CommitOrder.{is_awaited, last_published, last_time_after, IsRisingAfter}
 use Rattle.group.specs.Values.{TransactionsValue}
@@ -34,20 +35,21 @@ use Rattle.any_store.specs.declared.engine.Engine.TheVariants.{Slots, Log}
 use Rattle.law_refinement.specs.Laws.{RedeemsAs}
 use Rattle.law_refinement.specs.Standing.{Name, name_of, name_at}
 use Rattle.law_commits.specs.Standing.{StandsInMemory}
+use Rattle.law_log_queries.specs.Names.{SaysTimes}
 use Rattle.law_any_store.specs.Leaving.{LeftByRedeem}
-use Rattle.law_any_store.specs.Names.{names_from, AreTimesFrom}
 use Rattle.law_any_store.specs.Standing.{Stands}
 use Rattle.law_any_store.proofs.Calls.{begin-stands, redeem-stands}
 use Rattle.law_any_store.proofs.Leaving.{begin-leaves, redeem-leaves}
 use Rattle.law_any_store.proofs.Marks.{view-mark}
 use Rattle.law_any_store.proofs.Memory.{begun-sees, last-published}
-use Rattle.law_any_store.proofs.Names.{times-are}
+use Rattle.law_any_store.proofs.Names.{times-told}
 use Rattle.law_any_store.proofs.Views.{view-of-history}
 use Rattle.shared.specs.Archives.{ArchiveSeen, ReadsArchive, archive_seen}
 use Rattle.shared.specs.Counts.{awaited_upto, unredeemed}
 use Rattle.shared.specs.Kinds.{Kind}
+use Rattle.shared.specs.Moments.{OfSeen}
 use Rattle.shared.specs.Seen.{Seen, SightValue, seen_of}
-use Rattle.shared.specs.Shared.{IsShared, Shows, BeginHappens, AbortHappens, HasCommitAt, RedeemSays, SeenReached}
+use Rattle.shared.specs.Shared.{IsShared, Shows, BeginHappens, AbortHappens, HasCommitAt, RedeemSays}
 use Rattle.shared.proofs.Archives.{reads-taken}
 use Rattle.shared.proofs.Awaiting.{queue-awaited}
 use Rattle.shared.proofs.Counting.{rising-last, rising-take}
@@ -252,17 +254,14 @@ counted tells start kind brand table v shares at pass h =
     omega (arith, count, waits, many, told)
 
 -- the times of a label are those of the history that was seen
-pub label-times : (tells : Bool) (start : Machine Value) (kind : Kind) (brand : ℕ) (table : TableId) (v : StoreValue) (shares : ℕ) (at : TableId)
-    (pass : SightValue) (seen : Seen) (label : ℕ) (r : Result (Vec ℕ Global) AllocError) → IsShared tells start kind brand table v shares at pass
-    → seen ≡ pass.seen → IfOk r (λ times. stores.IsTimesOf v label times.items)
-    → IfOk r (λ times. AreTimesFrom kind.names_from times.items (answers.times_of seen.published label))
-label-times tells start kind brand table v shares at pass seen label (Ok times) h same of =
-    let names : names_from v ≡ kind.names_from = ap (λ (k : Kind). k.names_from) h.layout in
-    subst (λ (s : Seen). AreTimesFrom kind.names_from times.items (answers.times_of s.published label)) (sym (same ∙ h.seen))
-    (subst (λ (n : ℕ). AreTimesFrom n times.items (answers.times_of h.state.published label)) names
-    (times-are tells v h.state label times.items h.stands of))
-label-times tells start kind brand table v shares at pass seen label (Err why) h same of = tt
-
-pub seen-reached : (tells : Bool) (start : Machine Value) (kind : Kind) (brand : ℕ) (table : TableId) (v : StoreValue) (shares : ℕ) (at : TableId)
-    (pass : SightValue) (seen : Seen) → IsShared tells start kind brand table v shares at pass → seen ≡ pass.seen → SeenReached start seen
-seen-reached tells start kind brand table v shares at pass seen h same = (h.state, h.reached, same ∙ h.seen)
+pub times-say : (tells : Bool) (start : Machine Value) (kind : Kind) (brand : ℕ) (table : TableId) (v new : StoreValue) (shares : ℕ) (at : TableId)
+    (pass : SightValue) (seen : Seen) (label : ℕ) (r : Result (Vec ℕ Global) QueryFault) → IsShared tells start kind brand table v shares at pass
+    → seen ≡ pass.seen → queries.AnswersTimes tells v label r new
+    → OfSeen start seen (λ m. SaysTimes tells kind.in_heap kind.names_from (answers.times_of m.published label) r)
+times-say tells start kind brand table v new shares at pass seen label r h same asks = (
+  h.state,
+  h.reached,
+  same ∙ h.seen,
+  subst (λ (k : Kind). SaysTimes tells k.in_heap k.names_from (answers.times_of h.state.published label) r) h.layout
+      (times-told tells v new h.state label r h.stands asks),
+)

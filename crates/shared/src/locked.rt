@@ -10,8 +10,9 @@ ghost use Rattle.law_refinement.specs.Homes.{IsSure};
 ghost use Rattle.law_refinement.specs.Laws.{SaysAt, SaysScanAt, SaysBetween, SaysScanBetween};
 ghost use Rattle.any_store.specs.Calls.{Begins, Aborts, Submits, Redeems, Pumps};
 ghost use Rattle.any_store.specs.Jobs.{StartsArchive, StartsReclaim, StartsFloor, StartsGrowth, PumpsJob};
+ghost use Rattle.any_store.specs.Queries.{AnswersAtView, AnswersScanAt, AnswersRows, AnswersScanRows, AnswersTimes};
 ghost use Rattle.any_store.specs.Values.{commits_of};
-ghost use Rattle.law_any_store.specs.Names.{AreTimesFrom};
+ghost use Rattle.law_log_queries.specs.Names.{SaysTimes};
 ghost use Rattle.law_any_store.specs.Standing.{Stands};
 ghost use Rattle.shared.specs.Archives.{no_archive};
 ghost use Rattle.shared.specs.Counts.{told_count, unredeemed};
@@ -48,8 +49,8 @@ use std::sync::ledger::{Book, Share};
 
 /// A store that stands for a state that steps of the machine lead to from the opening one, the book
 /// of the commits that callers were told of, and the pass that writes the published time. To a
-/// contract it is the store. Each method makes one call of the store at most. Of all but the queries the
-/// first clause says that no more than that changes.
+/// contract it is the store. Each method makes one call of the store at most, and its first clause says
+/// that no more than that changes.
 pub struct Locked<D: Disk, L: Opening> {
     store: Store<D>,
     book: Book<L>,
@@ -321,6 +322,7 @@ impl<D: Disk, L: Opening> Locked<D, L> {
         time: u64,
     ) -> Result<Option<SharedValue>, QueryFault>
         requires { cell.now.table.shared.table_id ≡ L.table }
+        ensures is { AnswersAtView D.tells self.old view.old.shown key time result self.new }
         ensures says { OfSeen L.start view.old.seen
             (λ m. SaysAt (IsSure D.tells view.old.shown.reclaimed time) (answers.at_answer m.published m.floors key time) result) }
         ensures kept { view.new ≡ view.old }
@@ -338,6 +340,7 @@ impl<D: Disk, L: Opening> Locked<D, L> {
         time: u64,
     ) -> Result<Vec<(u64, SharedValue)>, QueryFault>
         requires { cell.now.table.shared.table_id ≡ L.table }
+        ensures is { AnswersScanAt D.tells self.old view.old.shown relation time result self.new }
         ensures says { OfSeen L.start view.old.seen (λ m. SaysScanAt (IsSure D.tells view.old.shown.reclaimed time) m.published m.floors relation time result) }
         ensures kept { view.new ≡ view.old }
     {
@@ -355,6 +358,7 @@ impl<D: Disk, L: Opening> Locked<D, L> {
         b: u64,
     ) -> Result<Vec<Version<SharedValue>>, QueryFault>
         requires { cell.now.table.shared.table_id ≡ L.table }
+        ensures is { AnswersRows D.tells self.old view.old.shown key a b result self.new }
         ensures says { OfSeen L.start view.old.seen (λ m. SaysBetween (IsSure D.tells view.old.shown.reclaimed a) m.published m.floors key a b result) }
         ensures kept { view.new ≡ view.old }
     {
@@ -372,6 +376,7 @@ impl<D: Disk, L: Opening> Locked<D, L> {
         b: u64,
     ) -> Result<Vec<(u64, Version<SharedValue>)>, QueryFault>
         requires { cell.now.table.shared.table_id ≡ L.table }
+        ensures is { AnswersScanRows D.tells self.old view.old.shown relation a b result self.new }
         ensures says { OfSeen L.start view.old.seen
             (λ m. SaysScanBetween (IsSure D.tells view.old.shown.reclaimed a) m.published m.floors relation a b result) }
         ensures kept { view.new ≡ view.old }
@@ -386,11 +391,10 @@ impl<D: Disk, L: Opening> Locked<D, L> {
         cell: &PublishedCell,
         label: u64,
         me: &mut Observer<L>,
-    ) -> Result<Vec<u64>, AllocError>
+    ) -> Result<Vec<u64>, QueryFault>
         requires { cell.now.table.shared.table_id ≡ L.table }
-        ensures same { self.new ≡ self.old }
-        ensures times { IfOk result (λ times. AreTimesFrom L.kind.names_from times.items (answers.times_of me.new.published label)) }
-        ensures reached { SeenReached L.start me.new }
+        ensures is { AnswersTimes D.tells self.old label result self.new }
+        ensures says { OfSeen L.start me.new (λ m. SaysTimes D.tells L.kind.in_heap L.kind.names_from (answers.times_of m.published label) result) }
         ensures later { IsLater me.old me.new }
     {
         me.meet(rt, cell, &mut self.writer);

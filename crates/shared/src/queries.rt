@@ -1,12 +1,11 @@
 //! Queries through the lock.
-ghost use Rattle.std.specs.Prelude.{◌≡◌, IfOk};
+ghost use Rattle.std.specs.Prelude.{◌≡◌};
 ghost use Rattle.history.specs.Answers as answers;
-ghost use Rattle.law_any_store.specs.Names.{AreTimesFrom};
+ghost use Rattle.law_log_queries.specs.Names.{SaysTimes};
 ghost use Rattle.law_refinement.specs.Homes.{IsSure};
 ghost use Rattle.law_refinement.specs.Laws.{SaysAt, SaysScanAt, SaysBetween, SaysScanBetween};
 ghost use Rattle.shared.specs.Moments.{OfSeen};
 ghost use Rattle.shared.specs.Seen.{IsLater};
-ghost use Rattle.shared.specs.Shared.{SeenReached};
 
 use crate::naming::Opening;
 use crate::observer::Observer;
@@ -15,7 +14,6 @@ use crate::shared_view::SharedView;
 use any_store::{QueryFault, SharedValue};
 use disk::Disk;
 use history::{Key, Version};
-use std::alloc::AllocError;
 use std::sync::Wait;
 
 impl<D: Disk, L: Opening> SharedStore<D, L> {
@@ -90,16 +88,17 @@ impl<D: Disk, L: Opening> SharedStore<D, L> {
             .scan_between(rt, &self.cell, view, relation, a, b)
     }
 
-    /// The times of the published commits with a label, rising, in microseconds since 1970. Where names of
-    /// commits may have left memory, so it is of those that are later.
+    /// The times of the published commits with a label, rising, in microseconds since 1970: all of those that
+    /// the caller sees then. Where the log lies in the heap those up to its reclaim mark are read in the
+    /// archive, under the lock: `Device`, `NoMemory` and `Damaged` where they are met. Else `NoMemory` alone
+    /// is a refusal.
     pub fn times_of<R: Wait>(
         &self,
         rt: &R,
         label: u64,
         me: &mut Observer<L>,
-    ) -> Result<Vec<u64>, AllocError>
-        ensures times { IfOk result (λ times. AreTimesFrom L.kind.names_from times.items (answers.times_of me.new.published label)) }
-        ensures reached { SeenReached L.start me.new }
+    ) -> Result<Vec<u64>, QueryFault>
+        ensures says { OfSeen L.start me.new (λ m. SaysTimes D.tells L.kind.in_heap L.kind.names_from (answers.times_of m.published label) result) }
         ensures later { IsLater me.old me.new }
     {
         self.locked.lock(rt).times_of(rt, &self.cell, label, me)

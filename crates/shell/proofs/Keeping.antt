@@ -15,20 +15,21 @@ use Rattle.history.specs.Machine.{Machine}
 use Rattle.floors.specs.Floors.{floor_at}
 use Rattle.law_refinement.specs.Homes.{IsSure, ViewStands}
 use Rattle.law_refinement.specs.Laws.{Says, SaysAt, SaysScanAt}
+use Rattle.law_log_queries.specs.Names.{SaysTimes}
 use Rattle.any_store.specs.declared.engine.Engine.TheVariants as engine
 use Rattle.any_store.specs.declared.formatting.Layout.TheVariants.{Slots}
 use Rattle.any_store.specs.Calls as stores
 use Rattle.any_store.specs.Opens.{Opens}
 use Rattle.any_store.specs.Queries as queries
 use Rattle.any_store.specs.Queries.{IsViewOf}
-use Rattle.any_store.specs.Values.{StoreValue}
+use Rattle.any_store.specs.Values.{StoreValue, is_log}
 use Rattle.law_any_store.specs.Formatted.{header_of}
 use Rattle.law_any_store.proofs.Formatted.{formatted-leaves, formatted-stands}
-use Rattle.law_any_store.specs.Names.{AreTimesFrom, names_from}
+use Rattle.law_any_store.specs.Names.{names_from}
 use Rattle.law_any_store.specs.Opened.{IsOfHeader}
 use Rattle.law_any_store.specs.Standing.{AnyHeader, IsImageOf, Stands, ViewReads, opened_as, opened_in}
 use Rattle.law_any_store.proofs.Memory.{last-published, memory-stands}
-use Rattle.law_any_store.proofs.Names.{times-are}
+use Rattle.law_any_store.proofs.Names.{times-told}
 use Rattle.law_any_store.proofs.Opened.{image-header, open-header, open-stands}
 use Rattle.law_any_store.proofs.Reopened.{open-refuses}
 use Rattle.law_any_store.proofs.Views.{at-answered, between-answered, scan_at-answered, view-of-history}
@@ -39,7 +40,7 @@ use Rattle.timequery.specs.declared.fault.QueryFault.TheVariants as query
 use Rattle.script.specs.declared.line.Line.{Line}
 use Rattle.script.specs.declared.line.Line.TheVariants as line
 use Rattle.session.specs.Session as session
-use Rattle.session.specs.Session.{State, AtStep, BetweenStep, ScanStep, Closes, Step, fresh}
+use Rattle.session.specs.Session.{State, AtStep, BetweenStep, ScanStep, TimesStep, Closes, Step, fresh}
 use Rattle.session.specs.Texts.{Text}
 use Rattle.session.specs.declared.reply.Reply.{Reply}
 use Rattle.session.specs.declared.reply.Reply.TheVariants as reply
@@ -514,11 +515,11 @@ between-says tells store new h floors key a b r told stands step =
         (between-answered tells store new (opened_in store h floors) view h floors key a b step.0 stands of.0 of.1 asks.1)
 
 -- a question is asked of a store that stands for the image's history
-asking-keeps : (tells : Bool) (style : Style) (old new : DiskState) (asks : StoreValue → Line) (Is : StoreValue → History Value → (ℕ → ℕ) → Reply → Type 0)
+asking-keeps : (tells : Bool) (style : Style) (old new : DiskState) (asks : StoreValue → Line) (Is : History Value → (ℕ → ℕ) → Reply → Type 0)
     (output : Output) → IsTrue tells
     → AreSound old.areas → ((store : StoreValue) → Led tells (asks store))
     → ((store : StoreValue) (h : History Value) (floors : ℕ → ℕ) (r : Reply) (asked : State) → Stands tells store (opened_in store h floors)
-    → Step tells (fresh store) (asks store) r asked → OrGaveOut (Is store h floors) r)
+    → Step tells (fresh store) (asks store) r asked → OrGaveOut (Is h floors) r)
     → Asks tells style old asks output new → AskingKeeps tells style old asks Is output new
 asking-keeps tells style old new asks Is output told sound led says (inl refused) =
     λ header h floors image. inl (refused.0, refused.1, (open-refuses tells old new refused.0 header h floors refused.1 told image).0, refused.2)
@@ -543,10 +544,10 @@ asking-keeps tells style old new asks Is output told sound led says (inr (inr di
 at-keeps : (tells : Bool) (old new : DiskState) (key : Key) (time : Option ℕ) (output : Output) → IsTrue tells → AreSound old.areas
     → MatchOption time (RefusesTime old output new) (λ t. Asks tells plain old (λ store. line.At key t) output new)
     → MatchOption time (new ≡ old)
-    (λ t. AskingKeeps tells plain old (λ store. line.At key t) (λ store h floors. IsValueReply (at_answer h floors key t)) output new)
+    (λ t. AskingKeeps tells plain old (λ store. line.At key t) (λ h floors. IsValueReply (at_answer h floors key t)) output new)
 at-keeps tells old new key None output told sound refused = refused.0
 at-keeps tells old new key (Some t) output told sound asks =
-    asking-keeps tells plain old new (λ store. line.At key t) (λ store h floors. IsValueReply (at_answer h floors key t)) output told sound
+    asking-keeps tells plain old new (λ store. line.At key t) (λ h floors. IsValueReply (at_answer h floors key t)) output told sound
     (λ store. at-led tells key t)
     (λ store h floors r asked stands step. at-says tells store asked.store h floors key t r told stands step.0) asks
 
@@ -555,11 +556,11 @@ between-keeps : (tells : Bool) (old new : DiskState) (key : Key) (from to : Opti
     (λ store. line.Between key a b) output new))
     → MatchOption from (new
     ≡ old) (λ a. MatchOption to (new
-    ≡ old) (λ b. AskingKeeps tells plain old (λ store. line.Between key a b) (λ store h floors. IsRowsReply (between_answer h floors key a b)) output new))
+    ≡ old) (λ b. AskingKeeps tells plain old (λ store. line.Between key a b) (λ h floors. IsRowsReply (between_answer h floors key a b)) output new))
 between-keeps tells old new key None to output told sound refused = refused.0
 between-keeps tells old new key (Some a) None output told sound refused = refused.0
 between-keeps tells old new key (Some a) (Some b) output told sound asks =
-    asking-keeps tells plain old new (λ store. line.Between key a b) (λ store h floors. IsRowsReply (between_answer h floors key a b)) output told sound
+    asking-keeps tells plain old new (λ store. line.Between key a b) (λ h floors. IsRowsReply (between_answer h floors key a b)) output told sound
     (λ store. between-led tells key a b)
     (λ store h floors r asked stands step. between-says tells store asked.store h floors key a b r told stands step.0) asks
 
@@ -593,31 +594,27 @@ scan-says tells store new h floors relation time r told stands step =
         records-says (IsSure tells view.reclaimed time) (inl told) h floors relation time step.0
         (scan_at-answered tells store new (opened_in store h floors) view h floors relation time step.0 stands of.0 of.1 asks.1)
 
-times-says : (tells : Bool) (store : StoreValue) (h : History Value) (floors : ℕ → ℕ) (label : ℕ) (r : Reply) → Stands tells store (opened_in store h floors)
-    → session.TimesStep store label r → OrGaveOut (IsTimesReply (names_from store) (times_of h label)) r
-times-says tells store h floors label (reply.Times times) stands of =
-    let are = times-are tells store (opened_in store h floors) label times.items stands of in
-    inl (inl (
-      times,
-      subst (λ (h' : History Value). AreTimesFrom (names_from store) times.items (times_of h' label)) (published-in store h floors) are,
-      refl,
-    ))
-times-says tells store h floors label (reply.Snapshot x) stands of = inl (inr of)
-times-says tells store h floors label reply.Ok stands of = inl (inr of)
-times-says tells store h floors label (reply.Found x) stands of = inl (inr of)
-times-says tells store h floors label reply.Queued stands of = inl (inr of)
-times-says tells store h floors label (reply.ReadOnly x) stands of = inl (inr of)
-times-says tells store h floors label (reply.Done x) stands of = inl (inr of)
-times-says tells store h floors label reply.Waiting stands of = inl (inr of)
-times-says tells store h floors label reply.InDoubt stands of = inl (inr of)
-times-says tells store h floors label (reply.Did x) stands of = inl (inr of)
-times-says tells store h floors label reply.Started stands of = inl (inr of)
-times-says tells store h floors label (reply.JobDid x) stands of = inl (inr of)
-times-says tells store h floors label (reply.Rows x) stands of = inl (inr of)
-times-says tells store h floors label (reply.Records x) stands of = inl (inr of)
-times-says tells store h floors label (reply.Opened x y) stands of = inl (inr of)
-times-says tells store h floors label (reply.OpenedByRelation x y) stands of = inl (inr of)
-times-says tells store h floors label (reply.Refused x) stands of = inl (inr of)
+-- the times that the write sets say are replied
+times-replied : (tells in_heap : Bool) (from : ℕ) → IsTrue tells → (times : List ℕ) (answer : Result (Vec ℕ Global) QueryFault)
+    → SaysTimes tells in_heap from times answer
+    → OrGaveOut (IsTimesReply times) (session.times_found answer)
+times-replied tells in_heap from told times (Ok found) says = inl (found, says.0 (λ lies. told), refl)
+times-replied tells in_heap from told times (Err query.NoMemory) says = inr (inl refl)
+times-replied tells in_heap from told times (Err query.Device) says = inr (inr refl)
+times-replied tells in_heap from told times (Err (query.Damaged start)) says = absurd (says.1 told)
+times-replied tells in_heap from told times (Err (query.BeforeKept floor)) says = absurd says
+times-replied tells in_heap from told times (Err (query.NotYet last)) says = absurd says
+times-replied tells in_heap from told times (Err query.EmptyInterval) says = absurd says
+times-replied tells in_heap from told times (Err query.NeedsDisk) says = absurd says
+times-replied tells in_heap from told times (Err query.Stranger) says = absurd says
+
+times-says : (tells : Bool) (store new : StoreValue) (h : History Value) (floors : ℕ → ℕ) (label : ℕ) (r : Reply) → IsTrue tells
+    → Stands tells store (opened_in store h floors) → TimesStep tells store label r new → OrGaveOut (IsTimesReply (times_of h label)) r
+times-says tells store new h floors label r told stands step =
+    subst (OrGaveOut (IsTimesReply (times_of h label))) (sym step.2)
+    (times-replied tells (is_log store) (names_from store) told (times_of h label) step.0
+    (subst (λ (h' : History Value). SaysTimes tells (is_log store) (names_from store) (times_of h' label) step.0) (published-in store h floors)
+    (times-told tells store new (opened_in store h floors) label step.0 stands step.1)))
 
 -- the store's last commit and floors are those of the history
 last-is : (tells : Bool) (store : StoreValue) (h : History Value) (floors : ℕ → ℕ) → Stands tells store (opened_in store h floors) → stores.last store ≡ last h
@@ -642,7 +639,7 @@ end-same tells store h floors relation when.Now stands =
     ap (λ (n : ℕ). end_asked 0 n when.Now) (last-is tells store h floors stands)
 
 question-says : (tells : Bool) (store : StoreValue) (asked : State) (h : History Value) (floors : ℕ → ℕ) (q : Question) (r : Reply) → IsTrue tells
-    → Stands tells store (opened_in store h floors) → Step tells (fresh store) (line_asked q store) r asked → OrGaveOut (IsReplyTo q store h floors) r
+    → Stands tells store (opened_in store h floors) → Step tells (fresh store) (line_asked q store) r asked → OrGaveOut (IsReplyTo q h floors) r
 question-says tells store asked h floors (question.Value key time) r told stands step =
     let before = time_asked (floor_at (stores.floors store) key.relation) (stores.last store) time in
     subst (λ (t : ℕ). OrGaveOut (IsValueReply (at_answer h floors key t)) r) (time-same tells store h floors key.relation time stands)
@@ -659,7 +656,7 @@ question-says tells store asked h floors (question.Rows key from to) r told stan
     (subst (λ (t : ℕ). OrGaveOut (IsRowsReply (between_answer h floors key t b)) r) (time-same tells store h floors key.relation from stands)
     (between-says tells store asked.store h floors key a b r told stands step.0))
 question-says tells store asked h floors (question.Times label) r told stands step =
-    times-says tells store h floors label r stands step.0
+    times-says tells store asked.store h floors label r told stands step.0
 
 ask-keeps : (tells : Bool) (style : Style) (old new : DiskState) (asked : Option Question) (output : Output) → IsTrue tells → AreSound old.areas
     → MatchOption asked (RefusesTime old output new) (λ q. Asks tells style old (line_asked q) output new)

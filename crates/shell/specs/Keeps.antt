@@ -19,7 +19,6 @@ use Rattle.any_store.specs.Values.{StoreValue, disk_of}
 use Rattle.any_store.specs.Opens.{Opens, OpenRefuses}
 use Rattle.any_store.specs.Formats.{IsFormatted, FormatRefuses}
 use Rattle.law_any_store.specs.Formatted.{header_of}
-use Rattle.law_any_store.specs.Names.{AreTimesFrom, names_from}
 use Rattle.law_any_store.specs.Opened.{RecoversHeader}
 use Rattle.law_any_store.specs.Standing.{AnyHeader, IsImageOf, opened_in}
 use Rattle.script.specs.declared.line.Line.{Line}
@@ -175,17 +174,17 @@ abbrev pub IsRecordsReply : History Value → (ℕ → ℕ) → ℕ → ℕ → 
 IsRecordsReply h floors relation time r =
     (said : Result (List (ℕ × Value)) QueryRefusal) × IsScanAtAnswer h floors relation time said × IsFoundReply said r
 
--- the reply is these times, or that there is no memory for them; where names may have left memory up to a time, so it is of the later ones
-abbrev pub IsTimesReply : ℕ → List ℕ → Reply → Type 0
-IsTimesReply from times r = ((found : Vec ℕ Global) × AreTimesFrom from found.items times × (r ≡ reply.Times found)) ⊎ (r ≡ reply.Refused fault.NoMemory)
+-- the reply is these times
+abbrev pub IsTimesReply : List ℕ → Reply → Type 0
+IsTimesReply times r = (found : Vec ℕ Global) × (found.items ≡ times) × (r ≡ reply.Times found)
 
 -- the reply to a question is what the write sets say: at the floor of the relation, at the time that was said, or at that of the last commit
-abbrev pub IsReplyTo : Question → StoreValue → History Value → (ℕ → ℕ) → Reply → Type 0
-IsReplyTo (question.Value key time) store h floors r = IsValueReply (at_answer h floors key (time_asked (floors key.relation) (last h) time)) r
-IsReplyTo (question.Records relation time) store h floors r = IsRecordsReply h floors relation (time_asked (floors relation) (last h) time) r
-IsReplyTo (question.Rows key from to) store h floors r =
+abbrev pub IsReplyTo : Question → History Value → (ℕ → ℕ) → Reply → Type 0
+IsReplyTo (question.Value key time) h floors r = IsValueReply (at_answer h floors key (time_asked (floors key.relation) (last h) time)) r
+IsReplyTo (question.Records relation time) h floors r = IsRecordsReply h floors relation (time_asked (floors relation) (last h) time) r
+IsReplyTo (question.Rows key from to) h floors r =
     IsRowsReply (between_answer h floors key (time_asked (floors key.relation) (last h) from) (end_asked (floors key.relation) (last h) to)) r
-IsReplyTo (question.Times label) store h floors r = IsTimesReply (names_from store) (times_of h label) r
+IsReplyTo (question.Times label) h floors r = IsTimesReply (times_of h label) r
 
 -- this is replied, or that memory or the device gave out
 abbrev pub OrGaveOut : (Reply → Type 0) → Reply → Type 0
@@ -203,18 +202,16 @@ pub record QuestionKeeps (tells : Bool) (style : Style) (h : History Value) (flo
   pub says : OrGaveOut Is answer
 
 -- the store opens as this history; there is no memory for a session, or the question is answered by the history
-abbrev pub QuestionOpenedKeeps : Bool → Style → History Value → (ℕ → ℕ) → DiskState → (StoreValue → Line) → (StoreValue → Reply → Type 0) → Output
-    → DiskState → Type 0
+abbrev pub QuestionOpenedKeeps : Bool → Style → History Value → (ℕ → ℕ) → DiskState → (StoreValue → Line) → (Reply → Type 0) → Output → DiskState → Type 0
 QuestionOpenedKeeps tells style h floors old asks Is output new =
     (store : StoreValue) × Opens tells old 1 store
-    × (((new ≡ disk_of store) × IsRefused output (refusal_line fault.NoMemory)) ⊎ QuestionKeeps tells style h floors store (asks store) (Is store) output new)
+    × (((new ≡ disk_of store) × IsRefused output (refusal_line fault.NoMemory)) ⊎ QuestionKeeps tells style h floors store (asks store) Is output new)
 
 -- of whatever history the image stands for: the store does not open, since the device or memory gives out, or the question is answered by that history
-abbrev pub AskingKeeps : Bool → Style → DiskState → (StoreValue → Line) → (StoreValue → History Value → (ℕ → ℕ) → Reply → Type 0) → Output
-    → DiskState → Type 0
+abbrev pub AskingKeeps : Bool → Style → DiskState → (StoreValue → Line) → (History Value → (ℕ → ℕ) → Reply → Type 0) → Output → DiskState → Type 0
 AskingKeeps tells style old asks Is output new = (header : AnyHeader) (h : History Value) (floors : ℕ → ℕ) → IsImageOf header (image_of old.areas) h floors
     → ((f : OpenFault) × OpenRefuses tells old f new × IsReadFault f × IsRefused output (open_line f))
-    ⊎ QuestionOpenedKeeps tells style h floors old asks (λ store. Is store h floors) output new
+    ⊎ QuestionOpenedKeeps tells style h floors old asks (Is h floors) output new
 
 -- ---- one write
 
@@ -252,11 +249,11 @@ KeepsPromise tells (action.Run dir) old input output new =
 KeepsPromise tells (action.Format dir layout) old input output new = MatchOption layout (new ≡ old) (λ l. MakingKeeps tells old (store_layout l) new)
 KeepsPromise tells (action.At dir key time) old input output new =
     MatchOption time (new ≡ old)
-    (λ t. AskingKeeps tells plain old (λ store. line.At key t) (λ store h floors. IsValueReply (at_answer h floors key t)) output new)
+    (λ t. AskingKeeps tells plain old (λ store. line.At key t) (λ h floors. IsValueReply (at_answer h floors key t)) output new)
 KeepsPromise tells (action.Between dir key from to) old input output new =
     MatchOption from (new
     ≡ old) (λ a. MatchOption to (new
-    ≡ old) (λ b. AskingKeeps tells plain old (λ store. line.Between key a b) (λ store h floors. IsRowsReply (between_answer h floors key a b)) output new))
+    ≡ old) (λ b. AskingKeeps tells plain old (λ store. line.Between key a b) (λ h floors. IsRowsReply (between_answer h floors key a b)) output new))
 KeepsPromise tells (action.Ask dir asked style) old input output new =
     MatchOption asked (new ≡ old) (λ q. AskingKeeps tells style old (line_asked q) (IsReplyTo q) output new)
 KeepsPromise tells (action.Write dir write) old input output new = WritingKeeps tells old (write_lines write) output new

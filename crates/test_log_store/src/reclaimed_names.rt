@@ -6,6 +6,7 @@ use log_store::LogStore;
 use std::alloc::Global;
 use std::process::Abort;
 use std::test::Fail;
+use timequery::QueryFault;
 
 /// The rolls of a store with the labels 9, 4, 9 at 100, 110, 120, reclaimed, then 9, 4 at 130, 140, reclaimed, and then 9 at 150, reclaimed: in
 /// each the names by label and time.
@@ -17,7 +18,8 @@ const SECOND_ROLL: &[u8] =
 
 const THIRD_ROLL: &[u8] = b"\x09\0\0\0\0\0\0\0\x96\0\0\0\0\0\0\0";
 
-fn are_times<D: Disk>(store: &LogStore<D>, label: u64, want: &[u64]) -> bool {
+// Whether a label has just these times.
+fn are_times<D: Disk>(store: &mut LogStore<D>, label: u64, want: &[u64]) -> bool {
     match store.times_of(label) {
         Ok(times) => times.as_slice() == want,
         Err(_) => false,
@@ -53,23 +55,64 @@ fn each_reclaim_adds_a_roll_of_names(rt: HostRuntime) -> Result<(), Fail> {
     reclaims(&rt, rt.alloc(), &mut store, &[(9, 100), (4, 110), (9, 120)]);
     reclaims(&rt, rt.alloc(), &mut store, &[(9, 130), (4, 140)]);
     let ticket = publishes(&rt, rt.alloc(), &mut store, (9, 150));
-    assert!(rt; are_times(&store, 9, &[100, 120, 130, 150]));
-    assert!(rt; are_times(&store, 4, &[110, 140]));
-    assert!(rt; are_times(&store, 5, &[]));
+    assert!(rt; are_times(&mut store, 9, &[100, 120, 130, 150]));
+    assert!(rt; are_times(&mut store, 4, &[110, 140]));
+    assert!(rt; are_times(&mut store, 5, &[]));
     assert!(rt; store.archive_start(150) == Ok(()) && finishes(&mut store));
     assert!(rt; store.reclaim_start() == Ok(()) && finishes(&mut store));
-    assert!(rt; are_times(&store, 9, &[100, 120, 130, 150]));
+    assert!(rt; are_times(&mut store, 9, &[100, 120, 130, 150]));
     match store.redeem(ticket) {
         Redeemed::Done(time) => assert!(rt; time == 150),
         _ => panic!(rt; "not published"),
     }
-    assert!(rt; are_times(&store, 9, &[100, 120, 130, 150]));
+    assert!(rt; are_times(&mut store, 9, &[100, 120, 130, 150]));
     let mut disk = store.close();
     assert!(rt; has_bytes(&mut disk, Area::Archive, 74, FIRST_ROLL));
     assert!(rt; has_bytes(&mut disk, Area::Archive, 196, SECOND_ROLL));
     assert!(rt; has_bytes(&mut disk, Area::Archive, 265, THIRD_ROLL));
-    let store = opened(&rt, rt.alloc(), disk);
+    let mut store = opened(&rt, rt.alloc(), disk);
     assert!(rt; store.last() == 150);
+    assert!(rt; are_times(&mut store, 9, &[100, 120, 130, 150]));
+    assert!(rt; are_times(&mut store, 4, &[110, 140]));
+    assert!(rt; are_times(&mut store, 5, &[]));
+    publishes(&rt, rt.alloc(), &mut store, (9, 160)).give_up();
+    assert!(rt; are_times(&mut store, 9, &[100, 120, 130, 150, 160]));
+    let _disk = store.close();
+    Ok(())
+}
+
+// The byte of the archive at this place is that one.
+fn forge(rt: &impl Abort, disk: &mut MemDisk, place: u64, byte: u8) {
+    assert!(rt; disk.write_at(Area::Archive, place, &[byte]) == Ok(()));
+    assert!(rt; disk.sync(Area::Archive) == Ok(()));
+}
+
+// A store of the label 9 at 100, 110 and 120, whose roll begins at byte 74.
+fn with_one_roll(rt: &impl Abort, alloc: Global) -> MemDisk {
+    let mut store = new_store(rt, alloc);
+    reclaims(rt, alloc, &mut store, &[(9, 100), (9, 110), (9, 120)]);
+    store.close()
+}
+
+#[test]
+fn a_name_of_no_commit_is_damaged(rt: HostRuntime) -> Result<(), Fail> {
+    let mut disk = with_one_roll(&rt, rt.alloc());
+    // The second name has the time 0.
+    forge(&rt, &mut disk, 98, 0);
+    let mut store = opened(&rt, rt.alloc(), disk);
+    assert!(rt; store.times_of(9).err() == Some(QueryFault::Damaged(74)));
+    assert!(rt; store.last() == 120);
+    let _disk = store.close();
+    Ok(())
+}
+
+#[test]
+fn names_in_another_order_are_damaged(rt: HostRuntime) -> Result<(), Fail> {
+    let mut disk = with_one_roll(&rt, rt.alloc());
+    // The last name has the time 105, which is before that of the one before it.
+    forge(&rt, &mut disk, 114, 105);
+    let mut store = opened(&rt, rt.alloc(), disk);
+    assert!(rt; store.times_of(9).err() == Some(QueryFault::Damaged(74)));
     let _disk = store.close();
     Ok(())
 }

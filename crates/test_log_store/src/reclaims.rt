@@ -97,7 +97,7 @@ fn is_image(rt: &impl Abort, alloc: Global, disk: &mut MemDisk, left: Left) -> b
 }
 
 // Whether a label has just these times.
-fn are_times<D: Disk>(store: &LogStore<D>, label: u64, want: &[u64]) -> bool {
+fn are_times<D: Disk>(store: &mut LogStore<D>, label: u64, want: &[u64]) -> bool {
     match store.times_of(label) {
         Ok(times) => times.as_slice() == want,
         Err(_) => false,
@@ -160,12 +160,12 @@ fn a_base_takes_the_place_of_the_front(rt: HostRuntime) -> Result<(), Fail> {
     assert!(rt; !store.is_reclaiming());
     assert!(rt; store.reclaim_start() == Err(StartFault::NothingToDo));
     assert!(rt; tells_rows(&mut store));
-    assert!(rt; are_times(&store, 1, &[100]) && are_times(&store, 4, &[130]));
+    assert!(rt; are_times(&mut store, 1, &[100]) && are_times(&mut store, 4, &[130]));
     let mut disk = store.close();
     assert!(rt; is_image(&rt, rt.alloc(), &mut disk, Left::Reclaimed));
     let mut store = opened(&rt, rt.alloc(), disk);
     assert!(rt; store.last() == 130);
-    assert!(rt; are_times(&store, 4, &[130]));
+    assert!(rt; are_times(&mut store, 4, &[130]));
     assert!(rt; tells_rows(&mut store));
     assert!(rt; store.reclaim_start() == Err(StartFault::NothingToDo));
     assert!(rt; store.archive_start(120) == Err(StartFault::NothingToDo));
@@ -336,7 +336,7 @@ fn groups_are_published_beside_a_reclaim(rt: HostRuntime) -> Result<(), Fail> {
     assert!(rt; is_log(rt.alloc(), &mut disk, BESIDE));
     let mut store = opened(&rt, rt.alloc(), disk);
     assert!(rt; store.last() == 138);
-    assert!(rt; are_times(&store, 18, &[138]));
+    assert!(rt; are_times(&mut store, 18, &[138]));
     assert!(rt; tells_rows(&mut store));
     let _disk = store.close();
     Ok(())

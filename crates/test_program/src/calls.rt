@@ -94,7 +94,7 @@ fn is_done(store: &mut Opened, ticket: Ticket, time: u64) -> bool {
 }
 
 /// Whether the commits of the examples' label have just these times.
-fn has_times(store: &Opened, times: &[u64]) -> bool {
+fn has_times(store: &mut Opened, times: &[u64]) -> bool {
     match store.times_of(9) {
         Ok(found) => found.as_slice() == times,
         Err(_) => false,

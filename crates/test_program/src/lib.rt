@@ -31,6 +31,8 @@ mod endless_reclaim_stops;
 #[cfg(test)]
 mod endless_reclaims;
 #[cfg(test)]
+mod endless_times;
+#[cfg(test)]
 mod examples;
 #[cfg(test)]
 mod files;

@@ -66,11 +66,11 @@ fn grow_beside_commits<D: Disk + Send, L: Opening + Send + Sync, R: Threads + Wa
 }
 
 /// The store has twenty commits, each a microsecond behind the one before.
-fn has_twenty<D: Disk>(rt: &impl Abort, store: &Store<D>) {
+fn has_twenty<D: Disk>(rt: &impl Abort, store: &mut Store<D>) {
     assert_eq!(rt; store.last(), 20);
     match store.times_of(9) {
         Ok(times) => assert_eq!(rt; times.len(), 20),
-        Err(AllocError) => panic!(rt; "no memory"),
+        Err(why) => panic!(rt; "{why:?}"),
     }
 }
 
@@ -88,8 +88,8 @@ fn fills_new_slots<
     let other = store.another(&mut me);
     grow_beside_commits(rt, alloc, &store, other);
     commit_ten(rt, alloc, &store, me);
-    let store = store.into_store(&mut share);
-    has_twenty(rt, &store);
+    let mut store = store.into_store(&mut share);
+    has_twenty(rt, &mut store);
     // 512 bytes, and 512 more for each of 272 slots.
     let mut disk = store.close();
     assert_eq!(rt; disk.len(Area::Status), Ok(139_776));

@@ -6,8 +6,8 @@ ghost use Rattle.shared.specs.Naming.{IsFresh};
 use crate::counted_disk::CountedDisk;
 use crate::noted::{Notes, Step, note, step_of};
 use crate::written::{
-    are_rows, are_rows_of_seven, begun, has, has_none, has_rows, is_field, is_seven_alone, key_of,
-    publish_four, pump_job, pump_to, queued, refuses,
+    are_rows, are_rows_of_seven, begun, has, has_none, has_rows, has_times, is_field,
+    is_seven_alone, key_of, publish_four, pump_job, pump_to, queued, refuses,
 };
 use any_store::{Did, JobDid, Layout, QueryFault, StartFault};
 use disk::{Disk, MemDisk};
@@ -238,6 +238,7 @@ fn answers_from_both<D: Disk + Drop, L: Opening, R: Wait + Abort>(
     ask_store(rt, &store, &mut earlier);
     wait_for_a_snapshot(rt, alloc, &store, &mut me);
     ask_earlier(rt, &earlier);
+    assert!(rt; has_times(rt, &store, &mut me, &[100, 110, 120, 130, 140]));
     store.end(view);
     store.end(earlier);
     let _disk = store.into_store(&mut share).close();

@@ -1,4 +1,4 @@
-//! A vacuum where the log lies in the heap: it archives, reclaims, and goes on. Views answer the same.
+//! A vacuum where the log lies in the heap: it archives, reclaims, and goes on. Views answer the same, and a label has all its times.
 ghost use Rattle.std.specs.Prelude.{◌≡◌, [], length, true};
 ghost use Rattle.crossbeam_utils.specs.Seq.{cell_view};
 ghost use Rattle.shared.specs.Naming.{IsFresh};
@@ -6,7 +6,7 @@ ghost use Rattle.shared.specs.Naming.{IsFresh};
 use crate::counted_disk::CountedDisk;
 use crate::noted::{Notes, Step, note, step_of};
 use crate::vacuumed::wait_for_a_snapshot;
-use crate::written::{has, has_none, has_rows, publish_four, pump_job, refuses};
+use crate::written::{has, has_none, has_rows, has_times, publish_four, pump_job, refuses};
 use any_store::{JobDid, Layout, QueryFault, StartFault};
 use disk::{Disk, MemDisk};
 use shared::{
@@ -133,8 +133,10 @@ fn archives_and_reclaims<D: Disk + Drop, L: Opening, R: Wait + Abort>(
     };
     ask_store(rt, &store, &mut view);
     ask_store(rt, &store, &mut earlier);
+    assert!(rt; has_times(rt, &store, &mut me, &[100, 110, 120, 130]));
     wait_for_a_snapshot(rt, alloc, &store, &mut me);
     ask_store(rt, &store, &mut earlier);
+    assert!(rt; has_times(rt, &store, &mut me, &[100, 110, 120, 130, 140]));
     store.end(view);
     store.end(earlier);
     let _disk = store.into_store(&mut share).close();

@@ -38,11 +38,11 @@ fn a_stress_counts_each_round_where_the_log_lies_in_the_heap(rt: HostRuntime) {
 }
 
 /// Each writer's label has a commit for each of its rounds.
-fn has_all_rounds(rt: &impl Abort, store: &Store<MemDisk>, plan: Plan) {
+fn has_all_rounds(rt: &impl Abort, store: &mut Store<MemDisk>, plan: Plan) {
     for writer in 0..u64::from(plan.writers) {
         match store.times_of(writer + 1) {
             Ok(times) => assert_eq!(rt; times.len(), usize::from(plan.rounds), "{writer}"),
-            Err(AllocError) => panic!(rt; "no memory"),
+            Err(why) => panic!(rt; "{why:?}"),
         }
     }
 }
@@ -75,13 +75,12 @@ fn workers_count_what_the_store_has(rt: HostRuntime) {
             readers,
             rounds,
         };
-        let Some((store, done)) = run_plan(&rt, rt.alloc(), plan) else {
+        let Some((mut store, done)) = run_plan(&rt, rt.alloc(), plan) else {
             panic!(rt; "no store");
         };
         assert_eq!(rt; done, Some(commits));
         assert_eq!(rt; store.last(), commits);
-        has_all_rounds(&rt, &store, plan);
-        let mut store = store;
+        has_all_rounds(&rt, &mut store, plan);
         assert!(rt; holds_last_rounds(&mut store, plan));
         assert!(rt; !holds_last_rounds(&mut store, one_round_more(plan)));
         assert!(rt; !holds_last_rounds(&mut store, one_writer_more(plan)));

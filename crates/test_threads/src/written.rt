@@ -177,6 +177,19 @@ pub fn refuses<D: Disk, L: Opening, R: Wait>(
     }
 }
 
+/// Whether these are the times of the commits that the examples make, which have one label.
+pub fn has_times<D: Disk, L: Opening, R: Wait>(
+    rt: &R,
+    store: &SharedStore<D, L>,
+    me: &mut Observer<L>,
+    wanted: &[u64],
+) -> bool {
+    match store.times_of(rt, 9, me) {
+        Ok(times) => times.as_slice() == wanted,
+        Err(_) => false,
+    }
+}
+
 /// Whether these are record 7's rows in an interval.
 pub fn has_rows<D: Disk, L: Opening, R: Wait>(
     rt: &R,

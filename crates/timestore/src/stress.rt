@@ -2,6 +2,8 @@
 ghost use Rattle.std.specs.Prelude.{◌≡◌, ◌≤◌, ◌*◌, ◌++◌, ℕ, codes};
 ghost use Rattle.std.specs.Fmt.{decimal};
 ghost use Rattle.std.specs.Io.KnownBytes.{Appends};
+ghost use Rattle.any_store.specs.declared.formatting.Layout.TheVariants.{Slots};
+ghost use Rattle.workload.specs.Reading.{HasCommitted};
 
 use shell::write_stress_answer;
 use std::alloc::Global;
@@ -25,7 +27,8 @@ pub fn run_stress<R: Threads + Wait + Sync, W: Write>(
     plan: Plan,
     output: &mut W,
 ) -> u8
-    ensures done { result ≡ 0 → (last : ℕ) × Appends (W.contents output.old) (W.contents output.new)
+    ensures done { result ≡ 0 → (last : ℕ) × HasCommitted (Slots 32768) plan.writers plan.rounds (plan.writers * plan.rounds) last
+        × Appends (W.contents output.old) (W.contents output.new)
         (codes "commits " ++ (decimal (plan.writers * plan.rounds) ++ (codes " last " ++ (decimal last ++ codes "\n")))) }
     ensures status { result ≤ 1 }
 {

@@ -1,5 +1,5 @@
 //! Many threads at once over a new store in memory.
-ghost use Rattle.std.specs.Prelude.{◌≡◌, ◌*◌, ◌+◌, [], true, length, IfOk, IfSome};
+ghost use Rattle.std.specs.Prelude.{◌≡◌, ◌*◌, ◌+◌, ◌<◌, ◌-◌, ◌^◌, [], true, length, Ok, Some, IfOk, IfSome, IsTrue};
 ghost use Rattle.any_store.specs.Values.{commits_of};
 ghost use Rattle.history.specs.Machine.{Machine};
 ghost use Rattle.law_image.specs.Values.{Value};
@@ -7,7 +7,7 @@ ghost use Rattle.law_any_store.specs.Formatted.{header_of};
 ghost use Rattle.law_any_store.specs.Standing.{Stands, opened_as};
 ghost use Rattle.shared.specs.Counts.{told_count, unredeemed};
 ghost use Rattle.shared.specs.Reached.{Reached};
-ghost use Rattle.workload.specs.Reading.{HasCommitted};
+ghost use Rattle.workload.specs.Reading.{HasCommitted, HasLastRound, HasLastRounds, value_of};
 
 use crate::workers::{Plan, field_of, key_of, run_workers};
 use any_store::{Layout, QueryFault, SharedValue, Store};
@@ -35,7 +35,7 @@ pub fn stress<R: Threads + Wait + Sync>(
     plan: Plan,
 ) -> Option<(u64, u64)>
     ensures counted { IfSome result (λ done. done.0 ≡ plan.writers * plan.rounds) }
-    ensures last { IfSome result (λ done. HasCommitted layout done.0 done.1) }
+    ensures last { IfSome result (λ done. HasCommitted layout plan.writers plan.rounds done.0 done.1) }
 {
     let store = match fresh_store(alloc, MemDisk::new(alloc), layout, MARK) {
         Ok(store) => store,
@@ -61,7 +61,7 @@ fn count_all(
     requires { (m : Machine Value) × Stands true store m × Reached (opened_as (header_of layout) [] (λ relation. 0)) m
         × IfSome done (λ count. length m.published ≡ count + unredeemed store) }
     ensures counted { IfSome result (λ done. done.0 ≡ plan.writers * plan.rounds) }
-    ensures last { IfSome result (λ done. HasCommitted layout done.0 done.1) }
+    ensures last { IfSome result (λ done. HasCommitted layout plan.writers plan.rounds done.0 done.1) }
 {
     let _ = layout;
     let mut store = store;
@@ -96,32 +96,54 @@ pub fn stress_on<D: Disk + Send, R: Threads + Wait + Sync>(
     }
 }
 
-/// Whether each writer's key has the value of its last round at the time of the last commit.
-pub fn holds_last_rounds<D: Disk>(store: &mut Store<D>, plan: Plan) -> bool {
+/// Whether each writer's key has the value of its last round at the time of the last commit. No where memory ran out.
+pub fn holds_last_rounds<D: Disk>(store: &mut Store<D>, plan: Plan) -> bool
+    ensures { IsTrue result → IsTrue D.tells → (m : Machine Value) → Stands D.tells store.old m → HasLastRounds m plan.writers plan.rounds }
+{
+    for number in 0..u64::from(plan.writers) {
+        if !holds_last_round(store, number, plan.rounds) {
+            return false;
+        }
+    }
+    true
+}
+
+// Whether the key of the writer of this number, from 0 on, has the value of its last round then.
+fn holds_last_round<D: Disk>(store: &mut Store<D>, number: u64, rounds: u16) -> bool
+    requires { number < 2 ^ 64 - 1 }
+    ensures stands { (m : Machine Value) → Stands D.tells store.old m → Stands D.tells store.new m }
+    ensures holds { IsTrue result → IsTrue D.tells → (m : Machine Value) → Stands D.tells store.old m → HasLastRound m rounds number }
+{
     let last = store.last();
     let view = match store.view() {
         Ok(view) => view,
         Err(AllocError) => return false,
     };
-    let mut holds = true;
-    for number in 0..u64::from(plan.writers) {
-        let answer = store.at(&view, key_of(number + 1), last);
-        holds = holds && is_of_round(&answer, u32::from(plan.rounds));
-    }
+    let answer = store.at(&view, key_of(number + 1), last);
     store.end(view);
-    holds
+    is_of_round(&answer, u32::from(rounds))
+}
+
+// Whether the answer is the value of a writer's round.
+fn is_of_round(answer: &Result<Option<SharedValue>, QueryFault>, round: u32) -> bool
+    ensures { IsTrue result → answer.now ≡ Ok (Some (value_of round)) }
+{
+    match answer {
+        Ok(found) => match found {
+            Some(found) => has_round(found, round),
+            None => false,
+        },
+        Err(_) => false,
+    }
 }
 
 // Whether the value is that of a writer's round.
-fn is_of_round(answer: &Result<Option<SharedValue>, QueryFault>, round: u32) -> bool {
-    match answer {
-        Ok(Some(found)) => {
-            let value = found.value();
-            match value.field(0) {
-                Some(field) => value.len() == 1 && field == field_of(round).as_slice(),
-                None => false,
-            }
-        }
-        _ => false,
+fn has_round(found: &SharedValue, round: u32) -> bool
+    ensures { IsTrue result → found.now ≡ value_of round }
+{
+    let value = found.value();
+    match value.field(0) {
+        Some(field) => value.len() == 1 && field == field_of(round).as_slice(),
+        None => false,
     }
 }

@@ -1,5 +1,6 @@
 //! Threads that commit and read beside a committer and a vacuum.
 ghost use Rattle.std.specs.Prelude.{◌≡◌, ◌+◌, ◌≤◌, ◌<◌, ◌^◌, [], true, length, vec_len, IfOk, IfSome, if◌then◌else◌};
+ghost use Rattle.std.specs.Int.{w32, to_le_bytes};
 ghost use Rattle.crossbeam_utils.specs.Seq.{cell_view};
 ghost use Rattle.history.specs.Machine.{Machine};
 ghost use Rattle.law_image.specs.Values.{Value};
@@ -7,7 +8,7 @@ ghost use Rattle.law_any_store.specs.Standing.{Stands};
 ghost use Rattle.shared.specs.Naming.{IsFresh};
 ghost use Rattle.shared.specs.Counts.{told_count, unredeemed};
 ghost use Rattle.shared.specs.Reached.{Reached};
-ghost use Rattle.workload.specs.Reading.{ReadSays};
+ghost use Rattle.workload.specs.Reading.{ReadSays, key_of};
 ghost use Rattle.shared.specs.Seen.{IsLater, seen_of};
 
 use any_store::{QueryFault, SharedValue, Store};
@@ -52,7 +53,9 @@ pub struct Worked<L: Opening> {
 }
 
 /// The key of a writer.
-pub(crate) fn key_of(number: u64) -> Key {
+pub(crate) fn key_of(number: u64) -> Key
+    ensures { result ≡ key_of number }
+{
     Key {
         relation: RELATION,
         record: number,
@@ -60,7 +63,9 @@ pub(crate) fn key_of(number: u64) -> Key {
 }
 
 /// The field that a writer commits in a round.
-pub(crate) fn field_of(round: u32) -> [u8; 4] {
+pub(crate) fn field_of(round: u32) -> [u8; 4]
+    ensures { result ≡ to_le_bytes w32 round }
+{
     round.to_le_bytes()
 }
 
@@ -249,7 +254,7 @@ fn call_all<D: Disk + Send, L: Opening + Send + Sync, R: Threads + Wait + Sync>(
     }
 }
 
-// Publishes, archives and reclaims, until told to end. Where the log lies in the heap nothing is reclaimed.
+// Publishes, archives and reclaims, until told to end.
 fn keep_up<D: Disk + Send, L: Opening + Send + Sync, R: Threads + Wait + Sync>(
     rt: &R,
     store: &SharedStore<D, L>,

@@ -306,3 +306,11 @@ int32_t ts_rados_scan_between(ts_rados *host, uint64_t view, uint16_t relation, 
     code = ts_scan_between(&host->steps.store, view, relation, from, upto, runs, runs_len, rows, row_count, out, len, info);
     return answered(host, code);
 }
+
+int32_t ts_rados_times_of(ts_rados *host, uint64_t label, uint64_t *times, size_t count, ts_info *info) {
+    const uint8_t *rolls;
+    size_t rolls_len;
+    int32_t code = ts_rados_archive(host, &rolls, &rolls_len);
+    if (code != TS_OK) return code;
+    return answered(host, ts_times_of(&host->steps.store, label, rolls, rolls_len, times, count, info));
+}

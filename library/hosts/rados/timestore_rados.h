@@ -70,7 +70,8 @@ int32_t ts_rados_archive(ts_rados *host, const uint8_t **at, size_t *len);
    ts_rados_archive counts for nothing; it may be asked again. */
 int32_t ts_rados_lent(ts_rados *host);
 
-/* The queries of timestore.h, lent the archive; TS_SYSTEM or TS_FENCED where a part of it could not be read. */
+/* The queries of timestore.h, and the times of a label, lent the archive; TS_SYSTEM or TS_FENCED where a part of it could
+   not be read. */
 int32_t ts_rados_at(ts_rados *host, uint64_t view, uint16_t relation, uint64_t record, uint64_t time, uint8_t *out, size_t len,
                     ts_info *info);
 int32_t ts_rados_scan_at(ts_rados *host, uint64_t view, uint16_t relation, uint64_t time, ts_row *rows, size_t row_count, uint8_t *out,
@@ -79,6 +80,7 @@ int32_t ts_rados_between(ts_rados *host, uint64_t view, uint16_t relation, uint6
                          size_t row_count, uint8_t *out, size_t len, ts_info *info);
 int32_t ts_rados_scan_between(ts_rados *host, uint64_t view, uint16_t relation, uint64_t from, uint64_t upto, ts_row *rows,
                               size_t row_count, uint8_t *out, size_t len, ts_info *info);
+int32_t ts_rados_times_of(ts_rados *host, uint64_t label, uint64_t *times, size_t count, ts_info *info);
 
 /* All steps of all commits that wait, and of the archive, the reclaim, the floor or the growth that is being made. */
 int32_t ts_rados_flush(ts_rados *host);

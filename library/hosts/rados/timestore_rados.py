@@ -238,3 +238,9 @@ class Store(timestore.Store):
             return super()._rows(function, *args, lends=lends)
         finally:
             self._of_host(_library.ts_rados_lent)
+
+    def _times(self, function: Callable[..., int], label: int) -> list[int]:
+        try:
+            return super()._times(function, label)
+        finally:
+            self._of_host(_library.ts_rados_lent)

@@ -148,7 +148,7 @@ __all__ = [
 ]
 
 # How many words of a call are the room for a value, or for rows, and what it tells.
-_VALUE_WORDS, _ROWS_WORDS = 3, 5
+_VALUE_WORDS, _ROWS_WORDS, _TIMES_WORDS = 3, 5, 3
 # What is lent for an archive of no bytes.
 _NOTHING = ctypes.create_string_buffer(1)
 
@@ -325,9 +325,10 @@ class Store(_CommonStore["Transaction", "View"]):
     def times_of(self, label: int) -> list[int]:
         """The times of the commits with a label, rising.
 
-        A store whose log lies in the heap, once it is opened again, tells none up to its last reclaim.
+        Where the log lies in the heap the names of those up to its last reclaim are read in the archive,
+        and what refuses `at` may refuse this: `System`, `Damaged`, `NoMemory`.
         """
-        return self._times(_library.ts_times_of, label)
+        return self._times(self._lending(_library.ts_times_of, _TIMES_WORDS), label)
 
     def archive(self, upto: Time) -> None:
         """Copies what ended by a time into the archive."""

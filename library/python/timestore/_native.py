@@ -68,7 +68,7 @@ def _prototypes() -> dict[str, list[Any]]:
         "ts_scan_at": [handle, u64, u16, u64, *lent, *rows],
         "ts_between": [handle, u64, u16, u64, u64, u64, *lent, *rows],
         "ts_scan_between": [handle, u64, u16, u64, u64, *lent, *rows],
-        "ts_times_of": [handle, u64, buf, size, info],
+        "ts_times_of": [handle, u64, *lent, *out],
         "ts_archive": [handle, u64, info],
         "ts_reclaim": [handle, info],
         "ts_floor": [handle, u64, info],

@@ -124,10 +124,7 @@ class SharedStore(CommonStore["SharedTransaction", "SharedView"]):
         return SharedView(self, info.a, info.b)
 
     def times_of(self, label: int) -> list[int]:
-        """The times of the commits with a label, rising.
-
-        A store whose log lies in the heap, once it is opened again, tells none up to its last reclaim.
-        """
+        """The times of the commits with a label, rising, as `Store.times_of`."""
         return self._times(library.ts_shared_times_of, label)
 
     def archive(self, upto: Time) -> None:

@@ -67,7 +67,7 @@ pub(crate) trait Calls {
     /// The times that a call writes, which is told how many there is room for.
     fn times(
         &self,
-        call: impl Fn(*mut Self::Raw, *mut u64, usize, &mut Info) -> i32,
+        mut call: impl FnMut(*mut Self::Raw, *mut u64, usize, &mut Info) -> i32,
     ) -> Result<Vec<u64>> {
         let mut times = vec![0; 16];
         loop {

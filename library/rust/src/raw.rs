@@ -191,6 +191,8 @@ unsafe extern "C" {
     pub fn ts_times_of(
         h: *mut Handle,
         label: u64,
+        archive: *const u8,
+        size: usize,
         times: *mut u64,
         count: usize,
         info: &mut Info,

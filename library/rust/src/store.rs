@@ -297,11 +297,17 @@ impl Store {
         self.make(|_, _| unsafe { raw::ts_file_job(file) })
     }
 
-    /// The times of the commits with a label, rising. A store whose log lies in the heap, once it is opened again,
-    /// tells no commit up to its last reclaim.
+    /// The times of the commits with a label, rising. Where the log lies in the heap the names of those up to its last
+    /// reclaim are read in the archive, and what refuses [`crate::View::at`] may refuse this.
     pub fn times_of(&self, label: u64) -> Result<Vec<u64>> {
-        // SAFETY: as many times as there is room for are written.
-        self.times(|h, at, len, info| unsafe { raw::ts_times_of(h, label, at, len, info) })
+        let mut refusal = None;
+        let found = self.times(|h, times, count, info| {
+            // SAFETY: as many times as there is room for are written, and the archive that is lent stays where it is.
+            self.lent(&mut refusal, |at, size| unsafe {
+                raw::ts_times_of(h, label, at, size, times, count, info)
+            })
+        });
+        refusal.map_or(found, Err)
     }
 
     // The archive, which stays in memory until the next such call.

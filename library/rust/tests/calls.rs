@@ -101,6 +101,8 @@ fn has_all(store: &Store) {
         assert_eq!(view.at(1, 7, time).unwrap(), Some(vec![text.to_vec()]));
     }
     assert_eq!(view.at(1, 7, 99).unwrap(), None);
+    assert_eq!(store.times_of(9).unwrap(), [100, 200, 300]);
+    assert!(store.times_of(8).unwrap().is_empty());
 }
 
 #[test]

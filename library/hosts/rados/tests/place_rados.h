@@ -49,6 +49,7 @@ static int32_t open_place(ts_rados **host, ts_info *told) {
     ((void)(at), (void)(len), ts_rados_scan_at(file, view, relation, time, __VA_ARGS__))
 #define ts_between(store, view, relation, record, from, upto, at, len, ...) \
     ((void)(at), (void)(len), ts_rados_between(file, view, relation, record, from, upto, __VA_ARGS__))
+#define ts_times_of(store, label, at, len, ...) ((void)(at), (void)(len), ts_rados_times_of(file, label, __VA_ARGS__))
 #define ts_scan_between(store, view, relation, from, upto, at, len, ...) \
     ((void)(at), (void)(len), ts_rados_scan_between(file, view, relation, from, upto, __VA_ARGS__))
 

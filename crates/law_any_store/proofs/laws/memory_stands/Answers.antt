@@ -1,4 +1,4 @@
-use Rattle.law_any_store.proofs.Memory.{memory-stands, last-published, late-times-are}
+use Rattle.law_any_store.proofs.Memory.{memory-stands, last-published}
 use Rattle.law_any_store.proofs.laws.memory_stands.Goals as goal
 
 pub returns-clause-memory : goal.returns-clause-memory
@@ -6,6 +6,3 @@ returns-clause-memory c = memory-stands
 
 pub returns-clause-last : goal.returns-clause-last
 returns-clause-last c = last-published
-
-pub returns-clause-times : goal.returns-clause-times
-returns-clause-times c = late-times-are

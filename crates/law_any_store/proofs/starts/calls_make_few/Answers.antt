@@ -1,5 +1,5 @@
 use Rattle.law_any_store.proofs.Few.{begin-few, abort-few, submit-few, redeem-few, pump-few, start-few, reclaim-few, floor-few, grow-few, pumped-few, at-few}
-use Rattle.law_any_store.proofs.Few.{scan_at-few, between-few, scan_between-few}
+use Rattle.law_any_store.proofs.Few.{scan_at-few, between-few, scan_between-few, times-few}
 use Rattle.law_any_store.proofs.starts.calls_make_few.Goals as goal
 
 pub returns-clause-begin : goal.returns-clause-begin
@@ -43,3 +43,6 @@ returns-clause-between c = between-few
 
 pub returns-clause-scan_between : goal.returns-clause-scan_between
 returns-clause-scan_between c = scan_between-few
+
+pub returns-clause-times : goal.returns-clause-times
+returns-clause-times c = times-few

@@ -12,5 +12,4 @@ returns-clause-stay c = λ tells v m disk mark again asked new later view key ti
     answers-stay tells v m disk mark again asked new later view key time answer step stands told opens is now goes answers early kept
 
 pub returns-clause-labels : goal.returns-clause-labels
-returns-clause-labels c = λ tells v m disk mark again label since step stands told opens from to.
-    labels-stay tells v m disk mark again label since step stands told opens from to
+returns-clause-labels c = labels-stay

@@ -1,5 +1,6 @@
+use Rattle.any_store.specs.Queries as queries
 use Rattle.law_any_store.proofs.Views.{between-stands}
-use Rattle.shared.proofs.Asked.{between-says}
+use Rattle.shared.proofs.Asked.{as-lent, between-says}
 use Rattle.shared.proofs.Moves.{repass, query-keeps}
 use Rattle.shared.proofs.locked.Locked.between.Goals as goal
 
@@ -13,3 +14,8 @@ pub returns-clause-says : goal.returns-clause-says
 returns-clause-says g c =
     between-says _ _ _ _ _ _ _ _ _ _ c.self.invariant _ _ _ c.shown.ensures c.compare.ensures.kept c.compare.ensures.shows c.args.key c.args.a c.args.b
     c.between.result c.between.ensures
+
+pub returns-clause-is : goal.returns-clause-is
+returns-clause-is g c =
+    as-lent (λ s w. queries.AnswersRows g.D.Disk.tells s w c.args.key c.args.a c.args.b c.between.result c.between.new.self) _ _ _ _ _
+    c.self.view_is c.shown.ensures c.compare.ensures.kept c.between.ensures

@@ -1,5 +1,6 @@
+use Rattle.any_store.specs.Queries as queries
 use Rattle.law_any_store.proofs.Views.{scan_at-stands}
-use Rattle.shared.proofs.Asked.{scan_at-says}
+use Rattle.shared.proofs.Asked.{as-lent, scan_at-says}
 use Rattle.shared.proofs.Moves.{repass, query-keeps}
 use Rattle.shared.proofs.locked.Locked.scan_at.Goals as goal
 
@@ -13,3 +14,8 @@ pub returns-clause-says : goal.returns-clause-says
 returns-clause-says g c =
     scan_at-says _ _ _ _ _ _ _ _ _ _ c.self.invariant _ _ _ c.shown.ensures c.compare.ensures.kept c.compare.ensures.shows c.args.relation c.args.time
     c.scan_at.result c.scan_at.ensures
+
+pub returns-clause-is : goal.returns-clause-is
+returns-clause-is g c =
+    as-lent (λ s w. queries.AnswersScanAt g.D.Disk.tells s w c.args.relation c.args.time c.scan_at.result c.scan_at.new.self) _ _ _ _ _
+    c.self.view_is c.shown.ensures c.compare.ensures.kept c.scan_at.ensures

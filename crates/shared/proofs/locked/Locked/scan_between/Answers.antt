@@ -1,5 +1,6 @@
+use Rattle.any_store.specs.Queries as queries
 use Rattle.law_any_store.proofs.Views.{scan_between-stands}
-use Rattle.shared.proofs.Asked.{scan_between-says}
+use Rattle.shared.proofs.Asked.{as-lent, scan_between-says}
 use Rattle.shared.proofs.Moves.{repass, query-keeps}
 use Rattle.shared.proofs.locked.Locked.scan_between.Goals as goal
 
@@ -15,3 +16,8 @@ returns-clause-says g c =
     scan_between-says _ _ _ _ _ _ _ _ _ _ c.self.invariant _ _ _ c.shown.ensures c.compare.ensures.kept c.compare.ensures.shows c.args.relation c.args.a
     c.args.b
     c.scan_between.result c.scan_between.ensures
+
+pub returns-clause-is : goal.returns-clause-is
+returns-clause-is g c =
+    as-lent (λ s w. queries.AnswersScanRows g.D.Disk.tells s w c.args.relation c.args.a c.args.b c.scan_between.result c.scan_between.new.self) _ _ _ _ _
+    c.self.view_is c.shown.ensures c.compare.ensures.kept c.scan_between.ensures
