@@ -7,7 +7,7 @@ from dataclasses import dataclass
 from typing import NamedTuple
 
 import machine
-from machine import ENDLESS, LATEST, Commit, Floors, History, Job, Machine, Order, Transaction
+from machine import ENDLESS, LATEST, Floors, History, Job, Machine, Order, Transaction
 
 GROUP_MOST = 1024
 # so many that what the tests commit never fills the heap, or the share of it that the log or its
@@ -91,8 +91,6 @@ class Endless(Machine):
         self.log = list(log or [])
         super().__init__(published, extents, profile=ENDLESS, floors=floors)
         self.reclaimed = self.base_mark()
-        # memory has the labels of later commits alone
-        self.named_after = self.reclaimed
 
     def base_mark(self) -> int:
         """The time up to which the base tells all, 0 for no base."""
@@ -209,23 +207,7 @@ class Endless(Machine):
         return ["idle"]
 
     def reopened(self) -> list[str]:
-        """As of slots; and memory has no commit up to the reclaim mark any more."""
+        """As of slots; and a base whose turn is written stands."""
         if self.is_turned():
             self.end_job()
-        said = super().reopened()
-        self.named_after = self.reclaimed
-        return said
-
-    def vacuum(self, upto: int) -> list[str]:
-        said = super().vacuum(upto)
-        self.named_after = self.reclaimed
-        return said
-
-    def asked(self, word: str, numbers: list[int]) -> list[str] | None:
-        if word != "times":
-            return super().asked(word, numbers)
-        return machine.times(self.named(), *numbers)
-
-    def named(self) -> list[Commit]:
-        """The commits whose labels memory has."""
-        return [it for it in self.published if it.time > self.named_after]
+        return super().reopened()

@@ -8,7 +8,7 @@ from datetime import datetime, timedelta
 from typing import Any
 
 from machine import (
-    ENDLESS, LATEST, PIECE, PROFILES, SLOTS_MOST, Commit, Fields, Floors, History, Key,
+    LATEST, PIECE, PROFILES, SLOTS_MOST, Commit, Fields, Floors, History, Key,
     all_versions, can_grow, floor_of, has_own_floors
 )
 
@@ -365,12 +365,6 @@ class Image:
     anchors: Anchors
     # the extents of the live chains
     live: frozenset[int]
-
-    @property
-    def named(self) -> list[Commit]:
-        """The commits whose labels a store that was just opened tells."""
-        is_whole = self.profile != ENDLESS
-        return [it for it in self.history if is_whole or it.time > self.log.reclaimed]
 
 
 def read(areas: Mapping[str, bytes]) -> Image:

@@ -157,7 +157,7 @@ class Traced(Session):
 
     def times(self) -> list[str]:
         """The commits with label 0 of the files."""
-        found = reader_of(self.start).read(self.start).named
+        found = reader_of(self.start).read(self.start).history
         return [" ".join(["times", *(str(it.time) for it in found if it.label == 0)])]
 
     def calls(self) -> list[Call]:
