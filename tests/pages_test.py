@@ -1,7 +1,8 @@
 #!/usr/bin/env python3
 """Checks pages and lines: each example of crates/NAME/CALLING.md is a test of the repository, word for word; the pages
 have no more words than they may, each and all together; each crate has a page of its own, of few lines; no line of code or
-proof is too long; and the table of wrong bodies has those that there are. Is called at the top of the repository."""
+proof is too long; the table of wrong bodies has those that there are; and what programs call has no `requires`, as
+docs/DECISIONS.md says. Is called at the top of the repository."""
 import glob
 import os
 import re
@@ -31,6 +32,8 @@ ALL_WORDS = 15_000
 # The most lines of crates/NAME/README.md, and the most characters of a line of code or proof.
 MOST_LINES = 40
 MOST_CHARACTERS = 160
+# Crates that programs call: none of their public functions asks for anything.
+CALLED = ["any_store", "run", "session", "c_exports"]
 
 
 def read(path: str) -> str:
@@ -98,8 +101,32 @@ def untold_edits() -> int:
     return len(told ^ there)
 
 
+def has_condition(lines: list[str], start: int, indent: str) -> bool:
+    """Whether the function whose head begins in this line has a `requires`."""
+    for line in lines[start:]:
+        if line.strip().startswith("requires"):
+            return True
+        if line in (f"{indent}{{", f"{indent}{{}}") or line.endswith((" {", "{}", ";")):
+            return False
+    return False
+
+
+def conditions() -> int:
+    """How many public functions of the crates that programs call have a `requires`; each is named."""
+    found = 0
+    for path in sorted(path for crate in CALLED for path in glob.glob(f"crates/{crate}/src/**/*.rt", recursive=True)):
+        lines = read(path).split("\n")
+        for number, line in enumerate(lines):
+            head = re.match(r'( *)pub (?:extern "C" )?fn (\w+)', line)
+            if head and has_condition(lines, number, head[1]):
+                print(f"{path}:{number + 1}: {head[2]} has a `requires`, and programs call this crate")
+                found += 1
+    return found
+
+
 def main() -> int:
-    """The exit status: 0 where every example is a test, each crate has its page, neither a page, all pages nor a line is too long, and each edit is told."""
+    """The exit status: 0 where every example is a test, each crate has its page, neither a page, all pages nor a line is too long,
+    each edit is told, and what programs call asks for nothing."""
     tests = [read(path) for pattern in TESTS for path in glob.glob(pattern)]
     pages = sorted(glob.glob("crates/*/CALLING.md"))
     missing = sum(missing_examples(page, tests) for page in pages)
@@ -108,9 +135,9 @@ def main() -> int:
     all_long = are_too_long()
     crates = [line.split(":")[0].split()[0] for line in read("crates.txt").splitlines() if ":" in line.split("#")[0]]
     without = [crate for crate in crates if lacks_page(crate)]
-    lines, edits = long_lines(), untold_edits()
+    lines, edits, asked = long_lines(), untold_edits(), conditions()
     print(f"{len(crates)} crates, {len(without)} without a page of {MOST_LINES} lines or fewer; {lines} lines that are too long")
-    return 1 if missing or not pages or long or all_long or without or lines or edits else 0
+    return 1 if missing or not pages or long or all_long or without or lines or edits or asked else 0
 
 
 if __name__ == "__main__":
