@@ -82,8 +82,8 @@ fn each_reclaim_adds_a_roll_of_names(rt: HostRuntime) -> Result<(), Fail> {
 }
 
 // The byte of the archive at this place is that one.
-fn forge(rt: &impl Abort, disk: &mut MemDisk, place: u64, byte: u8) {
-    assert!(rt; disk.write_at(Area::Archive, place, &[byte]) == Ok(()));
+fn forge(rt: &impl Abort, disk: &mut MemDisk, place: u32, byte: u8) {
+    assert!(rt; disk.write_at(Area::Archive, u64::from(place), &[byte]) == Ok(()));
     assert!(rt; disk.sync(Area::Archive) == Ok(()));
 }
 
