@@ -165,7 +165,7 @@ class ArchiveFull(Refused, code=-23):
 
 
 class BadSlots(Refused, code=-24):
-    """A store has 16 to 65,536 slots."""
+    """A store has 16 to 65,536 slots; one of the endless profile 64 to 1,048,576 extents, by 16."""
 
 
 class InUse(Refused, code=-25):

@@ -131,7 +131,7 @@ refusals! {
     NothingToDo = -22,
     /// The archive is full.
     ArchiveFull = -23,
-    /// A store has 16 to 65,536 slots.
+    /// A store has 16 to 65,536 slots; one of the endless profile a multiple of 16 extents from 64 to 1,048,576.
     BadSlots = -24,
     /// The answer needs the archive.
     NeedsArchive = -26,

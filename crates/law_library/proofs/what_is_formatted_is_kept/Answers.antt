@@ -1,0 +1,8 @@
+use Rattle.law_library.proofs.Formatting.{new-stands, new-keeps}
+use Rattle.law_library.proofs.what_is_formatted_is_kept.Goals as goal
+
+pub returns-clause-stands : goal.returns-clause-stands
+returns-clause-stands c = new-stands
+
+pub returns-clause-keeps : goal.returns-clause-keeps
+returns-clause-keeps c = new-keeps
