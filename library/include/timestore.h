@@ -120,7 +120,7 @@ enum {
     TS_IN_USE = -25,        /* a: the least open snapshot */
     TS_NEEDS_ARCHIVE = -26, /* the answer needs the archive, and none was lent */
     TS_WRONG_PROFILE = -27, /* ts_floor: this store has a floor for each relation; ts_floor_of: one for all */
-    TS_NOT_GROWABLE = -28   /* it would have more than 65,536 slots, or the first timestore made it */
+    TS_NOT_GROWABLE = -28   /* it would have more than 65,536 slots, it has none, or the first timestore made it */
 };
 
 /* What a step did: ts_called tells it in a; of TS_PUBLISHED, b has the commits of the group. */

@@ -106,7 +106,7 @@ refusals! {
     NoMemory = -5,
     /// A transaction, ticket or view of another store.
     Stranger = -7,
-    /// The records need more extents than are free.
+    /// The records need more extents than are free, or an archive or a floor where there are no slots.
     HeapFull = -9,
     /// Too few slots of the status log are left.
     StatusFull = -10,
@@ -137,7 +137,7 @@ refusals! {
     NeedsArchive = -26,
     /// This store has a floor for each relation, or one for all.
     WrongProfile = -27,
-    /// The store would have more than 65,536 slots, or the first timestore made it.
+    /// The store would have more than 65,536 slots, it has none, or the first timestore made it.
     NotGrowable = -28,
     /// Another process has the store open.
     Locked = -101,
