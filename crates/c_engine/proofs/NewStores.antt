@@ -14,7 +14,7 @@ use Rattle.c_engine.specs.declared.code.Code.TheVariants as code
 use Rattle.c_engine.specs.declared.code.Info.{Info}
 
 over-nothing : overlaid [] 0 (replicate 8192 0) ≡ replicate 8192 0
-over-nothing = ap (λ (xs : List ℕ). replicate 8192 0 ++ xs) (drop-nil (0 + length (replicate 8192 0))) ∙ append-nil (replicate 8192 0)
+over-nothing = ap (λ (xs : List ℕ). replicate 8192 0 ++ xs) (drop-nil (0 + length {A = ℕ} (replicate 8192 0))) ∙ append-nil (replicate 8192 0)
 
 -- the heap has zeros alone, if any
 heap-zeros : (layout : Layout) (areas : Areas) → IsFormatted layout empty_areas areas → areas.heap.bytes ≡ replicate (length areas.heap.bytes) 0
@@ -23,7 +23,7 @@ heap-zeros (Slots slots) areas is =
     none ∙ ap (λ (n : ℕ). replicate n 0) (sym (ap (λ (xs : List ℕ). length xs) none))
 heap-zeros (Log extents) areas is =
     let all : areas.heap.bytes ≡ replicate 8192 0 = ap (λ (a : Areas). a.heap.bytes) is.new_is ∙ over-nothing in
-    all ∙ ap (λ (n : ℕ). replicate n 0) (sym (ap (λ (xs : List ℕ). length xs) all ∙ length-replicate 8192 0))
+    all ∙ ap (λ (n : ℕ). replicate n 0) (sym (ap (λ (xs : List ℕ). length xs) all ∙ length-replicate {A = ℕ} 8192 0))
 
 -- where these areas were formatted, of which the status area is told
 pub new-told : (layout : Layout) (areas : Areas) (said : Code) (info : Info) (out : List ℕ) → IsFormatted layout empty_areas areas
