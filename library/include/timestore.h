@@ -115,11 +115,12 @@ enum {
     TS_NOTHING_TO_DO = -22, /* all versions that ended by then are archived; all that is archived is reclaimed;
                                the floor is as late */
     TS_ARCHIVE_FULL = -23,
-    TS_BAD_SLOTS = -24,     /* a store has 16 to 65,536 slots */
+    TS_BAD_SLOTS = -24,     /* a store has 16 to 65,536 slots; one of the endless profile a multiple of 16 extents from
+                               64 to 1,048,576 */
     TS_IN_USE = -25,        /* a: the least open snapshot */
     TS_NEEDS_ARCHIVE = -26, /* the answer needs the archive, and none was lent */
     TS_WRONG_PROFILE = -27, /* ts_floor: this store has a floor for each relation; ts_floor_of: one for all */
-    TS_NOT_GROWABLE = -28   /* it would have more than 65,536 slots, or the first timestore made it */
+    TS_NOT_GROWABLE = -28   /* it would have more than 65,536 slots, it has none, or the first timestore made it */
 };
 
 /* What a step did: ts_called tells it in a; of TS_PUBLISHED, b has the commits of the group. */
@@ -148,8 +149,13 @@ enum {
 enum { TS_CALL_DUE = 11 };
 
 /* The status area of a new store; a: its length, 512 + 512 slots. The host writes it from byte 512 on,
-   syncs it, writes the first 512 bytes, and syncs it. The other two areas begin empty. */
+   syncs it, writes the first 512 bytes, and syncs it. The other two areas begin empty (b: 0). */
 int32_t ts_format(uint32_t slots, uint8_t *out, size_t len, ts_info *info);
+
+/* The same of the endless profile: the log lies in the heap, which may have so many extents. a: 512; b: 8,192, the zeros
+   that the heap begins with. The host writes these, syncs the heap, writes the status area, and syncs it. The archive
+   begins empty. This profile is being made: later versions may not read what this one wrote. */
+int32_t ts_format_endless(uint32_t extents, uint8_t *out, size_t len, ts_info *info);
 
 /* Opens the store of these bytes; a: the time of the last commit, b: the floor of all relations. TS_NOT_A_STORE and
    TS_DAMAGED by the first rule of the format that they break. The mark is a number of the host's own, whose lowest

@@ -32,6 +32,10 @@ typedef struct ts_cause {
 /* Makes a store of so many slots, 16 to 65,536, in a folder that is there. */
 int32_t ts_file_format(const char *folder, uint32_t slots);
 
+/* The same of the endless profile: the heap may have so many extents of 8,192 bytes, a multiple of 16 from 64 to 1,048,576.
+   This profile is being made: later versions may not read its files. */
+int32_t ts_file_format_endless(const char *folder, uint32_t extents);
+
 /* Opens the store of a folder; a: the time of the last commit, b: the floor of all relations. Where it is refused
    there is nothing to close. What the system has of the files in memory is not believed, since after a sync that
    failed, of whichever process, it may be more than the disk has: it is dropped, and what is not is compared with

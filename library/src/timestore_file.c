@@ -108,44 +108,81 @@ static bool are_zeros(const uint8_t *bytes, size_t len) {
     return true;
 }
 
-/* Whether nothing stands in the files: no header, and no byte of the heap and of the archive. */
-static int32_t is_free(const store_files *files) {
+/* Whether the heap has no byte but zeros, and of these no more than a new store begins with: so a format leaves it that
+   was stopped. */
+static int32_t is_heap_free(const store_files *files, uint64_t len, size_t zeros) {
+    if (len == 0) return TS_OK;
+    if (len > zeros) return TS_OCCUPIED;
+    uint8_t *bytes = malloc((size_t)len);
+    if (!bytes) return TS_NO_MEMORY;
+    int32_t code = tsi_read(files, TS_HEAP, bytes, (size_t)len, 0);
+    if (code == TS_OK && !are_zeros(bytes, (size_t)len)) code = TS_OCCUPIED;
+    free(bytes);
+    return code;
+}
+
+/* Whether nothing stands in the files: no header, no byte of the archive, and of the heap at most these zeros. */
+static int32_t is_free(const store_files *files, size_t zeros) {
     uint8_t front[FRONT];
     uint64_t len[AREAS];
     int32_t code = settle(files, len);
     if (code != TS_OK) return code;
     size_t count = len[TS_STATUS] < FRONT ? (size_t)len[TS_STATUS] : FRONT;
     code = tsi_read(files, TS_STATUS, front, count, 0);
-    if (code != TS_OK) return code;
-    return are_zeros(front, count) && len[TS_HEAP] == 0 && len[TS_ARCHIVE] == 0 ? TS_OK : TS_OCCUPIED;
+    if (code == TS_OK && (!are_zeros(front, count) || len[TS_ARCHIVE] > 0)) code = TS_OCCUPIED;
+    return code == TS_OK ? is_heap_free(files, len[TS_HEAP], zeros) : code;
+}
+
+/* Writes the zeros that the heap begins with. */
+static int32_t write_zeros(const store_files *files, size_t len) {
+    if (len == 0) return TS_OK;
+    const uint8_t *zeros = tsi_zeros(len);
+    if (!zeros) return TS_NO_MEMORY;
+    int32_t code = tsi_write(files, TS_HEAP, zeros, len, 0);
+    tsi_drop_zeros(zeros, len);
+    return code == TS_OK ? tsi_sync(files, TS_HEAP) : code;
 }
 
 /* Writes the status area, its front last. */
 static int32_t write_status(const store_files *files, const uint8_t *bytes, size_t len) {
-    int32_t code = tsi_write(files, TS_STATUS, bytes + FRONT, len - FRONT, FRONT);
-    if (code == TS_OK) code = tsi_sync(files, TS_STATUS);
+    int32_t code = TS_OK;
+    if (len > FRONT) {
+        code = tsi_write(files, TS_STATUS, bytes + FRONT, len - FRONT, FRONT);
+        if (code == TS_OK) code = tsi_sync(files, TS_STATUS);
+    }
     if (code == TS_OK) code = tsi_write(files, TS_STATUS, bytes, FRONT, 0);
     return code == TS_OK ? tsi_sync(files, TS_STATUS) : code;
 }
 
-int32_t ts_file_format(const char *folder, uint32_t slots) {
+/* Makes a store of what a format told: these bytes are its status area. */
+static int32_t make_store(const char *folder, const uint8_t *bytes, const ts_info *told) {
     store_files files = NO_FILES;
+    int32_t code = open_files(folder, true, &files);
+    if (code != TS_OK) return code;
+    code = is_free(&files, (size_t)told->b);
+    if (code == TS_OK) code = write_zeros(&files, (size_t)told->b);
+    if (code == TS_OK) code = write_status(&files, bytes, (size_t)told->a);
+    tsi_files_close(&files);
+    return code;
+}
+
+/* Makes the store that this function formats, of this size. */
+static int32_t format_by(int32_t (*format)(uint32_t, uint8_t *, size_t, ts_info *), const char *folder, uint32_t size) {
     ts_info info = {0, 0};
     uint8_t none[1];
-    int32_t code = ts_format(slots, none, 0, &info);
+    int32_t code = format(size, none, 0, &info);
     if (code != TS_SMALL) return code;
-    uint8_t *bytes = malloc(info.a);
+    uint8_t *bytes = malloc((size_t)info.a);
     if (!bytes) return TS_NO_MEMORY;
-    code = ts_format(slots, bytes, info.a, &info);
-    if (code == TS_OK) code = open_files(folder, true, &files);
-    if (code == TS_OK) {
-        code = is_free(&files);
-        if (code == TS_OK) code = write_status(&files, bytes, info.a);
-        tsi_files_close(&files);
-    }
+    code = format(size, bytes, (size_t)info.a, &info);
+    if (code == TS_OK) code = make_store(folder, bytes, &info);
     free(bytes);
     return told(code);
 }
+
+int32_t ts_file_format(const char *folder, uint32_t slots) { return format_by(ts_format, folder, slots); }
+
+int32_t ts_file_format_endless(const char *folder, uint32_t extents) { return format_by(ts_format_endless, folder, extents); }
 
 /* ---- opening and closing */
 

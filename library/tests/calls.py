@@ -134,12 +134,36 @@ def has_all(store: timestore.Store) -> None:
     assert store.times_of(9) == [100, 200, 300] and store.times_of(8) == []
 
 
+def test_make_endless(folder: Path) -> None:
+    """A store of the endless profile is made, or refused."""
+    assert refuses(timestore.System, timestore.make_endless, folder).errno == errno.ENOENT
+    folder.mkdir()
+    for extents in (-64, 0, 48, 63, 72, 1_048_592, (1 << 32) + 64):
+        refuses(timestore.BadSlots, timestore.make_endless, folder, extents)
+    assert [*folder.iterdir()] == []
+    with refused(4):
+        why = refuses(timestore.System, timestore.make_endless, folder)
+    assert (why.call, why.file, why.errno) == ("pwrite", "heap", errno.EIO)
+    timestore.make_endless(folder)
+    for extents in (64, 262_144):
+        refuses(timestore.Occupied, timestore.make_endless, folder, extents)
+    refuses(timestore.Occupied, timestore.make, folder)
+    header = (b"NOOVER01" + struct.pack("<5I", 4, 262_144, 0, 1, 0)).ljust(512, b"\0")
+    for name, wanted in (("status", header), ("heap", bytes(8192)), ("archive", b"")):
+        assert (folder / name).read_bytes() == wanted, name
+    with timestore.Store(folder) as store:
+        assert store.last == 0 and store.put(1, 7, b"a", now=100) == 100 and store.get(1, 7) == (b"a",)
+        refuses(timestore.AlreadyOpen, timestore.make_endless, folder)
+        refuses(timestore.NotGrowable, store.grow)
+    shared = timestore.SharedStore(folder)
+    assert shared.get(1, 7) == (b"a",)
+    shared.close()
+
+
 def test_endless(folder: Path) -> None:
     """A store whose log lies in the heap, of 64 extents: its archive and its reclaim, and what stood when, also where it is opened again."""
     folder.mkdir()
-    (folder / "heap").write_bytes(bytes(8192))
-    (folder / "archive").write_bytes(b"")
-    (folder / "status").write_bytes((b"NOOVER01" + struct.pack("<IIIII", 4, 64, 0, 1, 0)).ljust(512, b"\0"))
+    timestore.make_endless(folder, 64)
     step = timestore.Step
     with timestore.Store(folder) as store:
         for time, value in ((100, b"a"), (200, b"b"), (300, b"c")):
@@ -468,6 +492,7 @@ def main() -> None:
     test_transact(folder)
     test_rooms(folder)
     test_causes(folder)
+    test_make_endless(folder.parent / "make-endless")
     test_endless(folder.parent / "endless")
     test_damaged(folder)
 

@@ -36,17 +36,10 @@ static inline void write_file(const char *folder, const char *name, const uint8_
     HOLDS(file && fwrite(bytes, 1, len, file) == len && fclose(file) == 0);
 }
 
-/* A new store whose log lies in the heap, of 64 extents, in a new folder: the header, and the first extent, where its
-   log begins. */
+/* A new store whose log lies in the heap, of 64 extents, in a new folder. */
 static inline void endless_format(const char *folder) {
-    uint8_t header[512] = "NOOVER01", extent[8192] = {0};
-    header[8] = 4; /* the profile */
-    header[12] = 64;
-    header[20] = 1;
     HOLDS(mkdir(folder, 0777) == 0);
-    write_file(folder, "heap", extent, sizeof extent);
-    write_file(folder, "archive", extent, 0);
-    write_file(folder, "status", header, sizeof header);
+    CHECK(TS_OK, ts_file_format_endless(folder, 64));
 }
 
 /* A value of one field that is this text. */

@@ -52,11 +52,13 @@ def same_bytes(program: str, folder: Path) -> None:
 
 
 def same_in_the_heap(program: str, folder: Path) -> None:
-    """The same where the log lies in the heap, in stores that the program made: commits, two archives and a floor between."""
+    """The same where the log lies in the heap: a new store, commits, two archives and a floor between."""
     ours, theirs = folder / "ours-in-the-heap", folder / "theirs-in-the-heap"
     for place in (ours, theirs):
         place.mkdir()
-        ask(program, "format", place, "--profile", 4, "--extents", 64)
+    timestore.make_endless(ours, 64)
+    ask(program, "format", theirs, "--profile", 4, "--extents", 64)
+    compare(ours, theirs)
     with timestore.Store(ours) as store:
         commit_three(store)
         store.archive(200)
@@ -69,6 +71,30 @@ def same_in_the_heap(program: str, folder: Path) -> None:
     assert ask(program, "between", ours, 1, 7, 150, 301) == "150 200 01\n200 300 02\n300 301 03\nrows 3\n"
     with timestore.Store(theirs) as store:
         assert [store.at(1, 7, time) for time in (160, 250, 300)] == [(b"\1",), (b"\2",), (b"\3",)]
+
+
+def new_in_the_heap(program: str, folder: Path) -> None:
+    """New stores of either, of each size that is not refused; where one stands the other makes none."""
+    for number, words in enumerate(((), (64,), (80,), (262_144,), (1_048_576,), (48,), (72,), (1_048_592,))):
+        ours, theirs = folder / f"ours-{number}", folder / f"theirs-{number}"
+        for place in (ours, theirs):
+            place.mkdir()
+        size = [word for extents in words for word in ("--extents", str(extents))]
+        said = subprocess.run([program, "format", theirs, "--profile", "4", *size], capture_output=True, text=True)
+        try:
+            timestore.make_endless(ours, *words)
+        except timestore.BadSlots as why:
+            assert said.stdout == f"refused: {why}\n", said
+            continue
+        assert said.returncode == 0, said
+        compare(ours, theirs)
+        again = subprocess.run([program, "format", ours, "--profile", "4"], capture_output=True, text=True)
+        assert again.stdout == "refused: occupied\n", again
+        try:
+            timestore.make_endless(theirs)
+        except timestore.Occupied:
+            continue
+        raise AssertionError(theirs)
 
 
 def to_and_fro(program: str, folder: Path) -> None:
@@ -96,6 +122,7 @@ def main() -> None:
     folder.mkdir()
     same_bytes(program, folder)
     same_in_the_heap(program, folder)
+    new_in_the_heap(program, folder)
     to_and_fro(program, folder)
 
 

@@ -26,6 +26,7 @@ static void child_does(void (*what)(void)) {
 static void is_locked(void) {
     ts_file *other;
     CHECK(TS_LOCKED, ts_file_open(folder, &other, &info));
+    CHECK(TS_LOCKED, ts_file_format_endless(folder, 64));
 }
 
 static void has_no_store(void) {
@@ -81,6 +82,7 @@ static void opens_twice(void) {
     CHECK(TS_ALREADY_OPEN, ts_file_open(folder, &other, &info));
     CHECK(TS_ALREADY_OPEN, ts_file_open(path, &other, &info));
     CHECK(TS_ALREADY_OPEN, ts_file_format(folder, 16));
+    CHECK(TS_ALREADY_OPEN, ts_file_format_endless(folder, 64));
     child_does(is_locked);
     ts_file_close(file);
     CHECK(TS_OK, ts_file_open(path, &file, &info));

@@ -121,11 +121,23 @@ static void rows(life *l) {
     CHECK(TS_OK, ts_end(h, view.a));
 }
 
+/* A store whose log lies in the heap, which is made and opened. */
+static void endless(const char *folder) {
+    char path[4200];
+    life l = {path, NULL, 0};
+    snprintf(path, sizeof path, "%s/endless", folder);
+    HOLDS(mkdir(path, 0777) == 0);
+    DOES(ts_file_format_endless(path, 64));
+    open_life(&l);
+    ts_file_close(l.file);
+}
+
 /* Whether a growth was refused. */
 static bool live(const char *folder, uint64_t refuse) {
     life l = {folder, NULL, 0};
     grown = 0;
     refused_growth = refuse;
+    endless(folder);
     DOES(ts_file_format(folder, 64));
     open_life(&l);
     for (uint64_t time = 100; time <= 300; time += 100) commit(&l, time);

@@ -168,6 +168,34 @@ static void reopened(const char *folder, outcome was) {
     ts_file_close(file);
 }
 
+/* The making of a store whose log lies in the heap, with each of its calls refused. It is made when it is asked for again,
+   or stands there already where the last sync of its header was refused; then it opens. */
+static uint64_t refused_formats(const char *top) {
+    char folder[4096];
+    uint64_t call = 0;
+    int32_t code;
+    do {
+        ts_file *file;
+        ts_info info;
+        snprintf(folder, sizeof folder, "%s/format%" PRIu64, top, ++call);
+        HOLDS(mkdir(folder, 0777) == 0);
+        faults_refuse(call, EIO);
+        code = ts_file_format_endless(folder, 64);
+        faults_refuse(0, 0);
+        if (code != TS_OK) {
+            CHECK(TS_SYSTEM, code);
+            HOLDS(errno == EIO);
+            code = ts_file_format_endless(folder, 64);
+            HOLDS(code == TS_OK || code == TS_OCCUPIED);
+            code = TS_SYSTEM;
+        }
+        CHECK(TS_OK, ts_file_open(folder, &file, &info));
+        HOLDS(info.a == 0 && commit_text(file, 7, "a", 9, 100) == 100);
+        ts_file_close(file);
+    } while (code != TS_OK);
+    return call - 1;
+}
+
 int main(int argc, char **argv) {
     if (argc != 2) return 2;
     uint64_t call = 0;
@@ -183,5 +211,7 @@ int main(int argc, char **argv) {
        growth nineteen. */
     printf("refused %" PRIu64 " calls\n", call - 1);
     HOLDS(call - 1 >= 56);
+    /* The files as they are found are synced, and then the zeros of the heap and the header written and synced. */
+    HOLDS(refused_formats(argv[1]) == 7);
     return 0;
 }

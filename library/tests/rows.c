@@ -31,7 +31,34 @@ static void test_closed(void) {
     CHECK(TS_BAD_SLOTS, ts_format(15, none, 0, &info));
     CHECK(TS_BAD_SLOTS, ts_format(65537, none, 0, &info));
     CHECK(TS_SMALL, ts_format(16, none, 0, &info));
-    HOLDS(info.a == 512 + 512 * 16);
+    HOLDS(info.a == 512 + 512 * 16 && info.b == 0);
+}
+
+/* The header of a new store whose log lies in the heap: the profile, the extents, and the first one, where its log begins. */
+static void endless_header(uint32_t extents, uint8_t header[512]) {
+    memset(header, 0, 512);
+    memcpy(header, "NOOVER01", 8);
+    header[8] = 4;
+    for (int n = 0; n < 4; n++) header[12 + n] = (uint8_t)(extents >> 8 * n);
+    header[20] = 1;
+}
+
+/* What a host is told of such a store. */
+static void test_endless_told(void) {
+    static const uint32_t bad[] = {0, 16, 48, 63, 65, 72, 1048575, 1048592, 0x80000040, 0xFFFFFFF0, 0xFFFFFFFF};
+    static const uint32_t good[] = {64, 80, 262144, 1048576};
+    uint8_t out[600], header[512];
+    ts_info info;
+    for (size_t n = 0; n < sizeof bad / sizeof *bad; n++) CHECK(TS_BAD_SLOTS, ts_format_endless(bad[n], out, sizeof out, &info));
+    for (size_t n = 0; n < sizeof good / sizeof *good; n++) {
+        memset(out, 7, sizeof out);
+        CHECK(TS_SMALL, ts_format_endless(good[n], out, 511, &info));
+        HOLDS(info.a == 512 && info.b == 8192 && out[0] == 7);
+        info = (ts_info){0, 0};
+        CHECK(TS_OK, ts_format_endless(good[n], out, sizeof out, &info));
+        endless_header(good[n], header);
+        HOLDS(info.a == 512 && info.b == 8192 && memcmp(out, header, 512) == 0 && out[512] == 7);
+    }
 }
 
 /* The tour: a commit, its time, and what stood when. */
@@ -546,6 +573,54 @@ static void test_endless_room(ts_file *file) {
     has_all(file);
 }
 
+/* Whether a file of a folder has these bytes and no more. */
+static int file_is(const char *folder, const char *name, const uint8_t *bytes, size_t len) {
+    static uint8_t found[8193];
+    char path[4300];
+    snprintf(path, sizeof path, "%s/%s", folder, name);
+    int fd = open(path, O_RDONLY);
+    ssize_t count = read(fd, found, sizeof found);
+    return close(fd) == 0 && count == (ssize_t)len && memcmp(found, bytes, len) == 0;
+}
+
+/* Such a store is made where nothing stands, and over the zeros of one that was not made to its end. */
+static void test_endless_format(const char *top) {
+    static const uint8_t zeros[8193];
+    uint8_t header[512], extent[8192] = {[8191] = 1};
+    ts_file *file;
+    ts_info info;
+    char folder[4096];
+    CHECK(TS_OCCUPIED, ts_file_format_endless(top, 64));
+    snprintf(folder, sizeof folder, "%s/endless-format", top);
+    CHECK(TS_BAD_SLOTS, ts_file_format_endless(folder, 63));
+    CHECK(TS_SYSTEM, ts_file_format_endless(folder, 64));
+    HOLDS(was_caused(NULL, "open", "", ENOENT) && mkdir(folder, 0777) == 0);
+    CHECK(TS_BAD_SLOTS, ts_file_format_endless(folder, 72));
+    CHECK(TS_NOT_A_STORE, ts_file_open(folder, &file, &info));
+    write_file(folder, "heap", extent, sizeof extent);
+    CHECK(TS_OCCUPIED, ts_file_format_endless(folder, 64));
+    write_file(folder, "heap", zeros, sizeof zeros);
+    CHECK(TS_OCCUPIED, ts_file_format_endless(folder, 64));
+    write_file(folder, "heap", zeros, 8192);
+    write_file(folder, "archive", zeros, 1);
+    CHECK(TS_OCCUPIED, ts_file_format_endless(folder, 64));
+    write_file(folder, "archive", zeros, 0);
+    write_file(folder, "status", extent, sizeof extent);
+    CHECK(TS_OCCUPIED, ts_file_format(folder, 16));
+    write_file(folder, "heap", zeros, 100);
+    write_file(folder, "status", zeros, 512);
+    CHECK(TS_OK, ts_file_format_endless(folder, 262144));
+    endless_header(262144, header);
+    HOLDS(file_is(folder, "status", header, 512) && file_is(folder, "heap", zeros, 8192) && file_is(folder, "archive", zeros, 0));
+    CHECK(TS_OCCUPIED, ts_file_format_endless(folder, 64));
+    CHECK(TS_OCCUPIED, ts_file_format(folder, 16));
+    CHECK(TS_OK, ts_file_open(folder, &file, &info));
+    HOLDS(info.a == 0 && info.b == 0 && commit_text(file, 7, "a", 9, 100) == 100);
+    CHECK(TS_ALREADY_OPEN, ts_file_format_endless(folder, 64));
+    ts_file_close(file);
+    CHECK(TS_OCCUPIED, ts_file_format_endless(folder, 64));
+}
+
 /* An archive and a reclaim of a store whose log lies in the heap, refused and made: what stood when, also where it is
    opened again. */
 static void test_endless(const char *folder) {
@@ -655,6 +730,7 @@ int main(int argc, char **argv) {
     ts_info info;
     if (argc != 2) return 2;
     test_closed();
+    test_endless_told();
     CHECK(TS_BAD_SLOTS, ts_file_format(argv[1], 15));
     CHECK(TS_OK, ts_file_format(argv[1], 1024));
     CHECK(TS_OCCUPIED, ts_file_format(argv[1], 1024));
@@ -681,6 +757,7 @@ int main(int argc, char **argv) {
     test_nothing_left_open(file);
     ts_file_close(file);
     test_earlier(argv[1]);
+    test_endless_format(argv[1]);
     test_endless(argv[1]);
     test_damaged(argv[1]);
     return 0;

@@ -1,5 +1,7 @@
 //! Making a store and opening one.
-ghost use Rattle.std.specs.Prelude.{IfOk, IfErr};
+ghost use Rattle.std.specs.Prelude.{◌≡◌, ◌⊎◌, IfOk, IfErr};
+ghost use Rattle.disk.specs.Memory.{disk_state};
+ghost use Rattle.c_engine.specs.Bytes.{AreBytesTold};
 ghost use Rattle.c_engine.specs.Engines.{OpensEngine, RefusesEngine};
 ghost use Rattle.c_engine.specs.Formats.{FormatsStore};
 
@@ -7,22 +9,35 @@ use crate::code::{Code, Info};
 use crate::codes::open_code;
 use crate::engine::Engine;
 use crate::{RelayDisk, SliceDisk};
-use any_store::Store;
+use any_store::{FormatFault, Layout, Store};
 use disk::{Area, Disk, MemDisk};
-use recovery::FormatFault;
 use std::alloc::Global;
 
-/// The bytes of the status area of a new store. The host writes them from 512 on, syncs, writes the
-/// first 512, and syncs; the other areas are empty.
-pub fn format(alloc: Global, slots: u32, out: &mut [u8], info: &mut Info) -> Code
-    ensures { FormatsStore slots result info.new out.new }
+/// The bytes of the status area of a new store of this layout, and how many zeros its heap begins with. The host
+/// writes those zeros, if there are any, and syncs the heap; it writes these bytes from 512 on, if there are any, and
+/// syncs; and it writes the first 512, and syncs. The archive is empty.
+pub fn format(alloc: Global, layout: Layout, out: &mut [u8], info: &mut Info) -> Code
+    ensures { FormatsStore layout result info.new out.new }
 {
     let mut disk = MemDisk::new(alloc);
-    match recovery::format(alloc, &mut disk, slots) {
+    match any_store::format(alloc, &mut disk, layout) {
         Err(FormatFault::BadSlots) => return Code::BadSlots,
         Err(_) => return Code::NoMemory,
         Ok(()) => {}
     }
+    let Ok(zeros) = disk.len(Area::Heap) else {
+        return Code::NoMemory;
+    };
+    info.b = zeros;
+    tell_status(&mut disk, out, info)
+}
+
+// All of the status area is told.
+fn tell_status(disk: &mut MemDisk, out: &mut [u8], info: &mut Info) -> Code
+    ensures told { (result ≡ Code.NoMemory) ⊎ AreBytesTold (disk_state disk.old).areas.status.bytes result info.new out.new }
+    ensures known { ¬ (result ≡ Code.BadSlots) }
+    ensures heap { info.new.b ≡ info.old.b }
+{
     let Ok(len) = disk.len(Area::Status) else {
         return Code::NoMemory;
     };

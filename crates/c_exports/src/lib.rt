@@ -3,6 +3,7 @@
 
 ghost use Rattle.std.specs.Prelude.{◌≡◌, Some};
 ghost use Rattle.history.specs.Key.{key_of};
+ghost use Rattle.any_store.specs.declared.formatting.Layout.TheVariants.{Slots, Log};
 ghost use Rattle.c_engine.specs.Codes.{code_number, AnswersOn};
 ghost use Rattle.c_engine.specs.Engines.{OnHandle, StaysSame, HasCalled, OpensHandle, ClosesHandle, BeginsEngine, Writes, SubmitsEngine, AbortsEngine};
 ghost use Rattle.c_engine.specs.Engines.{RedeemsEngine, GivesUp, GivesView, EndsView, PumpsEngine, PumpsJobOf, ArchivesEngine, ReclaimsEngine, RaisesEngine};
@@ -11,6 +12,7 @@ ghost use Rattle.c_engine.specs.Formats.{AnswersFormat};
 ghost use Rattle.c_engine.specs.Queries.{Sees, SeesScan, AsksRecent, AsksAt, AsksScanAt, AsksRows, AsksScanRows};
 ghost use Rattle.c_engine.specs.Writes.{Puts, Deletes};
 
+use any_store::Layout;
 use c_engine::{Call, Code, Engine, Handle, Info, Row};
 use history::Key;
 use std::alloc::Global;
@@ -24,12 +26,25 @@ fn put_back(handle: &mut Handle, engine: Box<Engine>, code: Code) -> i32
     code.number()
 }
 
-/// The bytes of the status area of a new store.
+/// The bytes of the status area of a new store of so many slots.
 #[unsafe(no_mangle)]
 pub extern "C" fn ts_format(alloc: Global, slots: u32, out: &mut [u8], info: &mut Info) -> i32
-    ensures { AnswersFormat slots result info.new out.new }
+    ensures { AnswersFormat (Slots slots) result info.new out.new }
 {
-    c_engine::format(alloc, slots, out, info).number()
+    c_engine::format(alloc, Layout::Slots(slots), out, info).number()
+}
+
+/// The same of a new store whose log lies in a heap of so many extents, and how many zeros that begins with.
+#[unsafe(no_mangle)]
+pub extern "C" fn ts_format_endless(
+    alloc: Global,
+    extents: u32,
+    out: &mut [u8],
+    info: &mut Info,
+) -> i32
+    ensures { AnswersFormat (Log extents) result info.new out.new }
+{
+    c_engine::format(alloc, Layout::Log(extents), out, info).number()
 }
 
 /// Opens the store of these bytes.

@@ -8,3 +8,4 @@ mod Stops
 mod Steps
 mod Redeeming
 mod Events
+mod Formatting

@@ -2,3 +2,4 @@ pub mod Calls
 pub mod Hosts
 pub mod Moments
 pub mod Promise
+pub mod Formats

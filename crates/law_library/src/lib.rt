@@ -1,6 +1,7 @@
 //! What the library keeps for a host that upholds what the header asks of it: laws, no code.
 #![tactic(auto)]
 
+ghost use Rattle.law_library.specs.Formats.{NewStands, MemoryAloneRefuses, NewKeeps};
 ghost use Rattle.law_library.specs.Promise.{LibraryPromise};
 
 /// The promise of the library: for every list of calls of exported functions, with any answers of the
@@ -8,4 +9,13 @@ ghost use Rattle.law_library.specs.Promise.{LibraryPromise};
 /// every commit of which `ts_redeem` answered `TS_OK`.
 pub fn whatever_a_host_leaves()
     ensures { LibraryPromise }
+{}
+
+/// What `ts_format` or `ts_format_endless` tells stands for the empty history once a host has made of it what the
+/// header asks. `ts_open` refuses what stands for a history for want of memory alone, and the promise holds of the store
+/// that it opens there.
+pub fn what_is_formatted_is_kept()
+    ensures stands { NewStands }
+    ensures opens { MemoryAloneRefuses }
+    ensures keeps { NewKeeps }
 {}

@@ -2,7 +2,6 @@
 
 import http.client
 import re
-import struct
 import tempfile
 import threading
 import unittest
@@ -43,13 +42,6 @@ def fill(store: timestore.Store) -> None:
     commit(130, (1, 7, (b"c",)))
     commit(140, (2, 1, STRANGE))
     commit(150, (65_535, MOST_RECORD, ("Zoë".encode(),)))
-
-
-def make_endless(folder: Path) -> None:
-    """A store of profile 4, of 64 extents, which only the program formats."""
-    (folder / "heap").write_bytes(bytes(8_192))
-    (folder / "archive").write_bytes(b"")
-    (folder / "status").write_bytes((b"NOOVER01" + struct.pack("<5I", 4, 64, 0, 1, 0)).ljust(512, b"\0"))
 
 
 class _Tables(HTMLParser):

@@ -12,7 +12,7 @@ import timestore
 
 from timestore_browse import copying, files
 
-from .base import BrowseTest, make_endless, rows
+from .base import BrowseTest, rows
 
 SCRIPT = Path(__file__).resolve().parents[1] / "timestore-browse"
 
@@ -207,7 +207,7 @@ class Endless(BrowseTest):
     """A store of profile 4."""
 
     def make(self) -> None:
-        make_endless(self.folder)
+        timestore.make_endless(self.folder, 64)
 
     def test_log(self) -> None:
         """Of the commits up to the last reclaim time and label alone."""
@@ -295,7 +295,7 @@ class Program(BrowseTest):
     def test_profile_4_unlocked(self) -> None:
         endless = self.folder.parent / "endless"
         endless.mkdir()
-        make_endless(endless)
+        timestore.make_endless(endless, 64)
         _, errors = (process := self.start(str(endless), "--unlocked")).communicate(timeout=60)
         self.assertEqual(process.returncode, 1)
         self.assertEqual(errors, f"timestore-browse: {endless}: --unlocked is not for a store of profile 4, whose copy could be damaged\n")

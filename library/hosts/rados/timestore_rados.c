@@ -94,52 +94,91 @@ static int32_t open_areas(ts_rados *host, const ts_rados_place *place, bool make
 
 /* ---- making a store */
 
-/* Whether nothing stands in the areas: no header, and no byte of the heap and of the archive. */
-static int32_t is_free(ts_rados *host) {
-    static const uint8_t zeros[FRONT];
-    uint8_t front[FRONT] = {0};
-    area *status = &host->area[TS_STATUS];
-    int32_t code = tsr_area_read(status, 0, front, status->len < FRONT ? (size_t)status->len : FRONT);
+static bool are_zeros(const uint8_t *bytes, uint64_t len) {
+    for (uint64_t i = 0; i < len; i++)
+        if (bytes[i] != 0) return false;
+    return true;
+}
+
+/* Whether an area has no byte but zeros, and of these no more than so many in front. */
+static int32_t is_blank(area *a, uint64_t most, bool *blank) {
+    uint64_t len = a->len < most ? a->len : most;
+    *blank = false;
+    uint8_t *bytes = malloc((size_t)len + 1);
+    if (!bytes) return TS_NO_MEMORY;
+    int32_t code = tsr_area_read(a, 0, bytes, (size_t)len);
+    *blank = code == TS_OK && are_zeros(bytes, len);
+    free(bytes);
+    return code;
+}
+
+/* Whether nothing stands in the areas: no header, no byte of the archive, and of the heap at most the zeros that a new
+   store begins with, as a format leaves it that was stopped. */
+static int32_t is_free(ts_rados *host, uint64_t zeros) {
+    bool no_header, no_heap = false;
+    int32_t code = is_blank(&host->area[TS_STATUS], FRONT, &no_header);
+    if (code == TS_OK) code = is_blank(&host->area[TS_HEAP], zeros, &no_heap);
     if (code != TS_OK) return code;
-    bool is_free = memcmp(front, zeros, FRONT) == 0 && host->area[TS_HEAP].len == 0 && host->area[TS_ARCHIVE].len == 0;
+    bool is_free = no_header && no_heap && host->area[TS_HEAP].len <= zeros && host->area[TS_ARCHIVE].len == 0;
     return is_free ? TS_OK : tsr_refuse(TS_OCCUPIED, 0, "there are bytes of a store");
+}
+
+/* The zeros that the heap begins with. */
+static int32_t write_zeros(ts_rados *host, size_t len) {
+    area *heap = &host->area[TS_HEAP];
+    if (len == 0) return TS_OK;
+    uint8_t *zeros = calloc(1, len);
+    if (!zeros) return TS_NO_MEMORY;
+    int32_t code = tsr_area_write(heap, 0, zeros, len);
+    free(zeros);
+    return code == TS_OK ? tsr_area_sync(heap) : code;
 }
 
 /* All but the header, which makes it a store, and then that. */
 static int32_t write_status(ts_rados *host, const uint8_t *bytes, size_t len) {
     area *status = &host->area[TS_STATUS];
-    int32_t code = tsr_area_write(status, FRONT, bytes + FRONT, len - FRONT);
-    if (code == TS_OK) code = tsr_area_sync(status);
+    int32_t code = TS_OK;
+    if (len > FRONT) {
+        code = tsr_area_write(status, FRONT, bytes + FRONT, len - FRONT);
+        if (code == TS_OK) code = tsr_area_sync(status);
+    }
     if (code == TS_OK) code = tsr_area_write(status, 0, bytes, FRONT);
     if (code == TS_OK) code = tsr_area_sync(status);
     return code;
 }
 
-static int32_t make_store(const ts_rados_place *place, const uint8_t *bytes, size_t len) {
+/* Makes a store of what a format told: these bytes are its status area. */
+static int32_t make_store(const ts_rados_place *place, const uint8_t *bytes, const ts_info *told) {
     ts_rados *host = calloc(1, sizeof *host);
     if (!host) return TS_NO_MEMORY;
     int32_t code = open_areas(host, place, true);
     if (code == TS_OK) {
-        code = is_free(host);
-        if (code == TS_OK) code = write_status(host, bytes, len);
+        code = is_free(host, told->b);
+        if (code == TS_OK) code = write_zeros(host, (size_t)told->b);
+        if (code == TS_OK) code = write_status(host, bytes, (size_t)told->a);
         close_areas(host, true);
     }
     free(host);
     return code;
 }
 
-int32_t ts_rados_format(const ts_rados_place *place, uint32_t slots) {
+/* Makes the store that this function formats, of this size. */
+static int32_t format_by(int32_t (*format)(uint32_t, uint8_t *, size_t, ts_info *), const ts_rados_place *place, uint32_t size) {
     ts_info info = {0, 0};
     uint8_t none[1];
-    int32_t code = ts_format(slots, none, 0, &info);
+    int32_t code = format(size, none, 0, &info);
     if (code != TS_SMALL) return code;
     uint8_t *bytes = malloc(info.a);
     if (!bytes) return TS_NO_MEMORY;
-    code = ts_format(slots, bytes, info.a, &info);
-    if (code == TS_OK) code = make_store(place, bytes, info.a);
+    code = format(size, bytes, info.a, &info);
+    if (code == TS_OK) code = make_store(place, bytes, &info);
     free(bytes);
     return code;
 }
+
+int32_t ts_rados_format(const ts_rados_place *place, uint32_t slots) { return format_by(ts_format, place, slots); }
+
+int32_t ts_rados_format_endless(const ts_rados_place *place, uint32_t extents) { return format_by(ts_format_endless, place, extents); }
 
 /* ---- opening and closing */
 

@@ -49,6 +49,9 @@ const char *ts_rados_text(int32_t code);
 /* Makes a store of so many slots, 16 to 65,536, where the place has none. The pool and the folder are there. */
 int32_t ts_rados_format(const ts_rados_place *place, uint32_t slots);
 
+/* The same of the endless profile, as ts_file_format_endless. */
+int32_t ts_rados_format_endless(const ts_rados_place *place, uint32_t extents);
+
 /* Becomes the store's owner and opens it; a: the time of the last commit, b: the floor of all relations. TS_LOCKED where another owns
    it and is not to be replaced, TS_FENCED where one has taken it over meanwhile. Before anything is read the cluster refuses all writes
    of the earlier owner. Where it is refused there is nothing to close. */

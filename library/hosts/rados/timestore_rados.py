@@ -84,6 +84,7 @@ def _prototypes() -> dict[str, list[Any]]:
     place, out = ctypes.POINTER(_Place), ctypes.POINTER(ctypes.c_void_p)
     return {
         "ts_rados_format": [place, ctypes.c_uint32],
+        "ts_rados_format_endless": [place, ctypes.c_uint32],
         "ts_rados_open": [place, out, info],
         "ts_rados_error": [host, ctypes.POINTER(_Cause)],
         "ts_rados_pump": [host, info],
@@ -155,6 +156,13 @@ def _c_place(place: Place) -> _Place:
 def make(place: Place, slots: int = 1024) -> None:
     """Makes a store with 16 to 65,536 slots where the place has none. Pool and folder are there."""
     code = _library.ts_rados_format(_c_place(place), timestore._number(slots, 32))
+    if code < 0:
+        _refused(code)
+
+
+def make_endless(place: Place, extents: int = 262_144) -> None:
+    """The same of the endless profile, as `timestore.make_endless`."""
+    code = _library.ts_rados_format_endless(_c_place(place), timestore._number(extents, 32))
     if code < 0:
         _refused(code)
 

@@ -85,7 +85,7 @@ from ._refused import (
 )
 from ._shared import SharedStore, SharedTicket, SharedTransaction, SharedView
 from ._values import VALUE_MOST as _VALUE_MOST
-from ._values import Fields, Row, Time, make, micros, moment
+from ._values import Fields, Row, Time, make, make_endless, micros, moment
 from ._values import Room as _Room
 from ._values import fields_of as _fields
 from ._values import key_of as _key
@@ -143,6 +143,7 @@ __all__ = [
     "WrongProfile",
     "library_version",
     "make",
+    "make_endless",
     "micros",
     "moment",
 ]

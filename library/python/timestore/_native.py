@@ -76,6 +76,7 @@ def _prototypes() -> dict[str, list[Any]]:
         "ts_grow": [handle, info],
         "ts_file_archive": [buf, ctypes.POINTER(buf), ctypes.POINTER(size)],
         "ts_file_format": [text, ctypes.c_uint32],
+        "ts_file_format_endless": [text, ctypes.c_uint32],
         "ts_file_open": [text, ctypes.POINTER(buf), info],
         "ts_file_error": [buf, ctypes.POINTER(_Cause)],
         "ts_file_pump": [buf, info],

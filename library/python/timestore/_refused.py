@@ -85,7 +85,7 @@ class Conflict(Refused, code=-8):
 
 
 class HeapFull(Refused, code=-9):
-    """The records need more extents than are free."""
+    """The records need more extents than are free, or an archive or a floor where there are no slots."""
 
 
 class StatusFull(Refused, code=-10):
@@ -165,7 +165,7 @@ class ArchiveFull(Refused, code=-23):
 
 
 class BadSlots(Refused, code=-24):
-    """A store has 16 to 65,536 slots."""
+    """A store has 16 to 65,536 slots; one of the endless profile 64 to 1,048,576 extents, by 16."""
 
 
 class InUse(Refused, code=-25):
@@ -186,7 +186,7 @@ class WrongProfile(Refused, code=-27):
 
 
 class NotGrowable(Refused, code=-28):
-    """The store would have more than 65,536 slots, or the first timestore made it."""
+    """The store would have more than 65,536 slots, it has none, or the first timestore made it."""
 
 
 class System(Refused, code=-100):

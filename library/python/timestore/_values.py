@@ -93,6 +93,17 @@ def make(folder: str | os.PathLike[str], slots: int = 1024) -> None:
     ask(library.ts_file_format(os.fsencode(folder), slots))
 
 
+def make_endless(folder: str | os.PathLike[str], extents: int = 262_144) -> None:
+    """Makes a store of the endless profile in a folder that is there.
+
+    Its heap may have so many extents of 8,192 bytes, a multiple of 16 from 64 to 1,048,576. This
+    profile is being made: later versions may not read its files.
+    """
+    if not 0 <= extents < 1 << 32:
+        raise BadSlots("bad slots")
+    ask(library.ts_file_format_endless(os.fsencode(folder), extents))
+
+
 class Room:
     """Memory for what a query finds."""
 
@@ -110,4 +121,5 @@ class Room:
         return Row(raw.record, raw.start, raw.end, fields_of(value))
 
 
-Row.__module__ = micros.__module__ = moment.__module__ = make.__module__ = "timestore"
+Row.__module__ = micros.__module__ = moment.__module__ = "timestore"
+make.__module__ = make_endless.__module__ = "timestore"

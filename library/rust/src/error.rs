@@ -106,7 +106,7 @@ refusals! {
     NoMemory = -5,
     /// A transaction, ticket or view of another store.
     Stranger = -7,
-    /// The records need more extents than are free.
+    /// The records need more extents than are free, or an archive or a floor where there are no slots.
     HeapFull = -9,
     /// Too few slots of the status log are left.
     StatusFull = -10,
@@ -131,13 +131,13 @@ refusals! {
     NothingToDo = -22,
     /// The archive is full.
     ArchiveFull = -23,
-    /// A store has 16 to 65,536 slots.
+    /// A store has 16 to 65,536 slots; one of the endless profile a multiple of 16 extents from 64 to 1,048,576.
     BadSlots = -24,
     /// The answer needs the archive.
     NeedsArchive = -26,
     /// This store has a floor for each relation, or one for all.
     WrongProfile = -27,
-    /// The store would have more than 65,536 slots, or the first timestore made it.
+    /// The store would have more than 65,536 slots, it has none, or the first timestore made it.
     NotGrowable = -28,
     /// Another process has the store open.
     Locked = -101,

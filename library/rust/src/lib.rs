@@ -40,7 +40,7 @@ mod view;
 pub use error::{Area, Cause, Error, WaitingTicket};
 pub use rows::{Records, Row, Rows};
 pub use shared::SharedStore;
-pub use store::{Step, Store, format};
+pub use store::{Step, Store, format, format_endless};
 pub use txn::{Ticket, Txn};
 pub use view::View;
 

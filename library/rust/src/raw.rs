@@ -203,6 +203,7 @@ unsafe extern "C" {
     pub fn ts_floor_of(h: *mut Handle, relation: u16, time: u64, info: &mut Info) -> i32;
     pub fn ts_grow(h: *mut Handle, info: &mut Info) -> i32;
     pub fn ts_file_format(folder: *const c_char, slots: u32) -> i32;
+    pub fn ts_file_format_endless(folder: *const c_char, extents: u32) -> i32;
     pub fn ts_file_open(folder: *const c_char, file: &mut *mut File, info: &mut Info) -> i32;
     pub fn ts_file_store(file: *mut File) -> *mut Handle;
     pub fn ts_file_archive(file: *mut File, at: &mut *const u8, len: &mut usize) -> i32;

@@ -107,6 +107,18 @@ pub fn format(folder: impl AsRef<Path>, slots: u32) -> Result<()> {
     Ok(())
 }
 
+/// Makes a store of the endless profile in a folder that is there.
+///
+/// Its heap may have so many extents of 8,192 bytes, a multiple of 16 from 64 to 1,048,576. This profile is being made:
+/// later versions may not read its files.
+pub fn format_endless(folder: impl AsRef<Path>, extents: u32) -> Result<()> {
+    let path = path_of(folder.as_ref())?;
+    // SAFETY: the path is a string that ends in zero.
+    let code = unsafe { raw::ts_file_format_endless(path.as_ptr(), extents) };
+    asked(code, Info::default(), || None)?;
+    Ok(())
+}
+
 impl Store {
     /// Opens the store of a folder.
     pub fn open(folder: impl AsRef<Path>) -> Result<Store> {

@@ -11,6 +11,21 @@ fn folder(name: &str) -> PathBuf {
 // A new store whose log lies in the heap, of 64 extents.
 fn new_log_in_the_heap(name: &str) -> PathBuf {
     let path = folder(name);
+    timestore::format_endless(&path, 64).unwrap();
+    path
+}
+
+#[test]
+fn a_store_whose_log_lies_in_the_heap_is_made() {
+    let path = folder("format-endless");
+    for extents in [0, 48, 63, 72, 1_048_592, u32::MAX] {
+        let made = timestore::format_endless(&path, extents);
+        assert!(matches!(made, Err(Error::BadSlots)));
+    }
+    assert_eq!(std::fs::read_dir(&path).unwrap().count(), 0);
+    let nowhere = timestore::format_endless(path.join("nowhere"), 64);
+    assert!(matches!(nowhere, Err(Error::System(_))));
+    timestore::format_endless(&path, 64).unwrap();
     let mut header = [0; 512];
     header[..8].copy_from_slice(b"NOOVER01");
     (header[8], header[12], header[20]) = (4, 64, 1); // the profile, and where its log begins
@@ -19,9 +34,17 @@ fn new_log_in_the_heap(name: &str) -> PathBuf {
         ("heap", &[0; 8192][..]),
         ("archive", &[][..]),
     ] {
-        std::fs::write(path.join(file), bytes).unwrap();
+        assert_eq!(std::fs::read(path.join(file)).unwrap(), bytes);
     }
-    path
+    let again = timestore::format_endless(&path, 64);
+    assert!(matches!(again, Err(Error::Occupied)));
+    assert!(matches!(timestore::format(&path, 64), Err(Error::Occupied)));
+    let store = Store::open(&path).unwrap();
+    store.put(1, 7, &[b"a"], 9).unwrap();
+    assert_eq!(store.get(1, 7).unwrap(), Some(vec![b"a".to_vec()]));
+    let open = timestore::format_endless(&path, 64);
+    assert!(matches!(open, Err(Error::AlreadyOpen)));
+    assert!(matches!(store.grow(), Err(Error::NotGrowable)));
 }
 
 #[test]

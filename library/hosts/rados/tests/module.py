@@ -62,6 +62,27 @@ def refusals(place: rados.Place, work: Path) -> None:
         assert "Invalid argument" in str(raises(timestore.System, lambda: rados.Store(wrong)))
 
 
+def endless(place: rados.Place, work: Path) -> None:
+    """Stores of the endless profile, in the pool and with the archive alone there."""
+    cold = replace(place, store="endless-cold", folder=work / "endless")
+    (work / "endless").mkdir()
+    for each in (replace(place, store="endless"), cold):
+        for extents in (48, 63, 72, 1_048_592):
+            raises(timestore.BadSlots, lambda: rados.make_endless(each, extents))
+        rados.make_endless(each, 64)
+        raises(timestore.Occupied, lambda: rados.make_endless(each, 64))
+        raises(timestore.Occupied, lambda: rados.make(each))
+        with rados.Store(each) as store:
+            first = store.put(1, 7, b"a", label=9)
+            last = store.put(1, 7, b"b", label=9)
+            raises(timestore.NotGrowable, store.grow)
+            store.archive(last)
+            store.reclaim()
+        with rados.Store(each) as store:
+            assert store.get(1, 7) == (b"b",) and store.at(1, 7, first) == (b"a",)
+            assert store.times_of(9) == [first, last]
+
+
 def cold_refusals(place: rados.Place, work: Path) -> None:
     """A folder opens with its own archive alone, and an archive with its own folder."""
     folders = [work / name for name in ("first", "second")]
@@ -176,6 +197,7 @@ def main() -> None:
     marks(replace(place, store="marks"), work)
     what_stands(replace(place, store="stands"))
     refusals(place, work)
+    endless(place, work)
     cold_refusals(place, work)
     archives(replace(place, store="archives"), False)
     fenced_queries(replace(place, store="archives"))
