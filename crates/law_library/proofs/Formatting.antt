@@ -33,7 +33,7 @@ use Rattle.c_engine.specs.declared.code.Info.{Info}
 use Rattle.law_library.specs.Formats.{new_image, NewStands, MemoryAloneRefuses, NewKeeps}
 use Rattle.law_library.proofs.Events.{promise}
 
-image-of : List ℕ → List ℕ → List ℕ → Image
+abbrev image-of : List ℕ → List ℕ → List ℕ → Image
 image-of status heap archive = record { status = status; heap = heap; archive = archive }
 
 -- where the answer is Ok all bytes are told
