@@ -25,7 +25,7 @@ use Rattle.law_any_store.proofs.Formatted.{formatted-stands}
 use Rattle.law_any_store.proofs.Opened.{image-slots, image-log, slots-no_log}
 use Rattle.c_engine.specs.Codes.{IsOpenCode}
 use Rattle.c_engine.specs.Engines.{IsImageFault}
-use Rattle.c_engine.specs.Formats.{FormatsStore, IsNewStoreTold}
+use Rattle.c_engine.specs.Formats.{IsNewStoreTold}
 use Rattle.c_engine.specs.RelayNoted.{empty_areas}
 use Rattle.c_engine.specs.declared.code.Code.{Code}
 use Rattle.c_engine.specs.declared.code.Code.TheVariants as code
@@ -33,7 +33,7 @@ use Rattle.c_engine.specs.declared.code.Info.{Info}
 use Rattle.law_library.specs.Formats.{new_image, NewStands, MemoryAloneRefuses, NewKeeps}
 use Rattle.law_library.proofs.Events.{promise}
 
-image-of : List ℕ → List ℕ → List ℕ → Image
+abbrev image-of : List ℕ → List ℕ → List ℕ → Image
 image-of status heap archive = record { status = status; heap = heap; archive = archive }
 
 -- where the answer is Ok all bytes are told
