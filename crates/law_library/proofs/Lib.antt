@@ -8,3 +8,8 @@ mod Stops
 mod Steps
 mod Redeeming
 mod Events
+mod Lent
+mod Passing
+mod Viewing
+mod Labels
+mod Traces

@@ -130,7 +130,7 @@ LeavesView number (Calls c r) = Unit {0}
 LeavesView number (Makes r) = Unit {0}
 LeavesView number (Refuses r) = Unit {0}
 
--- The call of this place in the list told the number of a view, no later event up to this moment ended it, and the host has refused no device call.
+-- The call of this place in the list told the number of a view, no later event up to this moment ended it, and no device call was refused.
 pub record IsOpenView {events : List Event} (t : HostTrace events) (i k number : ℕ) : Type 0 where
   pub reply : Reply
   pub told : slice_get events i ≡ Some (Calls View reply)
@@ -139,7 +139,7 @@ pub record IsOpenView {events : List Event} (t : HostTrace events) (i k number :
   pub later : i < k
   pub within : k ≤ length events
   pub stays : (j : ℕ) (e : Event) → i < j → j < k → slice_get events j ≡ Some e → LeavesView number e
-  pub works : is_failed (t.moment k).host.engine.state ≡ false
+  pub works : (j : ℕ) → j ≤ k → is_failed (t.moment j).host.engine.state ≡ false
 
 -- It is answered by what was published when its number was told, which has every commit that was acknowledged till then.
 pub record AnswersByMoment (told : HostMoment) (host : Host) (number : ℕ) : Type 0 where
