@@ -13,16 +13,13 @@ use Rattle.law_image.specs.Values.{Value}
 use Rattle.law_image.specs.Reading.{Head}
 use Rattle.archive.specs.Searches as searches
 use Rattle.timequery.specs.Faults.{after_query}
-use Rattle.timequery.specs.Homes.{Answers}
 use Rattle.timequery.specs.declared.fault.QueryFault.{QueryFault}
 use Rattle.timequery.specs.declared.fault.QueryFault.TheVariants.{BeforeKept, NotYet, EmptyInterval, Device, NoMemory, Damaged, NeedsDisk, Stranger}
 use Rattle.log_entries.specs.Ranges.{IsRoll}
 use Rattle.log_entries.specs.declared.entry.Roll.{Roll}
-use Rattle.log_base.proofs.RollNames.{names-long}
 use Rattle.law_log_layout.specs.HeapLog.{PlacedRoll, HoldsRoll, IsStoredRoll, name_bytes}
-use Rattle.log_store.specs.Names.{AnswersTimes, NamesLie, early_times, late_times}
+use Rattle.log_store.specs.Names.{AnswersTimes}
 use Rattle.log_store.specs.Values.{LogStoreValue}
-use Rattle.log_names.specs.Rolls.{times_named}
 use Rattle.any_store.specs.Queries as queries
 use Rattle.any_store.specs.declared.engine.Engine.TheVariants.{Slots, Log}
 use Rattle.any_store.specs.Values.{StoreValue, disk_of, is_log, with_disk}
@@ -46,6 +43,11 @@ use Rattle.law_library.specs.Moments.{IsSettled, IsAtStage}
 
 -- ---- where no byte is lent
 
+-- a name takes 16 bytes
+names-long : (names : List Head) → length (flat_map name_bytes names) ≡ 16 * length names
+names-long [] = refl
+names-long (name ∷ names) = omega (arith, names-long names)
+
 -- rolls take bytes
 no-roll : (archive : List ℕ) (rolls : List PlacedRoll) → length archive ≡ 0 → AllByRecursion (HoldsRoll archive) rolls → AllByRecursion IsStoredRoll rolls
     → AllByRecursion IsRoll (map (λ (r : PlacedRoll). r.roll) rolls) → nat_lt 0 (length (map (λ (r : PlacedRoll). r.roll) rolls)) ≡ false
@@ -67,7 +69,7 @@ has-bytes (Slots s) m stands = by-length (length s.disk.areas.archive.bytes == 0
 has-bytes (Log l) m stands = by-length (length l.disk.areas.archive.bytes == 0) refl
   where
     names : NamesStand l m.published
-    names = let is = stands.1 in is.names tt
+    names = let is = stands.1 in is.names refl
 
     by-length : (b : Bool) → (length l.disk.areas.archive.bytes == 0) ≡ b → (b && nat_lt 0 (length l.named.rolls)) ≡ false
     by-length true none =
@@ -104,13 +106,13 @@ asked (Log l) d after label answer same asks =
 
 -- where the disk tells its bytes all times are told
 just : (in_heap : Bool) (from : ℕ) (times : List ℕ) (answer : Result (Vec ℕ Global) QueryFault) → SaysTimes true in_heap from times answer → AreJust times answer
-just in_heap from times (Ok found) says = says.0 (λ heap. tt)
+just in_heap from times (Ok found) says = says.0 (λ heap. refl)
 just in_heap from times (Err (BeforeKept floor)) says = says
 just in_heap from times (Err (NotYet last)) says = says
 just in_heap from times (Err EmptyInterval) says = says
 just in_heap from times (Err Device) says = tt
 just in_heap from times (Err NoMemory) says = tt
-just in_heap from times (Err (Damaged start)) says = says.1 tt
+just in_heap from times (Err (Damaged start)) says = says.1 refl
 just in_heap from times (Err NeedsDisk) says = says
 just in_heap from times (Err Stranger) says = says
 

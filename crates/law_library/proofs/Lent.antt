@@ -53,8 +53,8 @@ pub record HasRuns (archive : List ℕ) (view : ViewValue) (h : History Value) (
 -- those of a store's disk do, in either layout
 pub has-runs : (v : StoreValue) (view : ViewValue) (h : History Value) (floors : ℕ → ℕ) → ViewReads true v view h floors
     → HasRuns (disk_of v).areas.archive.bytes view h floors
-has-runs (Slots s) view h floors reads = let runs = reads.runs tt in record { lists = runs.lists; held = runs.held; marks = runs.marks; archived = runs.archived }
-has-runs (Log l) view h floors reads = let runs = reads.runs tt in record { lists = runs.lists; held = runs.held; marks = runs.marks; archived = runs.archived }
+has-runs (Slots s) view h floors reads = let runs = reads.runs refl in record { lists = runs.lists; held = runs.held; marks = runs.marks; archived = runs.archived }
+has-runs (Log l) view h floors reads = let runs = reads.runs refl in record { lists = runs.lists; held = runs.held; marks = runs.marks; archived = runs.archived }
 
 -- where there are no bytes no run takes any
 none-taken : (archive : List ℕ) (runs : List RunEntry) (lists : List (List ArchiveRecord)) → length archive ≡ 0 → HoldRuns archive runs lists → (n : ℕ)
@@ -84,7 +84,7 @@ module _ (archive : List ℕ) (runs : ArchiveValue) (view : ViewValue) (h : Hist
   history-read : (before : Lent) → IsOver archive before → ReadsHistory true (kept_of before.reader) (slices_state before.disk) view h
   history-read before is =
       let bytes : (slices_state before.disk).areas.archive.bytes ≡ archive = ap (λ (d : DiskState). d.areas.archive.bytes) is.disk in
-      view-reads true (kept_of before.reader) (slices_state before.disk) view h floors has.lists stands tt
+      view-reads true (kept_of before.reader) (slices_state before.disk) view h floors has.lists stands refl
       (subst (λ (kept : List (ℕ × List ℕ)). IsRight kept (slices_state before.disk).areas.archive.bytes) (sym is.kept)
       (record { each = λ from part there. absurd (Contains-nil (from, part) there) }))
       (subst (λ (a : List ℕ). HoldRuns a view.runs has.lists) (sym bytes) has.held) has.marks has.archived

@@ -1,6 +1,6 @@
 -- What a call leaves of a view that a number names.
 use Rattle.std.proofs.Common.{◌≡◌, ◌≢◌, ◌<◌, ◌==◌, ◌&&◌, ◌⊎◌, ℕ, Bool, true, false, Option, Some, None, Result, Ok, Err, MatchBool, MatchOption, refl, sym, ◌∙◌}
-use Rattle.std.proofs.Common.{ap, subst, inl, inr, cc}
+use Rattle.std.proofs.Common.{ap, subst, inl, inr}
 use Rattle.disk.specs.Areas.{AreSound}
 use Rattle.history.specs.declared.key.Key.{Key}
 use Rattle.history.specs.Histories.{History}

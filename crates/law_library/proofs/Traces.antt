@@ -15,7 +15,7 @@ with_first m rest (suc n) = rest n
 record TraceTo (events : List Event) (m : HostMoment) (host : Host) : Type 0 where
   pub trace : HostTrace events
   pub first : trace.moment 0 ≡ m
-  pub host : (trace.moment (length events)).host ≡ host
+  pub ends : (trace.moment (length events)).host ≡ host
   pub done : (trace.moment (length events)).at.done ≡ acknowledged_by events m.at.done
 
 linked : (e : Event) (m : HostMoment) (new : Host) → HostStep e m.host new → (link : HostLink e m new) → IsNext e m link.after
@@ -31,14 +31,14 @@ one-more e es m rest is first = record { moment = with_first m rest.moment; firs
 
 trace-of : (events : List Event) (m : HostMoment) (host : Host) → IsHostMoment m → HostRun events m.host host → TraceTo events m host
 trace-of [] m host is run =
-    record { trace = record { moment = λ n. m; first = is; next = λ i e at. absurd cc }; first = refl; host = sym run; done = refl }
+    record { trace = record { moment = λ n. m; first = is; next = λ i e at. absurd cc }; first = refl; ends = sym run; done = refl }
 trace-of (e ∷ es) m host is run =
     let link = event-leads e m run.0 is run.1 in
     let rest = trace-of es link.after host link.is (subst (λ (x : Host). HostRun es x host) (sym link.host) run.2) in
     record {
       trace = one-more e es m rest.trace is (subst (λ (x : HostMoment). IsNext e m x) (sym rest.first) (linked e m run.0 run.1 link));
       first = refl;
-      host = rest.host;
+      ends = rest.ends;
       done = rest.done ∙ ap (λ (l : List ℕ). acknowledged_by es l) link.done;
     }
 
@@ -52,7 +52,7 @@ moments status heap archive mark info e header h floors events host s hp a image
         start_is = ap (λ (x : HostMoment). x.host) to.first ∙ first.1;
         machine = ap (λ (x : HostMoment). x.at.world.machine) to.first ∙ first.3;
         none_done = ap (λ (x : HostMoment). x.at.done) to.first ∙ first.2;
-        end_is = to.host;
+        end_is = to.ends;
         all_done = to.done ∙ ap (λ (l : List ℕ). acknowledged_by events l) first.2;
       },
     )
