@@ -15,6 +15,7 @@ use Rattle.archive.specs.Searches as searches
 use Rattle.timequery.specs.Faults.{after_query}
 use Rattle.timequery.specs.declared.fault.QueryFault.{QueryFault}
 use Rattle.timequery.specs.declared.fault.QueryFault.TheVariants.{BeforeKept, NotYet, EmptyInterval, Device, NoMemory, Damaged, NeedsDisk, Stranger}
+use Rattle.wire.specs.Numbers.{u64_bytes}
 use Rattle.log_entries.specs.Ranges.{IsRoll}
 use Rattle.log_entries.specs.declared.entry.Roll.{Roll}
 use Rattle.law_log_layout.specs.HeapLog.{PlacedRoll, HoldsRoll, IsStoredRoll, name_bytes}
@@ -45,6 +46,7 @@ use Rattle.law_library.specs.Moments.{IsSettled, IsAtStage}
 
 -- a name takes 16 bytes
 names-long : (names : List Head) → length (flat_map name_bytes names) ≡ 16 * length names
+unfolding u64_bytes
 names-long [] = refl
 names-long (name ∷ names) = omega (arith, names-long names)
 

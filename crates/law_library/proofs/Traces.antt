@@ -30,6 +30,7 @@ one-more e es m rest is first = record { moment = with_first m rest.moment; firs
     next (suc i) x at = rest.next i x at
 
 trace-of : (events : List Event) (m : HostMoment) (host : Host) → IsHostMoment m → HostRun events m.host host → TraceTo events m host
+unfolding one-more
 trace-of [] m host is run =
     record { trace = record { moment = λ n. m; first = is; next = λ i e at. absurd cc }; first = refl; ends = sym run; done = refl }
 trace-of (e ∷ es) m host is run =
