@@ -9,3 +9,8 @@ mod Steps
 mod Redeeming
 mod Events
 mod Formatting
+mod Lent
+mod Passing
+mod Viewing
+mod Labels
+mod Traces

@@ -42,10 +42,10 @@ same-numbers old new xs at names h = record {
 }
 
 -- what a number names once another one does
-named-other : (n m : ℕ) (x : engine.Held) (old new : Places) → Names n x old new → m ≢ n → named new m ≡ named old m
+pub named-other : (n m : ℕ) (x : engine.Held) (old new : Places) → Names n x old new → m ≢ n → named new m ≡ named old m
 named-other n m x old new names other = let no' : (m == n) ≡ false = ne_eqb m n other in names m ∙ rw no' refl
 
-named-it : (n : ℕ) (x : engine.Held) (old new : Places) → Names n x old new → named new n ≡ x
+pub named-it : (n : ℕ) (x : engine.Held) (old new : Places) → Names n x old new → named new n ≡ x
 named-it n x old new names = let yes' : (n == n) ≡ true = eq-eqb n n refl in names n ∙ rw yes' refl
 
 -- ---- taken

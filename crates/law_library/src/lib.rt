@@ -1,6 +1,7 @@
-//! What the library keeps for a host that upholds what the header asks of it: laws, no code.
+//! What the library keeps for a host that upholds what the header asks of it, and what it answers: laws, no code.
 #![tactic(auto)]
 
+ghost use Rattle.law_library.specs.Answers.{EventsHaveMoments, TimesAreAnswered, ViewsAreAnswered};
 ghost use Rattle.law_library.specs.Formats.{NewStands, MemoryAloneRefuses, NewKeeps};
 ghost use Rattle.law_library.specs.Promise.{LibraryPromise};
 
@@ -18,4 +19,13 @@ pub fn what_is_formatted_is_kept()
     ensures stands { NewStands }
     ensures opens { MemoryAloneRefuses }
     ensures keeps { NewKeeps }
+{}
+
+/// Whoever lends the queries the host's own archive area is answered by the write sets: of a view by those of the
+/// commits that were published when its number was told, however many calls were made since, and of a label by
+/// those that are published now.
+pub fn whatever_a_host_asks()
+    ensures moments { EventsHaveMoments }
+    ensures views { ViewsAreAnswered }
+    ensures times { TimesAreAnswered }
 {}
