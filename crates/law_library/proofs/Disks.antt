@@ -1,6 +1,5 @@
 -- Calls that make no device call leave the disk as it was, in either layout.
-use Rattle.std.proofs.Common.{◌≡◌, ℕ, ◌==◌, Bool, true, false, Option, Some, None, Result, Ok, Err, MatchBool, MatchOption, refl, sym, ap}
-use Rattle.disk.specs.Calls.{DiskState}
+use Rattle.std.proofs.Common.{◌≡◌, ℕ, Bool, true, false, Option, Some, None, Result, Ok, Err, MatchBool, MatchOption, ap}
 use Rattle.snapshot.specs.Txn.{TxnValue}
 use Rattle.status.specs.Growth.{next_piece}
 use Rattle.status.specs.GrowthState.{GrowthState}

@@ -1,7 +1,7 @@
 -- The times of a label, over an archive that is lent by a host that has made all its device calls.
-use Rattle.std.proofs.Common.{◌≡◌, ◌==◌, ◌&&◌, ◌*◌, ◌+◌, ◌≤◌, ℕ, nat_lt, Bool, true, false, List, [], ◌∷◌, length, map, Result, Ok, Err, Vec, MatchBool, refl, sym}
+use Rattle.std.proofs.Common.{◌≡◌, ◌==◌, ◌&&◌, ◌*◌, ℕ, nat_lt, Bool, true, false, List, [], ◌∷◌, length, map, Result, Ok, Err, Vec, MatchBool, refl, sym}
 use Rattle.std.proofs.Common.{◌∙◌, ap, subst, arith}
-use Rattle.std.specs.Prelude.{IsTrue, flat_map}
+use Rattle.std.specs.Prelude.{flat_map}
 use Rattle.std.specs.List.{AllByRecursion}
 use Rattle.std.specs.declared.alloc.Global.{Global}
 use Rattle.std.proofs.lemmas.Bool.{eqb-true}
@@ -107,7 +107,8 @@ asked (Log l) d after label answer same asks =
     (Log (record l { disk = after_query answer l.disk }), log-asked l d after label answer same asks)
 
 -- where the disk tells its bytes all times are told
-just : (in_heap : Bool) (from : ℕ) (times : List ℕ) (answer : Result (Vec ℕ Global) QueryFault) → SaysTimes true in_heap from times answer → AreJust times answer
+just : (in_heap : Bool) (from : ℕ) (times : List ℕ) (answer : Result (Vec ℕ Global) QueryFault) → SaysTimes true in_heap from times answer
+    → AreJust times answer
 just in_heap from times (Ok found) says = says.0 (λ heap. refl)
 just in_heap from times (Err (BeforeKept floor)) says = says
 just in_heap from times (Err (NotYet last)) says = says

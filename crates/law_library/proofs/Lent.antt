@@ -1,12 +1,13 @@
 -- Queries of a view over an archive that is lent, whose bytes hold the view's runs.
-use Rattle.std.proofs.Common.{◌≡◌, ◌≢◌, ◌<◌, ◌≤◌, ◌-◌, ◌==◌, ◌&&◌, ◌||◌, ◌^◌, ℕ, zero, suc, nat_lt, Bool, true, false, List, [], ◌∷◌, length, Option, Some, None}
-use Rattle.std.proofs.Common.{Result, Ok, Err, Vec, MatchBool, MatchOption, refl, sym, ◌∙◌, ap, subst, inl, inr, arith}
+use Rattle.std.proofs.Common.{◌≡◌, ◌<◌, ◌≤◌, ◌-◌, ◌==◌, ◌&&◌, ◌||◌, ◌^◌, ℕ, zero, suc, nat_lt, Bool, true, false, List, [], ◌∷◌, length, Option, Some}
+use Rattle.std.proofs.Common.{Result, Ok, Err, Vec, MatchBool, MatchOption, refl, sym, ◌∙◌, ap, subst, inl, arith}
 use Rattle.std.specs.Prelude.{slice_get, option_map, if◌then◌else◌}
 use Rattle.std.specs.declared.alloc.Global.{Global}
 use Rattle.std.proofs.lemmas.Bool.{eqb-true, ne_eqb}
 use Rattle.disk.specs.Calls.{DiskState}
 use Rattle.history.specs.declared.key.Key.{Key}
 use Rattle.history.specs.declared.time.Version.{Version}
+use Rattle.history.specs.Answers.{at_answer}
 use Rattle.history.specs.Histories.{History}
 use Rattle.history.proofs.Members.{Contains-nil}
 use Rattle.law_image.specs.Values.{Value}
@@ -20,15 +21,18 @@ use Rattle.timequery.specs.Asked.{alone, FindsScanAt, FindsRows, FindsScanRows}
 use Rattle.timequery.specs.Homes.{ReadsHistory}
 use Rattle.timequery.specs.View.{ViewValue, mark_of}
 use Rattle.timequery.specs.declared.fault.QueryFault.{QueryFault}
+use Rattle.timequery.specs.declared.fault.QueryFault.TheVariants.{BeforeKept, NotYet, EmptyInterval, Device, NoMemory, Damaged, NeedsDisk, Stranger}
 use Rattle.any_store.specs.declared.engine.Engine.TheVariants.{Slots, Log}
 use Rattle.any_store.specs.Values.{StoreValue, archive_of, disk_of}
 use Rattle.law_refinement.specs.Homes.{AreArchived, ViewStands}
 use Rattle.law_refinement.proofs.Asked.{view-reads}
-use Rattle.law_refinement.proofs.Queries.{at-found, scan_at-found, between-found, scan_between-found}
+use Rattle.law_refinement.specs.Views as views
+use Rattle.law_refinement.proofs.Queries.{recent-answered, at-found, scan_at-found, between-found, scan_between-found}
 use Rattle.law_any_store.specs.Standing.{ViewReads}
+use Rattle.run.specs.Runs.{SaysRecent}
 use Rattle.c_engine.specs.Held.{named, last_number, view_in, view_under}
-use Rattle.c_engine.specs.Queries.{over, IsOver, is_none, takes_bytes, Over, AsksAt, AsksScanAt, AsksRows, AsksScanRows, TellsRecent, TellsOver, TellsRows}
-use Rattle.c_engine.specs.Queries.{RecentScanAt, RecentRows, RecentScanRows, LentScanAt, LentRows, LentScanRows}
+use Rattle.c_engine.specs.Queries.{over, IsOver, is_none, takes_bytes, Over, TellsRecent, TellsOver, TellsRows}
+use Rattle.c_engine.specs.Queries.{RecentAt, RecentScanAt, RecentRows, RecentScanRows, LentScanAt, LentRows, LentScanRows}
 use Rattle.c_engine.specs.RelayState.{slices_state}
 use Rattle.c_engine.specs.Rows.{shown_record, shown_version, shown_entry}
 use Rattle.c_engine.specs.declared.asking.Lent.{Lent}
@@ -38,7 +42,7 @@ use Rattle.c_engine.specs.declared.code.Info.{Info}
 use Rattle.c_engine.specs.declared.code.Row.{Row}
 use Rattle.c_engine.specs.declared.engine.Engine.{Engine}
 use Rattle.c_engine.specs.declared.engine.Published.{Published}
-use Rattle.law_library.specs.Answers.{TellsAt, TellsScanAt, TellsBetween, TellsScanBetween, ViewAnswers}
+use Rattle.law_library.specs.Answers.{TellsAt, TellsRecently, TellsScanAt, TellsBetween, TellsScanBetween, ViewAnswers}
 use Rattle.law_library.specs.Hosts.{Host}
 
 -- ---- the runs of a view in lent bytes
@@ -53,8 +57,10 @@ pub record HasRuns (archive : List ℕ) (view : ViewValue) (h : History Value) (
 -- those of a store's disk do, in either layout
 pub has-runs : (v : StoreValue) (view : ViewValue) (h : History Value) (floors : ℕ → ℕ) → ViewReads true v view h floors
     → HasRuns (disk_of v).areas.archive.bytes view h floors
-has-runs (Slots s) view h floors reads = let runs = reads.runs refl in record { lists = runs.lists; held = runs.held; marks = runs.marks; archived = runs.archived }
-has-runs (Log l) view h floors reads = let runs = reads.runs refl in record { lists = runs.lists; held = runs.held; marks = runs.marks; archived = runs.archived }
+has-runs (Slots s) view h floors reads =
+    let runs = reads.runs refl in record { lists = runs.lists; held = runs.held; marks = runs.marks; archived = runs.archived }
+has-runs (Log l) view h floors reads =
+    let runs = reads.runs refl in record { lists = runs.lists; held = runs.held; marks = runs.marks; archived = runs.archived }
 
 -- where there are no bytes no run takes any
 none-taken : (archive : List ℕ) (runs : List RunEntry) (lists : List (List ArchiveRecord)) → length archive ≡ 0 → HoldRuns archive runs lists → (n : ℕ)
@@ -132,6 +138,28 @@ module _ (archive : List ℕ) (runs : ArchiveValue) (view : ViewValue) (h : Hist
     tells,
   )
 
+recent-told : (view : ViewValue) (h : History Value) (floors : ℕ → ℕ) → ViewStands view h floors → (key : Key) (time : ℕ) (said : Code) (info : Info)
+    (out : List ℕ) → TellsRecent view key time said info out → TellsRecently h floors key time said info out
+recent-told view h floors stands key time said info out tells = (
+  view.reclaimed,
+  tells.0,
+  stands.memory.marked,
+  by-answer tells.0 tells.1 (recent-answered view h floors key time tells.0 stands tells.1),
+  tells.2,
+)
+  where
+    by-answer : (r : Result (Option Value) QueryFault) → RecentAt view key time r → views.SaysRecent view time (at_answer h floors key time) r
+        → SaysRecent view.reclaimed time (at_answer h floors key time) r
+    by-answer (Ok found) recent told = (recent.0, told)
+    by-answer (Err (BeforeKept floor)) recent told = told
+    by-answer (Err (NotYet late)) recent told = told
+    by-answer (Err NeedsDisk) recent told = told
+    by-answer (Err EmptyInterval) recent told = told
+    by-answer (Err Device) recent told = told
+    by-answer (Err NoMemory) recent told = absurd told
+    by-answer (Err (Damaged start)) recent told = told
+    by-answer (Err Stranger) recent told = told
+
 -- ---- the view of a number
 
 -- a number below the last one of a store names what stands under it
@@ -158,6 +186,8 @@ module _ (host : Host) (number : ℕ) (view : ViewValue) (h : History Value) (fl
         (λ v. MatchBool (is_none archive v) (TellsRecent v key time said info out) (TellsOver archive runs v key time said info out))) is asks in
         at-told archive runs view h floors stands has key time said info out
         (subst (λ (b : Bool). MatchBool b (TellsRecent view key time said info out) (TellsOver archive runs view key time said info out)) lent one);
+    recent = λ key time said info out asks. recent-told view h floors stands key time said info out
+        (subst (λ (o : Option ViewValue). MatchOption o (said ≡ code.Unknown) (λ v. TellsRecent v key time said info out)) is asks);
     scan_at = λ relation time said info rows out asks.
         let one = subst (λ (o : Option ViewValue). MatchOption o (said ≡ code.Unknown) (λ v. (answer : Result (Vec (ℕ × Value) Global) QueryFault)
         × LentScanAt archive runs v relation time answer × TellsRows shown_record answer said info rows out)) is asks in

@@ -1,8 +1,7 @@
 -- What a call leaves of a view that a number names.
-use Rattle.std.proofs.Common.{◌≡◌, ◌≢◌, ◌<◌, ◌==◌, ◌&&◌, ◌⊎◌, ℕ, Bool, true, false, Option, Some, None, Result, Ok, Err, MatchBool, MatchOption, refl, sym, ◌∙◌}
+use Rattle.std.proofs.Common.{◌≡◌, ◌≢◌, ◌==◌, ◌&&◌, ◌⊎◌, ℕ, Bool, true, false, Option, Some, None, Result, Ok, Err, MatchBool, MatchOption, refl, sym, ◌∙◌}
 use Rattle.std.proofs.Common.{ap, subst, inl, inr}
 use Rattle.disk.specs.Areas.{AreSound}
-use Rattle.history.specs.declared.key.Key.{Key}
 use Rattle.history.specs.Histories.{History}
 use Rattle.history.specs.Machine.{Machine}
 use Rattle.law_image.specs.Values.{Value}
@@ -28,8 +27,8 @@ use Rattle.law_any_store.specs.Standing.{Stands, ViewReads, GoesOn}
 use Rattle.law_any_store.proofs.Views.{view-goes-on, begin-goes, abort-goes, submit-goes, redeem-goes, pump-goes, job-pump-goes, archive-start-goes}
 use Rattle.law_any_store.proofs.Views.{reclaim-start-goes, floor-start-goes, grow-start-goes}
 use Rattle.c_engine.specs.Engines.{WhileSettled, stopped_by, UnlessAsked, asks, is_failed, OfNumber, KeepsStore, TakesTransaction, TellsBegin, Writes}
-use Rattle.c_engine.specs.Engines.{BeginsEngine, SubmitsEngine, SubmitsTaken, TellsSubmit, AbortsEngine, AbortsTaken, RedeemsEngine, RedeemsTaken, TellsRedeemed, GivesUp}
-use Rattle.c_engine.specs.Engines.{GivesView, TakesView, EndsView, StartsEngine, PumpsEngine, PumpsJobOf, AfterStep, HasCalled, step_in, published_of}
+use Rattle.c_engine.specs.Engines.{BeginsEngine, SubmitsEngine, TellsSubmit, AbortsEngine, RedeemsEngine, TellsRedeemed, GivesUp}
+use Rattle.c_engine.specs.Engines.{GivesView, TakesView, EndsView, StartsEngine, PumpsEngine, PumpsJobOf, AfterStep, HasCalled, step_in}
 use Rattle.c_engine.specs.Held.{named, transaction_in, ticket_in, view_in, transaction_under, ticket_under, last_number, Names, IsKept, IsTaken}
 use Rattle.c_engine.specs.Steps.{of_group, of_job, told_step}
 use Rattle.c_engine.specs.Writes.{Puts, Deletes}
@@ -42,7 +41,6 @@ use Rattle.c_engine.specs.declared.engine.EngineState.TheVariants.{Settled, Asks
 use Rattle.c_engine.specs.declared.places.Held as engine
 use Rattle.c_engine.specs.declared.places.Held.TheVariants.{Nothing, Transaction, Ticket, View}
 use Rattle.c_engine.specs.declared.places.Places.{Places}
-use Rattle.c_engine.specs.declared.step.Step.{Step}
 use Rattle.law_library.specs.Calls.{LibraryCall, Reply, Exports}
 use Rattle.law_library.specs.Calls as library
 use Rattle.law_library.specs.Hosts.{Calls}
@@ -113,7 +111,8 @@ module _ (old after : Engine) (n : ℕ) (view : ViewValue) (is : view_in (named 
       by-found None none refused = nothing refused.1
       by-found (Some x) some does = act x some does
 
-  same-store : after.store ≡ old.store → (h : History Value) (floors : ℕ → ℕ) → ViewReads true old.store view h floors → ViewReads true after.store view h floors
+  same-store : after.store ≡ old.store → (h : History Value) (floors : ℕ → ℕ) → ViewReads true old.store view h floors
+      → ViewReads true after.store view h floors
   same-store same h floors reads = subst (λ (v : StoreValue). ViewReads true v view h floors) (sym same) reads
 
   goes-on : GoesOn true old.store after.store → (h : History Value) (floors : ℕ → ℕ) → ViewReads true old.store view h floors

@@ -6,7 +6,6 @@ use Rattle.std.proofs.lemmas.Bool.{eqb-true}
 use Rattle.disk.specs.Calls.{DiskState, Counts, counted, top, refused_answer}
 use Rattle.disk.specs.declared.area.DeviceFault.{DeviceFault}
 use Rattle.group.specs.declared.answers.Did.{Did}
-use Rattle.group.specs.declared.answers.Did.TheVariants as did
 use Rattle.group.specs.declared.answers.PumpFault.{PumpFault}
 use Rattle.group.specs.declared.answers.PumpFault.TheVariants as fault
 use Rattle.group.specs.declared.queued.StoredExtent.{StoredExtent}

@@ -1,30 +1,29 @@
 -- A view that was told is answered at each later moment by what was published when it was told.
-use Rattle.std.proofs.Common.{◌≡◌, ◌<◌, ◌≤◌, ◌^◌, ℕ, zero, suc, Bool, true, false, List, [], ◌∷◌, length, Option, Some, None, MatchBool, MatchOption, refl, sym}
+use Rattle.std.proofs.Common.{◌≡◌, ◌<◌, ◌≤◌, ◌^◌, ℕ, zero, suc, true, false, List, [], ◌∷◌, length, Some, None, MatchBool, MatchOption, refl, sym}
 use Rattle.std.proofs.Common.{◌∙◌, ap, subst, inl, inr, arith}
 use Rattle.std.specs.Prelude.{slice_get}
-use Rattle.std.proofs.lemmas.Bool.{cases_eq, eq-eqb, false≢true}
-use Rattle.disk.specs.Areas.{Areas}
+use Rattle.std.proofs.lemmas.Bool.{cases_eq, false≢true}
+use Rattle.disk.specs.Areas.{Areas, AreaState}
 use Rattle.history.specs.Histories.{History}
 use Rattle.law_image.specs.Values.{Value}
 use Rattle.timequery.specs.View.{ViewValue}
 use Rattle.any_store.specs.Values.{StoreValue, disk_of}
 use Rattle.law_refinement.specs.Homes.{ViewStands}
-use Rattle.law_any_store.specs.Standing.{Stands, ViewReads}
+use Rattle.law_any_store.specs.Standing.{ViewReads}
 use Rattle.law_any_store.proofs.Views.{view-of-history}
 use Rattle.c_engine.specs.Engines.{TakesView, asks, is_failed, step_in, due_in, due_call}
 use Rattle.c_engine.specs.Held.{named, view_in, last_number}
-use Rattle.c_engine.specs.HostCalls.{HostCall, made}
+use Rattle.c_engine.specs.HostCalls.{made}
 use Rattle.c_engine.specs.Steps.{told_step}
-use Rattle.c_engine.specs.declared.code.Code.{Code}
 use Rattle.c_engine.specs.declared.code.Code.TheVariants as code
 use Rattle.c_engine.specs.declared.engine.Engine.{Engine}
 use Rattle.c_engine.specs.declared.engine.EngineState.{EngineState}
 use Rattle.c_engine.specs.declared.engine.EngineState.TheVariants.{Settled, Asks, Failed}
 use Rattle.c_engine.specs.declared.places.Held.TheVariants as engine
 use Rattle.law_library.specs.Calls.{Reply, View}
-use Rattle.law_library.specs.Hosts.{Host, Event, Calls, Makes, Refuses, IsRefusedIn}
+use Rattle.law_library.specs.Hosts.{Host, Event, Calls, Makes, Refuses}
 use Rattle.law_library.specs.Moments.{HostMoment, IsSettled, IsAtStage, IsHostMoment}
-use Rattle.law_library.specs.Answers.{HostTrace, IsNext, IsOpenView, LeavesView, ViewsAreAnswered}
+use Rattle.law_library.specs.Answers.{HostTrace, IsNext, LeavesArchive, LeavesView, ViewsAreAnswered}
 use Rattle.law_library.proofs.Lent.{HasRuns, has-runs, under, answered}
 use Rattle.law_library.proofs.Numbers.{named-it}
 use Rattle.law_library.proofs.Passing.{passes, has-called}
@@ -51,44 +50,40 @@ same-lent old new view h floors same has = subst (λ (a : Areas). HasRuns a.arch
 -- ---- one event
 
 module _ (m after : HostMoment) (n : ℕ) (view : ViewValue) (h : History Value) (floors : ℕ → ℕ) (is : IsHostMoment m) (live : IsLive m.host n view h floors)
-    (works : is_failed after.host.engine.state ≡ false) where
-  abbrev old : Engine
-  old = m.host.engine
+  where
+    abbrev old : Engine
+    old = m.host.engine
 
-  abbrev new : Engine
-  new = after.host.engine
+    abbrev new : Engine
+    new = after.host.engine
 
-  event-live : (e : Event) → IsNext e m after → LeavesView n e → IsLive after.host n view h floors
-  event-live (Calls c r) next leaves =
-      let p = passes old new n view live.names m.at.world.machine is.is.world.stands c r leaves next.step.told in
-      record {
-        names = p.names;
-        reads = p.reads h floors live.reads;
-        lent = same-lent m.host.areas after.host.areas view h floors next.step.done live.lent;
-      }
-  event-live (Makes r) next leaves =
-      let p = has-called old new n view live.names true r.said r.info next.step.told in
-      record { names = p.names; reads = p.reads h floors live.reads; lent = by-state old.state next.step.told next.step.done (p.reads h floors live.reads) }
-    where
-      by-state : (s : EngineState) → MatchOption (step_in s) ((r.said ≡ code.None) × (new ≡ old))
-          (λ taken. (new.store ≡ old.store) × (new.places ≡ old.places)
-          × ((r.said ≡ code.Ok) × (r.info ≡ told_step taken) × (new.state ≡ Settled) × (new.before ≡ None)))
-          → MatchOption (due_call (due_in s) (disk_of old.store).areas) (after.host.areas ≡ m.host.areas) (λ c. after.host.areas ≡ made c m.host.areas)
-          → ViewReads true new.store view h floors → HasRuns after.host.areas.archive.bytes view h floors
-      by-state Settled told done reads = same-lent m.host.areas after.host.areas view h floors done live.lent
-      by-state Failed told done reads = same-lent m.host.areas after.host.areas view h floors done live.lent
-      by-state (Asks taken) told done reads = settled-lent after next.is told.2.2 view h floors reads
-  event-live (Refuses r) next leaves =
-      let p = has-called old new n view live.names false r.said r.info next.step.told in
-      record { names = p.names; reads = p.reads h floors live.reads; lent = by-state old.state next.step.told next.step.done }
-    where
-      by-state : (s : EngineState) → MatchOption (step_in s) ((r.said ≡ code.None) × (new ≡ old))
-          (λ taken. (new.store ≡ old.store) × (new.places ≡ old.places) × ((r.said ≡ code.Failed) × (new.state ≡ Failed) × (new.before ≡ old.before)))
-          → MatchOption (due_call (due_in s) (disk_of old.store).areas) (after.host.areas ≡ m.host.areas) (λ c. IsRefusedIn c m.host.areas after.host.areas)
-          → HasRuns after.host.areas.archive.bytes view h floors
-      by-state Settled told done = same-lent m.host.areas after.host.areas view h floors done live.lent
-      by-state Failed told done = same-lent m.host.areas after.host.areas view h floors done live.lent
-      by-state (Asks taken) told done = absurd (false≢true (sym works ∙ ap is_failed told.2.1))
+    event-live : (e : Event) → IsNext e m after → LeavesView n e → LeavesArchive e m after → IsLive after.host n view h floors
+    event-live (Calls c r) next leaves whole =
+        let p = passes old new n view live.names m.at.world.machine is.is.world.stands c r leaves next.step.told in
+        record {
+          names = p.names;
+          reads = p.reads h floors live.reads;
+          lent = same-lent m.host.areas after.host.areas view h floors next.step.done live.lent;
+        }
+    event-live (Makes r) next leaves whole =
+        let p = has-called old new n view live.names true r.said r.info next.step.told in
+        record { names = p.names; reads = p.reads h floors live.reads; lent = by-state old.state next.step.told next.step.done (p.reads h floors live.reads) }
+      where
+        by-state : (s : EngineState) → MatchOption (step_in s) ((r.said ≡ code.None) × (new ≡ old))
+            (λ taken. (new.store ≡ old.store) × (new.places ≡ old.places)
+            × ((r.said ≡ code.Ok) × (r.info ≡ told_step taken) × (new.state ≡ Settled) × (new.before ≡ None)))
+            → MatchOption (due_call (due_in s) (disk_of old.store).areas) (after.host.areas ≡ m.host.areas) (λ c. after.host.areas ≡ made c m.host.areas)
+            → ViewReads true new.store view h floors → HasRuns after.host.areas.archive.bytes view h floors
+        by-state Settled told done reads = same-lent m.host.areas after.host.areas view h floors done live.lent
+        by-state Failed told done reads = same-lent m.host.areas after.host.areas view h floors done live.lent
+        by-state (Asks taken) told done reads = settled-lent after next.is told.2.2 view h floors reads
+    event-live (Refuses r) next leaves whole =
+        let p = has-called old new n view live.names false r.said r.info next.step.told in
+        record {
+          names = p.names;
+          reads = p.reads h floors live.reads;
+          lent = subst (λ (a : AreaState). HasRuns a.bytes view h floors) (sym whole) live.lent;
+        }
 
 -- ---- the call that tells its number
 
@@ -146,16 +141,18 @@ is-moment events t (suc k) low = let e = has-event events k (omega (arith, low))
 module _ (events : List Event) (t : HostTrace events) (i n : ℕ) (view : ViewValue) (h : History Value) (floors : ℕ → ℕ)
     (told : IsLive (t.moment (suc i)).host n view h floors) where
   stays-live : (k : ℕ) → i < k → k ≤ length events → ((j : ℕ) (e : Event) → i < j → j < k → slice_get events j ≡ Some e → LeavesView n e)
-      → ((j : ℕ) → j ≤ k → is_failed (t.moment j).host.engine.state ≡ false) → IsLive (t.moment k).host n view h floors
-  stays-live zero later within stays works = absurd (omega (arith, later))
-  stays-live (suc k) later within stays works = elim (cases_eq k i) [
+      → ((j : ℕ) (e : Event) → i < j → j < k → slice_get events j ≡ Some e → LeavesArchive e (t.moment j) (t.moment (suc j)))
+      → IsLive (t.moment k).host n view h floors
+  stays-live zero later within stays whole = absurd (omega (arith, later))
+  stays-live (suc k) later within stays whole = elim (cases_eq k i) [
     | inl same ↦ subst (λ (j : ℕ). IsLive (t.moment (suc j)).host n view h floors) (sym same) told
     | inr other ↦
         let e = has-event events k (omega (arith, within)) in
         let past : i < k = omega (arith, later, other) in
-        let before = stays-live k past (omega (arith, within)) (λ j x low high is. stays j x low (omega (arith, high)) is) (λ j low. works j (omega (arith, low))) in
-        event-live (t.moment k) (t.moment (suc k)) n view h floors (is-moment events t k (omega (arith, within))) before (works (suc k) (omega arith)) e.0
-        (t.next k e.0 e.1) (stays k e.0 past (omega arith) e.1)
+        let before = stays-live k past (omega (arith, within)) (λ j x low high is. stays j x low (omega (arith, high)) is)
+        (λ j x low high is. whole j x low (omega (arith, high)) is) in
+        event-live (t.moment k) (t.moment (suc k)) n view h floors (is-moment events t k (omega (arith, within))) before e.0 (t.next k e.0 e.1)
+        (stays k e.0 past (omega arith) e.1) (whole k e.0 past (omega arith) e.1)
   ]
 
 pub views : ViewsAreAnswered
@@ -164,11 +161,11 @@ views events t i k number opened =
     let within = opened.within in
     let is = is-moment events t i (omega (arith, later, within)) in
     let r = opened.reply in
-    let told = view-told r (t.moment i) (t.moment (suc i)) is (t.next i (Calls View r) opened.told) opened.ok (opened.works i (omega (arith, later))) in
+    let told = view-told r (t.moment i) (t.moment (suc i)) is (t.next i (Calls View r) opened.told) opened.ok opened.works in
     let h = (t.moment i).at.world.machine.published in
     let floors = (t.moment i).at.world.machine.floors in
     let first = subst (λ (x : ℕ). IsLive (t.moment (suc i)).host x told.view h floors) opened.number_is told.live in
-    let live = stays-live events t i number told.view h floors first k later within opened.stays opened.works in
+    let live = stays-live events t i number told.view h floors first k later within opened.stays opened.whole in
     let low : number < 2 ^ 63 = subst (λ (x : ℕ). x < 2 ^ 63) opened.number_is told.low in
     record {
       acknowledged = is.is.published;

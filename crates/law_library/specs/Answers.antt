@@ -7,16 +7,16 @@ use Rattle.disk.specs.Areas.{AreBytes, settled_on}
 use Rattle.history.specs.declared.key.Key.{Key}
 use Rattle.history.specs.declared.time.Version.{Version}
 use Rattle.history.specs.Answers.{at_answer, times_of}
-use Rattle.history.specs.Histories.{History}
+use Rattle.history.specs.Histories.{History, last}
 use Rattle.law_image.specs.Values.{Value}
 use Rattle.timequery.specs.declared.fault.QueryFault.{QueryFault}
 use Rattle.timequery.specs.declared.fault.QueryFault.TheVariants.{BeforeKept, NotYet, EmptyInterval, Device, NoMemory, Damaged, NeedsDisk, Stranger}
 use Rattle.law_refinement.specs.Laws.{SaysAt, SaysScanAt, SaysBetween, SaysScanBetween}
 use Rattle.law_any_store.specs.Standing.{AnyHeader, IsImageOf, opened_as}
 use Rattle.run.specs.Moments.{HasCommitAt}
-use Rattle.run.specs.Runs.{Follows}
+use Rattle.run.specs.Runs.{Follows, SaysRecent}
 use Rattle.c_engine.specs.Engines.{OpensEngine, TellsLabels, AreTimesTold, is_failed}
-use Rattle.c_engine.specs.Queries.{AsksAt, AsksScanAt, AsksRows, AsksScanRows, TellsValue, TellsRows, IsFaultCode}
+use Rattle.c_engine.specs.Queries.{AsksAt, AsksRecent, AsksScanAt, AsksRows, AsksScanRows, TellsValue, TellsRows, IsFaultCode}
 use Rattle.c_engine.specs.Rows.{shown_record, shown_version, shown_entry}
 use Rattle.c_engine.specs.declared.code.Code.{Code}
 use Rattle.c_engine.specs.declared.code.Code.TheVariants as code
@@ -34,6 +34,12 @@ use Rattle.law_library.specs.Moments.{HostMoment, IsHostMoment}
 abbrev pub TellsAt : History Value → (ℕ → ℕ) → Key → ℕ → Code → Info → List ℕ → Type 0
 TellsAt h floors key time said info out =
     (answer : Result (Option Value) QueryFault) × SaysAt (Unit {0}) (at_answer h floors key time) answer × TellsValue answer said info out
+
+-- It is told so from memory alone. A time before a mark may need the archive.
+abbrev pub TellsRecently : History Value → (ℕ → ℕ) → Key → ℕ → Code → Info → List ℕ → Type 0
+TellsRecently h floors key time said info out =
+    (mark : ℕ) × (answer : Result (Option Value) QueryFault) × (mark ≤ last h) × SaysRecent mark time (at_answer h floors key time) answer
+    × TellsValue answer said info out
 
 -- so are a relation's records at a time
 abbrev pub TellsScanAt : History Value → (ℕ → ℕ) → ℕ → ℕ → Code → Info → List Row → List ℕ → Type 0
@@ -77,10 +83,12 @@ TellsTimesOf h label said info times =
 
 -- ---- a host that lends its archive
 
--- Each query by this number is answered by this history with these floors. In either layout, and also while a device call is due.
+-- Each query by this number is answered by this history with these floors.
 pub record ViewAnswers (host : Host) (number : ℕ) (h : History Value) (floors : ℕ → ℕ) : Type 0 where
   pub at : (key : Key) (time : ℕ) (said : Code) (info : Info) (out : List ℕ)
       → AsksAt host.areas.archive.bytes number key time host.engine said info out → TellsAt h floors key time said info out
+  pub recent : (key : Key) (time : ℕ) (said : Code) (info : Info) (out : List ℕ)
+      → AsksRecent number key time host.engine said info out → TellsRecently h floors key time said info out
   pub scan_at : (relation time : ℕ) (said : Code) (info : Info) (rows : List Row) (out : List ℕ)
       → AsksScanAt host.areas.archive.bytes number relation time host.engine said info rows out → TellsScanAt h floors relation time said info rows out
   pub between : (key : Key) (a b : ℕ) (said : Code) (info : Info) (rows : List Row) (out : List ℕ)
@@ -130,7 +138,14 @@ LeavesView number (Calls c r) = Unit {0}
 LeavesView number (Makes r) = Unit {0}
 LeavesView number (Refuses r) = Unit {0}
 
--- The call of this place in the list told the number of a view, no later event up to this moment ended it, and no device call was refused.
+-- a write of the archive that was refused has changed nothing of it
+abbrev pub LeavesArchive : Event → HostMoment → HostMoment → Type 0
+LeavesArchive (Calls c r) before after = Unit {0}
+LeavesArchive (Makes r) before after = Unit {0}
+LeavesArchive (Refuses r) before after = after.host.areas.archive ≡ before.host.areas.archive
+
+-- The call of this place in the list told the number of a view, before any device call was refused, and no later event up to this moment ended it. Where a
+-- write of the archive was refused since, it has changed nothing.
 pub record IsOpenView {events : List Event} (t : HostTrace events) (i k number : ℕ) : Type 0 where
   pub reply : Reply
   pub told : slice_get events i ≡ Some (Calls View reply)
@@ -139,7 +154,8 @@ pub record IsOpenView {events : List Event} (t : HostTrace events) (i k number :
   pub later : i < k
   pub within : k ≤ length events
   pub stays : (j : ℕ) (e : Event) → i < j → j < k → slice_get events j ≡ Some e → LeavesView number e
-  pub works : (j : ℕ) → j ≤ k → is_failed (t.moment j).host.engine.state ≡ false
+  pub works : is_failed (t.moment i).host.engine.state ≡ false
+  pub whole : (j : ℕ) (e : Event) → i < j → j < k → slice_get events j ≡ Some e → LeavesArchive e (t.moment j) (t.moment (suc j))
 
 -- It is answered by what was published when its number was told, which has every commit that was acknowledged till then.
 pub record AnswersByMoment (told : HostMoment) (host : Host) (number : ℕ) : Type 0 where
