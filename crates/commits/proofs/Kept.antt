@@ -1,5 +1,5 @@
 -- What each step keeps of the order of the commits.
-use Rattle.std.proofs.Common.{◌≡◌, ℕ, zero, suc, ◌+◌, ◌<◌, ◌≤◌, max, List, [], ◌∷◌, ◌++◌, length, take, drop, get_or, length-append}
+use Rattle.std.proofs.Common.{◌≡◌, ℕ, zero, suc, ◌+◌, ◌<◌, ◌≤◌, ◌^◌, max, List, [], ◌∷◌, ◌++◌, length, take, drop, get_or, length-append}
 use Rattle.std.proofs.Common.{true, refl, arith, ap, sym, subst}
 use Rattle.std.specs.List.{AllByRecursion}
 use Rattle.std.proofs.lemmas.List.{length-drop}
@@ -7,10 +7,13 @@ use Rattle.history.specs.declared.key.KeyWrite.{KeyWrite}
 use Rattle.law_image.specs.Values.{Value}
 use Rattle.chains.specs.KeyWrites.{KeyWrites, latest, with_commit}
 use Rattle.group.specs.CommitOrder as orders
+use Rattle.group.specs.declared.commit_order.CommitHead.{CommitHead}
+use Rattle.group.proofs.Heads.{IsRisingAfter-push}
 use Rattle.group.proofs.Orders.{last_time-push}
 use Rattle.commits.specs.Values.{CommitsValue, WaitingValue, versions_after, mark_after, ordered, ordered_mark, last_assigned}
 use Rattle.commits.specs.Order.{AreBy, IsInOrder}
 use Rattle.commits.specs.Steps.{time_behind, waiting_as, with_waiting, published}
+use Rattle.commits.proofs.Names.{awaited-more, awaited-push}
 
 -- ---- the last commit that waits
 
@@ -50,7 +53,7 @@ by-rest zero time versions ws by = by
 by-rest (suc n) time versions [] by = by
 by-rest (suc n) time versions (x ∷ xs) by = by-rest n time x.after xs (by.1.0, by.1.1)
 
-all-later : (time later : ℕ) (ws : List WaitingValue) → time ≤ later → AllByRecursion (λ (w : WaitingValue). latest w.after ≤ time) ws
+pub all-later : (time later : ℕ) (ws : List WaitingValue) → time ≤ later → AllByRecursion (λ (w : WaitingValue). latest w.after ≤ time) ws
     → AllByRecursion (λ (w : WaitingValue). latest w.after ≤ later) ws
 all-later time later [] le all = tt
 all-later time later (x ∷ xs) le all = (let first = all.0 in omega (arith, first, le), all-later time later xs le all.1)
@@ -69,6 +72,8 @@ by-push time later versions ws w le by last = (let first = by.0 in omega (arith,
 pub keeps-published : (v : CommitsValue) → IsInOrder v → IsInOrder (published v)
 keeps-published v order =
     let rest = length-drop v.group v.queue in record {
+      rising = order.rising;
+      awaited = awaited-more v.published (v.published + v.group) v.heads (omega arith) order.awaited;
       split = omega (arith, order.split, rest, order.group_within);
       latest = by-rest v.group (last_assigned v) v.versions v.queue order.latest;
       group_within = omega arith;
@@ -77,14 +82,17 @@ keeps-published v order =
     }
 
 pub keeps-waiting : (v : CommitsValue) (label time : ℕ) (writes : List (KeyWrite Value)) → IsInOrder v → latest (with_commit (ordered v) time writes) ≤ time
-    → last_assigned v < time → IsInOrder (with_waiting v label time writes)
-keeps-waiting v label time writes order early later =
+    → last_assigned v < time → time < 2 ^ 63 → IsInOrder (with_waiting v label time writes)
+keeps-waiting v label time writes order early later range =
+    let head : CommitHead = record { time = time; label = label; awaited = true } in
     let w : WaitingValue = waiting_as v label time writes in
     let longer : length (v.queue ++ w ∷ []) ≡ length v.queue + 1 = simp length-append refl in
     let last_is : orders.last_time (v.heads ++ record { time = time; label = label; awaited = true } ∷ []) ≡ time =
     last_time-push 0 v.heads (record { time = time; label = label; awaited = true }) in
     let time_is : max v.reclaimed time ≡ time = omega (arith, later) in
     record {
+      rising = IsRisingAfter-push 0 v.heads head order.rising (omega (arith, later)) range;
+      awaited = awaited-push v.published v.heads head (omega (arith, order.split)) order.awaited refl;
       split = simp length-append (omega (arith, order.split));
       latest = subst (λ (n : ℕ). AreBy (max v.reclaimed n) v.versions (v.queue ++ w ∷ [])) (sym last_is)
           (subst (λ (n : ℕ). AreBy n v.versions (v.queue ++ w ∷ [])) (sym time_is)

@@ -1,5 +1,5 @@
 -- The way of a commit: it waits, a group begins with it, and it is published.
-use Rattle.std.specs.Prelude.{ℕ, ◌+◌, ◌==◌, ◌&&◌, true, nat_lt, min, List, [], ◌∷◌, ◌++◌, length, take, drop, if◌then◌else◌}
+use Rattle.std.specs.Prelude.{ℕ, ◌+◌, ◌==◌, ◌&&◌, true, nat_lt, min, List, [], ◌∷◌, ◌++◌, length, take, drop, None, if◌then◌else◌}
 use Rattle.history.specs.declared.key.KeyWrite.{KeyWrite}
 use Rattle.law_image.specs.Values.{Value}
 use Rattle.chains.specs.KeyWrites.{with_commit}
@@ -39,11 +39,12 @@ group_last v = time_behind 0 (members v)
 abbrev pub grouped : ℕ → CommitsValue → CommitsValue
 grouped most v = if (v.group == 0) && nat_lt 0 (length v.queue) then record v { group = min most (length v.queue) } else v
 
--- the group is published, and none stands
+-- the group is published, and none stands; what was made of the versions before is let go
 abbrev pub published : CommitsValue → CommitsValue
 published v = record v {
   published = v.published + v.group;
   versions = versions_after v.versions (members v);
+  pending = None;
   queue = drop v.group v.queue;
   group = 0;
 }

@@ -29,6 +29,8 @@ pub record CommitsValue : Type 0 where
   pub published : ℕ
   -- the versions of what is published
   pub versions : List KeyWrites
+  -- what they are to be once a reclaim is done, where they are made
+  pub pending : Option (List KeyWrites)
   -- the commits that wait, and how many of them the group has, 0 where none stands
   pub queue : List WaitingValue
   pub group : ℕ

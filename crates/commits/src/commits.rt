@@ -1,5 +1,5 @@
 //! The commits and transactions of a store in memory.
-ghost use Rattle.std.specs.Prelude.{◌≡◌, ◌<◌, ◌≤◌, ◌^◌, [], length, max, false, IfOk, if◌then◌else◌};
+ghost use Rattle.std.specs.Prelude.{◌≡◌, ◌<◌, ◌≤◌, ◌^◌, [], length, max, false, None, IfOk, if◌then◌else◌};
 ghost use Rattle.chains.specs.KeyWrites.{latest};
 ghost use Rattle.snapshot.specs.OpenTable.{open_count};
 ghost use Rattle.group.specs.CommitOrder.{IsRisingAfter, last_time, times_of};
@@ -7,6 +7,7 @@ ghost use Rattle.commits.specs.Values.{over, is_own_of, with_floors, last, order
 ghost use Rattle.commits.specs.Calls.{Begins, Aborts, Redeems, oldest};
 ghost use Rattle.commits.specs.Steps.{broken};
 
+use crate::pending::Pending;
 use crate::submit::gone_is_of_value;
 use crate::waiting::Waiting;
 use chains::Frozen;
@@ -26,6 +27,8 @@ pub struct Commits {
     pub(crate) opened: OpenTable,
     pub(crate) order: CommitOrder,
     pub(crate) versions: Frozen,
+    // What is made for a reclaim, until it is done or something is published.
+    pub(crate) pending: Option<Pending>,
     pub(crate) queue: VecDeque<Waiting>,
     pub(crate) group: usize,
     pub(crate) floors: Floors,
@@ -35,7 +38,9 @@ pub struct Commits {
 }
 
 impl Model for Commits {
+    ghost use Rattle.std.specs.Prelude.{length};
     ghost use Rattle.commits.specs.Values.{CommitsValue};
+    ghost use Rattle.commits.specs.Pending.{versions_in, HasRoom};
     ghost use Rattle.commits.specs.Order.{IsInOrder};
 
     ghost Value = { CommitsValue };
@@ -46,6 +51,7 @@ impl Model for Commits {
       heads = c.order.heads;
       published = c.order.published;
       versions = c.versions;
+      pending = versions_in c.pending;
       queue = c.queue.items;
       group = c.group;
       floors = c.floors;
@@ -59,12 +65,13 @@ impl Model for Commits {
       heads = c.order.heads;
       published = c.order.published;
       versions = c.versions;
+      pending = versions_in c.pending;
       queue = c.queue.items;
       group = c.group;
       floors = c.floors;
       reclaimed = c.reclaimed;
       failed = c.failed;
-    }) };
+    }) × HasRoom c.pending (length c.order.heads) };
 }
 
 impl Commits {
@@ -88,6 +95,7 @@ impl Commits {
           heads = heads.items;
           published = length heads.items;
           versions = versions;
+          pending = None;
           queue = [];
           group = 0;
           floors = floors;
@@ -100,6 +108,7 @@ impl Commits {
             opened: OpenTable::new(alloc),
             order: CommitOrder::of_published(heads),
             versions,
+            pending: None,
             queue: VecDeque::new(alloc),
             group: 0,
             floors,

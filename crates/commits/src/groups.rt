@@ -49,8 +49,8 @@ impl Commits {
         }
     }
 
-    /// The commits of the group are published, and no group stands. Says how many they are. It takes
-    /// no memory.
+    /// The commits of the group are published, and no group stands. Says how many they are. What was
+    /// made for a reclaim is let go, since the versions are others now. It takes no memory.
     pub fn publish(&mut self) -> u32
         ensures count { result ≡ self.old.group }
         ensures new { self.new ≡ published self.old }
@@ -58,6 +58,7 @@ impl Commits {
         let count = self.group;
         publish_first(&mut self.queue, &mut self.versions, count);
         self.order.publish(count);
+        self.pending = None;
         self.group = 0;
         count as u32
     }

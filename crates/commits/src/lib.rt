@@ -4,6 +4,8 @@
 
 mod commits;
 mod groups;
+mod pending;
+mod reclaims;
 mod submit;
 mod waiting;
 

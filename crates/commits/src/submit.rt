@@ -10,6 +10,7 @@ ghost use Rattle.commits.specs.Values.{ordered, ordered_mark, last_assigned};
 ghost use Rattle.commits.specs.Steps.{time_now, with_waiting};
 
 use crate::commits::Commits;
+use crate::pending::reserve_names;
 use crate::waiting::Waiting;
 use chains::{Frozen, SharedValue};
 use clock::{ClockEnd, CommitClock};
@@ -92,6 +93,8 @@ impl Commits {
     {
         let reclaimed = self.ordered_mark();
         let after = self.ordered().with_commit(alloc, time, writes)?;
+        let names = self.order.heads().len() + 1;
+        reserve_names(&mut self.pending, names)?;
         if self.queue.reserve(1).is_err() || self.order.reserve(1).is_err() {
             return Err(AllocError);
         }

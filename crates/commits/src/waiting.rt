@@ -57,6 +57,14 @@ impl Waiting {
         self.reclaimed
     }
 
+    /// The versions after it are these, which have forgotten what ended by the mark.
+    pub fn forget(&mut self, after: Frozen, mark: u64)
+        ensures { self.new ≡ record self.old { after = after; reclaimed = mark } }
+    {
+        self.after = after;
+        self.reclaimed = mark;
+    }
+
     /// The versions after it, where it waits no longer.
     pub fn into_after(self) -> Frozen
         ensures { result ≡ self.after }

@@ -8,10 +8,10 @@ use Rattle.law_image.specs.Values.{Value}
 use Rattle.chains.specs.KeyWrites.{KeyWrites, forgotten}
 use Rattle.chains.proofs.Order.{ordered-forgotten}
 use Rattle.commits.specs.Values.{CommitsValue, WaitingValue, mark_after}
+use Rattle.commits.specs.Reclaims.{fresh_at, freshened}
 use Rattle.law_refinement.proofs.Waiting.{forgotten-forgets, forgotten-rising, forgotten-same}
 use Rattle.law_commits.specs.Standing.{Waits, AllWait, StandsInMemory}
 use Rattle.law_commits.specs.Laws.{IsFresh}
-use Rattle.law_commits.specs.Reclaims.{fresh_at, freshened}
 use Rattle.law_commits.proofs.Reclaims.{behind-same}
 
 -- the mark of the versions behind one of them is its own

@@ -8,5 +8,6 @@ pub mod Answering
 pub mod Views
 pub mod Beside
 pub mod Reclaims
+pub mod Prepared
 pub mod Freshening
 pub mod Tickets

@@ -17,6 +17,8 @@ use Rattle.chains.specs.KeyWrites.{KeyWrites, writes_of, forgotten}
 use Rattle.group.specs.CommitOrder.{IsRisingAfter}
 use Rattle.group.specs.declared.commit_order.CommitHead.{CommitHead}
 use Rattle.commits.specs.Values.{CommitsValue, WaitingValue}
+use Rattle.commits.specs.Reclaims.{stays, left_after, reclaimed_to}
+use Rattle.commits.proofs.Names.{left-rising}
 use Rattle.law_refinement.specs.Standing.{Name, name_of, name_at, snapshots_of}
 use Rattle.law_refinement.specs.Laws.{ForgottenHolds}
 use Rattle.law_refinement.proofs.KeptWrites.{kept-again, kept-more}
@@ -25,7 +27,6 @@ use Rattle.law_refinement.proofs.Conflicts.{rising-behind}
 use Rattle.law_refinement.proofs.Waiting.{AreRising, SaySame, forgotten-forgets, forgotten-same, written-later}
 use Rattle.law_refinement.proofs.Submitting.{order-rising}
 use Rattle.law_commits.specs.Standing.{HasNames, Waits, AllWait, StandsInMemory}
-use Rattle.law_commits.specs.Reclaims.{stays, left_after, reclaimed_to}
 use Rattle.law_commits.proofs.Names.{AllUpto, AllAmong, published-heads, back-names}
 use Rattle.law_commits.proofs.Order.{published-rises}
 
@@ -211,18 +212,6 @@ length-taken : {X : Type 0} (n : ℕ) (xs : List X) → n ≤ length xs → leng
 length-taken zero xs low = refl
 length-taken (suc n) [] low = absurd (omega arith)
 length-taken (suc n) (x ∷ xs) low = ap suc (length-taken n xs (omega arith))
-
-left-rising : (mark t : ℕ) (heads : List CommitHead) → IsRisingAfter t heads → IsRisingAfter t (left_after mark heads)
-left-rising mark t [] up = tt
-left-rising mark t (x ∷ xs) up =
-    elim (stays mark x) as (λ (b : Bool). IsRisingAfter t (cond b (x ∷ left_after mark xs) (left_after mark xs))) [
-      | true ↦ (up.0, up.1, left-rising mark x.time xs up.2)
-      | false ↦ earlier t x.time (left_after mark xs) up.0 (left-rising mark x.time xs up.2)
-    ]
-  where
-    earlier : (s t : ℕ) (heads : List CommitHead) → s < t → IsRisingAfter t heads → IsRisingAfter s heads
-    earlier s t [] less up = tt
-    earlier s t (y ∷ ys) less up = let first = up.0 in (omega (arith, first, less), up.1, up.2)
 
 queue-later : (m : Machine Value) (mark : ℕ) → IsMachine IsValue m → mark ≤ last m.published → HasRisingTimes mark m.queue
 queue-later m mark machine reached =

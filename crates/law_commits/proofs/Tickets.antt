@@ -15,9 +15,9 @@ use Rattle.group.specs.CommitOrder.{IsRisingAfter, is_awaited, last_time_after}
 use Rattle.group.specs.declared.commit_order.CommitHead.{CommitHead}
 use Rattle.commits.specs.Values.{CommitsValue, order_of, last_assigned}
 use Rattle.commits.specs.Steps.{with_waiting}
+use Rattle.commits.specs.Reclaims.{stays, left_after, reclaimed_to}
 use Rattle.law_refinement.specs.Standing.{Name, name_of, name_at}
 use Rattle.law_commits.specs.Standing.{StandsInMemory}
-use Rattle.law_commits.specs.Reclaims.{stays, left_after, reclaimed_to}
 use Rattle.law_commits.proofs.Names.{AllUpto, among-upto, published-heads, front-names}
 use Rattle.law_commits.proofs.Answering.{awaited-later}
 

@@ -8,8 +8,8 @@ use Rattle.group.specs.CommitOrder as orders
 use Rattle.group.specs.CommitOrder.{is_awaited}
 use Rattle.commits.specs.Values.{CommitsValue, order_of, last_assigned}
 use Rattle.commits.specs.Steps.{with_waiting}
+use Rattle.commits.specs.Reclaims.{reclaimed_to}
 use Rattle.law_commits.specs.Standing.{StandsInMemory}
-use Rattle.law_commits.specs.Reclaims.{reclaimed_to}
 
 -- a commit that begins to wait is awaited
 abbrev pub QueuedIsAwaited : Type 0

@@ -4,6 +4,7 @@ ghost use Rattle.law_commits.specs.Laws.{RedeemStands, AwaitedIsAnswered, Others
 ghost use Rattle.law_commits.specs.Views.{ViewIsOfHistory};
 ghost use Rattle.law_commits.specs.Beside.{BesideStands, GroupStands, RaiseStands};
 ghost use Rattle.law_commits.specs.Reclaims.{ReclaimStands, FreshStands, FreshIsFresh};
+ghost use Rattle.law_commits.specs.Prepared.{MadeIsPrepared, BeginKeepsMade, AbortKeepsMade, RedeemKeepsMade, WaitingKeepsMade};
 ghost use Rattle.law_commits.specs.Tickets.{QueuedIsAwaited, ReclaimKeepsAwaited, LateTimesAreOfLabel};
 
 /// The last published time, and the last time that was given, are those of the history and of the commit
@@ -73,6 +74,16 @@ pub fn reclaims_stand()
 pub fn freshened_stands()
     ensures stands { FreshStands }
     ensures fresh { FreshIsFresh }
+{}
+
+/// What is made for a reclaim stays as it was made while transactions begin and are aborted, tickets are
+/// redeemed and commits begin to wait.
+pub fn made_stays()
+    ensures prepared { MadeIsPrepared }
+    ensures begin { BeginKeepsMade }
+    ensures abort { AbortKeepsMade }
+    ensures redeem { RedeemKeepsMade }
+    ensures waiting { WaitingKeepsMade }
 {}
 
 /// A commit that begins to wait is awaited, and no reclaim changes what is awaited.

@@ -22,6 +22,7 @@ commits_of mark heads versions floors = record {
   heads = heads;
   published = length heads;
   versions = versions;
+  pending = None;
   queue = [];
   group = 0;
   floors = floors;

@@ -79,6 +79,7 @@ created_on mark extents disk = record {
     heads = [];
     published = 0;
     versions = [];
+    pending = None;
     queue = [];
     group = 0;
     floors = no_floors;

@@ -4,7 +4,7 @@ use Rattle.log_writer.specs.Turns.{Stage}
 use Rattle.log_writer.specs.Writer.{WriterState}
 use Rattle.log_writer.specs.Writer as writers
 use Rattle.log_roots.specs.Turning as turning
-use Rattle.log_store.specs.Values.{ReclaimValue}
+use Rattle.log_store.specs.Values.{ReclaimValue, has_opened, has_turned, has_turned_in}
 use Rattle.log_store.specs.declared.reclaim.ReclaimStage.{ReclaimStage}
 use Rattle.log_store.specs.declared.reclaim.ReclaimStage.TheVariants.{Writing, Rolling, Turning}
 
@@ -12,8 +12,7 @@ use Rattle.log_store.specs.declared.reclaim.ReclaimStage.TheVariants.{Writing, R
 
 -- the gate of the group's chain is written and not synced
 abbrev pub is_open : Option WriterState → Bool
-is_open None = false
-is_open (Some w) = writers.is_settling w.stage
+is_open = has_opened
 
 -- the turn gate is to be written
 abbrev pub is_turning : ReclaimStage → Bool
@@ -34,14 +33,11 @@ waits_to_turn turn (Some r) = waits_at turn r.stage
 
 -- the turn gate is written and not synced
 abbrev pub is_turned : ReclaimStage → Bool
-is_turned (Writing anchors base) = false
-is_turned (Rolling roll) = false
-is_turned (Turning t) = turning.is_settling t.stage
+is_turned = has_turned
 
 -- so the gate of a group waits
 abbrev pub bars_gate : Option ReclaimValue → Bool
-bars_gate None = false
-bars_gate (Some r) = is_turned r.stage
+bars_gate = has_turned_in
 
 -- the gate of the group's chain is to be written, and waits
 abbrev pub waits_to_open : Option ReclaimValue → Stage → Bool

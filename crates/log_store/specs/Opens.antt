@@ -67,6 +67,7 @@ commits_on mark members floors reclaimed = record {
   heads = map head_as members.commits.items;
   published = length members.commits.items;
   versions = members.versions;
+  pending = None;
   queue = [];
   group = 0;
   floors = floors;

@@ -1,6 +1,6 @@
 -- The steps of a group to the disk.
 use Rattle.std.specs.Prelude.{ℕ, ◌≡◌, ◌⊎◌, ◌==◌, min, Bool, false, IsTrue, List, [], length, take, drop, Option, Some, None, Result, Ok, Err, MatchBool}
-use Rattle.std.specs.Prelude.{MatchResult, true}
+use Rattle.std.specs.Prelude.{MatchResult, true, ◌&&◌, if◌then◌else◌}
 use Rattle.disk.specs.Calls.{Counts, refused_answer}
 use Rattle.disk.specs.declared.area.DeviceFault.{DeviceFault}
 use Rattle.group.specs.declared.answers.PumpFault.{PumpFault}
@@ -13,6 +13,8 @@ use Rattle.log_writer.specs.declared.writer.Wrote.TheVariants as wrote
 use Rattle.log_extents.specs.Chains.{count_of}
 use Rattle.log_room.specs.Rooms.{RoomValue, TakesChain}
 use Rattle.log_room.specs.Contents.{joined, extents_of}
+use Rattle.commits.specs.Reclaims.{is_stale, freshened}
+use Rattle.commits.specs.Values.{CommitsValue}
 use Rattle.commits.specs.Steps.{group_last, grouped, published, broken}
 use Rattle.log_recovery.specs.declared.live.LivePart.TheVariants.{Commits}
 use Rattle.log_store.specs.declared.job.Job.{Job}
@@ -118,11 +120,37 @@ bars_groups (Some job) = bars_at job.stage
 abbrev pub BeginsOrWaits : Bool → LogStoreValue → Result Did PumpFault → LogStoreValue → Type 0
 BeginsOrWaits tells old result new = MatchBool (bars_groups old.job) ((result ≡ Err fault.Busy) × (new ≡ old)) (BeginsGroup tells old result new)
 
+-- where the gate is to open, the versions that the group leaves forget what a reclaim has made the others forget since they were made
+abbrev pub made_fresh : Stage → LogStoreValue → LogStoreValue
+made_fresh stage v = if writers.is_opening stage then record v { commits = freshened v.commits } else v
+
+abbrev pub fresh_by : Option WriterState → LogStoreValue → LogStoreValue
+fresh_by None v = v
+fresh_by (Some w) v = made_fresh w.stage v
+
+abbrev pub is_behind_by : Option WriterState → CommitsValue → Bool
+is_behind_by None commits = false
+is_behind_by (Some w) commits = writers.is_opening w.stage && is_stale commits
+
+-- so of the group that stands
+abbrev pub all_fresh : LogStoreValue → LogStoreValue
+all_fresh v = fresh_by v.turn v
+
+-- the gate is to open, and what the group leaves was made before a reclaim was done
+abbrev pub is_behind : LogStoreValue → Bool
+is_behind v = is_behind_by v.turn v.commits
+
+-- there is memory for that, and the next call is made; or there is none, and nothing has changed
+abbrev pub FreshensAndAdvances : Bool → WriterState → LogStoreValue → Result Did PumpFault → LogStoreValue → Type 0
+FreshensAndAdvances tells w old result new =
+    ((writers.is_opening w.stage && is_stale old.commits ≡ true) × (result ≡ Err fault.NoMemory) × (new ≡ old))
+    ⊎ Advances tells w (made_fresh w.stage old) result new
+
 -- A step: where no group stands, one begins if commits wait and no job bars it. The gate of a group waits while the turn gate is written and not synced.
 abbrev pub TakesStep : Bool → LogStoreValue → Option WriterState → Result Did PumpFault → LogStoreValue → Type 0
 TakesStep tells old None result new = MatchBool (length old.commits.queue == 0) ((result ≡ Ok did.Idle) × (new ≡ old)) (BeginsOrWaits tells old result new)
 TakesStep tells old (Some w) result new =
-    MatchBool (waits_to_open old.reclaim w.stage) ((result ≡ Err fault.Busy) × (new ≡ old)) (Advances tells w old result new)
+    MatchBool (waits_to_open old.reclaim w.stage) ((result ≡ Err fault.Busy) × (new ≡ old)) (FreshensAndAdvances tells w old result new)
 
 -- a failed store writes nothing; any other takes the next step
 abbrev pub Pumps : Bool → LogStoreValue → Result Did PumpFault → LogStoreValue → Type 0

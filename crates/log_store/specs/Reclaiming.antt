@@ -1,6 +1,6 @@
 -- The steps of a reclaim.
-use Rattle.std.specs.Prelude.{ℕ, ◌≡◌, ◌+◌, ◌/◌, ◌<◌, ◌≤◌, Bool, IsTrue, List, [], ◌∷◌, ◌++◌, length, flat_map, take, drop, Option, Some, None}
-use Rattle.std.specs.Prelude.{Result, Err, MatchBool, MatchResult}
+use Rattle.std.specs.Prelude.{ℕ, ◌≡◌, ◌+◌, ◌/◌, ◌<◌, ◌≤◌, Bool, true, IsTrue, List, [], ◌∷◌, ◌++◌, length, flat_map, take, drop, Option, Some, None}
+use Rattle.std.specs.Prelude.{◌⊎◌, Result, Err, MatchBool, MatchResult, if◌then◌else◌}
 use Rattle.std.specs.List.{AllByRecursion}
 use Rattle.byteorder.specs.Endian.{little_bytes}
 use Rattle.disk.specs.Areas.{Areas}
@@ -9,6 +9,7 @@ use Rattle.disk.specs.declared.area.Area.TheVariants as areas
 use Rattle.disk.specs.declared.area.DeviceFault.{DeviceFault}
 use Rattle.group.specs.declared.answers.PumpFault.{PumpFault}
 use Rattle.group.specs.declared.answers.PumpFault.TheVariants as pump
+use Rattle.commits.specs.Reclaims.{prepared, reclaimed_to}
 use Rattle.log_extents.specs.Chains.{first_or}
 use Rattle.log_writer.specs.Turns.{Part}
 use Rattle.log_writer.specs.Whole.{WholeState}
@@ -25,7 +26,7 @@ use Rattle.log_room.specs.Reserves.{based_on, with_kept}
 use Rattle.log_store.specs.Live.{LiveValue, IsNoBase, AreNumbers, HasNumbers}
 use Rattle.log_store.specs.Named.{NamedValue}
 use Rattle.log_store.specs.Values.{LogStoreValue, ReclaimValue}
-use Rattle.log_store.specs.Gates.{waits_at}
+use Rattle.log_store.specs.Gates.{is_turning, waits_at}
 use Rattle.log_store.specs.Pumps.{with_failure}
 use Rattle.log_store.specs.Runs.{disk_answer}
 use Rattle.log_store.specs.declared.job.JobDid.{JobDid}
@@ -165,9 +166,10 @@ pub record Stands (r : ReclaimValue) (roots : Roots) (room : RoomValue) (live : 
   pub named_is : new_named ≡ r.named
 
 -- The base has taken the place of the front: of the heap its extents and those of its anchors are in use, those of the chains that stay, and the one where the
--- log ends.
+-- log ends. Memory forgets the versions that ended by its mark, and the names of the commits up to it.
 abbrev pub with_base : LogStoreValue → ReclaimValue → LogStoreValue
 with_base v r = record v {
+  commits = reclaimed_to r.base.upto v.commits;
   roots = turned_to v.roots (first_or 0 r.numbers);
   room = room_with r v.live v.room;
   live = live_with r v.live;
@@ -201,7 +203,16 @@ pub record AdvancesReclaim (tells : Bool) (r : ReclaimValue) (old : LogStoreValu
   pub answer : MatchResult result (λ what. (what ≡ did_at r.stage) × (new ≡ record (behind old r r.stage) { disk = new.disk }))
       (λ why. (why ≡ pump.Failed) × (new ≡ record (with_failure old) { disk = new.disk }))
 
+-- before the turn gate is written, what memory then has is made
+abbrev pub made_ready : ReclaimValue → LogStoreValue → LogStoreValue
+made_ready r v = if is_turning r.stage then record v { commits = prepared r.base.upto v.commits } else v
+
+-- there is memory for that, and the next call is made; or there is none, and nothing has changed
+abbrev pub PreparesAndAdvances : Bool → ReclaimValue → LogStoreValue → Result JobDid PumpFault → LogStoreValue → Type 0
+PreparesAndAdvances tells r old result new =
+    ((is_turning r.stage ≡ true) × (result ≡ Err pump.NoMemory) × (new ≡ old)) ⊎ AdvancesReclaim tells r (made_ready r old) result new
+
 -- the turn gate waits for a group whose gate is written and not synced
 abbrev pub StepsReclaim : Bool → ReclaimValue → LogStoreValue → Result JobDid PumpFault → LogStoreValue → Type 0
 StepsReclaim tells r old result new =
-    MatchBool (waits_at old.turn r.stage) ((result ≡ Err pump.Busy) × (new ≡ old)) (AdvancesReclaim tells r old result new)
+    MatchBool (waits_at old.turn r.stage) ((result ≡ Err pump.Busy) × (new ≡ old)) (PreparesAndAdvances tells r old result new)

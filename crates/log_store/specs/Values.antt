@@ -1,12 +1,14 @@
 -- What a clause sees of a store whose log lies in the heap.
-use Rattle.std.specs.Prelude.{ℕ, ◌≡◌, ◌+◌, ◌/◌, ◌^◌, ◌≤◌, ◌<◌, ◌||◌, Bool, List, ◌++◌, length, drop, is_some, Option, None, Some, MatchOption, if◌then◌else◌}
+use Rattle.std.specs.Prelude.{ℕ, ◌≡◌, ◌+◌, ◌/◌, ◌^◌, ◌≤◌, ◌<◌, ◌||◌, ◌&&◌, Bool, true, false, List, ◌++◌, length, drop, is_some, Option, None, Some, MatchOption, if◌then◌else◌}
 use Rattle.std.specs.List.{AllByRecursion}
 use Rattle.disk.specs.Calls.{DiskState}
 use Rattle.timequery.specs.Archives.{ArchiveValue}
 use Rattle.log_roots.specs.declared.roots.Roots.{Roots}
 use Rattle.log_writer.specs.Writer.{WriterState, IsOnItsWay}
+use Rattle.log_writer.specs.Writer as writers
 use Rattle.log_room.specs.Rooms.{RoomValue}
 use Rattle.log_room.specs.Contents.{extents_of}
+use Rattle.commits.specs.Reclaims.{IsPrepared}
 use Rattle.commits.specs.Values.{CommitsValue}
 use Rattle.log_recovery.specs.Live.{LiveChainValue, live_count}
 use Rattle.log_store.specs.Live.{LiveValue, IsNoBase, AreNumbers, AreLive}
@@ -121,6 +123,27 @@ pub record IsReclaiming (job : Option Job) (chains : List LiveChainValue) (reser
 abbrev pub IsReclaimBeside : Option Job → List LiveChainValue → RoomValue → Option ReclaimValue → Type 0
 IsReclaimBeside job chains room reclaim = MatchOption reclaim (room.reserved ≡ 0) (IsReclaiming job chains room.reserved (length room.used))
 
+-- the turn gate of a reclaim is written and not synced
+abbrev pub has_turned : ReclaimStage → Bool
+has_turned (reclaims.Writing anchors base) = false
+has_turned (reclaims.Rolling roll) = false
+has_turned (reclaims.Turning t) = turning.is_settling t.stage
+
+-- so of the reclaim that runs, if one does
+abbrev pub has_turned_in : Option ReclaimValue → Bool
+has_turned_in None = false
+has_turned_in (Some r) = has_turned r.stage
+
+-- the gate of the group's chain is written and not synced
+abbrev pub has_opened : Option WriterState → Bool
+has_opened None = false
+has_opened (Some w) = writers.is_settling w.stage
+
+-- A reclaim raises the reclaim mark to the archive mark. Once its turn gate is written, what memory has behind it is made.
+abbrev pub IsReclaimInMemory : CommitsValue → NamedValue → Option ReclaimValue → Type 0
+IsReclaimInMemory commits named reclaim = MatchOption reclaim (Unit {0}) (λ r. (r.base.upto ≡ named.upto) × (r.named.upto ≡ named.upto)
+    × (has_turned r.stage ≡ true → IsPrepared r.base.upto commits))
+
 -- a job runs
 abbrev pub is_busy : LogStoreValue → Bool
 is_busy v = is_some v.job || is_some v.reclaim
@@ -141,3 +164,8 @@ pub record IsInStep (v : LogStoreValue) : Type 0 where
   pub place : IsJobInPlace v.job
   pub live : AreLive v.live
   pub reclaim : IsReclaimBeside v.job v.live.chains v.room v.reclaim
+  -- the reclaim mark is not above the archive mark
+  pub marks : (v.commits.reclaimed ≤ v.named.upto) × (v.named.upto < 2 ^ 63)
+  pub in_memory : IsReclaimInMemory v.commits v.named v.reclaim
+  -- the gate of a group and the turn gate are never both written and not synced, so nothing is published between
+  pub apart : has_opened v.turn && has_turned_in v.reclaim ≡ false

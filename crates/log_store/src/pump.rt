@@ -1,8 +1,8 @@
 //! The steps of a group to the disk.
-ghost use Rattle.std.specs.Prelude.{◌≡◌, ◌<◌, false, IsTrue, IsSome, OnErr, OnOk, length, None};
+ghost use Rattle.std.specs.Prelude.{◌≡◌, ◌<◌, false, true, IsTrue, IsSome, OnErr, OnOk, length, None};
 ghost use Rattle.disk.specs.Areas.{AreSound};
 ghost use Rattle.log_store.specs.Gates.{bars_gate, turn_waits};
-ghost use Rattle.log_store.specs.Pumps.{Pumps, bars_groups, Begins, AdvancesGroup, did_of};
+ghost use Rattle.log_store.specs.Pumps.{Pumps, bars_groups, Begins, AdvancesGroup, all_fresh, did_of, is_behind};
 
 use crate::job::JobStage;
 use crate::reclaim::Reclaim;
@@ -62,7 +62,8 @@ impl<D: Disk> LogStore<D> {
     /// # Errors
     ///
     /// `Failed` once a write or sync of the device was refused. With nothing done, where a group would begin: `Busy` while a job's entry is in
-    /// the writing, or waits to be; `NoMemory`. Where its gate would open: `Busy` while a reclaim has turned the root and not synced that.
+    /// the writing, or waits to be; `NoMemory`. Where its gate would open: `Busy` while a reclaim has turned the root and not synced that;
+    /// `NoMemory` where one was done since the group began.
     pub fn pump(&mut self) -> Result<Did, PumpFault>
         ensures is { Pumps D.tells self.old result self.new }
         ensures sound { IsTrue D.tells → AreSound self.new.disk.areas }
@@ -80,8 +81,13 @@ impl<D: Disk> LogStore<D> {
             if self.begin_group().is_err() {
                 return Err(PumpFault::NoMemory);
             }
-        } else if self.waits_to_open() {
-            return Err(PumpFault::Busy);
+        } else {
+            if self.waits_to_open() {
+                return Err(PumpFault::Busy);
+            }
+            if self.freshen().is_err() {
+                return Err(PumpFault::NoMemory);
+            }
         }
         self.advance()
     }
@@ -130,6 +136,17 @@ impl<D: Disk> LogStore<D> {
             .put(place, &chain.numbers, LivePart::Commits(last));
         self.turn = Some(ChainWriter::new(chain.numbers, chain.link, group.bytes));
         Ok(())
+    }
+
+    // Where the gate is to open, the versions that the group leaves forget what a reclaim has made the others forget.
+    fn freshen(&mut self) -> Result<(), AllocError>
+        ensures ok { OnOk result (self.new ≡ all_fresh self.old) }
+        ensures err { OnErr result ((self.new ≡ self.old) × (is_behind self.old ≡ true)) }
+    {
+        match &self.turn {
+            Some(turn) if turn.is_opening() => self.commits.freshen(self.alloc),
+            _ => Ok(()),
+        }
     }
 
     // The next device call of the group's chain.

@@ -139,6 +139,13 @@ impl ReclaimStage {
 }
 
 impl Reclaim {
+    /// Up to when its base reclaims, in microseconds since 1970.
+    pub(crate) fn mark(&self) -> u64
+        ensures { result ≡ self.now.base.upto }
+    {
+        self.base.upto
+    }
+
     /// Whether the next call turns the gate.
     pub(crate) fn is_turning(&self) -> bool
         ensures { result ≡ is_turning self.now.stage }

@@ -1,25 +1,28 @@
 //! The steps of a reclaim to the disk.
-ghost use Rattle.std.specs.Prelude.{◌≡◌, ◌+◌, ◌/◌, ◌≤◌, ◌∷◌, [], false, IsTrue, IsSome, MatchOption, None, is_some, length};
+ghost use Rattle.std.specs.Prelude.{◌≡◌, ◌+◌, ◌/◌, ◌^◌, ◌<◌, ◌≤◌, ◌∷◌, [], false, true, IsTrue, IsSome, MatchOption, OnErr, OnOk, None, is_some, length};
 ghost use Rattle.std.specs.List.{AllByRecursion};
 ghost use Rattle.disk.specs.Areas.{AreSound};
+ghost use Rattle.commits.specs.Reclaims.{IsPrepared, reclaimed_to};
 ghost use Rattle.log_extents.specs.Chains.{first_or};
 ghost use Rattle.log_roots.specs.Turning.{turned_to};
-ghost use Rattle.log_store.specs.Gates.{is_open, waits_to_turn};
+ghost use Rattle.log_store.specs.Gates.{is_open, is_turning, waits_to_turn};
 ghost use Rattle.log_room.specs.Reserves.{based_on, with_kept};
 ghost use Rattle.log_store.specs.Live.{AreNumbers, HasNumbers, live_value};
-ghost use Rattle.log_store.specs.Reclaiming.{StepsReclaim, AdvancesReclaim, MayStand, Stands, all_kept, kept_numbers, room_with, live_with};
+ghost use Rattle.log_store.specs.Reclaiming.{StepsReclaim, AdvancesReclaim, MayStand, made_ready, Stands, all_kept, kept_numbers, room_with, live_with};
 
 use crate::job::JobDid;
 use crate::live::Live;
 use crate::named::Named;
 use crate::reclaim::Reclaim;
 use crate::store::LogStore;
+use commits::Commits;
 use disk::{DeviceFault, Disk};
 use group::PumpFault;
 use log_recovery::LiveChain;
 use log_room::HeapRoom;
 use log_roots::Roots;
 use log_writer::ChainWriter;
+use std::alloc::AllocError;
 
 // The extents of these chains of the log stay.
 fn keep_chains(room: &mut HeapRoom, chains: &[LiveChain])
@@ -79,16 +82,22 @@ impl Reclaim {
 // The base is the log's, and no reclaim runs.
 fn end_reclaim(
     reclaim: &mut Option<Reclaim>,
+    commits: &mut Commits,
     roots: &mut Roots,
     room: &mut HeapRoom,
     live: &mut Live,
     named: &mut Named,
 )
-    requires { MatchOption reclaim.old ⊥ (λ r. MayStand r (live_value live.old) room.old) }
+    requires stands { MatchOption reclaim.old ⊥ (λ r. MayStand r (live_value live.old) room.old) }
+    requires prepared { MatchOption reclaim.old ⊥ (λ r. IsPrepared r.base.upto commits.old) }
+    requires later { MatchOption reclaim.old ⊥ (λ r. commits.old.reclaimed ≤ r.base.upto) }
+    requires in_range { MatchOption reclaim.old ⊥ (λ r. r.base.upto < 2 ^ 63) }
+    ensures forgotten { MatchOption reclaim.old ⊥ (λ r. commits.new ≡ reclaimed_to r.base.upto commits.old) }
     ensures none { reclaim.new ≡ None }
     ensures stands { MatchOption reclaim.old ⊥ (λ r. Stands r roots.old room.old (live_value live.old) roots.new room.new (live_value live.new) named.new) }
 {
     if let Some(reclaim) = reclaim.take() {
+        commits.reclaim(reclaim.mark());
         reclaim.stands(roots, room, live, named);
     }
 }
@@ -122,6 +131,9 @@ impl<D: Disk> LogStore<D> {
         if self.waits_to_turn() {
             return Err(PumpFault::Busy);
         }
+        if self.prepare().is_err() {
+            return Err(PumpFault::NoMemory);
+        }
         self.advance_reclaim()
     }
 
@@ -132,6 +144,20 @@ impl<D: Disk> LogStore<D> {
         match &self.reclaim {
             None => false,
             Some(reclaim) => reclaim.is_turning() && is_open(&self.turn),
+        }
+    }
+
+    // Before the turn gate is written, what memory has behind it is made.
+    fn prepare(&mut self) -> Result<(), AllocError>
+        requires some { IsSome self.old.reclaim }
+        ensures ok { OnOk result (MatchOption self.old.reclaim ⊥ (λ r. self.new ≡ made_ready r self.old)) }
+        ensures err { OnErr result ((self.new ≡ self.old) × MatchOption self.old.reclaim ⊥ (λ r. is_turning r.stage ≡ true)) }
+    {
+        match &self.reclaim {
+            Some(reclaim) if reclaim.is_turning() => {
+                self.commits.prepare_reclaim(self.alloc, reclaim.mark())
+            }
+            _ => Ok(()),
         }
     }
 
@@ -153,6 +179,7 @@ impl<D: Disk> LogStore<D> {
             Ok(JobDid::JobDone) => {
                 end_reclaim(
                     &mut self.reclaim,
+                    &mut self.commits,
                     &mut self.roots,
                     &mut self.room,
                     &mut self.live,

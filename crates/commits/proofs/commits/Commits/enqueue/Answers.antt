@@ -1,7 +1,8 @@
-use Rattle.std.proofs.Common.{◌≡◌, ◌≤◌, ◌<◌, ◌++◌, List, [], ◌∷◌, true, ap, sym, subst, ◌∙◌}
+use Rattle.std.proofs.Common.{◌≡◌, ◌≤◌, ◌<◌, ◌+◌, ◌++◌, ℕ, List, [], ◌∷◌, length, true, refl, ap, sym, subst, ◌∙◌, length-append}
 use Rattle.chains.specs.KeyWrites.{KeyWrites, latest, with_commit}
 use Rattle.group.specs.declared.commit_order.CommitHead.{CommitHead}
 use Rattle.commits.specs.Values.{CommitsValue, WaitingValue, ordered, ordered_mark, last_assigned}
+use Rattle.commits.specs.Pending.{versions_in, HasRoom}
 use Rattle.commits.specs.Steps.{waiting_as}
 use Rattle.commits.proofs.Kept.{keeps-waiting, waiting-is}
 use Rattle.commits.proofs.commits.Commits.enqueue.Goals as goal
@@ -15,6 +16,7 @@ invariant_of-self-2 c =
       heads = i.order.heads;
       published = i.order.published;
       versions = i.versions;
+      pending = versions_in i.pending;
       queue = i.queue.items;
       group = i.group;
       floors = i.floors;
@@ -41,4 +43,10 @@ invariant_of-self-2 c =
     ap (λ o. o.heads) c.push_reserved.ensures ∙ ap (λ (xs : List CommitHead). xs ++ head ∷ []) same.heads in
     let published_is : c.push_reserved.new.self.published ≡ v.published = ap (λ o. o.published) c.push_reserved.ensures ∙ same.published in
     let early : latest (with_commit (ordered v) time writes) ≤ time = subst (λ (m : List KeyWrites). latest m ≤ time) after_is c.in_ok-after.ensures.latest in
-    rw (queue_is, heads_are, published_is) (keeps-waiting v label time writes c.self.invariant early later)
+    let longer : length (v.heads ++ head ∷ []) ≡ length v.heads + 1 = simp length-append refl in
+    let names_are : length c.heads.result.now + 1 ≡ length (v.heads ++ head ∷ []) =
+    ap (λ (hs : List CommitHead). length hs + 1) c.heads.ensures.is ∙ sym longer in
+    let room : HasRoom c.reserve_names.new.pending (length (v.heads ++ head ∷ [])) =
+    subst (λ (n : ℕ). HasRoom c.reserve_names.new.pending n) names_are c.in_ok-reserve_names.ensures.ok in
+    rw (queue_is, heads_are, published_is, c.in_ok-reserve_names.ensures.versions)
+    (keeps-waiting v label time writes c.self.invariant.0 early later c.requires.in_range, room)

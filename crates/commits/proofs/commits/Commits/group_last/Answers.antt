@@ -8,7 +8,7 @@ pub returns : goal.returns
 returns c =
     let i = c.self.inside in
     let some = subst (λ (v : CommitsValue). 0 < v.group) (sym c.self.view_is) c.requires in
-    let within = c.self.invariant.group_within in
+    let within = c.self.invariant.0.group_within in
     let whole : suc (i.group - 1) ≡ i.group = omega (arith, some) in
     c.time.ensures ∙ time-last 0 i.queue.items (i.group - 1) c.in-Some.waiting.now (omega (arith, some, within)) c.in-Some.ensures.lookup
     ∙ ap (λ (n : ℕ). time_behind 0 (take n i.queue.items)) whole ∙ ap (λ (v : CommitsValue). group_last v) c.self.view_is

@@ -20,4 +20,4 @@ returns-in-Some-clause-upto c =
     (let some = c.in-Some.ensures.variant.0 refl in omega (arith, some, c.self.inside.queue.ok.0)) c.in-Some.ensures.lookup in
     subst (λ (w : CommitsValue). latest c.after.result.now ≤ last_assigned w) c.self.view_is
     (subst (λ (m : List KeyWrites). latest m ≤ last) (sym is)
-    (by-last last c.self.inside.versions items c.self.invariant.latest))
+    (by-last last c.self.inside.versions items c.self.invariant.0.latest))

@@ -1,5 +1,6 @@
 use Rattle.std.proofs.Common.{ap}
 use Rattle.commits.specs.Values.{CommitsValue}
+use Rattle.commits.specs.Pending.{versions_in}
 use Rattle.commits.proofs.Kept.{keeps-published}
 use Rattle.commits.proofs.commits.Commits.publish.Goals as goal
 
@@ -12,6 +13,7 @@ invariant_of-self c =
       heads = i.order.heads;
       published = i.order.published;
       versions = i.versions;
+      pending = versions_in i.pending;
       queue = i.queue.items;
       group = i.group;
       floors = i.floors;
@@ -21,4 +23,4 @@ invariant_of-self c =
     let first = c.publish_first.ensures in
     let heads_are = ap (λ o. o.heads) c.publish.ensures in
     let published_is = ap (λ o. o.published) c.publish.ensures in
-    rw (heads_are, published_is, first.versions, first.queue) (keeps-published v c.self.invariant)
+    rw (heads_are, published_is, first.versions, first.queue) (keeps-published v c.self.invariant.0, tt)
