@@ -12,7 +12,10 @@ use Rattle.log_entries.specs.declared.entry.Entry.TheVariants.{Group, Archived, 
 use Rattle.log_entries.specs.declared.entry.Entry.TheVariants as entries
 use Rattle.log_entries.specs.Ranges.{IsArchive, IsRoll, IsEntry, run_of}
 use Rattle.law_log_layout.specs.HeapLog.{PlacedChain, Span, run_span, runs_behind, runs_from, rolls_in, AreSpansInRow}
-use Rattle.log_recovery.specs.Rules.{LogState, no_log, roll_part, row_end, MayComeBehind, state_behind, MayAllComeBehind}
+use Rattle.law_image.proofs.HeapRuns.{last_mark, last_mark-is}
+use Rattle.log_recovery.specs.declared.rules.LogEnd.{LogEnd}
+use Rattle.log_recovery.specs.Following.{uptos_of, IsEndOf}
+use Rattle.log_recovery.specs.Rules.{LogState, no_log, roll_part, row_end, MayComeBehind, state_behind, state_from, MayAllComeBehind}
 use Rattle.log_recovery.specs.Ends.{EndsEarly, runs_left, rolls_named}
 use Rattle.log_recovery.proofs.Walking.{all_joined}
 
@@ -161,3 +164,17 @@ pub runs_in_range : (most : ℕ) (runs : List Run) (chains : List PlacedChain) �
     → AllByRecursion (λ (c : PlacedChain). IsEntry most c.entry) chains → AllByRecursion IsRun (runs_from runs chains)
 runs_in_range most runs [] all each = all
 runs_in_range most runs (c ∷ chains) all each = runs_in_range most (runs_behind runs c.entry) chains (in_range_behind most runs c.entry all each.0) each.1
+
+-- the mark of the last of these runs, or one before them, is a time
+last-in-range : (before : ℕ) (runs : List Run) → before < 2 ^ 63 → AllByRecursion IsRun runs → last_mark before (uptos_of runs) < 2 ^ 63
+last-in-range before [] low each = low
+last-in-range before (run ∷ runs) low each = last-in-range run.upto runs each.0.upto_high each.1
+
+-- so is the archive mark of a log
+pub archived_is_time : (most mark : ℕ) (chains : List PlacedChain) (end : LogEnd) → IsEndOf mark chains end
+    → AllByRecursion (λ (c : PlacedChain). IsEntry most c.entry) chains → end.archived < 2 ^ 63
+archived_is_time most mark chains end is each =
+    let told = (state_from mark no_log chains).told in
+    let runs : AllByRecursion IsRun end.runs.items = subst (AllByRecursion IsRun) (sym is.runs_are) (runs_in_range most [] chains tt each) in
+    subst (λ (n : ℕ). n < 2 ^ 63) (sym (is.says.archived_is ∙ last_mark-is 0 told ∙ ap (last_mark 0) (sym is.says.marks_are)))
+    (last-in-range 0 end.runs.items (omega arith) runs)

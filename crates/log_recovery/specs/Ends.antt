@@ -61,6 +61,10 @@ abbrev pub KeepsLogShare : ℕ → List PlacedChain → LogEnd → Type 0
 KeepsLogShare most chains end =
     (length (counted_in chains) + (1 + open_of end.archived (max end.mark end.last)) ≤ most / 2) × AreBasesSmall most chains
 
+-- what is reclaimed is archived, up to a commit time
+abbrev pub AreMarksInOrder : LogEnd → Type 0
+AreMarksInOrder end = (end.mark ≤ end.archived) × (end.archived < 2 ^ 63)
+
 -- what is looked at of the end that was read, its shares aside: the flags of the extents, and the end of the log
 pub record IsEndSeen (heap_len next : ℕ) (flags : List Bool) (end : LogEnd) : Type 0 where
   pub within : extent_start next + 1 ≤ heap_len

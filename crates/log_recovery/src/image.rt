@@ -7,6 +7,7 @@ ghost use Rattle.disk.specs.Areas.{image_of, settled_on, LeavesNoMore};
 ghost use Rattle.recovery.specs.Answers.{after_reads};
 ghost use Rattle.recovery.specs.Refusals.{refusals_at_opening};
 ghost use Rattle.recovery.specs.Settling.{Settles, CountsMore, CountsAtMost};
+ghost use Rattle.log_recovery.specs.Ends.{AreMarksInOrder};
 ghost use Rattle.log_recovery.specs.Live.{live_count};
 ghost use Rattle.log_recovery.specs.Opening.{IsImageFault};
 ghost use Rattle.log_recovery.specs.Image.{IsReadFrom};
@@ -31,6 +32,7 @@ pub struct LogRecovered {
 // The image of a settled disk.
 fn read_settled<D: Disk>(alloc: Global, disk: &mut D) -> Result<LogRecovered, OpenFault>
     ensures mark { IfOk result (λ read. read.heap.end.mark < 2 ^ 63) }
+    ensures archived { IfOk result (λ read. AreMarksInOrder read.heap.end) }
     ensures runs { IfOk result (λ read. AllByRecursion IsRun read.heap.end.runs.items) }
     ensures counted { IfOk result (λ read. read.heap.log ≡ live_count read.heap.live.items + 1) }
     ensures found { IsTrue D.tells → IfOk result (IsReadFrom (image_of (D.state disk.old).areas)) }
@@ -66,6 +68,7 @@ fn read_settled<D: Disk>(alloc: Global, disk: &mut D) -> Result<LogRecovered, Op
 /// within it. `Device` where the disk refused a call; `NoMemory`.
 pub fn read_log<D: Disk>(alloc: Global, disk: &mut D) -> Result<LogRecovered, OpenFault>
     ensures mark { IfOk result (λ read. read.heap.end.mark < 2 ^ 63) }
+    ensures archived { IfOk result (λ read. AreMarksInOrder read.heap.end) }
     ensures runs { IfOk result (λ read. AllByRecursion IsRun read.heap.end.runs.items) }
     ensures counted { IfOk result (λ read. read.heap.log ≡ live_count read.heap.live.items + 1) }
     ensures found { IsTrue D.tells → IfOk result (IsReadFrom (image_of (D.state disk.old).areas)) }

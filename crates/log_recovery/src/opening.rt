@@ -9,7 +9,7 @@ ghost use Rattle.log_entries.specs.Ranges.{AreNone, AreSome};
 ghost use Rattle.log_recovery.specs.Chains.{HasEntry};
 ghost use Rattle.log_recovery.specs.Rules.{mark_of};
 ghost use Rattle.log_recovery.specs.Following.{IsEndOf};
-ghost use Rattle.log_recovery.specs.Ends.{EndsEarly, end_parts};
+ghost use Rattle.log_recovery.specs.Ends.{AreMarksInOrder, EndsEarly, end_parts};
 ghost use Rattle.log_recovery.specs.Anchored.{first_names, TakesAnchors, IsAnchorsFault};
 ghost use Rattle.log_extents.specs.Chains.{IsNumberOf};
 ghost use Rattle.recovery.specs.Answers.{after_reads};
@@ -209,6 +209,7 @@ fn finish_heap(
     requires latest { latest read.anchors.versions ≤ read.log.end.mark }
     ensures ends_early { IfOk result (λ heap. AllByRecursion EndsEarly (end_parts heap.end)) }
     ensures mark { IfOk result (λ heap. heap.end.mark < 2 ^ 63) }
+    ensures archived { IfOk result (λ heap. AreMarksInOrder heap.end) }
     ensures runs { IfOk result (λ heap. AllByRecursion IsRun heap.end.runs.items) }
     ensures counted { IfOk result (λ heap. heap.log ≡ live_count heap.live.items + 1) }
     ensures found { (bytes : List ℕ) → heap.len ≡ length bytes → IsAnchoredLog heap.most root bytes read → IfOk result (IsHeapRead heap.most root bytes) }
@@ -252,6 +253,7 @@ pub(crate) fn read_heap<D: Disk>(
     requires root { IsNumberOf heap.most root }
     ensures ends_early { IfOk result (λ read. AllByRecursion EndsEarly (end_parts read.end)) }
     ensures mark { IfOk result (λ read. read.end.mark < 2 ^ 63) }
+    ensures archived { IfOk result (λ read. AreMarksInOrder read.end) }
     ensures runs { IfOk result (λ read. AllByRecursion IsRun read.end.runs.items) }
     ensures counted { IfOk result (λ read. read.log ≡ live_count read.live.items + 1) }
     ensures found { IsTrue D.tells → IfOk result (IsHeapRead heap.most root (D.state disk.old).areas.heap.bytes) }

@@ -1,6 +1,7 @@
 -- A reclaim goes on, and ends.
 use Rattle.std.specs.Prelude.{Result, IsTrue, MatchOption}
-use Rattle.std.proofs.Common.{◌≡◌, ◌≢◌, Bool, Ok, ℕ, ◌<◌, List, [], ◌∷◌, ◌++◌, length, drop, Option, None, Some, refl, sym, ap, subst, ◌∙◌, arith}
+use Rattle.std.proofs.Common.{◌≡◌, ◌≢◌, Bool, true, false, ◌&&◌, Ok, ℕ, ◌^◌, ◌<◌, ◌≤◌, List, [], ◌∷◌, ◌++◌, length, drop, Option, None, Some, refl, sym, ap, subst, ◌∙◌, arith}
+use Rattle.std.proofs.lemmas.Bool.{and_left, and_right}
 use Rattle.disk.specs.Areas.{Areas}
 use Rattle.disk.specs.Calls.{DiskState, Counts, Writes}
 use Rattle.disk.specs.declared.area.Area.TheVariants.{Heap}
@@ -15,7 +16,11 @@ use Rattle.log_base.specs.Rolls.{InRoll}
 use Rattle.log_room.specs.Rooms.{RoomValue}
 use Rattle.log_store.specs.Live.{LiveValue, AreLive}
 use Rattle.log_store.specs.Named.{NamedValue}
-use Rattle.log_store.specs.Values.{LogStoreValue, ReclaimValue, IsStageOnWay, IsReclaiming, IsReclaimBeside, IsInStep}
+use Rattle.commits.specs.Reclaims.{IsPrepared, reclaimed_to}
+use Rattle.commits.specs.Values.{CommitsValue}
+use Rattle.log_store.specs.Gates.{is_turning, waits_at}
+use Rattle.log_store.specs.Values.{LogStoreValue, ReclaimValue, IsStageOnWay, IsReclaiming, IsReclaimBeside, HasTurn, MayRaiseMark, IsInStep}
+use Rattle.log_store.specs.Values.{IsReclaimInMemory, has_turned, has_turned_in, has_opened}
 use Rattle.log_store.specs.Reclaiming.{CallsExtents, did_extents, did_roll, did_of_root, did_at, one_written, piece_written, stage_behind}
 use Rattle.log_store.specs.Reclaiming.{begins_turn, begins_roll, at_turn}
 use Rattle.log_store.specs.Reclaiming.{behind_extents, behind_roll, reclaim_behind, MayStand, Stands, room_with, live_with, with_base}
@@ -76,6 +81,73 @@ module _ (job : Option Job) (chains : List LiveChainValue) (reserved most : ℕ)
   goes-on (Writing anchors base) way more = extents-go anchors base anchors.left base.left
   goes-on (Rolling roll) way more = pieces-go roll roll.left
   goes-on (Turning t) way more = status-goes t t.stage way more
+
+-- what memory has for it: before its turn gate is written that is made
+module _ (commits : CommitsValue) (named : NamedValue) (roots : Roots) (r : ReclaimValue) (is : IsReclaimInMemory commits named (Some r)) where
+  -- of a stage at which the gate is not turned
+  kept : (roll : Option InRoll) (stage : ReclaimStage) → has_turned stage ≡ false
+      → IsReclaimInMemory commits named (Some (record r { roll = roll; stage = stage }))
+  kept roll stage early = (is.0, is.1, λ (turned : has_turned stage ≡ true). absurd (let no : false ≡ true = sym early ∙ turned in cc))
+
+  turn-kept : IsReclaimInMemory commits named (Some (begins_turn roots r))
+  turn-kept = kept r.roll (begins_turn roots r).stage refl
+
+  roll-kept : (roll : Option InRoll) → IsReclaimInMemory commits named (Some (begins_roll roots r roll))
+  roll-kept None = turn-kept
+  roll-kept (Some roll) = kept None (Rolling roll) refl
+
+  extents-kept : (anchors base : WholeState) (xs ys : List Part) → IsReclaimInMemory commits named (Some (behind_extents roots r anchors base xs ys))
+  extents-kept anchors base (x ∷ xs) ys = kept r.roll (behind_extents roots r anchors base (x ∷ xs) ys).stage refl
+  extents-kept anchors base [] (y ∷ ys) = kept r.roll (behind_extents roots r anchors base [] (y ∷ ys)).stage refl
+  extents-kept anchors base [] [] = roll-kept r.roll
+
+  pieces-kept : (roll : InRoll) (bs : List ℕ) → IsReclaimInMemory commits named (Some (behind_roll roots r roll bs))
+  pieces-kept roll [] = turn-kept
+  pieces-kept roll (b ∷ bs) = kept r.roll (behind_roll roots r roll (b ∷ bs)).stage refl
+
+  status-kept : (t : RootTurnState) (stage : turning.Stage) → (turning.is_turning stage ≡ true → IsPrepared r.base.upto commits)
+      → IsReclaimInMemory commits named (Some (at_turn r t (turning.stage_after stage)))
+  status-kept t turning.Writing ready = kept r.roll (at_turn r t turning.Syncing).stage refl
+  status-kept t turning.Syncing ready = kept r.roll (at_turn r t turning.Turning).stage refl
+  status-kept t turning.Turning ready = (is.0, is.1, λ turned. ready refl)
+  status-kept t turning.Settling ready = kept r.roll (at_turn r t turning.Done).stage refl
+  status-kept t turning.Done ready = kept r.roll (at_turn r t turning.Done).stage refl
+
+  pub stays-in-memory : (stage : ReclaimStage) → (is_turning stage ≡ true → IsPrepared r.base.upto commits)
+      → IsReclaimInMemory commits named (Some (reclaim_behind roots r stage))
+  stays-in-memory (Writing anchors base) ready = extents-kept anchors base anchors.left base.left
+  stays-in-memory (Rolling roll) ready = pieces-kept roll roll.left
+  stays-in-memory (Turning t) ready = status-kept t t.stage ready
+
+-- the gate is turned behind a call only where that turns it
+roll-early : (roots : Roots) (r : ReclaimValue) (roll : Option InRoll) → has_turned (begins_roll roots r roll).stage ≡ false
+roll-early roots r None = refl
+roll-early roots r (Some roll) = refl
+
+extents-early : (roots : Roots) (r : ReclaimValue) (anchors base : WholeState) (xs ys : List Part)
+    → has_turned (behind_extents roots r anchors base xs ys).stage ≡ false
+extents-early roots r anchors base (x ∷ xs) ys = refl
+extents-early roots r anchors base [] (y ∷ ys) = refl
+extents-early roots r anchors base [] [] = roll-early roots r r.roll
+
+pieces-early : (roots : Roots) (r : ReclaimValue) (roll : InRoll) (bs : List ℕ) → has_turned (behind_roll roots r roll bs).stage ≡ false
+pieces-early roots r roll [] = refl
+pieces-early roots r roll (b ∷ bs) = refl
+
+module _ (opened : Bool) where
+  status-apart : (stage : turning.Stage) → (turning.is_turning stage && opened) ≡ false → (opened && turning.is_settling (turning.stage_after stage)) ≡ false
+  status-apart turning.Writing free = and_right opened false refl
+  status-apart turning.Syncing free = and_right opened false refl
+  status-apart turning.Turning free = and_left opened true free
+  status-apart turning.Settling free = and_right opened false refl
+  status-apart turning.Done free = and_right opened false refl
+
+  -- so no gate of a group is written and not synced then
+  pub stays-apart : (roots : Roots) (r : ReclaimValue) (stage : ReclaimStage) → (is_turning stage && opened) ≡ false
+      → (opened && has_turned (reclaim_behind roots r stage).stage) ≡ false
+  stays-apart roots r (Writing anchors base) free = and_right opened _ (extents-early roots r anchors base anchors.left base.left)
+  stays-apart roots r (Rolling roll) free = and_right opened _ (pieces-early roots r roll roll.left)
+  stays-apart roots r (Turning t) free = status-apart t.stage free
 
 -- a call behind which nothing else begins leads on by its stage alone
 module _ (roots : Roots) (r : ReclaimValue) where
@@ -152,6 +224,9 @@ pub reclaims : (v : LogStoreValue) (r : ReclaimValue) → IsInStep v → v.recla
     → IsReclaiming v.job v.live.chains v.room.reserved (length v.room.used) r
 reclaims v r is runs = subst (IsReclaimBeside v.job v.live.chains v.room) runs is.reclaim
 
+in-memory : (v : LogStoreValue) (r : ReclaimValue) → IsInStep v → v.reclaim ≡ Some r → IsReclaimInMemory v.commits v.named (Some r)
+in-memory v r is runs = subst (IsReclaimInMemory v.commits v.named) runs is.in_memory
+
 pub may-stand : (v : LogStoreValue) (r : ReclaimValue) → IsInStep v → v.reclaim ≡ Some r → MayStand r v.live v.room
 may-stand v r is runs =
     let reclaiming = reclaims v r is runs in
@@ -168,8 +243,9 @@ may-stand v r is runs =
 
 -- the store is in step with its reclaim one call further
 pub further_in_step : (v : LogStoreValue) (r after : ReclaimValue) (disk : DiskState) → IsInStep v → v.reclaim ≡ Some r
-    → after ≡ reclaim_behind v.roots r r.stage → did_at r.stage ≢ did.JobDone → IsInStep (record v { reclaim = Some after; disk = disk })
-further_in_step v r after disk is runs after-is more = record {
+    → after ≡ reclaim_behind v.roots r r.stage → did_at r.stage ≢ did.JobDone → waits_at v.turn r.stage ≡ false
+    → (is_turning r.stage ≡ true → IsPrepared r.base.upto v.commits) → IsInStep (record v { reclaim = Some after; disk = disk })
+further_in_step v r after disk is runs after-is more free ready = record {
   contents = is.contents;
   bytes = is.bytes;
   promised = is.promised;
@@ -184,15 +260,26 @@ further_in_step v r after disk is runs after-is more = record {
       let reclaiming = reclaims v r is runs in
       subst (λ (x : ReclaimValue). IsReclaiming v.job v.live.chains v.room.reserved (length v.room.used) x) (sym after-is)
       (goes-on v.job v.live.chains v.room.reserved (length v.room.used) v.roots r reclaiming r.stage reclaiming.on_its_way more);
+  marks = is.marks;
+  in_memory = subst (λ (x : ReclaimValue). IsReclaimInMemory v.commits v.named (Some x)) (sym after-is)
+      (stays-in-memory v.commits v.named v.roots r (in-memory v r is runs) r.stage ready);
+  apart = subst (λ (x : ReclaimValue). (has_opened v.turn && has_turned x.stage) ≡ false) (sym after-is)
+      (stays-apart (has_opened v.turn) v.roots r r.stage free);
 }
 
 -- and once its base stands
-pub based_in_step : (v : LogStoreValue) (r : ReclaimValue) (roots : Roots) (room : RoomValue) (live : LiveValue) (named : NamedValue)
-    (after : Option ReclaimValue) (disk : DiskState) → IsInStep v → v.reclaim ≡ Some r → after ≡ None
-    → Stands r v.roots v.room v.live roots room live named
-    → IsInStep (record v { roots = roots; room = room; live = live; named = named; reclaim = after; disk = disk })
-based_in_step v r roots room live named after disk is runs over stands =
+pub based_in_step : (v : LogStoreValue) (r : ReclaimValue) (commits : CommitsValue) (roots : Roots) (room : RoomValue) (live : LiveValue)
+    (named : NamedValue) (after : Option ReclaimValue) (disk : DiskState) → IsInStep v → v.reclaim ≡ Some r → after ≡ None
+    → commits ≡ reclaimed_to r.base.upto v.commits → Stands r v.roots v.room v.live roots room live named
+    → IsInStep (record v { commits = commits; roots = roots; room = room; live = live; named = named; reclaim = after; disk = disk })
+based_in_step v r commits roots room live named after disk is runs over forgets stands =
     let reclaiming = reclaims v r is runs in
+    let memory = in-memory v r is runs in
+    let group : commits.group ≡ v.commits.group = ap (λ (c : CommitsValue). c.group) forgets in
+    let queue : length commits.queue ≡ length v.commits.queue = ap (λ (c : CommitsValue). length c.queue) forgets in
+    let mark : commits.reclaimed ≡ v.named.upto = ap (λ (c : CommitsValue). c.reclaimed) forgets ∙ memory.0 in
+    let upto : named.upto ≡ v.named.upto = ap (λ (n : NamedValue). n.upto) stands.named_is ∙ memory.1 in
+    let was = is.marks in
     let standing = room-stands r v.live v.room in
     let same = stands.room_is in
     let promised : room.promised ≡ v.room.promised = ap (λ (x : RoomValue). x.promised) same ∙ standing.promised in
@@ -201,7 +288,7 @@ based_in_step v r roots room live named after disk is runs over stands =
     let log : room.log ≡ (room_with r v.live v.room).log = ap (λ (x : RoomValue). x.log) same in
     let count : live_count live.chains ≡ live_count (live_with r v.live).chains = ap (λ (x : LiveValue). live_count x.chains) stands.live_is in
     record {
-      contents = is.contents;
+      contents = let contents = is.contents in omega (arith, contents, group, queue);
       bytes = is.bytes;
       promised = promised ∙ is.promised;
       few = let few = is.few in omega (arith, few, promised);
@@ -210,12 +297,47 @@ based_in_step v r roots room live named after disk is runs over stands =
           let kept = standing.log in
           let all = base-counts r (drop r.front v.live.chains) reclaiming.back in
           omega (arith, log, count, kept, all);
-      turn = is.turn;
+      turn = subst (λ (n : ℕ). HasTurn n v.turn) (sym group) is.turn;
       beside = is.beside;
       place = is.place;
+      marks = record {
+        below = omega (arith, mark, upto);
+        in_range = let high = was.in_range in omega (arith, high, upto);
+        raised = subst (λ (n : ℕ). MayRaiseMark n v.job) (sym upto) was.raised;
+      };
+      in_memory = subst (IsReclaimInMemory commits named) (sym over) tt;
+      apart = subst (λ (o : Option ReclaimValue). (has_opened v.turn && has_turned_in o) ≡ false) (sym over) (and_right (has_opened v.turn) false refl);
       live = subst AreLive (sym stands.live_is) (live-stands r v.live is.live reclaiming.numbers reclaiming.anchors reclaiming.back);
       reclaim = subst (λ (o : Option ReclaimValue). IsReclaimBeside v.job live.chains room o) (sym over) reserved;
     }
+
+-- ---- its end
+
+-- before its last call the gate is turned
+turn-done : (stage : turning.Stage) → did_of_root (turning.did stage) ≡ did.JobDone → turning.IsOnItsWay stage → turning.is_settling stage ≡ true
+turn-done turning.Writing done way = absurd (let no : did.RootWritten ≡ did.JobDone = done in cc)
+turn-done turning.Syncing done way = absurd (let no : did.RootSynced ≡ did.JobDone = done in cc)
+turn-done turning.Turning done way = absurd (let no : did.TurnWritten ≡ did.JobDone = done in cc)
+turn-done turning.Settling done way = refl
+turn-done turning.Done done way = absurd way
+
+done-turned : (stage : ReclaimStage) → did_at stage ≡ did.JobDone → IsStageOnWay stage → has_turned stage ≡ true
+done-turned (Writing anchors base) done way = absurd (extents-last (anchors.left ++ base.left) done)
+done-turned (Rolling roll) done way = absurd (roll-last roll.left done)
+done-turned (Turning t) done way = turn-done t.stage done way
+
+-- so what memory then has is made
+pub done-prepared : (v : LogStoreValue) (r : ReclaimValue) → IsInStep v → v.reclaim ≡ Some r → did_at r.stage ≡ did.JobDone
+    → IsPrepared r.base.upto v.commits
+done-prepared v r is runs done = (in-memory v r is runs).2 (done-turned r.stage done (reclaims v r is runs).on_its_way)
+
+-- and its mark is not below the one before, and a time
+pub done-marks : (v : LogStoreValue) (r : ReclaimValue) → IsInStep v → v.reclaim ≡ Some r → (v.commits.reclaimed ≤ r.base.upto) × (r.base.upto < 2 ^ 63)
+done-marks v r is runs =
+    let same = (in-memory v r is runs).0 in
+    let below = is.marks.below in
+    let high = is.marks.in_range in
+    (omega (arith, same, below), omega (arith, same, high))
 
 -- ---- a step
 

@@ -4,6 +4,7 @@ use Rattle.std.proofs.Common.{Option, None, Some}
 use Rattle.std.proofs.Common.{refl, sym, ap, subst, ◌∙◌, arith}
 use Rattle.std.specs.List.{AllByRecursion}
 use Rattle.std.specs.Prelude.{flat_map}
+use Rattle.std.proofs.lemmas.Bool.{and_right}
 use Rattle.std.proofs.lemmas.List.{append-nil, length-append}
 use Rattle.deltas.specs.declared.«record».Record.{Record}
 use Rattle.deltas.specs.Records.{spelling}
@@ -25,7 +26,8 @@ use Rattle.log_room.specs.Rooms.{RoomValue}
 use Rattle.log_room.specs.Reserves.{Reserves}
 use Rattle.log_room.proofs.Joins.{some_count}
 use Rattle.log_store.specs.Live.{is_base, IsNoBase, AreNumbers}
-use Rattle.log_store.specs.Values.{LogStoreValue, ReclaimValue, IsReclaiming, IsInStep}
+use Rattle.log_store.specs.Named.{NamedValue}
+use Rattle.log_store.specs.Values.{LogStoreValue, ReclaimValue, IsReclaiming, IsReclaimInMemory, has_opened, IsInStep}
 use Rattle.log_store.specs.Reclaims.{makes, head_or, anchor_bytes, base_with, base_len, named_then, roll_left, standing}
 use Rattle.log_store.specs.Reclaims.{IsPlanOf, with_reclaim, IsReclaimBegun}
 use Rattle.log_store.specs.declared.reclaim.ReclaimStage.TheVariants.{Writing}
@@ -212,6 +214,10 @@ module _ (v : LogStoreValue) (plan : BasePlan) (place made numbers : List ℕ) (
     live = step.live;
     reclaim = subst (λ (x : ReclaimValue). IsReclaiming v.job v.live.chains room.reserved (length room.used) x) (sym r_is)
         (reclaims-now step alone in-made in-numbers);
+    marks = step.marks;
+    in_memory = subst (λ (x : ReclaimValue). IsReclaimInMemory v.commits v.named (Some x)) (sym r_is)
+        (ap (λ (b : Base). b.upto) base-now, ap (λ (n : NamedValue). n.upto) is.named_is, λ (no : false ≡ true). absurd (let that = no in cc));
+    apart = and_right (has_opened v.turn) false refl;
   }
 
 -- the chains that stay are a part of those of the log

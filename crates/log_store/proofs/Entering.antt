@@ -10,7 +10,7 @@ use Rattle.log_room.specs.Rooms.{RoomValue, TakesChain}
 use Rattle.log_room.proofs.Taken.{used_len}
 use Rattle.log_writer.specs.Writer.{WriterState}
 use Rattle.log_store.specs.Live.{LiveValue, with_live, is_base, AreNumbers, AreLive}
-use Rattle.log_store.specs.Values.{LogStoreValue, IsBeside, IsInStep, IsJobInPlace, promised_at, promised_to}
+use Rattle.log_store.specs.Values.{LogStoreValue, IsBeside, IsInStep, IsJobInPlace, MayRaiseMark, AreMarks, promised_at, promised_to}
 use Rattle.log_store.specs.Jobs.{BeginsEntry, IsReady, entry_of, waiting, entering, is_ready}
 use Rattle.log_store.specs.declared.job.Job.{Job}
 use Rattle.log_store.specs.declared.job.JobStage.{JobStage}
@@ -67,6 +67,13 @@ ready-one (stages.Writing writer) ready = refl
 ready-one (Ready waited) ready = refl
 ready-one (Entering w) ready = absurd (let no : false ≡ true = ready in cc)
 
+-- how far a job is changes nothing of the mark that it raises
+marks-at : (v : LogStoreValue) (job : Job) (stage : JobStage) (after : Option Job) → IsInStep v → v.job ≡ Some job
+    → after ≡ Some (record job { stage = stage }) → AreMarks v.commits.reclaimed v.named.upto after
+marks-at v job stage after is is-job after-is =
+    let was = is.marks in
+    record { below = was.below; in_range = was.in_range; raised = subst (MayRaiseMark v.named.upto) (sym after-is) (subst (MayRaiseMark v.named.upto) is-job was.raised) }
+
 -- the store is in step while it waits
 pub waits_in_step : (v : LogStoreValue) (after : Option Job) → IsInStep v → IsReady v.job → after ≡ waiting v.job → IsInStep (record v { job = after })
 waits_in_step v after is ready after-is = by v.job refl
@@ -90,6 +97,9 @@ waits_in_step v after is ready after-is = by v.job refl
           place = subst IsJobInPlace (sym waited) (subst IsJobInPlace is-job is.place);
           live = is.live;
           reclaim = beside-job job v.job after v.live.chains v.live.chains v.room v.room v.reclaim is-job refl is.reclaim;
+          marks = marks-at v job (Ready true) after is is-job waited;
+          in_memory = is.in_memory;
+          apart = is.apart;
         }
 
 -- and it is once the entry has begun
@@ -116,6 +126,9 @@ entered_in_step old job bytes numbers link room live w after is none ready is-jo
   live = subst AreLive (sym live-is) (live-more old.live numbers (part_of (entry_of job.work)) is.live in-range (entry-no-base job.work));
   reclaim = beside-job job old.job after old.live.chains live.chains old.room room old.reclaim is-job (ap (λ (r : RoomValue). r.reserved) takes.new_is)
       is.reclaim;
+  marks = marks-at old job (Entering (begun_writer numbers link bytes)) after is is-job entered;
+  in_memory = is.in_memory;
+  apart = is.apart;
 }
   where
     left : room.promised ≡ old.room.promised - 1

@@ -25,7 +25,7 @@ use Rattle.log_recovery.specs.declared.live.LivePart.{LivePart}
 use Rattle.log_recovery.specs.declared.live.LivePart.TheVariants.{Commits}
 use Rattle.log_recovery.proofs.Lives.{lives-more}
 use Rattle.log_store.specs.Live.{LiveValue, with_live, AreNumbers}
-use Rattle.log_store.specs.Values.{LogStoreValue, HasBytes, HasTurn, IsStageBeside, IsBeside, IsReclaimBeside, IsInStep}
+use Rattle.log_store.specs.Values.{LogStoreValue, HasBytes, HasTurn, IsStageBeside, IsBeside, IsReclaimBeside, IsReclaimInMemory, AreMarks, IsInStep}
 use Rattle.log_store.specs.Pumps.{group_size, group_content, bars_at, bars_groups, Begins}
 use Rattle.log_store.specs.declared.job.Job.{Job}
 use Rattle.log_store.specs.declared.job.JobStage.{JobStage}
@@ -94,6 +94,9 @@ queued_in_step old label time count anchors writes content commits contents room
   place = is.place;
   live = is.live;
   reclaim = subst (λ (r : RoomValue). IsReclaimBeside old.job old.live.chains r old.reclaim) (sym room_is) is.reclaim;
+  marks = subst (λ (c : CommitsValue). AreMarks c.reclaimed old.named.upto old.job) (sym commits_are) is.marks;
+  in_memory = subst (λ (c : CommitsValue). IsReclaimInMemory c old.named old.reclaim) (sym commits_are) is.in_memory;
+  apart = is.apart;
 }
   where
     len : length content ≡ commit_len (map (λ (r : Record). length (spelling r)) (records_over (ordered old.commits) writes))
@@ -163,6 +166,9 @@ begun_in_step old new is none unbarred some begins in_range =
       live = live-more old.live begins.numbers (Commits (group_last (grouped 1024 old.commits))) is.live in_range refl;
       reclaim = beside-more old.job old.live.chains (record { numbers = begins.numbers; part = Commits (group_last (grouped 1024 old.commits)) }) old.room
           begins.room old.reclaim refl (ap (λ (r : RoomValue). r.reserved) begins.takes.new_is) used is.reclaim;
+      marks = subst (λ (c : CommitsValue). AreMarks c.reclaimed old.named.upto old.job) (sym now) is.marks;
+      in_memory = subst (λ (c : CommitsValue). IsReclaimInMemory c old.named old.reclaim) (sym now) is.in_memory;
+      apart = refl;
     })
   where
     used : length begins.room.used ≡ length old.room.used
@@ -171,11 +177,14 @@ begun_in_step old new is none unbarred some begins in_range =
     waits : (old.commits.group ≡ 0) × (length old.contents ≡ length old.commits.queue)
     waits = all_wait old is none
 
+    now : grouped 1024 old.commits ≡ record old.commits { group = min 1024 (length old.commits.queue) }
+    now = grouped_is old.commits waits.0 some
+
     group : (grouped 1024 old.commits).group ≡ min 1024 (length old.commits.queue)
-    group = ap (λ (c : CommitsValue). c.group) (grouped_is old.commits waits.0 some)
+    group = ap (λ (c : CommitsValue). c.group) now
 
     queue : length (grouped 1024 old.commits).queue ≡ length old.commits.queue
-    queue = ap (λ (c : CommitsValue). length c.queue) (grouped_is old.commits waits.0 some)
+    queue = ap (λ (c : CommitsValue). length c.queue) now
 
 -- a chain of which nothing is written yet
 abbrev pub begun_writer : List ℕ → ℕ → List ℕ → WriterState

@@ -96,6 +96,21 @@ abbrev pub IsJobInPlace : Option Job → Type 0
 IsJobInPlace None = Unit {0}
 IsJobInPlace (Some job) = IsInPlace job.work
 
+-- an archive raises the archive mark
+abbrev pub RaisesMark : ℕ → JobWork → Type 0
+RaisesMark upto (Floor floor floors) = Unit {0}
+RaisesMark upto (Archive archive archives) = (upto ≤ archive.upto) × (archive.upto < 2 ^ 63)
+
+abbrev pub MayRaiseMark : ℕ → Option Job → Type 0
+MayRaiseMark upto None = Unit {0}
+MayRaiseMark upto (Some job) = RaisesMark upto job.work
+
+-- the reclaim mark is not above the archive mark, and an archive that is being made raises that
+pub record AreMarks (reclaimed upto : ℕ) (job : Option Job) : Type 0 where
+  pub below : reclaimed ≤ upto
+  pub in_range : upto < 2 ^ 63
+  pub raised : MayRaiseMark upto job
+
 -- a stage of a reclaim has a call still to be made
 abbrev pub IsStageOnWay : ReclaimStage → Type 0
 IsStageOnWay (reclaims.Writing anchors base) = Unit {0}
@@ -164,8 +179,7 @@ pub record IsInStep (v : LogStoreValue) : Type 0 where
   pub place : IsJobInPlace v.job
   pub live : AreLive v.live
   pub reclaim : IsReclaimBeside v.job v.live.chains v.room v.reclaim
-  -- the reclaim mark is not above the archive mark
-  pub marks : (v.commits.reclaimed ≤ v.named.upto) × (v.named.upto < 2 ^ 63)
+  pub marks : AreMarks v.commits.reclaimed v.named.upto v.job
   pub in_memory : IsReclaimInMemory v.commits v.named v.reclaim
   -- the gate of a group and the turn gate are never both written and not synced, so nothing is published between
   pub apart : has_opened v.turn && has_turned_in v.reclaim ≡ false

@@ -153,6 +153,7 @@ impl<D: Disk> LogStore<D> {
     fn advance(&mut self) -> Result<Did, PumpFault>
         requires works { self.old.commits.failed ≡ false }
         requires some { IsSome self.old.turn }
+        requires free { turn_waits self.old.turn self.old.reclaim ≡ false }
         ensures is { AdvancesGroup D.tells self.old self.old.turn result self.new }
         ensures sound { IsTrue D.tells → AreSound self.new.disk.areas }
     {

@@ -165,6 +165,8 @@ impl<D: Disk> LogStore<D> {
     fn advance_reclaim(&mut self) -> Result<JobDid, PumpFault>
         requires works { self.old.commits.failed ≡ false }
         requires some { IsSome self.old.reclaim }
+        requires free { waits_to_turn self.old.turn self.old.reclaim ≡ false }
+        requires ready { MatchOption self.old.reclaim ⊥ (λ r. is_turning r.stage ≡ true → IsPrepared r.base.upto self.old.commits) }
         ensures is { MatchOption self.old.reclaim ⊥ (λ r. AdvancesReclaim D.tells r self.old result self.new) }
         ensures sound { IsTrue D.tells → AreSound self.new.disk.areas }
     {

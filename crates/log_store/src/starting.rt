@@ -54,6 +54,7 @@ impl<D: Disk> LogStore<D> {
         requires none { self.old.job ≡ None }
         requires no_reclaim { self.old.reclaim ≡ None }
         requires run { IsRun run }
+        requires later { self.old.named.upto ≤ run.upto }
         requires room { self.old.room.log + self.old.room.promised + 1 ≤ length self.old.room.used / 2 }
         ensures ok { OnOk result (BeginsArchive self.old run writer self.new) }
         ensures err { OnErr result (self.new ≡ self.old) }
@@ -94,6 +95,7 @@ impl<D: Disk> LogStore<D> {
         ensures none { IfNone result (self.now.job ≡ None) }
         ensures no_reclaim { IfNone result (self.now.reclaim ≡ None) }
         ensures in_range { IfNone result ((0 < upto) × (upto < 2 ^ 63)) }
+        ensures later { IfNone result (self.now.named.upto < upto) }
         ensures room { IfNone result (self.now.room.log + self.now.room.promised + 1 ≤ length self.now.room.used / 2) }
     {
         if self.commits.has_failed() {

@@ -14,7 +14,7 @@ use Rattle.log_recovery.specs.Read.{all_archives}
 use Rattle.log_recovery.specs.Live.{live_count}
 use Rattle.log_recovery.specs.Opening.{FailsHeap, AtEnd}
 use Rattle.log_recovery.proofs.HeapRead.{mark_is_time, members_rise_behind, fault_of_members}
-use Rattle.log_recovery.proofs.Rows.{runs_in_row, rolls_in_row, runs_in_range}
+use Rattle.log_recovery.proofs.Rows.{runs_in_row, rolls_in_row, runs_in_range, archived_is_time}
 use Rattle.log_recovery.proofs.Walking.{all_joined}
 use Rattle.log_recovery.proofs.Finishing.{holds_anchors, three_decide, IsKept, kept_decides, kept_count}
 use Rattle.log_recovery.proofs.Lives.{lives-count}
@@ -120,6 +120,12 @@ returns-clause-found c = λ bytes len is.
 pub returns-clause-mark : goal.returns-clause-mark
 returns-clause-mark c =
     subst (λ (m : ℕ). m < 2 ^ 63) (sym c.requires.end.says.mark_is) (mark_is_time c.args.heap.most c.args.read.log.chains.items c.requires.entries)
+
+pub returns-clause-archived : goal.returns-clause-archived
+returns-clause-archived c = (
+  (c.is_end_right-ends_right.ensures.0 c.in-Some.ensures.1).archived,
+  archived_is_time c.args.heap.most (mark_of c.args.read.log.chains.items) c.args.read.log.chains.items c.args.read.log.end c.requires.end c.requires.entries,
+)
 
 pub returns-clause-ends_early : goal.returns-clause-ends_early
 returns-clause-ends_early c =

@@ -44,8 +44,8 @@ invariant_of-self-in-Ok-JobDone g c =
     let done : did_at c.in-Some.reclaim.stage ≡ did.JobDone = sym made.0 ∙ c.in-Ok-JobDone.field-0-is in
     let ends = c.end_reclaim in
     let live = live_value ends.new.live in
-    based_in_step old c.in-Some.reclaim ends.new.roots ends.new.room live ends.new.named ends.new.reclaim (g.D.Disk.state c.advance.new.disk)
-    c.self.invariant c.in-Some.is ends.ensures.none
+    based_in_step old c.in-Some.reclaim ends.new.commits ends.new.roots ends.new.room live ends.new.named ends.new.reclaim (g.D.Disk.state c.advance.new.disk)
+    c.self.invariant c.in-Some.is ends.ensures.none (forgotten-to old c.in-Some.reclaim c.advance.new.self made.1 ends.ensures.forgotten)
     (last-stands old c.in-Some.reclaim c.advance.new.self made.1 done ends.new.roots ends.new.room live ends.new.named ends.ensures.stands)
 
 pub invariant_of-self-in-Ok : goal.invariant_of-self-in-Ok
@@ -66,7 +66,7 @@ invariant_of-self-in-Ok g c =
     let made = c.in-Ok.ensures.ok in
     let more : c.in-Ok.did ≢ did.JobDone = search rules in
     further_in_step old c.in-Some.reclaim c.advance.new.self (g.D.Disk.state c.advance.new.disk) c.self.invariant c.in-Some.is made.1
-    (λ e. more (made.0 ∙ e))
+    (λ e. more (made.0 ∙ e)) free ready
 
 pub returns-in-Ok-clause-is : goal.returns-in-Ok-clause-is
 returns-in-Ok-clause-is g c =
