@@ -365,6 +365,21 @@ module _ (v : LogStoreValue) (r after : ReclaimValue) (after-is : after ≡ recl
         counted = may.counted;
       })
 
+  pub last-prepared : IsInStep v → v.reclaim ≡ Some r → IsPrepared after.base.upto v.commits
+  last-prepared is runs =
+      let last = last-behind v.roots r r.stage done in
+      subst (λ (x : ReclaimValue). IsPrepared x.base.upto v.commits) (sym (after-is ∙ last.1)) (done-prepared v r is runs done)
+
+  pub last-marks : IsInStep v → v.reclaim ≡ Some r → (v.commits.reclaimed ≤ after.base.upto) × (after.base.upto < 2 ^ 63)
+  last-marks is runs =
+      let last = last-behind v.roots r r.stage done in
+      subst (λ (x : ReclaimValue). (v.commits.reclaimed ≤ x.base.upto) × (x.base.upto < 2 ^ 63)) (sym (after-is ∙ last.1)) (done-marks v r is runs)
+
+  pub last-forgets : (commits : CommitsValue) → commits ≡ reclaimed_to after.base.upto v.commits → commits ≡ reclaimed_to r.base.upto v.commits
+  last-forgets commits forgets =
+      let last = last-behind v.roots r r.stage done in
+      forgets ∙ ap (λ (x : ReclaimValue). reclaimed_to x.base.upto v.commits) (after-is ∙ last.1)
+
   pub last-stands : (roots : Roots) (room : RoomValue) (live : LiveValue) (named : NamedValue)
       → Stands after v.roots v.room v.live roots room live named → Stands r v.roots v.room v.live roots room live named
   last-stands roots room live named stands =
