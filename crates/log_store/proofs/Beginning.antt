@@ -1,5 +1,5 @@
 -- A reclaim begins.
-use Rattle.std.proofs.Common.{◌≡◌, ℕ, zero, suc, ◌+◌, ◌<◌, ◌≤◌, Bool, true, false, cond, List, [], ◌∷◌, ◌++◌, length, drop}
+use Rattle.std.proofs.Common.{◌≡◌, ℕ, zero, suc, ◌+◌, ◌<◌, ◌≤◌, ◌&&◌, Bool, true, false, cond, List, [], ◌∷◌, ◌++◌, length, drop}
 use Rattle.std.proofs.Common.{Option, None, Some}
 use Rattle.std.proofs.Common.{refl, sym, ap, subst, ◌∙◌, arith}
 use Rattle.std.specs.List.{AllByRecursion}
@@ -27,7 +27,7 @@ use Rattle.log_room.specs.Reserves.{Reserves}
 use Rattle.log_room.proofs.Joins.{some_count}
 use Rattle.log_store.specs.Live.{is_base, IsNoBase, AreNumbers}
 use Rattle.log_store.specs.Named.{NamedValue}
-use Rattle.log_store.specs.Values.{LogStoreValue, ReclaimValue, IsReclaiming, IsReclaimInMemory, has_opened, IsInStep}
+use Rattle.log_store.specs.Values.{LogStoreValue, ReclaimValue, IsReclaiming, IsReclaimInMemory, has_opened, has_turned, IsInStep}
 use Rattle.log_store.specs.Reclaims.{makes, head_or, anchor_bytes, base_with, base_len, named_then, roll_left, standing}
 use Rattle.log_store.specs.Reclaims.{IsPlanOf, with_reclaim, IsReclaimBegun}
 use Rattle.log_store.specs.declared.reclaim.ReclaimStage.TheVariants.{Writing}
@@ -217,7 +217,7 @@ module _ (v : LogStoreValue) (plan : BasePlan) (place made numbers : List ℕ) (
     marks = step.marks;
     in_memory = subst (λ (x : ReclaimValue). IsReclaimInMemory v.commits v.named (Some x)) (sym r_is)
         (ap (λ (b : Base). b.upto) base-now, ap (λ (n : NamedValue). n.upto) is.named_is, λ (no : false ≡ true). absurd (let that = no in cc));
-    apart = and_right (has_opened v.turn) false refl;
+    apart = subst (λ (x : ReclaimValue). (has_opened v.turn && has_turned x.stage) ≡ false) (sym r_is) (and_right (has_opened v.turn) false refl);
   }
 
 -- the chains that stay are a part of those of the log

@@ -1,10 +1,12 @@
 -- A store stays in step.
-use Rattle.std.proofs.Common.{◌≡◌, ℕ, zero, suc, ◌==◌, ◌&&◌, ◌^◌, ◌+◌, ◌<◌, ◌≤◌, nat_lt, min, Bool, true, false, cond, List, [], ◌∷◌, ◌++◌, length, map}
+use Rattle.std.proofs.Common.{◌≡◌, ◌≢◌, ℕ, zero, suc, ◌-◌, ◌==◌, ◌&&◌, ◌^◌, ◌+◌, ◌<◌, ◌≤◌, nat_lt, min, Bool, true, false, cond, List, [], ◌∷◌, ◌++◌, length, map}
 use Rattle.std.proofs.Common.{take, drop, Option}
 use Rattle.std.proofs.Common.{refl, sym, ap, subst, ◌∙◌, arith, Some, None}
 use Rattle.std.specs.List.{AllByRecursion}
 use Rattle.std.proofs.lemmas.Bool.Decides.{nat_tests}
-use Rattle.std.proofs.lemmas.List.{length-append, length-drop}
+use Rattle.std.proofs.lemmas.List.{length-append, length-drop, length-set}
+use Rattle.std.proofs.Math.ListN.{set}
+use Rattle.std.specs.Prelude.{slice_get}
 use Rattle.history.specs.declared.key.KeyWrite.{KeyWrite}
 use Rattle.law_image.specs.Values.{Value}
 use Rattle.deltas.specs.declared.«record».Record.{Record}
@@ -13,18 +15,27 @@ use Rattle.log_entries.proofs.CommitLengths.{length-member}
 use Rattle.log_entries.specs.Spelling.{commit_len}
 use Rattle.log_extents.specs.Chains.{count_of}
 use Rattle.log_writer.specs.Writer.{WriterState}
-use Rattle.log_writer.specs.Turns.{Writing, chain_turn}
+use Rattle.log_writer.specs.Turns.{Stage, Writing, Syncing, Opening, Settling, Done, stage_after, chain_turn}
+use Rattle.log_writer.specs.Writer.{with_stage}
+use Rattle.log_writer.specs.Writer as writers
+use Rattle.log_writer.specs.declared.writer.Wrote.TheVariants as wrote
 use Rattle.log_room.specs.Rooms.{RoomValue, promised_to, TakesChain}
 use Rattle.log_room.specs.Contents.{joined, extents_of, content_over, member_over, records_over, extents_over}
 use Rattle.log_room.proofs.Joins.{extents_push, extents_split}
 use Rattle.log_room.proofs.Taken.{used_len}
-use Rattle.commits.specs.Values.{CommitsValue, ordered}
-use Rattle.commits.specs.Steps.{group_last, grouped, with_waiting, waiting_as}
+use Rattle.chains.specs.KeyWrites.{forgotten}
+use Rattle.disk.specs.Calls.{DiskState}
+use Rattle.commits.specs.Reclaims.{fresh_at, freshened}
+use Rattle.commits.specs.Values.{CommitsValue, WaitingValue, ordered}
+use Rattle.commits.specs.Steps.{group_last, grouped, with_waiting, waiting_as, published, broken}
 use Rattle.log_recovery.specs.Live.{counted_at, live_count}
 use Rattle.log_recovery.specs.declared.live.LivePart.{LivePart}
 use Rattle.log_recovery.specs.declared.live.LivePart.TheVariants.{Commits}
 use Rattle.log_recovery.proofs.Lives.{lives-more}
 use Rattle.log_store.specs.Live.{LiveValue, with_live, AreNumbers}
+use Rattle.log_store.specs.Named.{NamedValue}
+use Rattle.log_store.specs.Gates.{waits_to_open}
+use Rattle.log_store.specs.Values.{ReclaimValue, has_opened, has_turned, has_turned_in}
 use Rattle.log_store.specs.Values.{LogStoreValue, HasBytes, HasTurn, IsStageBeside, IsBeside, IsReclaimBeside, IsReclaimInMemory, AreMarks, IsInStep}
 use Rattle.log_store.specs.Pumps.{group_size, group_content, bars_at, bars_groups, Begins}
 use Rattle.log_store.specs.declared.job.Job.{Job}
@@ -134,6 +145,26 @@ unbarred_beside w (stages.Writing writer) unbarred = tt
 unbarred_beside w (Ready waited) unbarred = tt
 unbarred_beside w (Entering e) barred = absurd (let no : true ≡ false = barred in cc)
 
+-- a job stands as well beside no group
+none_beside : (turn : Option WriterState) (stage : JobStage) → IsStageBeside turn stage → IsStageBeside None stage
+none_beside turn (stages.Writing writer) is = tt
+none_beside turn (Ready waited) is = tt
+none_beside turn (Entering e) is = (refl, is.1)
+
+beside_none : (turn : Option WriterState) (job : Option Job) → IsBeside turn job → IsBeside None job
+beside_none turn None is = tt
+beside_none turn (Some job) is = none_beside turn job.stage is
+
+-- and beside the same group however far that is
+same_beside : (w after : WriterState) (stage : JobStage) → IsStageBeside (Some w) stage → IsStageBeside (Some after) stage
+same_beside w after (stages.Writing writer) is = tt
+same_beside w after (Ready waited) is = tt
+same_beside w after (Entering e) is = absurd (let no : Some w ≡ None = is.0 in cc)
+
+beside_same : (w after : WriterState) (job : Option Job) → IsBeside (Some w) job → IsBeside (Some after) job
+beside_same w after None is = tt
+beside_same w after (Some job) is = same_beside w after job.stage is
+
 pub beside_group : (w : WriterState) (job : Option Job) → bars_groups job ≡ false → IsBeside (Some w) job
 beside_group w None unbarred = tt
 beside_group w (Some job) unbarred = unbarred_beside w job.stage unbarred
@@ -228,3 +259,144 @@ begins_with old size count promised bytes numbers link room commits contents las
 
     writer : w ≡ begun_writer numbers link (group_content old)
     writer = w_is ∙ ap (λ (xs : List ℕ). begun_writer numbers link xs) content
+
+-- ---- what the group leaves is made afresh
+
+fresh_by_len : (mark place : ℕ) (queue : List WaitingValue) (w : WaitingValue) (b : Bool)
+    → length (cond b (set queue place (record w { after = forgotten mark w.after; reclaimed = mark })) queue) ≡ length queue
+fresh_by_len mark place queue w true = length-set queue place (record w { after = forgotten mark w.after; reclaimed = mark })
+fresh_by_len mark place queue w false = refl
+
+fresh_len : (mark place : ℕ) (queue : List WaitingValue) (w : Option WaitingValue) → length (fresh_at mark place queue w) ≡ length queue
+fresh_len mark place queue None = refl
+fresh_len mark place queue (Some w) = fresh_by_len mark place queue w (nat_lt w.reclaimed mark)
+
+-- the commits that wait stay as many, and all else as it is
+pub freshened_in_step : (v : LogStoreValue) (commits : CommitsValue) → IsInStep v → commits ≡ freshened v.commits → IsInStep (record v { commits = commits })
+freshened_in_step v commits is fresh = record {
+  contents = let was = is.contents in
+      let group = ap (λ (c : CommitsValue). c.group) fresh in
+      let queue = ap (λ (c : CommitsValue). length c.queue) fresh in
+      let len = fresh_len v.commits.reclaimed (v.commits.group - 1) v.commits.queue (slice_get v.commits.queue (v.commits.group - 1)) in
+      omega (arith, was, group, queue, len);
+  bytes = is.bytes;
+  promised = is.promised;
+  few = is.few;
+  many = is.many;
+  counted = is.counted;
+  turn = subst (λ (n : ℕ). HasTurn n v.turn) (sym (ap (λ (c : CommitsValue). c.group) fresh)) is.turn;
+  beside = is.beside;
+  place = is.place;
+  live = is.live;
+  reclaim = is.reclaim;
+  marks = subst (λ (c : CommitsValue). AreMarks c.reclaimed v.named.upto v.job) (sym fresh) is.marks;
+  in_memory = subst (λ (c : CommitsValue). IsReclaimInMemory c v.named v.reclaim) (sym fresh) is.in_memory;
+  apart = is.apart;
+}
+
+-- ---- calls of the chain
+
+-- what it did last publishes the group
+done-settles : (stage : Stage) → writers.IsOnItsWay stage → writers.did stage ≡ wrote.Settled → writers.is_settling stage ≡ true
+done-settles (Writing done (p ∷ rest)) way did = absurd (let no : wrote.Extent ≡ wrote.Settled = did in cc)
+done-settles (Writing done []) way did = absurd (let no : wrote.ClosedGate ≡ wrote.Settled = did in cc)
+done-settles Syncing way did = absurd (let no : wrote.Synced ≡ wrote.Settled = did in cc)
+done-settles Opening way did = absurd (let no : wrote.Gate ≡ wrote.Settled = did in cc)
+done-settles Settling way did = refl
+done-settles Done way did = absurd way
+
+-- where the turn gate is not written and not synced, what memory has for the reclaim may change
+unturned : (commits after : CommitsValue) (named : NamedValue) (reclaim : Option ReclaimValue) → has_turned_in reclaim ≡ false
+    → IsReclaimInMemory commits named reclaim → IsReclaimInMemory after named reclaim
+unturned commits after named None early is = tt
+unturned commits after named (Some r) early is = (is.0, is.1, λ (turned : has_turned r.stage ≡ true). absurd (let no : false ≡ true = sym early ∙ turned in cc))
+
+pub published_in_step : (v : LogStoreValue) (w : WriterState) (commits : CommitsValue) (disk : DiskState) → IsInStep v → v.turn ≡ Some w
+    → writers.did w.stage ≡ wrote.Settled → commits ≡ published v.commits → IsInStep (record v { commits = commits; turn = None; disk = disk })
+published_in_step v w commits disk is runs did done = record {
+  contents = let was = is.contents in
+      let group = ap (λ (c : CommitsValue). c.group) done in
+      let queue = ap (λ (c : CommitsValue). length c.queue) done in
+      omega (arith, was, group, queue, length-drop v.commits.group v.commits.queue);
+  bytes = is.bytes;
+  promised = is.promised;
+  few = is.few;
+  many = is.many;
+  counted = is.counted;
+  turn = ap (λ (c : CommitsValue). c.group) done;
+  beside = beside_none v.turn v.job is.beside;
+  place = is.place;
+  live = is.live;
+  reclaim = is.reclaim;
+  marks = subst (λ (c : CommitsValue). AreMarks c.reclaimed v.named.upto v.job) (sym done) is.marks;
+  in_memory = unturned v.commits commits v.named v.reclaim early is.in_memory;
+  apart = refl;
+}
+  where
+    way : writers.IsOnItsWay w.stage
+    way = (subst (HasTurn v.commits.group) runs is.turn).1
+
+    early : has_turned_in v.reclaim ≡ false
+    early = subst (λ (b : Bool). (b && has_turned_in v.reclaim) ≡ false) (done-settles w.stage way did)
+        (subst (λ (o : Option WriterState). (has_opened o && has_turned_in v.reclaim) ≡ false) runs is.apart)
+
+-- behind any other call the chain is on its way
+next-way : (stage : Stage) → writers.IsOnItsWay stage → writers.did stage ≢ wrote.Settled → writers.IsOnItsWay (stage_after stage)
+next-way (Writing done (p ∷ rest)) way more = tt
+next-way (Writing done []) way more = tt
+next-way Syncing way more = tt
+next-way Opening way more = tt
+next-way Settling way more = absurd (more refl)
+next-way Done way more = absurd way
+
+next-apart : (stage : Stage) (turned : Bool) → (writers.is_opening stage && turned) ≡ false → (writers.is_settling (stage_after stage) && turned) ≡ false
+next-apart (Writing done (p ∷ rest)) turned free = refl
+next-apart (Writing done []) turned free = refl
+next-apart Syncing turned free = refl
+next-apart Opening turned free = free
+next-apart Settling turned free = refl
+next-apart Done turned free = refl
+
+pub next_in_step : (v : LogStoreValue) (w after : WriterState) (disk : DiskState) → IsInStep v → v.turn ≡ Some w → writers.did w.stage ≢ wrote.Settled
+    → after ≡ with_stage w (stage_after w.stage) → waits_to_open v.reclaim w.stage ≡ false → IsInStep (record v { turn = Some after; disk = disk })
+next_in_step v w after disk is runs more after-is free = record {
+  contents = is.contents;
+  bytes = is.bytes;
+  promised = is.promised;
+  few = is.few;
+  many = is.many;
+  counted = is.counted;
+  turn = ((subst (HasTurn v.commits.group) runs is.turn).0,
+      subst (λ (x : WriterState). writers.IsOnItsWay x.stage) (sym after-is) (next-way w.stage (subst (HasTurn v.commits.group) runs is.turn).1 more));
+  beside = beside_same w after v.job (subst (λ (o : Option WriterState). IsBeside o v.job) runs is.beside);
+  place = is.place;
+  live = is.live;
+  reclaim = is.reclaim;
+  marks = is.marks;
+  in_memory = is.in_memory;
+  apart = subst (λ (x : WriterState). (writers.is_settling x.stage && has_turned_in v.reclaim) ≡ false) (sym after-is)
+      (next-apart w.stage (has_turned_in v.reclaim) free);
+}
+
+-- nothing is written any more
+pub broken_in_step : (v : LogStoreValue) (commits : CommitsValue) (disk : DiskState) → IsInStep v → commits ≡ broken v.commits
+    → IsInStep (record v { commits = commits; disk = disk })
+broken_in_step v commits disk is fails = record {
+  contents = let was = is.contents in
+      let group = ap (λ (c : CommitsValue). c.group) fails in
+      let queue = ap (λ (c : CommitsValue). length c.queue) fails in
+      omega (arith, was, group, queue);
+  bytes = is.bytes;
+  promised = is.promised;
+  few = is.few;
+  many = is.many;
+  counted = is.counted;
+  turn = subst (λ (n : ℕ). HasTurn n v.turn) (sym (ap (λ (c : CommitsValue). c.group) fails)) is.turn;
+  beside = is.beside;
+  place = is.place;
+  live = is.live;
+  reclaim = is.reclaim;
+  marks = subst (λ (c : CommitsValue). AreMarks c.reclaimed v.named.upto v.job) (sym fails) is.marks;
+  in_memory = subst (λ (c : CommitsValue). IsReclaimInMemory c v.named v.reclaim) (sym fails) is.in_memory;
+  apart = is.apart;
+}
