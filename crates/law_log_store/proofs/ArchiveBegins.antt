@@ -159,6 +159,7 @@ module _ (v : LogStoreValue) (upto : â„•) (h queue : History Value) (floors : â„
         may = s.commits.may;
       };
       facts = s.facts;
+      mark = s.mark;
       anchors = record { len = s.anchors.len; fit = s.anchors.fit };
       turn = by-turn v.turn s.turn;
       job = next;

@@ -229,6 +229,7 @@ module _ (v : LogStoreValue) (h queue : History Value) (floors : ℕ → ℕ) (s
         may = s.commits.may;
       };
       facts = s.facts;
+      mark = s.mark;
       anchors = s.anchors;
       turn = by-turn v.turn s.turn;
       job = may-come;

@@ -7,13 +7,21 @@ use Rattle.std.proofs.lemmas.Grind.{flat_map-append}
 use Rattle.byteorder.specs.Endian.{little_bytes}
 use Rattle.history.specs.declared.key.Key.{Key}
 use Rattle.history.specs.Histories.{History, last}
+use Rattle.history.proofs.Histories.{rising-from_following, times-earlier}
 use Rattle.history.proofs.Filters.{AllByRecursion-append}
 use Rattle.disk.specs.Areas.{AreaState, AreSound}
-use Rattle.law_image.specs.Values.{Value}
+use Rattle.law_image.specs.Values.{Value, IsValue}
 use Rattle.law_image.specs.Reading.{Reading}
 use Rattle.law_image.specs.Facts.{values_now}
 use Rattle.law_image.specs.Plans.{stored_members, with_group}
-use Rattle.law_image.specs.StandsFor.{StandsFor}
+use Rattle.law_image.specs.StandsFor.{StandsFor, archived_upto, reclaimed_upto}
+use Rattle.law_image.proofs.Standing.{archived-range, last-range}
+use Rattle.chains.specs.KeyWrites.{forgotten, writes_of}
+use Rattle.chains.specs.Writes.{kept_after}
+use Rattle.chains.proofs.Order.{ordered-forgotten}
+use Rattle.commits.specs.Steps.{members}
+use Rattle.law_refinement.proofs.Waiting.{forgotten-rising, forgotten-same}
+use Rattle.log_entries.specs.declared.entry.Base.{Base}
 use Rattle.log_extents.specs.Chains.{count_of, first_or, AreDistinct, IsNumberOf}
 use Rattle.log_roots.specs.Roots.{root_of, IsHeapSize, IsRoots}
 use Rattle.log_roots.specs.Turning.{turned_to}
@@ -23,6 +31,7 @@ use Rattle.log_writer.specs.Turns.{Part}
 use Rattle.log_writer.specs.Writer.{WriterState}
 use Rattle.law_log_layout.specs.Behind.{IsBesideBase}
 use Rattle.law_log.specs.Chains.{OfBase, told}
+use Rattle.law_log.proofs.Telling.{tells-all}
 use Rattle.law_log_layout.specs.HeapLog.{HeapLog, PlacedChain, PlacedRoll, counted_of, heap_parts, live_numbers, placed_group, turn_of, with_chain, IsLogOf}
 use Rattle.law_log_layout.specs.HeapLog.{base_told, chains_told, member_told}
 use Rattle.law_log_layout.specs.Laws.{KeepsArchive, KeepsLog}
@@ -40,14 +49,15 @@ use Rattle.log_store.specs.declared.job.Job.{Job}
 use Rattle.law_log_store.specs.Headers.{header_parts}
 use Rattle.law_log_store.specs.Reclaiming.{EndsBy, HasRoots, IsBaseOf, IsReclaiming, KeepsRoll, plan_of, taken_of, written_of}
 use Rattle.law_log_store.specs.Standing.{StandsOnHeap, HasTurn, HasJob, HasAnchors, IsAhead, IsAtRest, IsLiveOf, IsRoomOf, LeavesOne, TakesLast, HasAllWritten}
-use Rattle.law_log_store.specs.Standing.{AreFactsOf, MayAllEnter, counted}
+use Rattle.law_log_store.specs.Standing.{HasCommits, AreFactsOf, MayAllEnter, counted}
 use Rattle.law_log_store.proofs.Kept.{anchors-still, live-based, promised-still, room-based}
 use Rattle.law_log_store.proofs.Moved.{root-number}
 use Rattle.law_log_store.proofs.Reclaims.{taken-are}
 use Rattle.law_log_store.proofs.Turned.{archive-based, base-published, based, based-is, based-size, based-values, group-based, joins-based, log-based, log-same}
 use Rattle.law_log_store.proofs.Turned.{log-more, parts-based, shares-behind, stands-more, then-reads}
 use Rattle.law_log_store.proofs.HeapFacts.{facts-based}
-use Rattle.law_log_layout.proofs.BasedShares.{in-place, tells-by}
+use Rattle.law_log_layout.proofs.BasedShares.{IsInPlace, in-place, tells-by}
+use Rattle.law_log_store.proofs.Forgotten.{same-values, forgotten-early, told-same, told-raised, contents-forgotten}
 
 -- ---- the roots
 
@@ -256,13 +266,62 @@ module _ (v : LogStoreValue) (h queue : History Value) (floors : ℕ → ℕ) (s
               (lens_behind size (values_now s.reading) (stored_members (values_now s.reading) queue))) (sym size) s.anchors.fit);
         }
 
+    placed : IsInPlace s.reading (b).names (b).back (b).n
+    placed =
+        let tells = tells-by most root-old s.l s.reading h floors (b).names s.is_log s.stands (b).are_names in
+        in-place most s.l s.reading (b).names (b).front (b).back (b).n tells (b).may
+
+    -- its mark is that of the log then, and was the archive mark
+    mark-then : r.base.upto ≡ reclaimed_upto reads
+    mark-then =
+        let rules = (placed).rules in
+        ap (λ (x : Base). x.upto) (sym (b).base_is)
+        ∙ sym (tells-all (OfBase (base_told (b).n.names (b).n.base) ∷ chains_told (b).names (b).back) rules.each).reclaimed
+
+    mark-is : r.base.upto ≡ archived_upto s.reading
+    mark-is = mark-then ∙ (placed).based.reclaimed
+
+    mark-low : v.commits.reclaimed ≤ r.base.upto
+    mark-low = let order = s.stands.homes.marks in omega (arith, order, s.mark, mark-is)
+
+    mark-early : r.base.upto ≤ last h
+    mark-early = let upto = archived-range s.reading h floors s.stands in omega (arith, upto, mark-is)
+
+    mark-range : r.base.upto < 2 ^ 63
+    mark-range = omega (arith, mark-early, last-range s.reading h floors s.stands)
+
     facts-then : AreFactsOf v.commits.versions reads h
     facts-then =
-        let tells = tells-by most root-old s.l s.reading h floors (b).names s.is_log s.stands (b).are_names in
-        let place = in-place most s.l s.reading (b).names (b).front (b).back (b).n tells (b).may in
+        let place = placed in
         facts-based s.reading h floors ((b).n.anchors).records
         (told (OfBase (base_told (b).n.names (b).n.base) ∷ chains_told (b).names (b).back)) s.stands (b).reclaims (is-based).1 place.based.reclaimed
         v.commits.versions s.facts
+
+    -- what memory then has
+    commits-then : HasCommits target h queue
+    commits-then = record {
+      ordered = ordered-forgotten r.base.upto v.commits.versions s.commits.ordered;
+      values = λ key. same-values r.base.upto mark-range v.commits.versions s.commits.ordered key ∙ s.commits.values key;
+      told = told-same v.commits.versions (forgotten r.base.upto v.commits.versions) v.commits.queue queue
+          (forgotten-same r.base.upto v.commits.versions s.commits.ordered s.facts.rising)
+          (same-values r.base.upto mark-range v.commits.versions s.commits.ordered)
+          (told-raised v.commits.reclaimed r.base.upto v.commits.versions v.commits.queue queue mark-low
+          (times-earlier r.base.upto (last h) queue mark-early (rising-from_following IsValue h queue s.commits.may)) s.facts.rising s.commits.told);
+      contents = contents-forgotten r.base.upto mark-range v.commits.versions s.commits.ordered (members v.commits) v.contents
+          (drop v.commits.group v.commits.queue) (drop v.commits.group queue) s.commits.contents;
+      may = s.commits.may;
+    }
+
+    facts-left : AreFactsOf (forgotten r.base.upto v.commits.versions) reads h
+    facts-left = record {
+      rising = forgotten-rising r.base.upto v.commits.versions s.commits.ordered s.facts.rising;
+      early = λ key. forgotten-early r.base.upto (last h) v.commits.versions s.commits.ordered key ((facts-then).early key);
+      same = λ key.
+          ap (λ (n : ℕ). kept_after n (writes_of (forgotten r.base.upto v.commits.versions) key)) (sym mark-then)
+          ∙ sym (forgotten-same r.base.upto v.commits.versions s.commits.ordered s.facts.rising key)
+          ∙ ap (λ (n : ℕ). kept_after n (writes_of v.commits.versions key)) mark-then
+          ∙ (facts-then).same key;
+    }
 
     target-stands : IsSpare v.turn → StandsOnHeap target h queue floors
     target-stands spare = record {
@@ -279,14 +338,9 @@ module _ (v : LogStoreValue) (h queue : History Value) (floors : ℕ → ℕ) (s
             status;
       };
       sound = sound;
-      commits = record {
-        ordered = s.commits.ordered;
-        values = s.commits.values;
-        told = s.commits.told;
-        contents = s.commits.contents;
-        may = s.commits.may;
-      };
-      facts = facts-then;
+      commits = commits-then;
+      facts = facts-left;
+      mark = mark-then;
       anchors = anchors-then (target).room.anchors spare.anchors;
       turn = spare.has;
       job = subst (λ (j : Option Job). MayAllEnter then reads h floors s.made j) (sym it.alone) tt;

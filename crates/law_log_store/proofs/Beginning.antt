@@ -206,7 +206,7 @@ module _ (old : LogStoreValue) (h queue : History Value) (floors : ℕ → ℕ) 
   values : (key : Key) → values_in versions key ≡ values_now s.reading key
   values key = s.commits.values key ∙ latest-is s.reading h floors s.stands key
 
-  told : AreTold versions waiting next
+  told : AreTold old.commits.reclaimed versions waiting next
   told = told-front size versions old.commits.queue queue s.commits.told
 
   joins : AreNext s.reading h next contents group
@@ -366,6 +366,7 @@ module _ (old : LogStoreValue) (h queue : History Value) (floors : ℕ → ℕ) 
         may = s.commits.may;
       };
       facts = s.facts;
+      mark = s.mark;
       anchors = subst (HasAnchors old.roots.extents s.reading queue) (ap (λ (r : RoomValue). r.anchors) (sym (let t = b.takes in t.new_is))) s.anchors;
       turn = on-way;
       job = s.job;

@@ -68,6 +68,7 @@ module _ (v : LogStoreValue) (opened : List (Option ℕ)) (heads : List CommitHe
       may = s.commits.may;
     };
     facts = s.facts;
+    mark = s.mark;
     anchors = s.anchors;
     turn = by-turn v.turn s.turn;
     job = s.job;

@@ -274,6 +274,7 @@ module _ (old begun : LogStoreValue) (h queue : History Value) (floors : ℕ →
       may = s.commits.may;
     };
     facts = s.facts;
+    mark = s.mark;
     anchors = subst (HasAnchors old.roots.extents s.reading queue) (ap (λ (r : RoomValue). r.anchors) (sym (let t = b.takes in t.new_is))) s.anchors;
     turn = subst (λ (t : Option WriterState). HasTurn target queue s.l s.reading s.made h t) (sym at_rest) on-way;
     job = may;
@@ -320,6 +321,7 @@ module _ (v : LogStoreValue) (h queue : History Value) (floors : ℕ → ℕ) (s
       may = s.commits.may;
     };
     facts = s.facts;
+    mark = s.mark;
     anchors = s.anchors;
     turn = subst (λ (t : Option WriterState). HasTurn (record (at_stage v job (Entering (with_stage w (stage_after w.stage)))) { disk = u.disk }) queue s.l
         s.reading s.made h t) (sym at_rest) (record { content = o.content; joins = o.joins; shares = o.shares; at = at; room = o.room; live = o.live });

@@ -45,7 +45,10 @@ use Rattle.group.specs.declared.answers.PumpFault.{PumpFault}
 use Rattle.group.specs.declared.answers.PumpFault.TheVariants as faults
 use Rattle.log_roots.specs.Roots.{root_of}
 use Rattle.commits.specs.Steps.{members}
+use Rattle.chains.specs.KeyWrites.{writes_of}
+use Rattle.chains.specs.Writes.{last_time}
 use Rattle.commits.specs.Values.{versions_after}
+use Rattle.law_log_store.specs.Members.{AreTold}
 use Rattle.log_store.specs.Values.{LogStoreValue, ReclaimValue, IsStageBeside, IsBeside}
 use Rattle.log_store.specs.Jobs.{entry_of}
 use Rattle.log_store.specs.declared.job.Job.{Job}
@@ -72,7 +75,7 @@ use Rattle.law_log_store.proofs.Spans.{all-front, apart-with, behind-same, row-w
 use Rattle.law_log_store.proofs.Naming.{archives-same, named-same}
 use Rattle.law_log_store.proofs.Queues.{taken-and-rest, told-front, told-ordered, told-rest, values-told}
 use Rattle.law_log_store.proofs.Anchors.{anchors-rest}
-use Rattle.law_log_store.proofs.HeapFacts.{facts-later, facts-told}
+use Rattle.law_log_store.proofs.HeapFacts.{facts-later, facts-told, rising-told, early-told}
 
 -- the calls of a chain in the writing are those of a chain behind the log
 turn-is : (l : HeapLog) (w : WriterState) (e : Entry) → w.content ≡ entry_bytes e → first_or 0 w.numbers ≡ l.next
@@ -290,6 +293,7 @@ module _ (v : LogStoreValue) (h queue : History Value) (floors : ℕ → ℕ) (s
       may = s.commits.may;
     };
     facts = s.facts;
+    mark = s.mark;
     anchors = s.anchors;
     turn = record {
       group = o.group;
@@ -324,14 +328,22 @@ module _ (v : LogStoreValue) (h queue : History Value) (floors : ℕ → ℕ) (s
   reclaimed-then : reclaimed_upto then ≡ reclaimed_upto s.reading
   reclaimed-then = reclaim_mark-append 0 s.reading.log (Commits (map (λ (m : readings.Member). m.head) (map member_told o.group)) ∷ [])
 
+  -- what is told of the group, from that mark on
+  told-now : AreTold (reclaimed_upto s.reading) v.commits.versions (members v.commits) next
+  told-now =
+      subst (λ (n : ℕ). AreTold n v.commits.versions (members v.commits) next) s.mark
+      (told-front v.commits.group v.commits.versions v.commits.queue queue s.commits.told)
+
   -- memory has what the heap has of the group
   facts-then : AreFactsOf (versions_after v.commits.versions (members v.commits)) then (h ++ next)
   facts-then =
       let front = may_follow-front IsValue h next (drop v.commits.group queue) may-split in
       facts-later s.reading then h next floors s.stands stands-then refl reclaimed-then (rising-from_following IsValue h next front) v.commits.versions
       (versions_after v.commits.versions (members v.commits))
-      (λ key. facts-told v.commits.versions (members v.commits) next key
-      (told-front v.commits.group v.commits.versions v.commits.queue queue s.commits.told)) s.facts
+      (λ key. facts-told v.commits.versions (members v.commits) next key told-now)
+      (rising-told v.commits.versions (members v.commits) next told-now s.facts.rising)
+      (λ key. subst (λ (n : ℕ). last_time (writes_of (versions_after v.commits.versions (members v.commits)) key) ≤ n) (sym (last_after-append 0 h next))
+      (early-told (last h) v.commits.versions (members v.commits) next told-now s.facts.early key)) s.facts
 
   enters-later : last h ≤ last (h ++ next) → (j : Option Job) → MayAllEnter s.l s.reading h floors s.made j
       → MayAllEnter (with_chain s.l chain) then (h ++ next) floors s.made j
@@ -401,6 +413,7 @@ module _ (v : LogStoreValue) (h queue : History Value) (floors : ℕ → ℕ) (s
           may = may_follow-behind IsValue h next (drop v.commits.group queue) may-split;
         };
         facts = facts-then;
+        mark = s.mark ∙ sym reclaimed-then;
         anchors = anchors-rest s.reading h next floors (map member_told o.group) s.stands stands-then front o.told v.roots.extents v.room.anchors
             (drop v.commits.group queue)
             (subst (λ (l : History Value). HasAnchors v.roots.extents s.reading l v.room.anchors) (sym (taken-and-rest v.commits.group queue)) s.anchors);

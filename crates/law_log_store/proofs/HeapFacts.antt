@@ -5,6 +5,7 @@ use Rattle.std.specs.Prelude.{filter, option_map, option_to_list}
 use Rattle.std.proofs.lemmas.Bool.Decides.{nat_tests}
 use Rattle.std.proofs.lemmas.List.Elements.{filter-append}
 use Rattle.history.specs.declared.key.Key.{Key}
+use Rattle.history.specs.declared.key.KeyWrite.{KeyWrite}
 use Rattle.history.specs.declared.time.TimedWrite.{TimedWrite}
 use Rattle.history.specs.Key.{write_in}
 use Rattle.history.specs.Time.{IsRisingAfter, writes_after}
@@ -41,9 +42,17 @@ last-more : (s t : ℕ) (ws : List Write) → s ≤ t → last_time_after s ws �
 last-more s t [] low = low
 last-more s t (w ∷ ws) low = omega arith
 
-last-behind : (t : ℕ) (xs ys : List Write) → last_time_after t (xs ++ ys) ≡ last_time_after (last_time_after t xs) ys
+pub last-behind : (t : ℕ) (xs ys : List Write) → last_time_after t (xs ++ ys) ≡ last_time_after (last_time_after t xs) ys
 last-behind t [] ys = refl
 last-behind t (x ∷ xs) ys = last-behind x.time xs ys
+
+-- the write of a commit has its time
+pub written-upto : (t time : ℕ) (writes : List (KeyWrite Value)) (key : Key) → t ≤ time → last_time_after t (written time writes key) ≤ time
+written-upto t time writes key low = by-write (write_in writes key)
+  where
+    by-write : (o : Option (Option Value)) → last_time_after t (option_to_list (option_map (λ write. record { time = time; write = write }) o)) ≤ time
+    by-write None = low
+    by-write (Some w) = omega arith
 
 -- the writes of a commit, and then those of the others
 writes-cons : (c : Commit Value) (cs : History Value) (key : Key) → histories.writes_of (c ∷ cs) key ≡ written c.time c.writes key ++ histories.writes_of cs key
@@ -80,17 +89,32 @@ later-upto mark s t n (c ∷ cs) up low all =
 
 -- ---- commits that wait
 
--- the versions behind them have their writes too
-pub facts-told : (before : List KeyWrites) (ws : List WaitingValue) (cs : History Value) (key : Key) → AreTold before ws cs
-    → writes_of (versions_after before ws) key ≡ writes_of before key ++ histories.writes_of cs key
-facts-told before [] [] key told = sym (append-nil (writes_of before key))
+-- the versions behind them have their writes too, from the mark on
+pub facts-told : {mark : ℕ} (before : List KeyWrites) (ws : List WaitingValue) (cs : History Value) (key : Key) → AreTold mark before ws cs
+    → kept_after mark (writes_of (versions_after before ws) key) ≡ kept_after mark (writes_of before key) ++ histories.writes_of cs key
+facts-told {mark} before [] [] key told = sym (append-nil (kept_after mark (writes_of before key)))
 facts-told before [] (c ∷ cs) key told = absurd told
 facts-told before (w ∷ ws) [] key told = absurd told
-facts-told before (w ∷ ws) (c ∷ cs) key told =
+facts-told {mark} before (w ∷ ws) (c ∷ cs) key told =
     facts-told w.after ws cs key told.1
     ∙ ap (λ (l : List Write). l ++ histories.writes_of cs key) ((told.0).facts key)
-    ∙ append_assoc (writes_of before key) (written c.time c.writes key) (histories.writes_of cs key)
-    ∙ ap (λ (l : List Write). writes_of before key ++ l) (sym (writes-cons c cs key))
+    ∙ append_assoc (kept_after mark (writes_of before key)) (written c.time c.writes key) (histories.writes_of cs key)
+    ∙ ap (λ (l : List Write). kept_after mark (writes_of before key) ++ l) (sym (writes-cons c cs key))
+
+-- they rise
+pub rising-told : {mark : ℕ} (before : List KeyWrites) (ws : List WaitingValue) (cs : History Value) → AreTold mark before ws cs
+    → ((key : Key) → IsRisingAfter 0 (writes_of before key)) → (key : Key) → IsRisingAfter 0 (writes_of (versions_after before ws) key)
+rising-told before [] cs told up key = up key
+rising-told before (w ∷ ws) [] told up key = absurd told
+rising-told before (w ∷ ws) (c ∷ cs) told up key = rising-told w.after ws cs told.1 (told.0).rising key
+
+-- and none is later than the last of them
+pub early-told : {mark : ℕ} (t : ℕ) (before : List KeyWrites) (ws : List WaitingValue) (cs : History Value) → AreTold mark before ws cs
+    → ((key : Key) → last_time (writes_of before key) ≤ t) → (key : Key) → last_time (writes_of (versions_after before ws) key) ≤ last_after t cs
+early-told t before [] [] told low key = low key
+early-told t before [] (c ∷ cs) told low key = absurd told
+early-told t before (w ∷ ws) [] told low key = absurd told
+early-told t before (w ∷ ws) (c ∷ cs) told low key = early-told c.time w.after ws cs told.1 (told.0).early key
 
 -- ---- commits that are published
 
@@ -114,25 +138,17 @@ module _ (reading then : Reading) (h next : History Value) (floors : ℕ → ℕ
       ∙ sym (append_assoc (old_writes reading.anchors key) (histories.writes_of (heap_commits reading) key) (histories.writes_of next key))
 
   -- memory has them too
-  pub facts-later : (versions after : List KeyWrites) → ((key : Key) → writes_of after key ≡ writes_of versions key ++ histories.writes_of next key)
+  pub facts-later : (versions after : List KeyWrites)
+      → ((key : Key) → kept_after (reclaimed_upto reading) (writes_of after key)
+      ≡ kept_after (reclaimed_upto reading) (writes_of versions key) ++ histories.writes_of next key)
+      → ((key : Key) → IsRisingAfter 0 (writes_of after key)) → ((key : Key) → last_time (writes_of after key) ≤ last (h ++ next))
       → AreFactsOf versions reading h → AreFactsOf after then (h ++ next)
-  facts-later versions after more facts = record {
-    rising = λ key.
-        let early = facts.early key in
-        subst (λ (l : List Write). IsRisingAfter 0 l) (sym (more key))
-        (rising-both 0 (writes_of versions key) (histories.writes_of next key) (facts.rising key)
-        (rising_earlier (last_time (writes_of versions key)) (last h) (histories.writes_of next key) early (writes_of-rising (last h) next key up)));
-    early = λ key.
-        let early = facts.early key in
-        let all = ap (λ (l : List Write). last_time l) (more key) ∙ last-behind 0 (writes_of versions key) (histories.writes_of next key) in
-        let past = last-more (last_time (writes_of versions key)) (last h) (histories.writes_of next key) early in
-        let within = writes-upto (last h) next key up in
-        let whole = last_after-append 0 h next in
-        omega (arith, all, past, within, whole);
+  facts-later versions after more rising early facts = record {
+    rising = rising;
+    early = early;
     same = λ key.
-        (λ i. kept_after (mark i) (more key i))
-        ∙ kept-front (reclaimed_upto reading) (writes_of versions key) (histories.writes_of next key)
-        (rising_earlier (reclaimed_upto reading) (last h) (histories.writes_of next key) low (writes_of-rising (last h) next key up))
+        ap (λ (n : ℕ). kept_after n (writes_of after key)) mark
+        ∙ more key
         ∙ ap (λ (l : List Write). l ++ histories.writes_of next key) (facts.same key)
         ∙ sym (heap-then key);
   }

@@ -78,6 +78,7 @@ waits-stands v job waited w h queue floors standing is-job e s = record {
     may = s.commits.may;
   };
   facts = s.facts;
+  mark = s.mark;
   anchors = s.anchors;
   turn = by-turn v.turn standing s.turn;
   job = subst (λ (j : Option Job). MayAllEnter s.l s.reading h floors s.made j) is-job s.job;
@@ -363,6 +364,7 @@ module _ (v : LogStoreValue) (relation time : ℕ) (h queue : History Value) (fl
       may = s.commits.may;
     };
     facts = s.facts;
+    mark = s.mark;
     anchors = record { len = s.anchors.len; fit = s.anchors.fit };
     turn = by-turn v.turn s.turn;
     job = (rises, upto, range);

@@ -25,10 +25,10 @@ in-heap most root l reading is = ap (λ (r : Reading). is_in_heap r.profile) is.
 pub most-is : (reading : Reading) → is_in_heap reading.profile ≡ true → most_members reading.profile ≡ 1024
 most-is reading heap = rw heap refl
 
-pub group-joins : (most root : ℕ) (l : HeapLog) (reading : Reading) (h next : History Value) (floors : ℕ → ℕ) (versions : List KeyWrites)
+pub group-joins : {mark : ℕ} (most root : ℕ) (l : HeapLog) (reading : Reading) (h next : History Value) (floors : ℕ → ℕ) (versions : List KeyWrites)
     (waiting : List WaitingValue) (contents : List (List ℕ))
     → IsLogOf most root l reading → StandsFor reading h floors → ((key : Key) → values_in versions key ≡ values_now reading key)
-    → AreTold versions waiting next → AreContents versions contents waiting next → MayAllFollow IsValue h next → 0 < length next → length next ≤ 1024
+    → AreTold mark versions waiting next → AreContents versions contents waiting next → MayAllFollow IsValue h next → 0 < length next → length next ≤ 1024
     → AreNext reading h next contents (members_over versions waiting next)
 group-joins most root l reading h next floors versions waiting contents is stands values told are may some few =
     let heap = most-is reading (in-heap most root l reading is) in

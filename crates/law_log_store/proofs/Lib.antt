@@ -2,6 +2,7 @@ pub mod Members
 pub mod Joining
 pub mod Queues
 pub mod HeapFacts
+pub mod Forgotten
 pub mod Anchors
 pub mod Walked
 pub mod Plans

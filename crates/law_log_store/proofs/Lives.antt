@@ -26,13 +26,13 @@ one-more-lives l live c numbers part numbers-are part-is is = record {
 }
 
 -- the last commit of a group has the time of the last one that waited
-times-told : (time : ℕ) (before : List KeyWrites) (waiting : List WaitingValue) (next : History Value) → AreTold before waiting next
+times-told : {mark : ℕ} (time : ℕ) (before : List KeyWrites) (waiting : List WaitingValue) (next : History Value) → AreTold mark before waiting next
     → last_time_after time (heads_in (map member_told (members_over before waiting next))) ≡ time_behind time waiting
 times-told time before [] [] told = refl
 times-told time before [] (c ∷ cs) told = absurd told
 times-told time before (w ∷ ws) [] told = absurd told
 times-told time before (w ∷ ws) (c ∷ cs) told = times-told w.time w.after ws cs told.1
 
-pub group-part : (before : List KeyWrites) (waiting : List WaitingValue) (next : History Value) → AreTold before waiting next
+pub group-part : {mark : ℕ} (before : List KeyWrites) (waiting : List WaitingValue) (next : History Value) → AreTold mark before waiting next
     → Commits (time_behind 0 waiting) ≡ part_of (Group (members_over before waiting next))
 group-part before waiting next told = ap (λ (time : ℕ). Commits time) (sym (times-told 0 before waiting next told))

@@ -43,7 +43,7 @@ records-back : (rs : List HeapRecord) → map heap_record (map record_of rs) ≡
 records-back [] = refl
 records-back (r ∷ rs) = λ i. record { key = r.key; content = content-back r.content i } ∷ records-back rs i
 
-pub member-told : (before : List KeyWrites) (w : WaitingValue) (c : Commit Value) → IsTold before w c
+pub member-told : {mark : ℕ} (before : List KeyWrites) (w : WaitingValue) (c : Commit Value) → IsTold mark before w c
     → member_told (member_over before w.label w.time c.writes) ≡ stored_member (values_in before) c
 member-told before w c told = λ i. record {
   head = record { time = told.time i; label = told.label i };
@@ -51,7 +51,7 @@ member-told before w c told = λ i. record {
 }
 
 -- they are what the image stores of the commits
-pub members-told : (before : List KeyWrites) (ws : List WaitingValue) (cs : History Value) → AreTold before ws cs
+pub members-told : {mark : ℕ} (before : List KeyWrites) (ws : List WaitingValue) (cs : History Value) → AreTold mark before ws cs
     → map member_told (members_over before ws cs) ≡ stored_members (values_in before) cs
 members-told before [] [] told = refl
 members-told before [] (c ∷ cs) told = absurd told
@@ -106,7 +106,7 @@ pub length-records : (before : List KeyWrites) (ws : List (KeyWrite Value)) → 
 length-records before ws =
     length-mapped record_of (map (stored_record (values_in before)) ws) ∙ length-mapped (stored_record (values_in before)) ws
 
-member-in_range : (before : List KeyWrites) (h : History Value) (w : WaitingValue) (c : Commit Value) → IsTold before w c → MayFollow IsValue h c
+member-in_range : {mark : ℕ} (before : List KeyWrites) (h : History Value) (w : WaitingValue) (c : Commit Value) → IsTold mark before w c → MayFollow IsValue h c
     → IsMember (member_over before w.label w.time c.writes)
 member-in_range before h w c told may =
     let many = length-records before c.writes in
@@ -124,7 +124,7 @@ member-in_range before h w c told may =
       };
     }
 
-pub members-in_range : (before : List KeyWrites) (h : History Value) (ws : List WaitingValue) (cs : History Value) → AreTold before ws cs
+pub members-in_range : {mark : ℕ} (before : List KeyWrites) (h : History Value) (ws : List WaitingValue) (cs : History Value) → AreTold mark before ws cs
     → MayAllFollow IsValue h cs → AllByRecursion IsMember (members_over before ws cs)
 members-in_range before h [] [] told may = tt
 members-in_range before h [] (c ∷ cs) told may = absurd told
@@ -132,7 +132,7 @@ members-in_range before h (w ∷ ws) [] told may = absurd told
 members-in_range before h (w ∷ ws) (c ∷ cs) told may =
     (member-in_range before h w c told.0 may.0, members-in_range w.after (h ++ c ∷ []) ws cs told.1 may.1)
 
-pub length-members : (before : List KeyWrites) (ws : List WaitingValue) (cs : History Value) → AreTold before ws cs
+pub length-members : {mark : ℕ} (before : List KeyWrites) (ws : List WaitingValue) (cs : History Value) → AreTold mark before ws cs
     → length (members_over before ws cs) ≡ length cs
 length-members before [] [] told = refl
 length-members before [] (c ∷ cs) told = absurd told

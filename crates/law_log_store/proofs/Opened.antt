@@ -202,7 +202,7 @@ opened-stands v image l reading h floors same sound reads is held stands opened 
   commits = record {
     ordered = opened.ordered;
     values = λ key. opened.values key ∙ sym (latest-is reading h floors stands key);
-    told = subst (λ (ws : List WaitingValue). AreTold v.commits.versions ws []) (sym opened.queue) tt;
+    told = subst (λ (ws : List WaitingValue). AreTold v.commits.reclaimed v.commits.versions ws []) (sym opened.queue) tt;
     contents =
         subst (λ (n : ℕ). AreContents (versions_after v.commits.versions (take n v.commits.queue)) v.contents (drop n v.commits.queue) (drop n []))
         (sym opened.group)
@@ -211,6 +211,7 @@ opened-stands v image l reading h floors same sound reads is held stands opened 
     may = tt;
   };
   facts = facts-opened v.commits.versions reading h floors stands opened.facts;
+  mark = opened.mark;
   anchors = record { len = ap (λ (r : RoomValue). r.anchors) opened.room; fit = tt };
   turn = subst (λ (t : Option WriterState). HasTurn v [] l reading [] h t) (sym opened.turn)
       (subst (λ (j : Option Job). HasJob v l reading [] j) (sym opened.job) (record {

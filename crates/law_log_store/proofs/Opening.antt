@@ -11,8 +11,9 @@ use Rattle.law_image.specs.Values.{Value}
 use Rattle.law_image.specs.Reading.{Member, OldRecord, Reading}
 use Rattle.law_image.specs.Facts.{commits_from, heap_facts, latest, old_writes}
 use Rattle.law_image.specs.Log.{archive_mark}
-use Rattle.law_image.specs.StandsFor.{archived_upto}
+use Rattle.law_image.specs.StandsFor.{archived_upto, reclaimed_upto}
 use Rattle.law_log.specs.Chains.{told_from, reclaimed_by}
+use Rattle.law_log.proofs.Telling.{tells-all}
 use Rattle.chains.specs.KeyWrites as chains
 use Rattle.law_log_layout.specs.HeapLog.{PlacedAnchors, PlacedChain, HeapLog, HeapStandsFor, IsLogOf, chains_told}
 use Rattle.law_log_sizes.specs.Sizes.{anchors_len, len_from, size_now}
@@ -207,6 +208,16 @@ module _ (tells : Bool) (old : DiskState) (mark : ℕ) (v : LogStoreValue) (root
       let upto : v.named.upto ≡ r.heap.end.archived = ap (λ (n : NamedValue). n.upto) named-is in
       omega (arith, low, mark, archived, reclaimed, upto)
 
+  mark : v.commits.reclaimed ≡ reclaimed_upto reading
+  mark =
+      let names = image.heap.is_log.names in
+      let so = tells-all (chains_told names l.chains) image.heap.is_log.rules.each in
+      ap (λ (x : LogStoreValue). x.commits.reclaimed) opens.new_is
+      ∙ (end-is).says.mark_is
+      ∙ sym (mark-same names l.chains)
+      ∙ sym so.reclaimed
+      ∙ ap (λ (x : Reading). reclaimed_upto x) (sym image.heap.is_log.reading_is)
+
   -- ---- the store
 
   opened : IsOpenedOn v l reading
@@ -225,6 +236,7 @@ module _ (tells : Bool) (old : DiskState) (mark : ℕ) (v : LogStoreValue) (root
     named = named;
     reach = reach;
     marks = marks;
+    mark = mark;
   }
 
   pub open-stands : (v.roots.extents ≡ roots.extents) × StandsOnHeap v h [] floors

@@ -1,5 +1,5 @@
 -- The steps of a store's groups.
-use Rattle.std.proofs.Common.{◌≡◌, ℕ, ◌==◌, ◌<◌, ◌&&◌, Bool, true, false, cond, nat_lt, [], ◌∷◌, ◌++◌, length, take, drop, Option, None, Some}
+use Rattle.std.proofs.Common.{◌≡◌, ℕ, ◌-◌, ◌^◌, ◌==◌, ◌<◌, ◌≤◌, ◌&&◌, Bool, true, false, cond, nat_lt, [], ◌∷◌, ◌++◌, length, take, drop, Option, None, Some}
 use Rattle.std.proofs.Common.{Result, Ok, Err, refl, arith, ap, sym, subst, ◌∙◌, append-nil, ◌⊎◌, inl, inr}
 use Rattle.std.specs.Prelude.{IsTrue, MatchBool, MatchResult, min}
 use Rattle.std.proofs.lemmas.Bool.Decides.{nat_tests}
@@ -23,13 +23,15 @@ use Rattle.log_store.specs.declared.job.JobStage.TheVariants.{Ready, Entering}
 use Rattle.log_store.specs.declared.job.JobStage.TheVariants as stages
 use Rattle.log_store.specs.Pumps.{Pumps, TakesStep, bars_groups, BeginsOrWaits, BeginsGroup, AdvancesGroup, Advances, after_call, with_failure, did_of}
 use Rattle.log_store.specs.Gates.{waits_to_open}
-use Rattle.log_store.specs.Pumps.{disk_answer}
+use Rattle.log_store.specs.Pumps.{disk_answer, FreshensAndAdvances}
+use Rattle.commits.specs.Reclaims.{freshened}
 use Rattle.log_store.specs.declared.pump.Did.{Did}
 use Rattle.log_store.specs.declared.pump.Did.TheVariants as did
 use Rattle.law_log_store.specs.Standing.{StandsOnHeap, IsImageOf, MayStand, MayStandAt, MayStandOn, MayStandBy, StopsOnHeap, floors_with}
 use Rattle.law_log_store.specs.Laws.{LeadsTo, GoesOn}
 use Rattle.law_log_store.specs.Calls.{count_in, StepsTo, HasEntered, IsFront}
 use Rattle.law_log_store.proofs.Beginning.{has-begun}
+use Rattle.law_log_store.proofs.Forgotten.{other-stands, fresh-told, fresh-contents}
 use Rattle.law_log_store.proofs.Going.{standing-stops, call-within, call-goes}
 
 -- nothing is published
@@ -72,6 +74,24 @@ call-steps tells w old new start answer h queue floors tell works standing s adv
         subst (λ (f : PumpFault). StepsTo (Err f) start new h queue floors) (sym is.0)
         (record { failed = ap (λ (v : LogStoreValue). v.commits.failed) is.1; stops = leads })
 
+-- the store with what the group leaves made afresh
+freshened-stands : (v : LogStoreValue) (h queue : History Value) (floors : ℕ → ℕ) → IsInStep v → (w : WriterState) → v.turn ≡ Some w
+    → StandsOnHeap v h queue floors → StandsOnHeap (record v { commits = freshened v.commits }) h queue floors
+freshened-stands v h queue floors step w standing s =
+    let some = (subst (λ (t : Option WriterState). stores.HasTurn v.commits.group t) standing step.turn).0 in
+    let upto = step.marks.below in
+    let range = step.marks.in_range in
+    let mark : v.commits.reclaimed < 2 ^ 63 = omega (arith, upto, range) in
+    let place = v.commits.group - 1 in
+    other-stands v (freshened v.commits) refl h queue floors s (record {
+      ordered = s.commits.ordered;
+      values = s.commits.values;
+      told = fresh-told v.commits.reclaimed mark v.commits.versions place v.commits.queue queue s.commits.told;
+      contents = fresh-contents v.commits.reclaimed mark v.commits.group place v.commits.versions v.commits.queue queue v.contents
+          (drop v.commits.group queue) (omega (arith, some)) s.commits.told s.commits.contents;
+      may = s.commits.may;
+    }) s.facts s.mark
+
 pub pump-steps : (tells : Bool) (old new : LogStoreValue) (answer : Result Did PumpFault) (h queue : History Value) (floors : ℕ → ℕ)
     → IsTrue tells → old.commits.failed ≡ false → IsInStep old → AreSound new.disk.areas → StandsOnHeap old h queue floors
     → Pumps tells old answer new → StepsTo answer old new h queue floors
@@ -100,11 +120,23 @@ pump-steps tells old new answer h queue floors tell works step sound s pumps =
         (subst (λ (x : LogStoreValue). StandsOnHeap x (h ++ take 0 queue) (drop 0 queue) floors) (sym is.1) (unpublished old h queue floors s))
     by-queue false some at_rest is = by-job (bars_groups old.job) refl at_rest (grind (arith, nat_tests)) is
 
+    -- where the gate is to open, what the group leaves is made afresh
+    by-opening : (w : WriterState) → old.turn ≡ Some w → (b : Bool)
+        → Advances tells w (cond b (record old { commits = freshened old.commits }) old) answer new → StepsTo answer old new h queue floors
+    by-opening w standing true is =
+        let ready = freshened-stands old h queue floors step w standing s in
+        call-steps tells w (record old { commits = freshened old.commits }) new old answer h queue floors tell works standing ready is sound
+    by-opening w standing false is = call-steps tells w old new old answer h queue floors tell works standing s is sound
+
+    by-memory : (w : WriterState) → old.turn ≡ Some w → FreshensAndAdvances tells w old answer new → StepsTo answer old new h queue floors
+    by-memory w standing (inl none) = subst (λ (a : Result Did PumpFault). StepsTo a old new h queue floors) (sym none.1) none.2
+    by-memory w standing (inr is) = by-opening w standing (writers.is_opening w.stage) is
+
     -- its gate waits while the turn gate is written and not synced
     by-gate : (w : WriterState) → old.turn ≡ Some w → (b : Bool)
-        → MatchBool b ((answer ≡ Err fault.Busy) × (new ≡ old)) (Advances tells w old answer new) → StepsTo answer old new h queue floors
+        → MatchBool b ((answer ≡ Err fault.Busy) × (new ≡ old)) (FreshensAndAdvances tells w old answer new) → StepsTo answer old new h queue floors
     by-gate w standing true is = subst (λ (a : Result Did PumpFault). StepsTo a old new h queue floors) (sym is.0) is.1
-    by-gate w standing false is = call-steps tells w old new old answer h queue floors tell works standing s is sound
+    by-gate w standing false is = by-memory w standing is
 
     by-turn : (t : Option WriterState) → old.turn ≡ t → TakesStep tells old t answer new → StepsTo answer old new h queue floors
     by-turn None at_rest is = by-queue (length old.commits.queue == 0) refl at_rest is
@@ -296,12 +328,26 @@ pump-leaves tells old new answer h queue floors image tell works step s pumps le
     by-queue true none at_rest is l = old-front at_rest (subst (λ (x : LogStoreValue). LeavesImage x.disk.areas image) is.1 l)
     by-queue false some at_rest is l = by-job (bars_groups old.job) refl at_rest (grind (arith, nat_tests)) is l
 
+    by-opening : (w : WriterState) → old.turn ≡ Some w → (b : Bool)
+        → Advances tells w (cond b (record old { commits = freshened old.commits }) old) answer new → LeavesImage new.disk.areas image
+        → Fronts old h queue floors works s image old.commits.group
+    by-opening w standing true is l =
+        let ready = freshened-stands old h queue floors step w standing s in
+        front-after (record old { commits = freshened old.commits }) h queue floors works ready image tells w new answer tell standing is l
+    by-opening w standing false is l = front-after old h queue floors works s image tells w new answer tell standing is l
+
+    by-memory : (w : WriterState) → old.turn ≡ Some w → FreshensAndAdvances tells w old answer new → LeavesImage new.disk.areas image
+        → Fronts old h queue floors works s image old.commits.group
+    by-memory w standing (inl none) l =
+        front-before old h queue floors works s image (subst (λ (x : LogStoreValue). LeavesImage x.disk.areas image) none.2 l)
+    by-memory w standing (inr is) l = by-opening w standing (writers.is_opening w.stage) is l
+
     by-gate : (w : WriterState) → old.turn ≡ Some w → (b : Bool)
-        → MatchBool b ((answer ≡ Err fault.Busy) × (new ≡ old)) (Advances tells w old answer new) → LeavesImage new.disk.areas image
+        → MatchBool b ((answer ≡ Err fault.Busy) × (new ≡ old)) (FreshensAndAdvances tells w old answer new) → LeavesImage new.disk.areas image
         → Fronts old h queue floors works s image old.commits.group
     by-gate w standing true is l =
         front-before old h queue floors works s image (subst (λ (x : LogStoreValue). LeavesImage x.disk.areas image) is.1 l)
-    by-gate w standing false is l = front-after old h queue floors works s image tells w new answer tell standing is l
+    by-gate w standing false is l = by-memory w standing is l
 
     by-turn : (t : Option WriterState) → old.turn ≡ t → TakesStep tells old t answer new
         → LeavesImage old.disk.areas image ⊎ LeavesImage new.disk.areas image → IsFront old image h queue floors

@@ -36,29 +36,29 @@ length-taken (suc n) (x ∷ xs) low = ap suc (length-taken n xs (omega (arith, l
 
 -- ---- what is told of them
 
-pub told-many : (before : List KeyWrites) (ws : List WaitingValue) (cs : History Value) → AreTold before ws cs → length ws ≡ length cs
+pub told-many : {mark : ℕ} (before : List KeyWrites) (ws : List WaitingValue) (cs : History Value) → AreTold mark before ws cs → length ws ≡ length cs
 told-many before [] [] told = refl
 told-many before [] (c ∷ cs) told = absurd told
 told-many before (w ∷ ws) [] told = absurd told
 told-many before (w ∷ ws) (c ∷ cs) told = ap suc (told-many w.after ws cs told.1)
 
-pub told-front : (n : ℕ) (before : List KeyWrites) (ws : List WaitingValue) (cs : History Value) → AreTold before ws cs
-    → AreTold before (take n ws) (take n cs)
+pub told-front : {mark : ℕ} (n : ℕ) (before : List KeyWrites) (ws : List WaitingValue) (cs : History Value) → AreTold mark before ws cs
+    → AreTold mark before (take n ws) (take n cs)
 told-front zero before ws cs told = tt
 told-front (suc n) before [] [] told = tt
 told-front (suc n) before [] (c ∷ cs) told = absurd told
 told-front (suc n) before (w ∷ ws) [] told = absurd told
 told-front (suc n) before (w ∷ ws) (c ∷ cs) told = (told.0, told-front n w.after ws cs told.1)
 
-pub told-rest : (n : ℕ) (before : List KeyWrites) (ws : List WaitingValue) (cs : History Value) → AreTold before ws cs
-    → AreTold (versions_after before (take n ws)) (drop n ws) (drop n cs)
+pub told-rest : {mark : ℕ} (n : ℕ) (before : List KeyWrites) (ws : List WaitingValue) (cs : History Value) → AreTold mark before ws cs
+    → AreTold mark (versions_after before (take n ws)) (drop n ws) (drop n cs)
 told-rest zero before ws cs told = told
 told-rest (suc n) before [] [] told = tt
 told-rest (suc n) before [] (c ∷ cs) told = absurd told
 told-rest (suc n) before (w ∷ ws) [] told = absurd told
 told-rest (suc n) before (w ∷ ws) (c ∷ cs) told = told-rest n w.after ws cs told.1
 
-pub told-ordered : (before : List KeyWrites) (ws : List WaitingValue) (cs : History Value) → IsOrdered before → AreTold before ws cs
+pub told-ordered : {mark : ℕ} (before : List KeyWrites) (ws : List WaitingValue) (cs : History Value) → IsOrdered before → AreTold mark before ws cs
     → IsOrdered (versions_after before ws)
 told-ordered before [] cs ordered told = ordered
 told-ordered before (w ∷ ws) [] ordered told = absurd told
@@ -103,8 +103,8 @@ after-one h c key below =
     ] ∙ sym whole
 
 -- behind commits that may follow the versions have the values of the history with them
-pub values-told : (before : List KeyWrites) (h : History Value) (ws : List WaitingValue) (cs : History Value)
-    → ((key : Key) → values_in before key ≡ told.values_in h key) → AreTold before ws cs → MayAllFollow IsValue h cs
+pub values-told : {mark : ℕ} (before : List KeyWrites) (h : History Value) (ws : List WaitingValue) (cs : History Value)
+    → ((key : Key) → values_in before key ≡ told.values_in h key) → AreTold mark before ws cs → MayAllFollow IsValue h cs
     → (key : Key) → values_in (versions_after before ws) key ≡ told.values_in (h ++ cs) key
 values-told before h [] [] same are may key = same key ∙ ap (λ (l : History Value). told.values_in l key) (sym (append-nil h))
 values-told before h [] (c ∷ cs) same are may key = absurd are
@@ -139,8 +139,8 @@ pub versions-split : (before : List KeyWrites) (ws vs : List WaitingValue) → v
 versions-split before [] vs = refl
 versions-split before (w ∷ ws) vs = versions-split w.after ws vs
 
-pub told-more : (before : List KeyWrites) (ws : List WaitingValue) (cs : History Value) (w : WaitingValue) (c : Commit Value) → AreTold before ws cs
-    → IsTold (versions_after before ws) w c → AreTold before (ws ++ w ∷ []) (cs ++ c ∷ [])
+pub told-more : {mark : ℕ} (before : List KeyWrites) (ws : List WaitingValue) (cs : History Value) (w : WaitingValue) (c : Commit Value) → AreTold mark before ws cs
+    → IsTold mark (versions_after before ws) w c → AreTold mark before (ws ++ w ∷ []) (cs ++ c ∷ [])
 told-more before [] [] w c told is = (is, tt)
 told-more before [] (d ∷ ds) w c told is = absurd told
 told-more before (v ∷ vs) [] w c told is = absurd told

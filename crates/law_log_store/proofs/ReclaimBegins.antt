@@ -216,6 +216,7 @@ module _ (v : LogStoreValue) (h queue : History Value) (floors : ℕ → ℕ) (s
         may = s.commits.may;
       };
       facts = s.facts;
+      mark = s.mark;
       anchors = record { len = ap (λ (x : RoomValue). x.anchors) begun.reserves.new_is ∙ s.anchors.len; fit = s.anchors.fit };
       turn = by-turn v.turn s.turn;
       job = s.job;

@@ -1,5 +1,5 @@
 -- The steps of a reclaim, call by call, beside whatever group is in the writing.
-use Rattle.std.proofs.Common.{◌≡◌, ℕ, ◌+◌, ◌/◌, ◌<◌, ◌≤◌, ◌^◌, Bool, true, false, IsTrue, List, [], ◌∷◌, ◌++◌, length, map, take, drop, Option, None, Some}
+use Rattle.std.proofs.Common.{◌≡◌, ℕ, ◌+◌, ◌/◌, ◌<◌, ◌≤◌, ◌^◌, Bool, true, false, cond, IsTrue, List, [], ◌∷◌, ◌++◌, length, map, take, drop, Option, None, Some}
 use Rattle.std.proofs.Common.{Result, Ok, Err, refl, arith, ap, sym, subst, ◌∙◌, ◌⊎◌, inl, inr, append_assoc, append-nil, length-append, take-append-drop}
 use Rattle.std.specs.Prelude.{flat_map, MatchBool, MatchResult, option_to_list}
 use Rattle.std.specs.List.{AllByRecursion}
@@ -35,10 +35,12 @@ use Rattle.law_log_layout.specs.Reclaims.{NewBase, new_parts}
 use Rattle.law_log_layout.specs.Roots as roots
 use Rattle.law_log_layout.specs.Turns.{HoldsAll, KeepsAll, IsAt}
 use Rattle.law_log_layout.proofs.Beside.{sync-leaves-chain, sync-leaves-others, write-leaves-others}
-use Rattle.log_store.specs.Gates.{waits_at}
+use Rattle.commits.specs.Reclaims.{prepared}
+use Rattle.log_store.specs.Gates.{is_turning, waits_at}
 use Rattle.log_store.specs.Pumps.{with_failure}
 use Rattle.log_store.specs.Reclaiming.{AdvancesReclaim, CallsAt, CallsExtents, CallsRoll, StepsReclaim, at_turn, begins_roll, begins_turn, behind, behind_piece}
 use Rattle.log_store.specs.Reclaiming.{behind_extents, behind_roll, behind_turn, did_at, one_fewer, with_base, with_reclaim_as}
+use Rattle.log_store.specs.Reclaiming.{PreparesAndAdvances}
 use Rattle.log_store.specs.Runs.{disk_answer}
 use Rattle.log_store.specs.Values.{LogStoreValue, ReclaimValue, IsInStep}
 use Rattle.log_store.specs.declared.job.Job.{Job}
@@ -58,6 +60,7 @@ use Rattle.law_log_store.specs.Standing.{MayStandBy, MayStandOn}
 use Rattle.law_log_store.specs.Standing.{StopsBy, StopsOnHeap, floors_with}
 use Rattle.law_log_store.proofs.Archiving.{be-become, kept-behind, kept-synced, none-held}
 use Rattle.law_log_store.proofs.Based.{turned-stands}
+use Rattle.law_log_store.proofs.Forgotten.{other-stands}
 use Rattle.law_log_store.proofs.Going.{group-base, group-root, rest-base, rest-root, standing-stops}
 use Rattle.law_log_store.proofs.Headers.{IsFrom, Turns, from-names, root-way, turn-call, within-turn}
 use Rattle.law_log_store.proofs.Made.{sync-keeps-log, write-adds, write-holds-done, write-keeps-chain, write-keeps-log, written-still, written-synced}
@@ -177,6 +180,7 @@ module _ (v : LogStoreValue) (h queue : History Value) (floors : ℕ → ℕ) (s
         may = s.commits.may;
       };
       facts = s.facts;
+      mark = s.mark;
       anchors = s.anchors;
       turn = by-turn v.turn s.turn;
       job = s.job;
@@ -666,13 +670,13 @@ module _ (v : LogStoreValue) (h queue : History Value) (floors : ℕ → ℕ) (s
     step-stands sound (Rolling roll) e call is = roll-step roll e new sound roll.left refl call is
     step-stands sound (Turning t) e call is = turn-step t e new sound call t.stage refl is
 
-    advance-steps : AreSound new.disk.areas → (answer : Result JobDid PumpFault) → AdvancesReclaim tells r v answer new
-        → JobStepsTo answer v new h queue floors
-    advance-steps sound (Ok what) advances =
-        subst (λ (j : Option Job). StandsOnHeap new h queue (floors_after j what floors)) (sym alone)
+    advance-steps : (start : LogStoreValue) → start.job ≡ v.job → AreSound new.disk.areas → (answer : Result JobDid PumpFault)
+        → AdvancesReclaim tells r v answer new → JobStepsTo answer start new h queue floors
+    advance-steps start same sound (Ok what) advances =
+        subst (λ (j : Option Job). StandsOnHeap new h queue (floors_after j what floors)) (sym (same ∙ alone))
         (step-stands sound r.stage refl (advances.call tell) advances.answer.1)
-    advance-steps sound (Err why) advances =
-        subst (λ (f : PumpFault). JobStepsTo (Err f) v new h queue floors) (sym advances.answer.0) (record {
+    advance-steps start same sound (Err why) advances =
+        subst (λ (f : PumpFault). JobStepsTo (Err f) start new h queue floors) (sym advances.answer.0) (record {
           failed = ap (λ (x : LogStoreValue). x.commits.failed) advances.answer.1;
           stops = λ image left.
               subst (λ (x : LogStoreValue). MayStand x.commits.failed x.turn x.job (IsImageOf x.roots image h floors)
@@ -682,17 +686,39 @@ module _ (v : LogStoreValue) (h queue : History Value) (floors : ℕ → ℕ) (s
               (λ work. IsImageOf v.roots image h (floors_with work floors)) (call-left (Err why) advances image left));
         })
 
+-- the store with what memory has behind its turn
+readied-stands : (v : LogStoreValue) (r : ReclaimValue) (h queue : History Value) (floors : ℕ → ℕ) → StandsOnHeap v h queue floors
+    → StandsOnHeap (record v { commits = prepared r.base.upto v.commits }) h queue floors
+readied-stands v r h queue floors s = other-stands v (prepared r.base.upto v.commits) refl h queue floors s (record {
+  ordered = s.commits.ordered;
+  values = s.commits.values;
+  told = s.commits.told;
+  contents = s.commits.contents;
+  may = s.commits.may;
+}) s.facts s.mark
+
 pub reclaim-steps : (tells : Bool) (old new : LogStoreValue) (answer : Result JobDid PumpFault) (h queue : History Value) (floors : ℕ → ℕ) → IsTrue tells
     → old.commits.failed ≡ false → (s : StandsOnHeap old h queue floors) → (r : ReclaimValue) → old.reclaim ≡ Some r → AreSound new.disk.areas
     → StepsReclaim tells r old answer new → JobStepsTo answer old new h queue floors
 reclaim-steps tells old new answer h queue floors tell works s r is-it sound is = by-gate (waits_at old.turn r.stage) is
   where
-    by-gate : (wait : Bool) → MatchBool wait ((answer ≡ Err fault.Busy) × (new ≡ old)) (AdvancesReclaim tells r old answer new)
+    by-turn : (b : Bool) → AdvancesReclaim tells r (cond b (record old { commits = prepared r.base.upto old.commits }) old) answer new
+        → JobStepsTo answer old new h queue floors
+    by-turn true advances =
+        advance-steps (record old { commits = prepared r.base.upto old.commits }) h queue floors (readied-stands old r h queue floors s) r is-it tells tell
+        works new old refl sound answer advances
+    by-turn false advances = advance-steps old h queue floors s r is-it tells tell works new old refl sound answer advances
+
+    by-memory : PreparesAndAdvances tells r old answer new → JobStepsTo answer old new h queue floors
+    by-memory (inl none) = subst (λ (a : Result JobDid PumpFault). JobStepsTo a old new h queue floors) (sym none.1) none.2
+    by-memory (inr is) = by-turn (is_turning r.stage) is
+
+    by-gate : (wait : Bool) → MatchBool wait ((answer ≡ Err fault.Busy) × (new ≡ old)) (PreparesAndAdvances tells r old answer new)
         → JobStepsTo answer old new h queue floors
     by-gate true busy =
         subst (λ (a : Result JobDid PumpFault). JobStepsTo a old new h queue floors) (sym busy.0)
         (subst (λ (x : LogStoreValue). StandsOnHeap x h queue floors) (sym busy.1) s)
-    by-gate false advances = advance-steps old h queue floors s r is-it tells tell works new sound answer advances
+    by-gate false is = by-memory is
 
 -- A refused call leaves the group, if one stands, as far as it is: what a stop may leave is what it was.
 pub reclaim-breaks : (tells : Bool) (old new : LogStoreValue) (h queue : History Value) (floors : ℕ → ℕ) → IsTrue tells → old.commits.failed ≡ false
@@ -708,9 +734,22 @@ pub reclaim-leaves : (tells : Bool) (old new : LogStoreValue) (answer : Result J
     → StepsReclaim tells r old answer new → LeavesImage new.disk.areas image → IsFront old image h queue floors
 reclaim-leaves tells old new answer h queue floors tell works step s r is-it image is left = by-gate (waits_at old.turn r.stage) is
   where
-    by-gate : (wait : Bool) → MatchBool wait ((answer ≡ Err fault.Busy) × (new ≡ old)) (AdvancesReclaim tells r old answer new)
+    by-turn : (b : Bool) → AdvancesReclaim tells r (cond b (record old { commits = prepared r.base.upto old.commits }) old) answer new
+        → IsFront old image h queue floors
+    by-turn true advances =
+        stood-is-front old h queue floors step image
+        (call-left (record old { commits = prepared r.base.upto old.commits }) h queue floors (readied-stands old r h queue floors s) r is-it tells tell works
+        new answer advances image left)
+    by-turn false advances =
+        stood-is-front old h queue floors step image (call-left old h queue floors s r is-it tells tell works new answer advances image left)
+
+    by-memory : PreparesAndAdvances tells r old answer new → IsFront old image h queue floors
+    by-memory (inl none) =
+        standing-is-front old h queue floors works s image step (subst (λ (x : LogStoreValue). LeavesImage x.disk.areas image) none.2 left)
+    by-memory (inr is) = by-turn (is_turning r.stage) is
+
+    by-gate : (wait : Bool) → MatchBool wait ((answer ≡ Err fault.Busy) × (new ≡ old)) (PreparesAndAdvances tells r old answer new)
         → IsFront old image h queue floors
     by-gate true busy =
         standing-is-front old h queue floors works s image step (subst (λ (x : LogStoreValue). LeavesImage x.disk.areas image) busy.1 left)
-    by-gate false advances =
-        stood-is-front old h queue floors step image (call-left old h queue floors s r is-it tells tell works new answer advances image left)
+    by-gate false is = by-memory is

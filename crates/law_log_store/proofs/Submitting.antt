@@ -9,14 +9,21 @@ use Rattle.history.specs.declared.key.Key.{Key}
 use Rattle.history.specs.declared.key.KeyWrite.{KeyWrite}
 use Rattle.history.specs.Key.{key_cmp, write_in}
 use Rattle.history.specs.Time.{value_after}
-use Rattle.history.specs.Histories.{Commit, History, MayFollow}
+use Rattle.history.specs.Histories.{Commit, History, MayFollow, last}
+use Rattle.history.specs.Time.{IsRisingAfter}
+use Rattle.history.proofs.Histories.{last_after-append, rising-from_following}
+use Rattle.history.proofs.Runs.{last-later}
 use Rattle.history.specs.Queries.{values_after, applied}
 use Rattle.history.proofs.Orders.{is_le}
 use Rattle.history.proofs.Values.{value_after-append}
 use Rattle.law_image.specs.Values.{Value, IsValue}
 use Rattle.law_image.specs.Facts.{latest, values_now}
+use Rattle.law_image.proofs.Standing.{archived-range}
+use Rattle.law_refinement.proofs.Held.{rising-both}
+use Rattle.law_refinement.proofs.KeptWrites.{kept-more}
+use Rattle.law_refinement.proofs.Waiting.{written-later}
 use Rattle.chains.specs.KeyWrites.{KeyWrites, writes_of, IsOrdered, with_write, with_commit}
-use Rattle.chains.specs.Writes.{written}
+use Rattle.chains.specs.Writes.{Write, kept_after, last_time, written}
 use Rattle.chains.proofs.Commits.{writes_of-with_commit}
 use Rattle.chains.proofs.Order.{ordered-with_write}
 use Rattle.log_extents.specs.Chains.{count_of}
@@ -40,6 +47,7 @@ use Rattle.law_log_store.specs.Standing.{StandsOnHeap, HasTurn, HasJob, HasStage
 use Rattle.law_log_store.proofs.Queues.{taken-and-rest, told-many, told-more, contents-more, may-more, told-ordered, take-more, drop-more, versions-split}
 use Rattle.law_log_store.proofs.Queues.{values-told}
 use Rattle.law_log_store.proofs.Queues.{applied-told}
+use Rattle.law_log_store.proofs.HeapFacts.{last-behind, rising-told, early-told, written-upto}
 use Rattle.law_log_store.proofs.Anchors.{now-is, len-more, fit-more}
 use Rattle.law_log_store.proofs.Used.{used-are}
 
@@ -102,12 +110,49 @@ module _ (v : LogStoreValue) (label time : ℕ) (writes : List (KeyWrite Value))
   is-ordered : IsOrdered (ordered v.commits)
   is-ordered = told-ordered v.commits.versions v.commits.queue queue s.commits.ordered s.commits.told
 
-  is-told : IsTold (ordered v.commits) waiting commit
+  all-writes : (key : Key) → writes_of (with_commit time (ordered v.commits) writes) key ≡ writes_of (ordered v.commits) key ++ written time writes key
+  all-writes key = writes_of-with_commit time (ordered v.commits) writes key is-ordered may.write_set.rising
+
+  all-rising : (key : Key) → IsRisingAfter 0 (writes_of (ordered v.commits) key)
+  all-rising = rising-told v.commits.versions v.commits.queue queue s.commits.told s.facts.rising
+
+  -- the versions behind the queue are no later than its last commit
+  all-early : (key : Key) → last_time (writes_of (ordered v.commits) key) ≤ last (h ++ queue)
+  all-early key =
+      subst (λ (n : ℕ). last_time (writes_of (ordered v.commits) key) ≤ n) (sym (last_after-append 0 h queue))
+      (early-told (last h) v.commits.versions v.commits.queue queue s.commits.told s.facts.early key)
+
+  -- the reclaim mark is before the commit
+  later : v.commits.reclaimed < time
+  later =
+      let order = s.stands.homes.marks in
+      let upto = archived-range s.reading h floors s.stands in
+      let mark = s.mark in
+      let behind = last-later (last h) queue (rising-from_following IsValue h queue s.commits.may) in
+      let whole = last_after-append 0 h queue in
+      let low = may.later in
+      omega (arith, order, upto, mark, behind, whole, low)
+
+  is-told : IsTold v.commits.reclaimed (ordered v.commits) waiting commit
   is-told = record {
     time = refl;
     label = refl;
     ordered = ordered-with_commit time (ordered v.commits) writes is-ordered;
-    facts = λ key. writes_of-with_commit time (ordered v.commits) writes key is-ordered may.write_set.rising;
+    facts = λ key.
+        ap (kept_after v.commits.reclaimed) (all-writes key)
+        ∙ kept-more v.commits.reclaimed (writes_of (ordered v.commits) key) (written time writes key)
+        (written-later v.commits.reclaimed commit key later may.in_range);
+    rising = λ key.
+        subst (λ (ws : List Write). IsRisingAfter 0 ws) (sym (all-writes key))
+        (rising-both 0 (writes_of (ordered v.commits) key) (written time writes key) (all-rising key)
+        (written-later (last_time (writes_of (ordered v.commits) key)) commit key (let early = all-early key in let low = may.later in omega (arith, early, low))
+        may.in_range));
+    early = λ key.
+        let all = ap (λ (ws : List Write). last_time ws) (all-writes key) ∙ last-behind 0 (writes_of (ordered v.commits) key) (written time writes key) in
+        let early = all-early key in
+        let low = may.later in
+        let one = written-upto (last_time (writes_of (ordered v.commits) key)) time writes key (omega (arith, early, low)) in
+        omega (arith, all, one);
     values = λ key. values-with_commit time label (ordered v.commits) writes key is-ordered may.in_range may.write_set.rising;
   }
 
@@ -219,6 +264,7 @@ module _ (v : LogStoreValue) (label time : ℕ) (writes : List (KeyWrite Value))
       may = may-more h queue commit s.commits.may may;
     };
     facts = s.facts;
+    mark = s.mark;
     anchors = record {
       len = len-is ∙ sym (len-more v.roots.extents (size_now s.reading) (values_now s.reading) queue commit);
       fit = fit-more v.roots.extents (size_now s.reading) (values_now s.reading) queue commit s.anchors.fit

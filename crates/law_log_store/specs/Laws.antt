@@ -41,10 +41,10 @@ pub record AreNext (reading : Reading) (h next : History Value) (contents : List
 -- So it is of each 1 to 1,024 commits that may follow the history that the log stands for, where the versions in memory have the values that the log has.
 abbrev pub GroupJoins : Type 0
 GroupJoins =
-    (most root : ℕ) (l : HeapLog) (reading : Reading) (h next : History Value) (floors : ℕ → ℕ) (versions : List KeyWrites) (waiting : List WaitingValue)
-    (contents : List (List ℕ))
+    (most root mark : ℕ) (l : HeapLog) (reading : Reading) (h next : History Value) (floors : ℕ → ℕ) (versions : List KeyWrites)
+    (waiting : List WaitingValue) (contents : List (List ℕ))
     → IsLogOf most root l reading → StandsFor reading h floors → ((key : Key) → values_in versions key ≡ values_now reading key)
-    → AreTold versions waiting next → AreContents versions contents waiting next → MayAllFollow IsValue h next → 0 < length next → length next ≤ 1024
+    → AreTold mark versions waiting next → AreContents versions contents waiting next → MayAllFollow IsValue h next → 0 < length next → length next ≤ 1024
     → AreNext reading h next contents (members_over versions waiting next)
 
 -- ---- the way of a group

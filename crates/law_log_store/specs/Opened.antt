@@ -7,7 +7,7 @@ use Rattle.disk.specs.Calls.{DiskState}
 use Rattle.law_image.specs.Values.{Value}
 use Rattle.law_image.specs.Reading.{Reading}
 use Rattle.law_image.specs.Facts.{values_now, heap_facts}
-use Rattle.law_image.specs.StandsFor.{StandsFor}
+use Rattle.law_image.specs.StandsFor.{StandsFor, reclaimed_upto}
 use Rattle.chains.specs.KeyWrites.{IsOrdered, writes_of}
 use Rattle.law_log_layout.specs.HeapLog.{PlacedChain, HeapLog, IsLogOf, HoldsLog}
 use Rattle.law_log_sizes.specs.Sizes.{size_now}
@@ -58,8 +58,9 @@ pub record IsOpenedOn (v : LogStoreValue) (l : HeapLog) (reading : Reading) : Ty
   pub reclaim : v.reclaim ≡ None
   pub named : IsNamedBy v.named l reading
   pub reach : v.named.end ≤ v.disk.areas.archive.firm
-  -- what memory has forgotten is archived
+  -- what memory has forgotten is archived, and it has forgotten what ended by the reclaim mark
   pub marks : v.commits.reclaimed ≤ v.named.upto
+  pub mark : v.commits.reclaimed ≡ reclaimed_upto reading
 
 -- a store that is opened on an image all of which is synced stands for what the image does
 abbrev pub OpenedStands : Type 0

@@ -63,7 +63,7 @@ use Rattle.law_log_store.specs.Reclaiming.{HasRoots, HasReclaim, taken_of}
 pub record HasCommits (v : LogStoreValue) (h queue : History Value) : Type 0 where
   pub ordered : IsOrdered v.commits.versions
   pub values : (key : Key) → values_in v.commits.versions key ≡ histories.values_in h key
-  pub told : AreTold v.commits.versions v.commits.queue queue
+  pub told : AreTold v.commits.reclaimed v.commits.versions v.commits.queue queue
   pub contents : AreContents (versions_after v.commits.versions (members v.commits)) v.contents (drop v.commits.group v.commits.queue)
       (drop v.commits.group queue)
   pub may : MayAllFollow IsValue h queue
@@ -253,6 +253,8 @@ pub record StandsOnHeap (v : LogStoreValue) (h queue : History Value) (floors : 
   pub sound : AreSound v.disk.areas
   pub commits : HasCommits v h queue
   pub facts : AreFactsOf v.commits.versions reading h
+  -- memory has forgotten what ended by the reclaim mark, and no more
+  pub mark : v.commits.reclaimed ≡ reclaimed_upto reading
   pub anchors : HasAnchors v.roots.extents reading queue v.room.anchors
   pub turn : HasTurn v queue l reading made h v.turn
   pub job : MayAllEnter l reading h floors made v.job

@@ -1,5 +1,6 @@
 -- A reclaim goes on, and ends.
-use Rattle.std.specs.Prelude.{Result, IsTrue, MatchOption}
+use Rattle.std.specs.Prelude.{Result, Err, IsTrue, MatchBool, MatchOption}
+use Rattle.std.proofs.Common.{inr, cond}
 use Rattle.std.proofs.Common.{◌≡◌, ◌≢◌, Bool, true, false, ◌&&◌, Ok, ℕ, ◌^◌, ◌<◌, ◌≤◌, List, [], ◌∷◌, ◌++◌, length, drop, Option, None, Some, refl, sym, ap, subst, ◌∙◌, arith}
 use Rattle.std.proofs.lemmas.Bool.{and_left, and_right}
 use Rattle.disk.specs.Areas.{Areas}
@@ -16,15 +17,18 @@ use Rattle.log_base.specs.Rolls.{InRoll}
 use Rattle.log_room.specs.Rooms.{RoomValue}
 use Rattle.log_store.specs.Live.{LiveValue, AreLive}
 use Rattle.log_store.specs.Named.{NamedValue}
-use Rattle.commits.specs.Reclaims.{IsPrepared, reclaimed_to}
+use Rattle.commits.specs.Reclaims.{IsPrepared, prepared, reclaimed_to}
 use Rattle.commits.specs.Values.{CommitsValue}
-use Rattle.log_store.specs.Gates.{is_turning, waits_at}
+use Rattle.group.specs.declared.answers.PumpFault.{PumpFault}
+use Rattle.group.specs.declared.answers.PumpFault.TheVariants as pump
+use Rattle.log_store.specs.Gates.{is_turning, waits_at, waits_to_turn}
 use Rattle.log_store.specs.Values.{LogStoreValue, ReclaimValue, IsStageOnWay, IsReclaiming, IsReclaimBeside, HasTurn, MayRaiseMark, IsInStep}
 use Rattle.log_store.specs.Values.{IsReclaimInMemory, has_turned, has_turned_in, has_opened}
 use Rattle.log_store.specs.Reclaiming.{CallsExtents, did_extents, did_roll, did_of_root, did_at, one_written, piece_written, stage_behind}
 use Rattle.log_store.specs.Reclaiming.{begins_turn, begins_roll, at_turn}
 use Rattle.log_store.specs.Reclaiming.{behind_extents, behind_roll, reclaim_behind, MayStand, Stands, room_with, live_with, with_base}
 use Rattle.log_store.specs.Reclaiming.{CallsAt, with_reclaim_as, behind_turn, behind, AdvancesReclaim}
+use Rattle.log_store.specs.Reclaiming.{made_ready, PreparesAndAdvances, StepsReclaim}
 use Rattle.log_store.specs.declared.job.Job.{Job}
 use Rattle.log_store.specs.declared.job.JobDid.{JobDid}
 use Rattle.log_store.specs.declared.job.JobDid.TheVariants as did
@@ -404,3 +408,28 @@ advances-on tells v r after what disk is runs call counts what-is after-is more 
             ∙ ap (λ (x : LogStoreValue). record x { disk = disk }) (sym (further v r r.stage reclaiming.on_its_way (λ e. more (what-is ∙ e)))),
       );
     })
+
+-- ---- a step that does not wait
+
+-- what is made in memory changes nothing of the reclaim
+ready-by : (b : Bool) (r : ReclaimValue) (v : LogStoreValue) → (cond b (record v { commits = prepared r.base.upto v.commits }) v).reclaim ≡ v.reclaim
+ready-by true r v = refl
+ready-by false r v = refl
+
+-- so the call behind it is the step's
+pub readied-steps : (tells : Bool) (old ready new : LogStoreValue) (answer : Result JobDid PumpFault) → waits_to_turn old.turn old.reclaim ≡ false
+    → MatchOption old.reclaim ⊥ (λ r. ready ≡ made_ready r old) → MatchOption ready.reclaim ⊥ (λ r. AdvancesReclaim tells r ready answer new)
+    → MatchOption old.reclaim ⊥ (λ r. StepsReclaim tells r old answer new)
+readied-steps tells old ready new answer free made advances = by old.reclaim refl
+  where
+    by : (o : Option ReclaimValue) → old.reclaim ≡ o → MatchOption o ⊥ (λ r. StepsReclaim tells r old answer new)
+    by None none = absurd (subst (λ (o : Option ReclaimValue). MatchOption o ⊥ (λ r. ready ≡ made_ready r old)) none made)
+    by (Some r) is =
+        let made-now : ready ≡ made_ready r old = subst (λ (o : Option ReclaimValue). MatchOption o ⊥ (λ r. ready ≡ made_ready r old)) is made in
+        let same : (made_ready r old).reclaim ≡ Some r = ready-by (is_turning r.stage) r old ∙ is in
+        let calls : MatchOption (made_ready r old).reclaim ⊥ (λ q. AdvancesReclaim tells q (made_ready r old) answer new) =
+        subst (λ (x : LogStoreValue). MatchOption x.reclaim ⊥ (λ q. AdvancesReclaim tells q x answer new)) made-now advances in
+        let call : AdvancesReclaim tells r (made_ready r old) answer new =
+        subst (λ (o : Option ReclaimValue). MatchOption o ⊥ (λ q. AdvancesReclaim tells q (made_ready r old) answer new)) same calls in
+        let wait : waits_at old.turn r.stage ≡ false = subst (λ (o : Option ReclaimValue). waits_to_turn old.turn o ≡ false) is free in
+        subst (λ (b : Bool). MatchBool b ((answer ≡ Err pump.Busy) × (new ≡ old)) (PreparesAndAdvances tells r old answer new)) (sym wait) (inr call)
