@@ -1,0 +1,8 @@
+pub mod Eighths
+pub mod Taking
+pub mod Merging
+pub mod Kept
+pub mod Standing
+pub mod Nexts
+pub mod Held
+pub mod Passing
