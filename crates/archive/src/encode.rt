@@ -44,7 +44,7 @@ fn put_u64(out: &mut [u8], at: usize, number: u64) -> usize
 }
 
 /// Writes a place of the index to the buffer's front, 8 bytes.
-pub(crate) fn encode_place(place: u64, out: &mut [u8]) -> usize
+pub fn encode_place(place: u64, out: &mut [u8]) -> usize
     requires { 8 ≤ length out.old }
     ensures len { result ≡ 8 }
     ensures bytes { take result out.new ≡ u64_bytes place }
@@ -65,7 +65,7 @@ fn encode_head(head: &Head, out: &mut [u8]) -> usize
 }
 
 /// How many bytes the record of this value has: 28 to 4,123.
-pub(crate) fn record_len(value: &Value) -> usize
+pub fn record_len(value: &Value) -> usize
     ensures is { (head : Head) → result ≡ length (record_bytes (record_of head value.now)) }
     ensures least { 28 ≤ result }
     ensures most { result ≤ 4123 }
@@ -75,7 +75,7 @@ pub(crate) fn record_len(value: &Value) -> usize
 }
 
 /// Writes a record to the buffer's front, and tells its length.
-pub(crate) fn encode_record(head: &Head, value: &Value, out: &mut [u8]) -> usize
+pub fn encode_record(head: &Head, value: &Value, out: &mut [u8]) -> usize
     requires { 4123 ≤ length out.old }
     ensures most { result ≤ 4123 }
     ensures bytes { take result out.new ≡ record_bytes (record_of head.now value.now) }

@@ -52,9 +52,15 @@ pub record IsRecordRead (area : List ℕ) (run : RunEntry) (n : ℕ) (head : Hea
 abbrev pub IsRecordBroken : List ℕ → RunEntry → ℕ → Type 0
 IsRecordBroken area run n = IsHeadBroken area run (before_of area run n) n ⊎ IsValueBroken area run n
 
--- a cursor that has read what the area's bytes have
-abbrev pub HasRead : List ℕ → CursorValue → Type 0
-HasRead area c = c.last ≡ last_at area c.run c.number
+-- the n-th record breaks no rule, by itself or beside the one before it
+pub record IsRecordSound (area : List ℕ) (run : RunEntry) (n : ℕ) : Type 0 where
+  pub head : IsHeadSound area run (before_of area run n) n
+  pub value : (value : Value) × IsValueAt area run n value
+
+-- a cursor that has read what the area's bytes have: none of the records behind it breaks a rule
+pub record HasRead (area : List ℕ) (c : CursorValue) : Type 0 where
+  pub last : c.last ≡ last_at area c.run c.number
+  pub sound : (n : ℕ) → n < c.number → IsRecordSound area c.run n
 
 -- ---- over a run of these records
 

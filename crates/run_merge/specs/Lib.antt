@@ -4,3 +4,6 @@ pub mod Aheads
 pub mod Merges
 pub mod Mergers
 pub mod Laws
+pub mod Making
+pub mod Counters
+pub mod Writers

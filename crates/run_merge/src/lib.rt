@@ -2,16 +2,24 @@
 #![tactic(auto)]
 
 mod ahead;
+mod buffer;
 mod classes;
+mod counter;
+mod counting;
 mod cursor;
 pub mod laws;
+mod making;
 mod merger;
 mod reading;
 mod rules;
 mod run_merger;
 mod step;
+mod writer;
 
 pub use classes::{class_of, count_taken};
+pub use counter::RunCounter;
+pub use counting::{Counting, Sizes};
 pub use cursor::RunCursor;
 pub use run_merger::{MOST_LOOKED, RunMerger};
 pub use step::MergeStep;
+pub use writer::{MergedWriter, PieceDid, PieceFault};

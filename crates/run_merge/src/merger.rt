@@ -259,6 +259,7 @@ pub(crate) fn next_kept_of<W: RecordWalk, D: Disk>(
     ensures damaged { IfErr result (IsFaultAmong (runs_of aheads.old.items)) }
     ensures runs { runs_of aheads.new.items ≡ runs_of aheads.old.items }
     ensures all { W.all walk.new ≡ W.all walk.old }
+    ensures fewer { 0 < looks.old → IfOk result (λ step. looks.new < looks.old) }
     ensures only { (area : List ℕ) (lists : List (List ArchiveRecord)) → IsTrue D.tells → archive_of (D.state disk.old) ≡ area
         → AreAhead area lists aheads.old.items
         → AreAhead area lists aheads.new.items × LooksOn (floor_at floors.now) looks.old looks.new

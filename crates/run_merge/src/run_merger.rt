@@ -1,5 +1,5 @@
 //! Runs of the archive merged with new records.
-ghost use Rattle.std.specs.Prelude.{◌≡◌, ℕ, List, IsTrue, IfOk, IfErr};
+ghost use Rattle.std.specs.Prelude.{◌≡◌, ◌<◌, ℕ, List, IsTrue, IfOk, IfErr, OnOk, OnErr};
 ghost use Rattle.floors.specs.Floors.{floor_at};
 ghost use Rattle.law_image.specs.Reading.{ArchiveRecord};
 ghost use Rattle.archive.specs.Searches.{archive_of, after_query};
@@ -56,6 +56,21 @@ impl<W: RecordWalk> RunMerger<W> {
         })
     }
 
+    /// Has these runs in the place of its own, in the order of the log, and goes back to the first records.
+    ///
+    /// # Errors
+    ///
+    /// Where memory is short. Then nothing has changed.
+    pub fn take_runs(&mut self, alloc: Global, runs: &[RunEntry]) -> Result<(), AllocError>
+        ensures ok { OnOk result (self.new ≡ merger_of runs.now self.old.all self.old.floors) }
+        ensures err { OnErr result (self.new ≡ self.old) }
+    {
+        let aheads = aheads_of(alloc, runs)?;
+        self.aheads = aheads;
+        self.walk.restart();
+        Ok(())
+    }
+
     /// Goes back to the first records.
     pub fn restart(&mut self)
         ensures { self.new ≡ merger_of (runs_of self.old.aheads) self.old.all self.old.floors }
@@ -100,6 +115,7 @@ impl<W: RecordWalk> RunMerger<W> {
         ensures runs { runs_of self.new.aheads ≡ runs_of self.old.aheads }
         ensures all { self.new.all ≡ self.old.all }
         ensures floors { self.new.floors ≡ self.old.floors }
+        ensures fewer { 0 < looks.old → IfOk result (λ step. looks.new < looks.old) }
         ensures only { (area : List ℕ) (lists : List (List ArchiveRecord)) → IsTrue D.tells → archive_of (D.state disk.old) ≡ area
             → AreAhead area lists self.old.aheads
             → AreAhead area lists self.new.aheads
