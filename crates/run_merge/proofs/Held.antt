@@ -14,7 +14,7 @@ use Rattle.archive.specs.Answers.{head_of, record_of}
 use Rattle.archive.specs.Runs.{HoldsRun}
 use Rattle.archive.specs.Damages.{IfDamaged}
 use Rattle.archive.specs.Searches.{Answers, IsFaultOf}
-use Rattle.run_merge.specs.Cursors.{CursorValue, HasRead, IsRecordBroken, StandsIn}
+use Rattle.run_merge.specs.Cursors.{CursorValue, HasRead, IsRecordBroken, IsRecordRead, StandsIn}
 use Rattle.run_merge.specs.Aheads.{AheadValue, ahead_of, passed_ahead, head_held, left_in, IsAhead, IsFilled, Fills}
 use Rattle.run_merge.specs.Mergers.{AreAhead, HaveRead, IsBrokenAmong, ReadsExactly, lefts_in, runs_of, IsFaultAmong}
 use Rattle.run_merge.proofs.Nexts.{first_head}
@@ -41,6 +41,37 @@ held_next area records old new (Some p) ahead run moves reads =
       },
       ap (λ (n : ℕ). drop n records) before,
     )
+
+-- a cursor that was asked, and what it found is held
+module _ (tells : Bool) (area : List ℕ) (old new : CursorValue) (found : Option (Head × Value)) (run : new.run ≡ old.run)
+    (moves : MatchOption found ((old.number ≡ old.run.slot.records) × (new ≡ old))
+    (λ f. (old.number < old.run.slot.records) × (new.number ≡ old.number + 1)))
+    (exact : (later : List ℕ) → IsTrue tells → area ≡ later → HasRead later old
+    → MatchOption found ⊤ (λ f. IsRecordRead later old.run old.number f.0 f.1 × HasRead later new))
+    (only : (later : List ℕ) (records : List ArchiveRecord) → IsTrue tells → area ≡ later → HoldsRun later old.run records → StandsIn records old
+    → (option_map (λ p. record_of p.0 p.1) found ≡ slice_get records old.number) × StandsIn records new) where
+  found_filled : (f : Option (Head × Value)) → MatchOption f ((old.number ≡ old.run.slot.records) × (new ≡ old))
+      (λ g. (old.number < old.run.slot.records) × (new.number ≡ old.number + 1)) → IsFilled (record { cursor = new; held = f })
+  found_filled None is = ap (λ (c : CursorValue). c.number) is.1 ∙ is.0 ∙ sym (ap (λ (c : CursorValue). c.run.slot.records) is.1)
+  found_filled (Some p) is = tt
+
+  found_read : (f : Option (Head × Value)) → HasRead area old → MatchOption f ((old.number ≡ old.run.slot.records) × (new ≡ old))
+      (λ g. (old.number < old.run.slot.records) × (new.number ≡ old.number + 1))
+      → MatchOption f ⊤ (λ g. IsRecordRead area old.run old.number g.0 g.1 × HasRead area new) → HasRead area new
+  found_read None read is more = subst (HasRead area) (sym is.1) read
+  found_read (Some p) read is more = more.1
+
+  pub fills_found : Fills tells area (record { cursor = old; held = None }) (record { cursor = new; held = found }) (Ok tt)
+  fills_found = record {
+    run = run;
+    damaged = tt;
+    filled = found_filled found moves;
+    same = tt;
+    only = λ records told ahead.
+        let next = held_next area records old new found ahead run moves (only area records told refl ahead.holds ahead.stands) in
+        (next.0, next.1, tt);
+    exact = λ told read. (found_read found read moves (exact area told refl read), tt);
+  }
 
 first_dropped : (records : List ArchiveRecord) (n : ℕ) → slice_get (drop n records) 0 ≡ slice_get records n
 first_dropped [] zero = refl

@@ -64,7 +64,7 @@ merged_all : (P : ArchiveRecord → Type 0) (lists : List (List ArchiveRecord)) 
 merged_all P [] all = tt
 merged_all P (records ∷ lists) all = into_all P records (merged lists) all.0 (merged_all P lists all.1)
 
-all_more : (P Q : ArchiveRecord → Type 0) (rs : List ArchiveRecord) → ((r : ArchiveRecord) → P r → Q r) → AllByRecursion P rs → AllByRecursion Q rs
+pub all_more : (P Q : ArchiveRecord → Type 0) (rs : List ArchiveRecord) → ((r : ArchiveRecord) → P r → Q r) → AllByRecursion P rs → AllByRecursion Q rs
 all_more P Q [] leads all = tt
 all_more P Q (r ∷ rs) leads all = (leads r all.0, all_more P Q rs leads all.1)
 

@@ -6,3 +6,9 @@ pub mod Standing
 pub mod Nexts
 pub mod Held
 pub mod Passing
+pub mod Frames
+pub mod Counts
+pub mod Bytes
+pub mod Writing
+pub mod Homes
+pub mod Plans

@@ -9,6 +9,7 @@ use Rattle.archive.specs.declared.head.Head.{Head}
 use Rattle.archive.specs.declared.run.RunEntry.{RunEntry}
 use Rattle.archive.specs.Answers.{record_of}
 use Rattle.archive.specs.Runs.{HoldRuns}
+use Rattle.run_merge.specs.Cursors.{first_of, HasRead, IsRecordSound}
 use Rattle.run_merge.specs.Aheads.{AheadValue, ahead_of, passed_ahead, left_in, IsFilled}
 use Rattle.run_merge.specs.Merges.{merged, least_of, is_kept, kept_records}
 use Rattle.run_merge.specs.Mergers.{AreAhead, HaveRead, lefts_in, heads_of, IsStep}
@@ -183,6 +184,12 @@ pub look_passed : (floors : ℕ → ℕ) (old new : List ArchiveRecord) (r : Arc
     → is_kept floors r ≡ false → (new ≡ drop 1 old) × (kept_records floors old ≡ kept_records floors new)
 look_passed floors old new r is ended = (is.1, kept_not floors old r is.0 ended ∙ ap (kept_records floors) (sym is.1))
 
+unread : (area : List ℕ) (run : RunEntry) → HasRead area (first_of run)
+unread area run = record { last = refl; sound = none }
+  where
+    none : (n : ℕ) → n < 0 → IsRecordSound area run n
+    none n less = absurd (omega (arith, less))
+
 pub begins_unread : (area : List ℕ) (runs : List RunEntry) → HaveRead area (map ahead_of runs)
 begins_unread area [] = tt
-begins_unread area (run ∷ runs) = (refl, begins_unread area runs)
+begins_unread area (run ∷ runs) = (unread area run, begins_unread area runs)

@@ -1,11 +1,18 @@
 -- What the definitions say of classes and of merged records.
-use Rattle.std.specs.Prelude.{ℕ, ◌+◌, ◌^◌, ◌<◌, ◌≤◌, ◌≡◌, true, List, [], ◌∷◌, ◌++◌, filter, map, replicate}
+use Rattle.std.specs.Prelude.{ℕ, ◌+◌, ◌^◌, ◌<◌, ◌≤◌, ◌≡◌, true, List, [], ◌∷◌, ◌++◌, drop, filter, length, map, replicate}
 use Rattle.std.specs.List.{flat_map, AllByRecursion}
 use Rattle.history.specs.declared.key.Key.{Key}
+use Rattle.history.specs.declared.time.Version.{Version}
+use Rattle.history.specs.Histories.{History, IsHistory, last}
+use Rattle.history.specs.Homes.{AreAtHome}
+use Rattle.law_image.specs.Values.{Value, IsValue}
 use Rattle.history.specs.Versions.{ends_after, FollowOneAnotherFrom}
-use Rattle.law_image.specs.Reading.{ArchiveRecord}
+use Rattle.law_image.specs.Reading.{ArchiveRecord, Reading}
+use Rattle.law_image.specs.Log.{floor_of, is_in_heap}
 use Rattle.law_image.specs.Facts.{run_versions}
-use Rattle.law_image.specs.StandsFor.{IsRun}
+use Rattle.law_image.specs.StandsFor.{IsRun, StandsFor, archived_upto}
+use Rattle.law_image.specs.Plans.{IsArchivePlan}
+use Rattle.law_image.specs.HeapPlans.{IsMergePlan, with_merged}
 use Rattle.floors.specs.Floors.{FloorsValue}
 use Rattle.archive.specs.declared.run.RunEntry.{RunEntry}
 use Rattle.archive.specs.Runs.{HoldRuns}
@@ -83,6 +90,27 @@ KeptMergeIsRun =
     (floors : ℕ → ℕ) (mark : ℕ) (runs : List (ℕ × List ArchiveRecord)) → AreRunsFrom mark runs
     → ((key : Key) → FollowOneAnotherFrom 0 (filter (ends_after (floors key.relation)) (flat_map (run_versions key) (records_in runs))))
     → IsRun mark floors (last_upto mark runs) (kept_merge floors (records_in runs))
+
+-- So they do where the runs are the last ones of a store that is at home: what was archived by its mark, of its history.
+abbrev pub HomeRunsFollow : Type 0
+HomeRunsFollow =
+    (h : History Value) (floors : ℕ → ℕ) (archived reclaimed : ℕ) (heap : Key → List (Version Value)) (before lists : List (List ArchiveRecord))
+    → IsHistory IsValue h → AreAtHome h floors archived reclaimed heap (λ key. flat_map (run_versions key) (before ++ lists))
+    → (key : Key) → FollowOneAnotherFrom 0 (filter (ends_after (floors key.relation)) (flat_map (run_versions key) lists))
+
+-- What is kept of the last runs of an image that stands for a history, with the plan of an archive, is the plan of an archive whose run takes their place.
+abbrev pub MergedIsPlan : Type 0
+MergedIsPlan =
+    (reading : Reading) (h : History Value) (floors : ℕ → ℕ) (kept upto : ℕ) (plan : List ArchiveRecord) → StandsFor reading h floors
+    → is_in_heap reading.profile ≡ true → archived_upto reading < upto → upto ≤ last h → IsArchivePlan reading upto plan → kept ≤ length reading.runs
+    → IsMergePlan reading kept upto (kept_merge (floor_of reading.log) (drop kept reading.runs ++ plan ∷ []))
+
+-- So the image with that archive stands for the same history, with the same floors.
+abbrev pub MergedStands : Type 0
+MergedStands =
+    (reading : Reading) (h : History Value) (floors : ℕ → ℕ) (kept upto : ℕ) (plan : List ArchiveRecord) → StandsFor reading h floors
+    → is_in_heap reading.profile ≡ true → archived_upto reading < upto → upto ≤ last h → IsArchivePlan reading upto plan → kept ≤ length reading.runs
+    → StandsFor (with_merged reading kept upto (kept_merge (floor_of reading.log) (drop kept reading.runs ++ plan ∷ []))) h floors
 
 -- the records of a run are by their keys
 abbrev pub RunsAreByKey : Type 0

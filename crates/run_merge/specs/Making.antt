@@ -1,7 +1,6 @@
 -- The bytes of a merged run, made record by record.
-use Rattle.std.specs.Prelude.{ℕ, ◌≡◌, ◌+◌, ◌^◌, ◌<◌, ◌≤◌, List, [], ◌++◌, length, Option}
+use Rattle.std.specs.Prelude.{ℕ, ◌≡◌, ◌+◌, ◌^◌, ◌<◌, ◌≤◌, List, [], ◌++◌, length, Option, MatchOption, ⊤}
 use Rattle.std.specs.List.{concat}
-use Rattle.std.specs.Option.{ForSome}
 use Rattle.law_image.specs.Reading.{ArchiveRecord}
 use Rattle.floors.specs.Floors.{floor_at}
 use Rattle.archive.specs.Pieces.{size_of, chunks_left}
@@ -44,7 +43,7 @@ unwritten lists k = k.made ++ unmade lists k.merger k.place
 pub record IsMaking (area : List ℕ) (lists : List (List ArchiveRecord)) (k : Making) : Type 0 where
   pub ahead : AreAhead area lists k.merger.aheads
   pub short : size_of (run_records lists k.merger) < 2 ^ 63
-  pub placed : ForSome k.place (λ at. at + size_of (kept_of lists k.merger) ≤ size_of (run_records lists k.merger))
+  pub placed : MatchOption k.place ⊤ (λ at. at + size_of (kept_of lists k.merger) ≤ size_of (run_records lists k.merger))
 
 -- no byte is neither made nor left to make, and none comes twice
 pub record MakesOn (area : List ℕ) (lists : List (List ArchiveRecord)) (old new : Making) : Type 0 where

@@ -1,6 +1,6 @@
 //! What the definitions say, as functions that are proved and do nothing.
 ghost use Rattle.run_merge.specs.Laws.{ClassesAreGreatest, AreTakenAsWorked, MergeKeepsVersions, KeptMergeKeepsVersions, KeptMergeIsRun, RunsAreByKey};
-ghost use Rattle.run_merge.specs.Laws.{MergersBeginWhole, MergersBeginUnread};
+ghost use Rattle.run_merge.specs.Laws.{HomeRunsFollow, MergedIsPlan, MergedStands, MergersBeginWhole, MergersBeginUnread};
 
 /// The class of a run of n records is the greatest c with 8^c at most n, and 0 for no records.
 pub fn classes_are_greatest()
@@ -27,6 +27,18 @@ pub fn kept_merge_keeps_versions()
 pub fn kept_merge_is_run()
     ensures by_key { RunsAreByKey }
     ensures run { KeptMergeIsRun }
+{}
+
+/// The versions of a key that the last runs of a store say above its floors follow one another, where its versions are at home.
+pub fn home_runs_follow()
+    ensures { HomeRunsFollow }
+{}
+
+/// What is kept of the last runs of an image and of what an archive plans is the plan of one whose run takes their place, and the image with
+/// it stands for the same history.
+pub fn merged_is_plan()
+    ensures plan { MergedIsPlan }
+    ensures stands { MergedStands }
 {}
 
 /// A merger that begins has all records of its runs and of its walk left, in one order.
