@@ -14,3 +14,4 @@ pub mod Calls
 pub mod Queries
 pub mod Formats
 pub mod Opens
+pub mod Merging

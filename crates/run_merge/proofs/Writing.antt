@@ -1,7 +1,15 @@
 -- Writing a merged run.
-use Rattle.std.proofs.Common.{◌≡◌, ℕ, ◌+◌, ◌-◌, ◌^◌, ◌≤◌, ◌<◌, List, [], ◌++◌, length, min, take, drop, None, ap, sym, subst, subst₂, ◌∙◌, arith, append_assoc}
+use Rattle.std.proofs.Common.{◌≡◌, ℕ, ◌+◌, ◌-◌, ◌^◌, ◌≤◌, ◌<◌, List, [], ◌++◌, length, min, take, drop, None, refl, ap, sym, subst, subst₂, ◌∙◌, arith, append_assoc}
 use Rattle.std.proofs.Common.{length-append, length-take, length-drop, take-append-drop}
+use Rattle.std.specs.Prelude.{IsTrue, Bool, Result, Ok, Err}
 use Rattle.std.specs.List.{concat}
+use Rattle.disk.specs.Areas.{Areas}
+use Rattle.disk.specs.Calls.{Counts, DiskState, Writes}
+use Rattle.disk.specs.declared.area.Area.TheVariants.{Archive}
+use Rattle.disk.specs.declared.area.DeviceFault.{DeviceFault}
+use Rattle.archive.specs.declared.fault.ArchiveFault.{ArchiveFault}
+use Rattle.archive.specs.declared.fault.ArchiveFault.TheVariants.{Device, NoMemory, Damaged}
+use Rattle.archive.specs.Searches.{after_query, archive_of}
 use Rattle.law_image.specs.Reading.{ArchiveRecord}
 use Rattle.archive.specs.declared.run.RunEntry.{RunEntry}
 use Rattle.archive.specs.Pieces.{InWriting, chunks_left, run_chunks, size_of}
@@ -9,11 +17,11 @@ use Rattle.archive.specs.Runs.{RunsEndBy, run_bytes}
 use Rattle.archive.proofs.Lefts.{run_size}
 use Rattle.archive.proofs.Joining.{front_is, rest_is, joined_run}
 use Rattle.run_merge.specs.Making.{IsMaking, IsSameMerge, Making, MakesOn, making, run_records, unmade, unwritten}
-use Rattle.run_merge.specs.Mergers.{kept_of, runs_of}
+use Rattle.run_merge.specs.Mergers.{HaveRead, kept_of, runs_of}
 use Rattle.run_merge.specs.Counters.{CounterValue, IsCounting}
-use Rattle.run_merge.specs.Writers.{MergedValue, IsMerged, again, behind_piece, in_writing, unbegun, writer_of}
+use Rattle.run_merge.specs.Writers.{HasReadRuns, MergedValue, IsMerged, NextPiece, OnePiece, again, behind_piece, in_writing, unbegun, writer_of}
 use Rattle.run_merge.proofs.Bytes.{again_ahead, again_whole, same_again}
-use Rattle.run_merge.proofs.Frames.{Grows, ahead_again}
+use Rattle.run_merge.proofs.Frames.{Grows, ahead_again, grown, not_grown, read_again, runs_kept}
 
 -- ---- at first
 
@@ -113,3 +121,78 @@ module _ (area : List ℕ) (lists : List (List ArchiveRecord)) (old : MergedValu
         );
         behind = λ n run at. let end = before n run at in omega (arith, end);
       }
+
+-- ---- the call
+
+pub query_same : {T : Type 0} (result : Result T ArchiveFault) (state : DiskState) → archive_of (after_query result state) ≡ archive_of state
+query_same (Ok answer) state = refl
+query_same (Err Device) state = refl
+query_same (Err NoMemory) state = refl
+query_same (Err (Damaged start)) state = refl
+
+pub wrote_grows : (at : ℕ) (bytes : List ℕ) (old new : Areas) → Writes Archive at bytes (Ok tt) old new → Grows at old.archive.bytes new.archive.bytes
+wrote_grows at bytes old new writes =
+    subst (λ (a : Areas). Grows at old.archive.bytes a.archive.bytes) (sym writes.written) (grown at bytes old.archive.bytes)
+
+-- where nothing is written
+pub still_read : (old new : MergedValue) (before : List ℕ) (after : List ℕ) → new ≡ record old { making = new.making }
+    → IsSameMerge old.making.merger new.making.merger → before ≡ after → HaveRead before new.making.merger.aheads
+    → RunsEndBy old.at (runs_of old.making.merger.aheads) → HasReadRuns after new
+still_read old new before after rest same area read ends = (
+  subst (λ (a : List ℕ). HaveRead a new.making.merger.aheads) area read,
+  subst₂ RunsEndBy (sym (ap (λ (v : MergedValue). v.at) rest)) (sym same.runs) ends,
+)
+
+-- where the bytes that are made are written
+module _ (tells : Bool) (old now new : MergedValue) (before mid after : DiskState) (count : ℕ) (answer : Result (Unit {0}) DeviceFault) (rest : now
+    ≡ record old { making = now.making }) (same : IsSameMerge old.making.merger now.making.merger) (mid_is : mid ≡ before) (count_is : count
+    ≡ min 8192 old.left) (made : count ≤ length now.making.made) (behind : new ≡ behind_made now now.making count) (counts : Counts answer mid
+    after) (wrote : IsTrue tells → Writes Archive now.at (take count now.making.made) answer mid.areas after.areas) where
+  new_is : new ≡ behind_made old now.making count
+  new_is = behind ∙ ap (λ (v : MergedValue). behind_made v now.making count) rest
+
+  wrote_there : IsTrue tells → Writes Archive old.at (take count now.making.made) answer before.areas after.areas
+  wrote_there told =
+      subst (λ (s : DiskState). Writes Archive old.at (take count now.making.made) answer s.areas after.areas) mid_is
+      (subst (λ (n : ℕ). Writes Archive n (take count now.making.made) answer mid.areas after.areas) (ap (λ (v : MergedValue). v.at) rest) (wrote told))
+
+  pub one_piece : OnePiece tells old before answer new after
+  one_piece = record {
+    at = ap (λ (v : MergedValue). v.at) new_is ∙ ap (λ (n : ℕ). old.at + n) count_is;
+    left = ap (λ (v : MergedValue). v.left) new_is ∙ ap (λ (n : ℕ). old.left - n) count_is;
+    counts = subst (λ (s : DiskState). Counts answer s after) mid_is counts;
+    piece = take count now.making.made;
+    size = omega (arith, length-take count now.making.made, made, count_is);
+    wrote = wrote_there;
+  }
+
+  pub put_read : (area : List ℕ) → Grows old.at area (archive_of after) → HaveRead area now.making.merger.aheads
+      → RunsEndBy old.at (runs_of old.making.merger.aheads) → HasReadRuns (archive_of after) new
+  put_read area grows read ends =
+      let there = runs_kept old.at (runs_of old.making.merger.aheads) (runs_of now.making.merger.aheads) same.runs ends in
+      subst (HasReadRuns (archive_of after)) (sym new_is) (
+        read_again area (archive_of after) old.at now.making.merger.aheads grows there read,
+        λ n run at. let end = there n run at in omega (arith, end),
+      )
+
+  module _ (area : List ℕ) (lists : List (List ArchiveRecord)) (told : IsTrue tells) (on : MakesOn area lists old.making now.making) (merged : IsMerged area
+      lists old) where
+    pub next_piece : NextPiece lists old before answer new after
+    next_piece = record {
+      behind = ap (in_writing lists) new_is ∙ wrote_writing area lists old now.making count same on merged count_is made;
+      wrote = subst (λ (bytes : List ℕ). Writes Archive old.at bytes answer before.areas after.areas)
+          (piece_is area lists old now.making count same on merged count_is made) (wrote_there told);
+    }
+
+    pub put_merged : Grows old.at area (archive_of after) → IsMerged (archive_of after) lists new
+    put_merged grows =
+        subst (IsMerged (archive_of after) lists) (sym new_is)
+        (wrote_merged area lists old now.making count same on merged count_is made (archive_of after) grows)
+
+-- all bytes of the run are there, so a piece is not short
+pub never_short : (area : List ℕ) (lists : List (List ArchiveRecord)) (old : MergedValue) (k : Making) (count : ℕ) → MakesOn area lists old.making k
+    → IsMerged area lists old → count ≤ old.left → length k.made < count → unmade lists k.merger k.place ≡ [] → ⊥
+never_short area lists old k count on merged few short none =
+    let all : length (k.made ++ unmade lists k.merger k.place) ≡ length (unwritten lists old.making) = ap length on.same in
+    let left = merged.left in
+    omega (arith, all, left, few, short, length-append k.made (unmade lists k.merger k.place), ap length none)

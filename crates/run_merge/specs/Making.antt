@@ -56,13 +56,19 @@ IsMade rest Chunk = Unit {0}
 IsMade rest Counted = Unit {0}
 IsMade rest Whole = rest ≡ []
 
--- the bytes of a piece are made where it is said to be full
+-- and this call has made none of them
+abbrev pub IsKept : List ℕ → List ℕ → Made → Type 0
+IsKept old new Chunk = Unit {0}
+IsKept old new Counted = Unit {0}
+IsKept old new Whole = new ≡ old
+
+-- the bytes of a piece are made where it is said to be full, and where it is said to be short they are not
 abbrev pub IsFull : ℕ → List ℕ → Filled → Type 0
 IsFull count made filled.Full = count ≤ length made
 IsFull count made filled.Counted = Unit {0}
-IsFull count made filled.Short = Unit {0}
+IsFull count made filled.Short = length made < count
 
--- and where it is said to be short, nothing is left to make
+-- where it is short, nothing is left to make
 abbrev pub IsFilled : List ℕ → Filled → Type 0
 IsFilled rest filled.Full = Unit {0}
 IsFilled rest filled.Counted = Unit {0}

@@ -2,7 +2,7 @@
 ghost use Rattle.std.specs.Prelude.{◌≡◌, ◌<◌, ◌≤◌, ℕ, List, IsTrue, IfOk, IfErr, None, Some, length};
 ghost use Rattle.law_image.specs.Reading.{ArchiveRecord};
 ghost use Rattle.archive.specs.Searches.{Answers, archive_of, after_query};
-ghost use Rattle.run_merge.specs.Making.{IsFilled, IsFull, IsMade, IsMaking, IsSameMerge, MakesOn, making, unmade};
+ghost use Rattle.run_merge.specs.Making.{IsFilled, IsFull, IsKept, IsMade, IsMaking, IsSameMerge, MakesOn, making, unmade};
 ghost use Rattle.run_merge.specs.Mergers.{IsFaultAmong, ReadsExactly, runs_of};
 
 use crate::buffer::PieceBuffer;
@@ -47,6 +47,7 @@ fn make_record<W: RecordWalk, D: Disk>(
     ensures damaged { IfErr result (IsFaultAmong (runs_of merger.old.aheads)) }
     ensures same { IsSameMerge merger.old merger.new }
     ensures fewer { 0 < looks.old → IfOk result (λ made. looks.new < looks.old) }
+    ensures kept { IfOk result (IsKept buffer.old buffer.new) }
     ensures only { (area : List ℕ) (lists : List (List ArchiveRecord)) → IsTrue D.tells → archive_of (D.state disk.old) ≡ area
         → IsMaking area lists (making merger.old buffer.old place.old)
         → MakesOn area lists (making merger.old buffer.old place.old) (making merger.new buffer.new place.new)
@@ -84,6 +85,7 @@ fn make_place<W: RecordWalk, D: Disk>(
     ensures damaged { IfErr result (IsFaultAmong (runs_of merger.old.aheads)) }
     ensures same { IsSameMerge merger.old merger.new }
     ensures fewer { 0 < looks.old → IfOk result (λ made. looks.new < looks.old) }
+    ensures kept { IfOk result (IsKept buffer.old buffer.new) }
     ensures only { (area : List ℕ) (lists : List (List ArchiveRecord)) → IsTrue D.tells → archive_of (D.state disk.old) ≡ area
         → IsMaking area lists (making merger.old buffer.old place.old)
         → MakesOn area lists (making merger.old buffer.old place.old) (making merger.new buffer.new place.new)
@@ -116,6 +118,7 @@ fn make_next<W: RecordWalk, D: Disk>(
     ensures damaged { IfErr result (IsFaultAmong (runs_of merger.old.aheads)) }
     ensures same { IsSameMerge merger.old merger.new }
     ensures fewer { 0 < looks.old → IfOk result (λ made. looks.new < looks.old) }
+    ensures kept { IfOk result (IsKept buffer.old buffer.new) }
     ensures only { (area : List ℕ) (lists : List (List ArchiveRecord)) → IsTrue D.tells → archive_of (D.state disk.old) ≡ area
         → IsMaking area lists (making merger.old buffer.old place.old)
         → MakesOn area lists (making merger.old buffer.old place.old) (making merger.new buffer.new place.new)
