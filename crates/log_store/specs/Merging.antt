@@ -78,6 +78,26 @@ fault_of faults.Device = fault.Device
 fault_of faults.NoMemory = fault.NoMemory
 fault_of (faults.Damaged start) = fault.Damaged start
 
+-- what is counted so far
+abbrev pub counted_at : MergeStage → Sizes → Sizes
+counted_at (New c) sizes = c.sizes
+counted_at (Taken c) sizes = c.sizes
+counted_at (Writing w) sizes = sizes
+counted_at Synced sizes = sizes
+
+-- the taken runs are counted next, and the run is in the writing next
+abbrev pub stage_on : MergeStage → MergeStage
+stage_on (New c) = Taken c
+stage_on (Taken c) = Taken c
+stage_on (Writing w) = Writing w
+stage_on Synced = Synced
+
+abbrev pub stage_written : MergeStage → MergeStage
+stage_written (New c) = Writing (writer_of c)
+stage_written (Taken c) = Writing (writer_of c)
+stage_written (Writing w) = Writing w
+stage_written Synced = Synced
+
 -- all is counted, and the run is in the writing
 abbrev pub in_writing : Merge → CounterValue → Merge
 in_writing m c = record m { sizes = c.sizes; stage = Writing (writer_of c) }
@@ -88,6 +108,16 @@ with_taken m runs c taken = record m { taken = taken; stage = Taken (counter_of 
 
 abbrev pub AfterNew : Merge → List RunEntry → CounterValue → Merge → Type 0
 AfterNew old runs c new = MatchBool (taken_with runs c.sizes == 0) (new ≡ in_writing old c) (new ≡ with_taken old runs c (taken_with runs c.sizes))
+
+-- what follows once all is counted, by what was
+abbrev pub EndsAt : List RunEntry → Merge → MergeStage → Result MergeDid MergeFault → Merge → Type 0
+EndsAt runs old (New c) result new = ((result ≡ Ok did.Counted) × AfterNew old runs c new) ⊎ ((result ≡ Err fault.NoMemory) × (new ≡ old))
+EndsAt runs old (Taken c) result new = (result ≡ Ok did.Counted) × (new ≡ in_writing old c)
+EndsAt runs old (Writing w) result new = ⊥
+EndsAt runs old Synced result new = ⊥
+
+abbrev pub EndsCounting : List RunEntry → Merge → Result MergeDid MergeFault → Merge → Type 0
+EndsCounting runs old result new = EndsAt runs old old.stage result new
 
 -- what the answer of the counter comes to, while the new records are counted
 abbrev pub CountedNew : Merge → List RunEntry → CounterValue → Result Counting ArchiveFault → Result MergeDid MergeFault → Merge → Type 0

@@ -1,6 +1,6 @@
 //! An archive whose run takes the place of the last ones: what it does before its entry. `JobStage` does not drive it yet.
 ghost use Rattle.std.specs.Prelude.{◌≡◌, ◌<◌, ◌≤◌, ◌^◌, IfOk, length, true};
-ghost use Rattle.log_store.specs.Merging.{StepsCounting, StepsMerge, StepsWriting, archive_of_merge, fault_of, is_counting, is_unsynced, is_writing, records_in, taken_runs};
+ghost use Rattle.log_store.specs.Merging.{EndsCounting, StepsCounting, StepsMerge, StepsWriting, archive_of_merge, counted_at, fault_of, is_counting, is_unsynced, is_writing, records_in, stage_on, stage_written, taken_runs};
 
 use archive::{ArchiveFault, RunEntry};
 use disk::{Area, DeviceFault, Disk};
@@ -130,27 +130,36 @@ impl Merge {
         requires { is_counting self.old.stage ≡ true }
         ensures { StepsCounting D.tells runs.now self.old (D.state disk.old) result self.new (D.state disk.new) }
     {
-        let (counted, sizes) = match &mut self.stage {
-            MergeStage::New(counter) | MergeStage::Taken(counter) => {
-                (counter.count(disk), counter.sizes())
-            }
+        let counted = match &mut self.stage {
+            MergeStage::New(counter) => counter.count(disk),
+            MergeStage::Taken(counter) => counter.count(disk),
             MergeStage::Writing(_) | MergeStage::Synced => unreachable!(),
         };
         match counted {
             Ok(Counting::Counted) => Ok(MergeDid::Counted),
-            Ok(Counting::Whole) => self.end_count(alloc, runs, sizes),
+            Ok(Counting::Whole) => self.end_count(alloc, runs),
             Ok(Counting::PastEnd) => Err(MergeFault::NoPlace),
             Err(fault) => Err(fault_of(fault)),
         }
     }
 
+    // What is counted so far.
+    fn counted(&self) -> Sizes
+        ensures { result ≡ counted_at self.now.stage self.now.sizes }
+    {
+        match &self.stage {
+            MergeStage::New(counter) => counter.sizes(),
+            MergeStage::Taken(counter) => counter.sizes(),
+            MergeStage::Writing(_) | MergeStage::Synced => self.sizes,
+        }
+    }
+
     // All records are counted: the taken runs are next, or the writing.
-    fn end_count(
-        &mut self,
-        alloc: Global,
-        runs: &[RunEntry],
-        sizes: Sizes,
-    ) -> Result<MergeDid, MergeFault> {
+    fn end_count(&mut self, alloc: Global, runs: &[RunEntry]) -> Result<MergeDid, MergeFault>
+        requires { is_counting self.old.stage ≡ true }
+        ensures { EndsCounting runs.now self.old result self.new }
+    {
+        let sizes = self.counted();
         if let MergeStage::New(counter) = &mut self.stage {
             let Ok(records) = records_of(alloc, runs) else {
                 return Err(MergeFault::NoMemory);
@@ -161,17 +170,18 @@ impl Merge {
                     return Err(MergeFault::NoMemory);
                 }
                 self.taken = taken as u16;
-                self.is_taken();
+                self.go_on();
                 return Ok(MergeDid::Counted);
             }
         }
-        self.sizes = sizes;
-        self.is_counted();
+        self.begin_writing(sizes);
         Ok(MergeDid::Counted)
     }
 
     // The records of the taken runs are counted next.
-    fn is_taken(&mut self) {
+    fn go_on(&mut self)
+        ensures { self.new ≡ record self.old { stage = stage_on self.old.stage } }
+    {
         self.stage = match mem::replace(&mut self.stage, MergeStage::Synced) {
             MergeStage::New(counter) => MergeStage::Taken(counter),
             other => other,
@@ -179,11 +189,13 @@ impl Merge {
     }
 
     // The run is in the writing next.
-    fn is_counted(&mut self) {
+    fn begin_writing(&mut self, sizes: Sizes)
+        ensures { self.new ≡ record self.old { sizes = sizes; stage = stage_written self.old.stage } }
+    {
+        self.sizes = sizes;
         self.stage = match mem::replace(&mut self.stage, MergeStage::Synced) {
-            MergeStage::New(counter) | MergeStage::Taken(counter) => {
-                MergeStage::Writing(counter.into_writer())
-            }
+            MergeStage::New(counter) => MergeStage::Writing(counter.into_writer()),
+            MergeStage::Taken(counter) => MergeStage::Writing(counter.into_writer()),
             other => other,
         };
     }

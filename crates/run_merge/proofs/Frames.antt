@@ -153,9 +153,9 @@ module _ (old new : List ℕ) (limit : ℕ) (run : RunEntry) (grows : Grows limi
           is = is.is;
           spelled = ap₂ (λ (from to : ℕ). slice_range new (run.slot.start + (from + 26)) (run.slot.start + to)) here next
               ∙ slice_same (run.slot.start + (entry_at old run n + 26)) (run.slot.start + entry_at old run (n + 1)) (omega (arith, least)) (omega (
-            arith,
-            room,
-          )) (omega (arith, room, there)) ∙ is.spelled;
+                arith,
+                room,
+              )) (omega (arith, room, there)) ∙ is.spelled;
         }
 
     sound_again : (n : ℕ) → n < count → IsRecordSound new run n

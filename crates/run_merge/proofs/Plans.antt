@@ -167,12 +167,12 @@ module _ (reading : Reading) (h : History Value) (floors : ℕ → ℕ) (kept up
         ++ filter (ends_by upto) (filter (ends_after (max (archived_upto reading) (floor_of reading.log key.relation))) (heap_versions reading key)))
         (sym (drop_all (length reading.runs) reading.runs (omega arith)));
     is_run = (
-      let size = stack_length 0 marks reading.runs stacked in
-      let whole : archive_mark (first_runs (length reading.runs) reading.log) ≡ last_mark 0 marks =
-      last_mark-is 0 (first_runs (length reading.runs) reading.log)
-      ∙ ap (last_mark 0) (first-marks (length reading.runs) reading.log ∙ take_all (length reading.runs) marks (omega (arith, size))) in
-      subst (λ (m : ℕ). IsRun m (no_floors []) upto plan) (sym whole) plan_run
-    );
+        let size = stack_length 0 marks reading.runs stacked in
+        let whole : archive_mark (first_runs (length reading.runs) reading.log) ≡ last_mark 0 marks =
+        last_mark-is 0 (first_runs (length reading.runs) reading.log)
+        ∙ ap (last_mark 0) (first-marks (length reading.runs) reading.log ∙ take_all (length reading.runs) marks (omega (arith, size))) in
+        subst (λ (m : ℕ). IsRun m (no_floors []) upto plan) (sym whole) plan_run
+        );
   }
 
   abbrev pub first_mark : ℕ

@@ -1,7 +1,7 @@
 -- Writing a merged run.
 use Rattle.std.proofs.Common.{◌≡◌, ℕ, ◌+◌, ◌-◌, ◌^◌, ◌≤◌, ◌<◌, List, [], ◌++◌, length, min, take, drop, None, refl, ap, sym, subst, subst₂, ◌∙◌, arith, append_assoc}
 use Rattle.std.proofs.Common.{length-append, length-take, length-drop, take-append-drop}
-use Rattle.std.specs.Prelude.{IsTrue, Bool, Result, Ok, Err}
+use Rattle.std.specs.Prelude.{IsTrue, IfErr, OnOk, Bool, Result, Ok, Err}
 use Rattle.std.specs.List.{concat}
 use Rattle.disk.specs.Areas.{Areas}
 use Rattle.disk.specs.Calls.{Counts, DiskState, Writes}
@@ -19,7 +19,12 @@ use Rattle.archive.proofs.Joining.{front_is, rest_is, joined_run}
 use Rattle.run_merge.specs.Making.{IsMaking, IsSameMerge, Making, MakesOn, making, run_records, unmade, unwritten}
 use Rattle.run_merge.specs.Mergers.{HaveRead, kept_of, runs_of}
 use Rattle.run_merge.specs.Counters.{CounterValue, IsCounting}
-use Rattle.run_merge.specs.Writers.{HasReadRuns, MergedValue, IsMerged, NextPiece, OnePiece, again, behind_piece, in_writing, unbegun, writer_of}
+use Rattle.run_merge.specs.Writers.{HasReadRuns, IfUnread, IsMerged, IsWrite, MergedValue, NextPiece, OnePiece, PieceCalls, WritesExactly, WritesOn, again}
+use Rattle.run_merge.specs.Writers.{behind_piece, in_writing, unbegun, write_answer, writer_of}
+use Rattle.run_merge.specs.declared.writer.PieceDid.{PieceDid}
+use Rattle.run_merge.specs.declared.writer.PieceDid.TheVariants.{Counted, Wrote}
+use Rattle.run_merge.specs.declared.writer.PieceFault.{PieceFault}
+use Rattle.run_merge.specs.declared.writer.PieceFault.TheVariants.{Unread, Changed, Refused}
 use Rattle.run_merge.proofs.Bytes.{again_ahead, again_whole, same_again}
 use Rattle.run_merge.proofs.Frames.{Grows, ahead_again, grown, not_grown, read_again, runs_kept}
 
@@ -115,10 +120,10 @@ module _ (area : List ℕ) (lists : List (List ArchiveRecord)) (old : MergedValu
           placed = on.still.placed;
         };
         left = (
-          let was = merged.left in
-          let all = ap length split in
-          omega (arith, was, all, length-append (take count k.made) rest_bytes, front_size)
-        );
+            let was = merged.left in
+            let all = ap length split in
+            omega (arith, was, all, length-append (take count k.made) rest_bytes, front_size)
+            );
         behind = λ n run at. let end = before n run at in omega (arith, end);
       }
 
@@ -143,51 +148,113 @@ still_read old new before after rest same area read ends = (
   subst₂ RunsEndBy (sym (ap (λ (v : MergedValue). v.at) rest)) (sym same.runs) ends,
 )
 
+pub still_on : (area : List ℕ) (lists : List (List ArchiveRecord)) (old new : MergedValue) (before after : List ℕ) → new
+    ≡ record old { making = new.making } → IsSameMerge old.making.merger new.making.merger → before ≡ area → after ≡ before
+    → MakesOn area lists old.making new.making → IsMerged area lists old → IsMerged after lists new × (in_writing lists new ≡ in_writing lists old)
+still_on area lists old new before after rest same here kept on merged = (
+  subst (λ (a : List ℕ). IsMerged a lists new) (sym (kept ∙ here)) (still_merged area lists old new rest same on merged),
+  still_writing area lists old new rest same on merged,
+)
+
 -- where the bytes that are made are written
-module _ (tells : Bool) (old now new : MergedValue) (before mid after : DiskState) (count : ℕ) (answer : Result (Unit {0}) DeviceFault) (rest : now
-    ≡ record old { making = now.making }) (same : IsSameMerge old.making.merger now.making.merger) (mid_is : mid ≡ before) (count_is : count
-    ≡ min 8192 old.left) (made : count ≤ length now.making.made) (behind : new ≡ behind_made now now.making count) (counts : Counts answer mid
-    after) (wrote : IsTrue tells → Writes Archive now.at (take count now.making.made) answer mid.areas after.areas) where
+module _ (tells : Bool) (old now new : MergedValue) (before mid after : DiskState) (count : ℕ) (answer : Result PieceDid PieceFault) (write : IsWrite
+    answer) (rest : now ≡ record old { making = now.making }) (same : IsSameMerge old.making.merger now.making.merger) (mid_is : mid ≡ before) (count_is : count
+    ≡ min 8192 old.left) (made : count ≤ length now.making.made) (behind : new ≡ behind_made now now.making count) (counts : Counts (write_answer answer) mid
+    after) (wrote : IsTrue tells → Writes Archive now.at (take count now.making.made) (write_answer answer) mid.areas after.areas) where
   new_is : new ≡ behind_made old now.making count
   new_is = behind ∙ ap (λ (v : MergedValue). behind_made v now.making count) rest
 
-  wrote_there : IsTrue tells → Writes Archive old.at (take count now.making.made) answer before.areas after.areas
+  wrote_there : IsTrue tells → Writes Archive old.at (take count now.making.made) (write_answer answer) before.areas after.areas
   wrote_there told =
-      subst (λ (s : DiskState). Writes Archive old.at (take count now.making.made) answer s.areas after.areas) mid_is
-      (subst (λ (n : ℕ). Writes Archive n (take count now.making.made) answer mid.areas after.areas) (ap (λ (v : MergedValue). v.at) rest) (wrote told))
+      subst (λ (s : DiskState). Writes Archive old.at (take count now.making.made) (write_answer answer) s.areas after.areas) mid_is
+      (subst (λ (n : ℕ). Writes Archive n (take count now.making.made) (write_answer answer) mid.areas after.areas) (ap (λ (v : MergedValue). v.at) rest)
+      (wrote told))
 
-  pub one_piece : OnePiece tells old before answer new after
+  one_piece : OnePiece tells old before (write_answer answer) new after
   one_piece = record {
     at = ap (λ (v : MergedValue). v.at) new_is ∙ ap (λ (n : ℕ). old.at + n) count_is;
     left = ap (λ (v : MergedValue). v.left) new_is ∙ ap (λ (n : ℕ). old.left - n) count_is;
-    counts = subst (λ (s : DiskState). Counts answer s after) mid_is counts;
+    counts = subst (λ (s : DiskState). Counts (write_answer answer) s after) mid_is counts;
     piece = take count now.making.made;
     size = omega (arith, length-take count now.making.made, made, count_is);
     wrote = wrote_there;
   }
 
-  pub put_read : (area : List ℕ) → Grows old.at area (archive_of after) → HaveRead area now.making.merger.aheads
-      → RunsEndBy old.at (runs_of old.making.merger.aheads) → HasReadRuns (archive_of after) new
-  put_read area grows read ends =
-      let there = runs_kept old.at (runs_of old.making.merger.aheads) (runs_of now.making.merger.aheads) same.runs ends in
-      subst (HasReadRuns (archive_of after)) (sym new_is) (
-        read_again area (archive_of after) old.at now.making.merger.aheads grows there read,
-        λ n run at. let end = there n run at in omega (arith, end),
-      )
+  pub put_calls : PieceCalls tells old before answer new after
+  put_calls = by answer write one_piece
+    where
+      by : (r : Result PieceDid PieceFault) → IsWrite r → OnePiece tells old before (write_answer r) new after → PieceCalls tells old before r new after
+      by (Ok Counted) no piece = absurd no
+      by (Ok Wrote) is piece = piece
+      by (Err (Unread fault)) no piece = absurd no
+      by (Err Changed) no piece = absurd no
+      by (Err Refused) is piece = piece
 
-  module _ (area : List ℕ) (lists : List (List ArchiveRecord)) (told : IsTrue tells) (on : MakesOn area lists old.making now.making) (merged : IsMerged area
-      lists old) where
-    pub next_piece : NextPiece lists old before answer new after
+  pub put_damaged : (P : ArchiveFault → Type 0) → IfErr answer (IfUnread P)
+  put_damaged P = by answer write
+    where
+      by : (r : Result PieceDid PieceFault) → IsWrite r → IfErr r (IfUnread P)
+      by (Ok did) is = tt
+      by (Err (Unread fault)) no = absurd no
+      by (Err Changed) no = absurd no
+      by (Err Refused) is = tt
+
+  pub put_same : IsSameMerge old.making.merger new.making.merger
+  put_same = subst (λ (v : MergedValue). IsSameMerge old.making.merger v.making.merger) (sym new_is) same
+
+  grows : IsTrue tells → OnOk answer (Grows old.at (archive_of before) (archive_of after))
+  grows told = by answer write (wrote_there told)
+    where
+      by : (r : Result PieceDid PieceFault) → IsWrite r
+          → Writes Archive old.at (take count now.making.made) (write_answer r) before.areas after.areas
+          → OnOk r (Grows old.at (archive_of before) (archive_of after))
+      by (Ok did) is writes = wrote_grows old.at (take count now.making.made) before.areas after.areas writes
+      by (Err why) is writes = tt
+
+  pub put_exact : IsTrue tells → (area : List ℕ) → archive_of before ≡ area → HaveRead area now.making.merger.aheads
+      → RunsEndBy old.at (runs_of old.making.merger.aheads) → WritesExactly area old answer new (archive_of after)
+  put_exact told area here read ends = by answer write (grows told)
+    where
+      there : RunsEndBy old.at (runs_of now.making.merger.aheads)
+      there = runs_kept old.at (runs_of old.making.merger.aheads) (runs_of now.making.merger.aheads) same.runs ends
+
+      by : (r : Result PieceDid PieceFault) → IsWrite r → OnOk r (Grows old.at (archive_of before) (archive_of after))
+          → WritesExactly area old r new (archive_of after)
+      by (Ok did) is grow =
+          subst (HasReadRuns (archive_of after)) (sym new_is) (
+            read_again (archive_of before) (archive_of after) old.at now.making.merger.aheads grow there
+                (subst (λ (a : List ℕ). HaveRead a now.making.merger.aheads) (sym here) read),
+            λ n run at. let end = there n run at in omega (arith, end),
+          )
+      by (Err (Unread fault)) no grow = absurd no
+      by (Err Changed) no grow = absurd no
+      by (Err Refused) is grow = tt
+
+  module _ (area : List ℕ) (lists : List (List ArchiveRecord)) (told : IsTrue tells) (here : archive_of before ≡ area) (on : MakesOn area lists old.making
+      now.making) (merged : IsMerged area lists old) where
+    next_piece : NextPiece lists old before (write_answer answer) new after
     next_piece = record {
       behind = ap (in_writing lists) new_is ∙ wrote_writing area lists old now.making count same on merged count_is made;
-      wrote = subst (λ (bytes : List ℕ). Writes Archive old.at bytes answer before.areas after.areas)
+      wrote = subst (λ (bytes : List ℕ). Writes Archive old.at bytes (write_answer answer) before.areas after.areas)
           (piece_is area lists old now.making count same on merged count_is made) (wrote_there told);
     }
 
-    pub put_merged : Grows old.at area (archive_of after) → IsMerged (archive_of after) lists new
-    put_merged grows =
+    put_merged : Grows old.at (archive_of before) (archive_of after) → IsMerged (archive_of after) lists new
+    put_merged grow =
         subst (IsMerged (archive_of after) lists) (sym new_is)
-        (wrote_merged area lists old now.making count same on merged count_is made (archive_of after) grows)
+        (wrote_merged area lists old now.making count same on merged count_is made (archive_of after)
+        (subst (λ (a : List ℕ). Grows old.at a (archive_of after)) here grow))
+
+    pub put_only : WritesOn lists old before answer new after
+    put_only = by answer write next_piece (grows told)
+      where
+        by : (r : Result PieceDid PieceFault) → IsWrite r → NextPiece lists old before (write_answer r) new after
+            → OnOk r (Grows old.at (archive_of before) (archive_of after)) → WritesOn lists old before r new after
+        by (Ok Counted) no next grow = absurd no
+        by (Ok Wrote) is next grow = (put_merged grow, next)
+        by (Err (Unread fault)) no next grow = absurd no
+        by (Err Changed) no next grow = absurd no
+        by (Err Refused) is next grow = next
 
 -- all bytes of the run are there, so a piece is not short
 pub never_short : (area : List ℕ) (lists : List (List ArchiveRecord)) (old : MergedValue) (k : Making) (count : ℕ) → MakesOn area lists old.making k

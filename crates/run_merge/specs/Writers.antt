@@ -74,6 +74,19 @@ pub record OnePiece (tells : Bool) (old : MergedValue) (before : DiskState) (res
   pub size : length piece ≡ min 8192 old.left
   pub wrote : IsTrue tells → Writes Archive old.at piece result before.areas after.areas
 
+-- the answer of the write, by that of the call that made it
+abbrev pub write_answer : Result PieceDid PieceFault → Result (Unit {0}) DeviceFault
+write_answer (Ok did) = Ok tt
+write_answer (Err why) = refused_answer
+
+-- a write was made, or was refused
+abbrev pub IsWrite : Result PieceDid PieceFault → Type 0
+IsWrite (Ok Counted) = ⊥
+IsWrite (Ok Wrote) = Unit {0}
+IsWrite (Err (Unread fault)) = ⊥
+IsWrite (Err Changed) = ⊥
+IsWrite (Err Refused) = Unit {0}
+
 -- what a call does to the disk, by its answer
 abbrev pub PieceCalls : Bool → MergedValue → DiskState → Result PieceDid PieceFault → MergedValue → DiskState → Type 0
 PieceCalls tells old before (Ok Counted) new after = NoPiece old before (Ok tt) new after

@@ -1,12 +1,12 @@
 //! Writing a merged run.
-ghost use Rattle.std.specs.Prelude.{◌≡◌, ◌+◌, ◌-◌, ◌^◌, ◌<◌, ◌≤◌, ℕ, List, [], IsTrue, IfOk, IfErr, None, length, take, drop};
+ghost use Rattle.std.specs.Prelude.{◌≡◌, ◌+◌, ◌-◌, ◌^◌, ◌<◌, ◌≤◌, ℕ, List, [], IsTrue, IfOk, IfErr, None, length, min, take, drop};
 ghost use Rattle.law_image.specs.Reading.{ArchiveRecord};
 ghost use Rattle.disk.specs.Calls.{Counts, Writes};
 ghost use Rattle.disk.specs.declared.area.Area.TheVariants.{Archive};
 ghost use Rattle.archive.specs.Searches.{Answers, archive_of, after_query};
 ghost use Rattle.run_merge.specs.Making.{IsFilled, IsFull, IsSameMerge, MakesOn, IsMaking, making, unmade};
 ghost use Rattle.run_merge.specs.Mergers.{IsFaultAmong, ReadsExactly, runs_of};
-ghost use Rattle.run_merge.specs.Writers.{HasReadRuns, IfUnread, IsMerged, PieceCalls, WritesExactly, WritesOn, again};
+ghost use Rattle.run_merge.specs.Writers.{HasReadRuns, IfUnread, IsMerged, IsWrite, PieceCalls, WritesExactly, WritesOn, again, write_answer};
 
 use crate::buffer::{PIECE_LEN, PieceBuffer};
 use crate::counting::Sizes;
@@ -59,6 +59,17 @@ impl<W: RecordWalk> Model for MergedWriter<W> {
     ghost view = { λ w. record { making = making w.merger w.buffer w.place; records = w.records; at = w.at; left = w.left } };
 
     ghost invariant = { λ w. w.at + w.left < 2 ^ 63 };
+}
+
+// How many bytes the next piece has, where so many are left.
+fn piece_len(left: u64) -> u64
+    ensures { result ≡ min 8192 left }
+{
+    if left < PIECE_LEN as u64 {
+        left
+    } else {
+        PIECE_LEN as u64
+    }
 }
 
 impl<W: RecordWalk> MergedWriter<W> {
@@ -123,17 +134,18 @@ impl<W: RecordWalk> MergedWriter<W> {
     }
 
     // Writes so many bytes that are made, and stands behind them.
-    fn write_made<D: Disk>(&mut self, count: u64, disk: &mut D) -> Result<(), DeviceFault>
+    fn write_made<D: Disk>(&mut self, count: u64, disk: &mut D) -> Result<PieceDid, PieceFault>
         requires made { count ≤ length self.old.making.made }
         requires left { count ≤ self.old.left }
-        ensures counts { Counts result (D.state disk.old) (D.state disk.new) }
-        ensures wrote { IsTrue D.tells
-            → Writes Archive self.old.at (take count self.old.making.made) result (D.state disk.old).areas (D.state disk.new).areas }
+        ensures write { IsWrite result }
+        ensures counts { Counts (write_answer result) (D.state disk.old) (D.state disk.new) }
+        ensures wrote { IsTrue D.tells → Writes Archive self.old.at (take count self.old.making.made) (write_answer result)
+            (D.state disk.old).areas (D.state disk.new).areas }
         ensures behind { self.new ≡ record {
-            making = making self.old.making.merger (drop count self.old.making.made) self.old.making.place;
-            records = self.old.records;
-            at = self.old.at + count;
-            left = self.old.left - count;
+          making = making self.old.making.merger (drop count self.old.making.made) self.old.making.place;
+          records = self.old.records;
+          at = self.old.at + count;
+          left = self.old.left - count;
         } }
     {
         let at = self.at;
@@ -141,7 +153,10 @@ impl<W: RecordWalk> MergedWriter<W> {
         self.at += count;
         self.left -= count;
         self.buffer.drop_front(count as usize);
-        done
+        match done {
+            Ok(()) => Ok(PieceDid::Wrote),
+            Err(DeviceFault) => Err(PieceFault::Refused),
+        }
     }
 
     /// Writes the next piece, in one device write behind the reads that it takes. Where these take more than a call looks at, it makes
@@ -161,16 +176,12 @@ impl<W: RecordWalk> MergedWriter<W> {
         ensures exact { (area : List ℕ) → IsTrue D.tells → archive_of (D.state disk.old) ≡ area → HasReadRuns area self.old
             → WritesExactly area self.old result self.new (archive_of (D.state disk.new)) }
     {
-        let count = self.left.min(PIECE_LEN as u64);
+        let count = piece_len(self.left);
         match self.make_piece(count, disk) {
-            Ok(Filled::Full) => {}
-            Ok(Filled::Counted) => return Ok(PieceDid::Counted),
-            Ok(Filled::Short) => return Err(PieceFault::Changed),
-            Err(fault) => return Err(PieceFault::Unread(fault)),
-        }
-        match self.write_made(count, disk) {
-            Ok(()) => Ok(PieceDid::Wrote),
-            Err(DeviceFault) => Err(PieceFault::Refused),
+            Ok(Filled::Full) => self.write_made(count, disk),
+            Ok(Filled::Counted) => Ok(PieceDid::Counted),
+            Ok(Filled::Short) => Err(PieceFault::Changed),
+            Err(fault) => Err(PieceFault::Unread(fault)),
         }
     }
 }
