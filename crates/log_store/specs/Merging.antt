@@ -1,5 +1,6 @@
 -- An archive whose run takes the place of the last ones, before its entry.
-use Rattle.std.specs.Prelude.{ℕ, ◌≡◌, ◌⊎◌, ◌-◌, ◌^◌, ◌<◌, ◌==◌, ◌||◌, Bool, true, false, IsTrue, List, [], ◌∷◌, ◌++◌, length, map, min, take, drop, Result, Ok, Err, MatchBool, IfErr}
+use Rattle.std.specs.Prelude.{ℕ, ◌≡◌, ◌⊎◌, ◌-◌, ◌^◌, ◌<◌, ◌==◌, ◌||◌, Bool, true, false, IsTrue, List, [], ◌∷◌, ◌++◌, length, map, min, take, drop}
+use Rattle.std.specs.Prelude.{Result, Ok, Err, MatchBool, IfErr}
 use Rattle.law_image.specs.Reading.{ArchiveRecord}
 use Rattle.disk.specs.Calls.{DiskState, Counts, Syncs, refused_answer}
 use Rattle.disk.specs.declared.area.Area.TheVariants as areas
@@ -163,14 +164,16 @@ piece_answer (Err refusals.Changed) = Err fault.NoPlace
 piece_answer (Err refusals.Refused) = Err fault.Failed
 
 -- the writer was asked: it writes the next piece of the merged run
-pub record AsksWriter (tells : Bool) (old : MergedValue) (before : DiskState) (answer : Result PieceDid PieceFault) (new : MergedValue) (after : DiskState) : Type 0 where
+pub record AsksWriter (tells : Bool) (old : MergedValue) (before : DiskState) (answer : Result PieceDid PieceFault) (new : MergedValue)
+    (after : DiskState) : Type 0 where
   pub calls : PieceCalls tells old before answer new after
   pub same : IsSameMerge old.making.merger new.making.merger
   pub records_same : new.records ≡ old.records
   pub only : (area : List ℕ) (lists : List (List ArchiveRecord)) → IsTrue tells → archive_of before ≡ area → IsMerged area lists old
       → WritesOn lists old before answer new after
 
-pub record StepsPiece (tells : Bool) (old : Merge) (w : MergedValue) (before : DiskState) (result : Result MergeDid MergeFault) (new : Merge) (after : DiskState) : Type 0 where
+pub record StepsPiece (tells : Bool) (old : Merge) (w : MergedValue) (before : DiskState) (result : Result MergeDid MergeFault) (new : Merge)
+    (after : DiskState) : Type 0 where
   pub answer : Result PieceDid PieceFault
   pub writer : MergedValue
   pub asks : AsksWriter tells w before answer writer after

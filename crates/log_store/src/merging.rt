@@ -1,6 +1,7 @@
 //! An archive whose run takes the place of the last ones: what it does before its entry. `JobStage` does not drive it yet.
 ghost use Rattle.std.specs.Prelude.{◌≡◌, ◌<◌, ◌≤◌, ◌^◌, IfOk, length, true};
-ghost use Rattle.log_store.specs.Merging.{EndsCounting, StepsCounting, StepsMerge, StepsWriting, archive_of_merge, counted_at, fault_of, is_counting, is_unsynced, is_writing, records_in, stage_on, stage_written, taken_runs};
+ghost use Rattle.log_store.specs.Merging.{EndsCounting, StepsCounting, StepsMerge, StepsWriting, archive_of_merge, counted_at, fault_of};
+ghost use Rattle.log_store.specs.Merging.{is_counting, is_unsynced, is_writing, records_in, stage_on, stage_written, taken_runs};
 
 use archive::{ArchiveFault, RunEntry};
 use disk::{Area, DeviceFault, Disk};

@@ -1,5 +1,6 @@
 -- Making the bytes of a merged run.
-use Rattle.std.proofs.Common.{◌≡◌, ℕ, ◌+◌, ◌-◌, ◌^◌, ◌≤◌, ◌<◌, ◌∷◌, List, [], ◌++◌, length, min, Option, None, Some, ap, ap₂, sym, subst, refl, ◌∙◌, arith, append_assoc}
+use Rattle.std.proofs.Common.{◌≡◌, ℕ, ◌+◌, ◌-◌, ◌^◌, ◌≤◌, ◌<◌, ◌∷◌, List, [], ◌++◌, length, min, Option, None, Some, ap, ap₂, sym, subst, refl, ◌∙◌}
+use Rattle.std.proofs.Common.{arith, append_assoc}
 use Rattle.std.specs.List.{concat}
 use Rattle.std.specs.Prelude.{MatchOption, ⊤}
 use Rattle.law_image.specs.Reading.{ArchiveRecord}
@@ -24,7 +25,8 @@ makes_more area lists a b c first second = record { still = second.still; same =
 
 -- ---- from the first record on
 
-pub holds_of : (area : List ℕ) (lists : List (List ArchiveRecord)) (aheads : List AheadValue) → AreAhead area lists aheads → HoldRuns area (runs_of aheads) lists
+pub holds_of : (area : List ℕ) (lists : List (List ArchiveRecord)) (aheads : List AheadValue) → AreAhead area lists aheads
+    → HoldRuns area (runs_of aheads) lists
 holds_of area [] [] ahead = tt
 holds_of area [] (a ∷ aheads) ahead = absurd ahead
 holds_of area (records ∷ lists) [] ahead = absurd ahead

@@ -55,7 +55,8 @@ ahead_again old new limit (records ∷ lists) (a ∷ aheads) grows ends ahead =
     let within : run_end a.cursor.run ≤ length old = (let inside = holds.held.inside in let size = holds.length_is in omega (arith, inside, size)) in
     let longer = grows.longer in (
       record {
-        holds = run_again old new a.cursor.run records holds (omega (arith, within, longer)) (grows.same (run_end a.cursor.run) (ends 0 a.cursor.run refl) within);
+        holds = run_again old new a.cursor.run records holds (omega (arith, within, longer))
+            (grows.same (run_end a.cursor.run) (ends 0 a.cursor.run refl) within);
         stands = ahead.0.stands;
         held = ahead.0.held;
       },

@@ -140,7 +140,8 @@ above_all a f upto vs =
 -- ---- the plan
 
 module _ (reading : Reading) (h : History Value) (floors : ℕ → ℕ) (kept upto : ℕ) (plan : List ArchiveRecord) (stands : StandsFor reading h floors)
-    (heap : is_in_heap reading.profile ≡ true) (later : archived_upto reading < upto) (by_last : upto ≤ last h) (planned : IsArchivePlan reading upto plan) where
+    (heap : is_in_heap reading.profile ≡ true) (later : archived_upto reading < upto) (by_last : upto ≤ last h)
+    (planned : IsArchivePlan reading upto plan) where
   is : IsHeapLog reading
   is = in-heap reading heap stands.opens.reads.form
 
@@ -155,7 +156,9 @@ module _ (reading : Reading) (h : History Value) (floors : ℕ → ℕ) (kept up
   mark_is = sym (last_mark-is 0 reading.log)
 
   plan_run : IsRun (last_mark 0 marks) (no_floors []) upto plan
-  plan_run = subst (λ (m : ℕ). IsRun m (no_floors []) upto plan) (sym mark_is) (no_floor (archived_upto reading) (floor_of reading.log) upto plan planned.is_run)
+  plan_run =
+      subst (λ (m : ℕ). IsRun m (no_floors []) upto plan) (sym mark_is)
+      (no_floor (archived_upto reading) (floor_of reading.log) upto plan planned.is_run)
 
   -- without a run that is taken the new one is the plan
   alone : IsMergePlan reading (length reading.runs) upto plan

@@ -1,5 +1,6 @@
 -- Writing a merged run.
-use Rattle.std.proofs.Common.{◌≡◌, ℕ, ◌+◌, ◌-◌, ◌^◌, ◌≤◌, ◌<◌, List, [], ◌++◌, length, min, take, drop, None, refl, ap, sym, subst, subst₂, ◌∙◌, arith, append_assoc}
+use Rattle.std.proofs.Common.{◌≡◌, ℕ, ◌+◌, ◌-◌, ◌^◌, ◌≤◌, ◌<◌, List, [], ◌++◌, length, min, take, drop, None, refl, ap, sym, subst, subst₂, ◌∙◌}
+use Rattle.std.proofs.Common.{arith, append_assoc}
 use Rattle.std.proofs.Common.{length-append, length-take, length-drop, take-append-drop}
 use Rattle.std.specs.Prelude.{IsTrue, IfErr, OnOk, Bool, Result, Ok, Err}
 use Rattle.std.specs.List.{concat}

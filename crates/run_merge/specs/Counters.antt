@@ -49,7 +49,8 @@ CountsOn area lists start old new sizes (Err fault) = IsRefusal fault × IsCount
 abbrev pub CountsNext : List ℕ → List (List ArchiveRecord) → ℕ → ℕ → ℕ → MergerValue → MergerValue → Sizes → Result (Option Counting) ArchiveFault → Type 0
 CountsNext area lists start before after old new sizes (Ok None) =
     IsCounting area lists new sizes × (after ≤ before) × (left_of lists new ≡ drop (before - after) (left_of lists old))
-CountsNext area lists start before after old new sizes (Ok (Some Counted)) = IsCounting area lists new sizes × (left_of lists new ≡ drop before (left_of lists old))
+CountsNext area lists start before after old new sizes (Ok (Some Counted)) =
+    IsCounting area lists new sizes × (left_of lists new ≡ drop before (left_of lists old))
 CountsNext area lists start before after old new sizes (Ok (Some Whole)) = IsCounting area lists new sizes × (kept_of lists new ≡ [])
 CountsNext area lists start before after old new sizes (Ok (Some PastEnd)) = 2 ^ 63 ≤ start + length (run_bytes (run_records lists new))
 CountsNext area lists start before after old new sizes (Err fault) = IsRefusal fault × IsCounting area lists new sizes

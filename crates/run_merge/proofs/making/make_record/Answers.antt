@@ -1,4 +1,4 @@
-use Rattle.std.proofs.Common.{◌≡◌, Option, ℕ, Some, ap, sym, subst}
+use Rattle.std.proofs.Common.{◌≡◌, Option, ℕ, None, Some, ap, sym, subst}
 use Rattle.floors.specs.Floors.{floor_at}
 use Rattle.run_merge.specs.Making.{IsMaking, IsSameMerge, MakesOn, making}
 use Rattle.run_merge.specs.Mergers.{MergerValue, HaveRead, IsStep, left_of, runs_of}
@@ -28,7 +28,7 @@ returns-in-Ok-End-clause-only g c = λ area lists told here was.
     let first = subst (λ (p : Option ℕ). IsMaking area lists (making old made p)) c.requires.place was in
     let makes = made_records area lists old now same made on.0 step.0 first in (
       subst (λ (p : Option ℕ). MakesOn area lists (making old made p) (making c.restart.new.self made (Some 0))) (sym c.requires.place)
-          (subst (λ (m : MergerValue). MakesOn area lists (making old made Rattle.std.proofs.Common.None) (making m made (Some 0))) (sym c.restart.ensures) makes),
+          (subst (λ (m : MergerValue). MakesOn area lists (making old made None) (making m made (Some 0))) (sym c.restart.ensures) makes),
       tt,
     )
 

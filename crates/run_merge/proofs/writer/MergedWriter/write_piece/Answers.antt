@@ -1,4 +1,4 @@
-use Rattle.std.proofs.Common.{◌∙◌, ap, sym, subst, arith}
+use Rattle.std.proofs.Common.{◌≡◌, ◌∙◌, min, ap, sym, subst, arith}
 use Rattle.std.specs.Prelude.{Err}
 use Rattle.archive.specs.Searches.{archive_of}
 use Rattle.run_merge.specs.Making.{IsFilled, IsFull, unmade}
@@ -33,7 +33,8 @@ returns-in-Ok-Short-clause-only g c = λ area lists told here merged.
     let done = c.in-Ok-Short.ensures in
     let on = done.only area lists told here merged.making in
     let count = c.piece_len-count.result in
-    never_short area lists c.args.self.now now.making count on.0 merged (omega (arith, c.piece_len-count.ensures, ap (λ (v : MergedValue). v.left) c.self.view_is))
+    let left = ap (λ (v : MergedValue). v.left) c.self.view_is in
+    never_short area lists c.args.self.now now.making count on.0 merged (omega (arith, c.piece_len-count.ensures, left))
     (subst (IsFull count now.making.made) c.in-Ok-Short.field-0-is done.full)
     (subst (IsFilled (unmade lists now.making.merger now.making.place)) c.in-Ok-Short.field-0-is on.1)
 
@@ -72,44 +73,80 @@ pub returns-in-Ok-Full-clause-calls : goal.returns-in-Ok-Full-clause-calls
 returns-in-Ok-Full-clause-calls g c =
     let done = c.in-Ok-Full.ensures in
     let wrote = c.write_made.ensures in
-    put_calls g.D.Disk.tells c.args.self.now c.make_piece.new.self c.write_made.new.self (g.D.Disk.state c.args.disk.now)
-    (g.D.Disk.state c.make_piece.new.disk) (g.D.Disk.state c.write_made.new.disk) c.piece_len-count.result c.write_made.result wrote.write done.rest done.same done.disk
-    (omega (arith, c.piece_len-count.ensures, ap (λ (v : MergedValue). v.left) c.self.view_is))
-    (subst (IsFull c.piece_len-count.result c.make_piece.new.self.making.made) c.in-Ok-Full.field-0-is done.full) wrote.behind wrote.counts wrote.wrote
+    let old = c.args.self.now in
+    let now = c.make_piece.new.self in
+    let before = g.D.Disk.state c.args.disk.now in
+    let mid = g.D.Disk.state c.make_piece.new.disk in
+    let after = g.D.Disk.state c.write_made.new.disk in
+    let count = c.piece_len-count.result in
+    let left = ap (λ (v : MergedValue). v.left) c.self.view_is in
+    let count_is : count ≡ min 8192 old.left = omega (arith, c.piece_len-count.ensures, left) in
+    let full = subst (IsFull count now.making.made) c.in-Ok-Full.field-0-is done.full in
+    put_calls g.D.Disk.tells old now c.write_made.new.self before mid after count c.write_made.result wrote.write done.rest done.same done.disk count_is full
+    wrote.behind wrote.counts wrote.wrote
 
 pub returns-in-Ok-Full-clause-damaged : goal.returns-in-Ok-Full-clause-damaged
 returns-in-Ok-Full-clause-damaged g c =
     let done = c.in-Ok-Full.ensures in
     let wrote = c.write_made.ensures in
-    put_damaged g.D.Disk.tells c.args.self.now c.make_piece.new.self c.write_made.new.self (g.D.Disk.state c.args.disk.now)
-    (g.D.Disk.state c.make_piece.new.disk) (g.D.Disk.state c.write_made.new.disk) c.piece_len-count.result c.write_made.result wrote.write done.rest done.same done.disk
-    (omega (arith, c.piece_len-count.ensures, ap (λ (v : MergedValue). v.left) c.self.view_is))
-    (subst (IsFull c.piece_len-count.result c.make_piece.new.self.making.made) c.in-Ok-Full.field-0-is done.full) wrote.behind wrote.counts wrote.wrote (IsFaultAmong (runs_of c.args.self.now.making.merger.aheads))
+    let old = c.args.self.now in
+    let now = c.make_piece.new.self in
+    let before = g.D.Disk.state c.args.disk.now in
+    let mid = g.D.Disk.state c.make_piece.new.disk in
+    let after = g.D.Disk.state c.write_made.new.disk in
+    let count = c.piece_len-count.result in
+    let left = ap (λ (v : MergedValue). v.left) c.self.view_is in
+    let count_is : count ≡ min 8192 old.left = omega (arith, c.piece_len-count.ensures, left) in
+    let full = subst (IsFull count now.making.made) c.in-Ok-Full.field-0-is done.full in
+    put_damaged g.D.Disk.tells old now c.write_made.new.self before mid after count c.write_made.result wrote.write done.rest done.same done.disk count_is full
+    wrote.behind wrote.counts wrote.wrote (IsFaultAmong (runs_of old.making.merger.aheads))
 
 pub returns-in-Ok-Full-clause-same : goal.returns-in-Ok-Full-clause-same
 returns-in-Ok-Full-clause-same g c =
     let done = c.in-Ok-Full.ensures in
     let wrote = c.write_made.ensures in
-    put_same g.D.Disk.tells c.args.self.now c.make_piece.new.self c.write_made.new.self (g.D.Disk.state c.args.disk.now)
-    (g.D.Disk.state c.make_piece.new.disk) (g.D.Disk.state c.write_made.new.disk) c.piece_len-count.result c.write_made.result wrote.write done.rest done.same done.disk
-    (omega (arith, c.piece_len-count.ensures, ap (λ (v : MergedValue). v.left) c.self.view_is))
-    (subst (IsFull c.piece_len-count.result c.make_piece.new.self.making.made) c.in-Ok-Full.field-0-is done.full) wrote.behind wrote.counts wrote.wrote
+    let old = c.args.self.now in
+    let now = c.make_piece.new.self in
+    let before = g.D.Disk.state c.args.disk.now in
+    let mid = g.D.Disk.state c.make_piece.new.disk in
+    let after = g.D.Disk.state c.write_made.new.disk in
+    let count = c.piece_len-count.result in
+    let left = ap (λ (v : MergedValue). v.left) c.self.view_is in
+    let count_is : count ≡ min 8192 old.left = omega (arith, c.piece_len-count.ensures, left) in
+    let full = subst (IsFull count now.making.made) c.in-Ok-Full.field-0-is done.full in
+    put_same g.D.Disk.tells old now c.write_made.new.self before mid after count c.write_made.result wrote.write done.rest done.same done.disk count_is full
+    wrote.behind wrote.counts wrote.wrote
 
 pub returns-in-Ok-Full-clause-only : goal.returns-in-Ok-Full-clause-only
 returns-in-Ok-Full-clause-only g c = λ area lists told here merged.
     let done = c.in-Ok-Full.ensures in
     let wrote = c.write_made.ensures in
+    let old = c.args.self.now in
+    let now = c.make_piece.new.self in
+    let before = g.D.Disk.state c.args.disk.now in
+    let mid = g.D.Disk.state c.make_piece.new.disk in
+    let after = g.D.Disk.state c.write_made.new.disk in
+    let count = c.piece_len-count.result in
+    let left = ap (λ (v : MergedValue). v.left) c.self.view_is in
+    let count_is : count ≡ min 8192 old.left = omega (arith, c.piece_len-count.ensures, left) in
+    let full = subst (IsFull count now.making.made) c.in-Ok-Full.field-0-is done.full in
     let on = done.only area lists told here merged.making in
-    put_only g.D.Disk.tells c.args.self.now c.make_piece.new.self c.write_made.new.self (g.D.Disk.state c.args.disk.now)
-    (g.D.Disk.state c.make_piece.new.disk) (g.D.Disk.state c.write_made.new.disk) c.piece_len-count.result c.write_made.result wrote.write done.rest done.same done.disk
-    (omega (arith, c.piece_len-count.ensures, ap (λ (v : MergedValue). v.left) c.self.view_is))
-    (subst (IsFull c.piece_len-count.result c.make_piece.new.self.making.made) c.in-Ok-Full.field-0-is done.full) wrote.behind wrote.counts wrote.wrote area lists told here on.0 merged
+    put_only g.D.Disk.tells old now c.write_made.new.self before mid after count c.write_made.result wrote.write done.rest done.same done.disk count_is full
+    wrote.behind wrote.counts wrote.wrote area lists told here on.0 merged
 
 pub returns-in-Ok-Full-clause-exact : goal.returns-in-Ok-Full-clause-exact
 returns-in-Ok-Full-clause-exact g c = λ area told here read.
     let done = c.in-Ok-Full.ensures in
     let wrote = c.write_made.ensures in
-    put_exact g.D.Disk.tells c.args.self.now c.make_piece.new.self c.write_made.new.self (g.D.Disk.state c.args.disk.now)
-    (g.D.Disk.state c.make_piece.new.disk) (g.D.Disk.state c.write_made.new.disk) c.piece_len-count.result c.write_made.result wrote.write done.rest done.same done.disk
-    (omega (arith, c.piece_len-count.ensures, ap (λ (v : MergedValue). v.left) c.self.view_is))
-    (subst (IsFull c.piece_len-count.result c.make_piece.new.self.making.made) c.in-Ok-Full.field-0-is done.full) wrote.behind wrote.counts wrote.wrote told area here (done.exact area told here read.0).0 read.1
+    let old = c.args.self.now in
+    let now = c.make_piece.new.self in
+    let before = g.D.Disk.state c.args.disk.now in
+    let mid = g.D.Disk.state c.make_piece.new.disk in
+    let after = g.D.Disk.state c.write_made.new.disk in
+    let count = c.piece_len-count.result in
+    let left = ap (λ (v : MergedValue). v.left) c.self.view_is in
+    let count_is : count ≡ min 8192 old.left = omega (arith, c.piece_len-count.ensures, left) in
+    let full = subst (IsFull count now.making.made) c.in-Ok-Full.field-0-is done.full in
+    let exact = done.exact area told here read.0 in
+    put_exact g.D.Disk.tells old now c.write_made.new.self before mid after count c.write_made.result wrote.write done.rest done.same done.disk count_is full
+    wrote.behind wrote.counts wrote.wrote told area here exact.0 read.1
