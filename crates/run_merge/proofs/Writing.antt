@@ -185,10 +185,10 @@ module _ (tells : Bool) (old now new : MergedValue) (before mid after : DiskStat
   put_calls = by answer write one_piece
     where
       by : (r : Result PieceDid PieceFault) → IsWrite r → OnePiece tells old before (write_answer r) new after → PieceCalls tells old before r new after
-      by (Ok Counted) no piece = absurd no
+      by (Ok Counted) never piece = absurd never
       by (Ok Wrote) is piece = piece
-      by (Err (Unread fault)) no piece = absurd no
-      by (Err Changed) no piece = absurd no
+      by (Err (Unread fault)) never piece = absurd never
+      by (Err Changed) never piece = absurd never
       by (Err Refused) is piece = piece
 
   pub put_damaged : (P : ArchiveFault → Type 0) → IfErr answer (IfUnread P)
@@ -196,8 +196,8 @@ module _ (tells : Bool) (old now new : MergedValue) (before mid after : DiskStat
     where
       by : (r : Result PieceDid PieceFault) → IsWrite r → IfErr r (IfUnread P)
       by (Ok did) is = tt
-      by (Err (Unread fault)) no = absurd no
-      by (Err Changed) no = absurd no
+      by (Err (Unread fault)) never = absurd never
+      by (Err Changed) never = absurd never
       by (Err Refused) is = tt
 
   pub put_same : IsSameMerge old.making.merger new.making.merger
@@ -227,8 +227,8 @@ module _ (tells : Bool) (old now new : MergedValue) (before mid after : DiskStat
                 (subst (λ (a : List ℕ). HaveRead a now.making.merger.aheads) (sym here) read),
             λ n run at. let end = there n run at in omega (arith, end),
           )
-      by (Err (Unread fault)) no grow = absurd no
-      by (Err Changed) no grow = absurd no
+      by (Err (Unread fault)) never grow = absurd never
+      by (Err Changed) never grow = absurd never
       by (Err Refused) is grow = tt
 
   module _ (area : List ℕ) (lists : List (List ArchiveRecord)) (told : IsTrue tells) (here : archive_of before ≡ area) (on : MakesOn area lists old.making
@@ -251,10 +251,10 @@ module _ (tells : Bool) (old now new : MergedValue) (before mid after : DiskStat
       where
         by : (r : Result PieceDid PieceFault) → IsWrite r → NextPiece lists old before (write_answer r) new after
             → OnOk r (Grows old.at (archive_of before) (archive_of after)) → WritesOn lists old before r new after
-        by (Ok Counted) no next grow = absurd no
+        by (Ok Counted) never next grow = absurd never
         by (Ok Wrote) is next grow = (put_merged grow, next)
-        by (Err (Unread fault)) no next grow = absurd no
-        by (Err Changed) no next grow = absurd no
+        by (Err (Unread fault)) never next grow = absurd never
+        by (Err Changed) never next grow = absurd never
         by (Err Refused) is next grow = next
 
 -- all bytes of the run are there, so a piece is not short

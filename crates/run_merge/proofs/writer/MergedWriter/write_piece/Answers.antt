@@ -1,6 +1,7 @@
 use Rattle.std.proofs.Common.{◌≡◌, ◌∙◌, min, ap, sym, subst, arith}
 use Rattle.std.specs.Prelude.{Err}
 use Rattle.archive.specs.Searches.{archive_of}
+use Rattle.run_merge.specs.declared.making.Filled.{Filled}
 use Rattle.run_merge.specs.Making.{IsFilled, IsFull, unmade}
 use Rattle.run_merge.specs.Mergers.{IsFaultAmong, runs_of}
 use Rattle.run_merge.specs.Writers.{MergedValue}
@@ -54,7 +55,7 @@ returns-in-Err-clause-only g c = λ area lists told here merged.
     let on = done.only area lists told here merged.making in
     let state = g.D.Disk.state c.args.disk.now in
     let after = archive_of (g.D.Disk.state c.make_piece.new.disk) in
-    let kept = ap archive_of done.disk ∙ query_same (Err c.in-Err.fault) state in
+    let kept = ap archive_of done.disk ∙ query_same {T = Filled} (Err c.in-Err.fault) state in
     let still = still_on area lists c.args.self.now now (archive_of state) after done.rest done.same here kept on.0 merged in
     (on.1, still.0, still.1)
 
@@ -63,7 +64,7 @@ returns-in-Err-clause-exact g c = λ area told here read.
     let done = c.in-Err.ensures in
     let state = g.D.Disk.state c.args.disk.now in
     let after = archive_of (g.D.Disk.state c.make_piece.new.disk) in
-    let kept = ap archive_of done.disk ∙ query_same (Err c.in-Err.fault) state in
+    let kept = ap archive_of done.disk ∙ query_same {T = Filled} (Err c.in-Err.fault) state in
     let exact = done.exact area told here read.0 in
     (still_read c.args.self.now c.make_piece.new.self area after done.rest done.same (sym here ∙ sym kept) exact.0 read.1, exact.1)
 
