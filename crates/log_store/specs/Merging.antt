@@ -1,6 +1,6 @@
 -- An archive whose run takes the place of the last ones, before its entry.
-use Rattle.std.specs.Prelude.{ℕ, ◌≡◌, ◌⊎◌, ◌-◌, ◌^◌, ◌<◌, ◌==◌, ◌||◌, Bool, true, false, IsTrue, List, [], ◌∷◌, ◌++◌, length, map, min, take, drop}
-use Rattle.std.specs.Prelude.{Result, Ok, Err, MatchBool, IfErr}
+use Rattle.std.specs.Prelude.{ℕ, ◌≡◌, ◌⊎◌, ◌-◌, ◌^◌, ◌==◌, ◌||◌, Bool, true, false, IsTrue, List, [], ◌∷◌, ◌++◌, length, map, min, take, drop}
+use Rattle.std.specs.Prelude.{Result, Ok, Err, MatchBool}
 use Rattle.law_image.specs.Reading.{ArchiveRecord}
 use Rattle.disk.specs.Calls.{DiskState, Counts, Syncs, refused_answer}
 use Rattle.disk.specs.declared.area.Area.TheVariants as areas

@@ -1,7 +1,7 @@
 -- What was read stays so while the archive is written behind the runs.
-use Rattle.std.proofs.Common.{◌≡◌, ℕ, zero, suc, ◌+◌, ◌-◌, ◌*◌, ◌<◌, ◌≤◌, ◌==◌, IsTrue, List, [], ◌∷◌, ◌++◌, length, take, drop, replicate, Option, None, Some}
+use Rattle.std.proofs.Common.{◌≡◌, ℕ, zero, suc, ◌+◌, ◌-◌, ◌*◌, ◌<◌, ◌≤◌, ◌==◌, IsTrue, List, [], ◌∷◌, ◌++◌, length, take, replicate, Some}
 use Rattle.std.proofs.Common.{refl, ap, ap₂, sym, subst, subst₂, ◌∙◌, inl, inr, arith, take-take, length-append, length-take, le_refl}
-use Rattle.std.specs.List.{slice_get, slice_range, AllByRecursion}
+use Rattle.std.specs.List.{slice_range}
 use Rattle.std.proofs.lemmas.Bool.{cases_Bool, cases_lt}
 use Rattle.std.proofs.lemmas.List.{take-append-le, length-replicate}
 use Rattle.byteorder.specs.Endian.{little_number}
@@ -11,13 +11,13 @@ use Rattle.law_image.specs.Values.{Value}
 use Rattle.law_image.specs.Reading.{ArchiveRecord}
 use Rattle.archive.specs.declared.head.Head.{Head}
 use Rattle.archive.specs.declared.run.RunEntry.{RunEntry}
-use Rattle.archive.specs.Damages.{entry_at, head_standing, placed_at, before_of, value_part, IsEntryThere, IsHeadSound, IsValueAt}
-use Rattle.archive.specs.Runs.{run_end, RunsEndBy, HoldsRun}
+use Rattle.archive.specs.Damages.{entry_at, head_standing, placed_at, before_of, IsEntryThere, IsValueAt}
+use Rattle.archive.specs.Runs.{run_end, RunsEndBy}
 use Rattle.archive.specs.Searches.{index_start, IsPlace, is_in_range, may_follow_last}
 use Rattle.archive.specs.Traces.{nth_head}
 use Rattle.archive.proofs.Frames.{run_again, same_part}
-use Rattle.run_merge.specs.Cursors.{CursorValue, last_at, HasRead, IsRecordRead, IsRecordSound}
-use Rattle.run_merge.specs.Aheads.{AheadValue, IsAhead}
+use Rattle.run_merge.specs.Cursors.{last_at, IsRecordRead, IsRecordSound}
+use Rattle.run_merge.specs.Aheads.{AheadValue}
 use Rattle.run_merge.specs.Mergers.{AreAhead, HaveRead, runs_of}
 
 -- ---- the bytes

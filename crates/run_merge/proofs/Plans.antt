@@ -1,5 +1,5 @@
 -- What is kept of the last runs of an image and of what is archived is the plan of an archive that takes their place.
-use Rattle.std.proofs.Common.{◌≡◌, ℕ, zero, suc, ◌≤◌, ◌<◌, max, true, List, [], ◌∷◌, ◌++◌, length, take, drop, map, refl, ap, sym, subst, ◌∙◌, arith}
+use Rattle.std.proofs.Common.{◌≡◌, ℕ, zero, suc, ◌≤◌, ◌<◌, max, true, List, [], ◌∷◌, ◌++◌, length, take, drop, refl, ap, sym, subst, ◌∙◌, arith}
 use Rattle.std.specs.Prelude.{filter, flat_map}
 use Rattle.std.specs.List.{AllByRecursion}
 use Rattle.std.proofs.lemmas.Bool.Decides.{nat_tests}
@@ -14,7 +14,7 @@ use Rattle.history.proofs.Filters.{filter-filter, filter-swap}
 use Rattle.law_image.specs.Values.{Value}
 use Rattle.law_image.specs.Reading.{Slot, Commits, Archived, Reclaimed, Floor, ArchiveRecord, Reading}
 use Rattle.law_image.specs.Log.{archive_mark, floor_of, is_in_heap, AllCome, MayComeInHeap}
-use Rattle.law_image.specs.Facts.{heap_versions, archived_versions, run_versions}
+use Rattle.law_image.specs.Facts.{heap_versions, run_versions}
 use Rattle.law_image.specs.StandsFor.{StandsFor, IsHeapLog, IsArchived, IsRun, no_floors, archived_upto, reclaimed_upto}
 use Rattle.law_image.specs.Plans.{IsArchivePlan}
 use Rattle.law_image.specs.HeapPlans.{first_runs, marks_of, IsMergePlan, with_merged}

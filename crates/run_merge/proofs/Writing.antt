@@ -1,23 +1,21 @@
 -- Writing a merged run.
 use Rattle.std.proofs.Common.{◌≡◌, ℕ, ◌+◌, ◌-◌, ◌^◌, ◌≤◌, ◌<◌, List, [], ◌++◌, length, min, take, drop, None, refl, ap, sym, subst, subst₂, ◌∙◌}
 use Rattle.std.proofs.Common.{arith, append_assoc}
-use Rattle.std.proofs.Common.{length-append, length-take, length-drop, take-append-drop}
+use Rattle.std.proofs.Common.{length-append, length-take, take-append-drop}
 use Rattle.std.specs.Prelude.{IsTrue, IfErr, OnOk, Bool, Result, Ok, Err}
 use Rattle.std.specs.List.{concat}
 use Rattle.disk.specs.Areas.{Areas}
 use Rattle.disk.specs.Calls.{Counts, DiskState, Writes}
 use Rattle.disk.specs.declared.area.Area.TheVariants.{Archive}
-use Rattle.disk.specs.declared.area.DeviceFault.{DeviceFault}
 use Rattle.archive.specs.declared.fault.ArchiveFault.{ArchiveFault}
 use Rattle.archive.specs.declared.fault.ArchiveFault.TheVariants.{Device, NoMemory, Damaged}
 use Rattle.archive.specs.Searches.{after_query, archive_of}
 use Rattle.law_image.specs.Reading.{ArchiveRecord}
-use Rattle.archive.specs.declared.run.RunEntry.{RunEntry}
-use Rattle.archive.specs.Pieces.{InWriting, chunks_left, run_chunks, size_of}
+use Rattle.archive.specs.Pieces.{chunks_left, size_of}
 use Rattle.archive.specs.Runs.{RunsEndBy, run_bytes}
 use Rattle.archive.proofs.Lefts.{run_size}
 use Rattle.archive.proofs.Joining.{front_is, rest_is, joined_run}
-use Rattle.run_merge.specs.Making.{IsMaking, IsSameMerge, Making, MakesOn, making, run_records, unmade, unwritten}
+use Rattle.run_merge.specs.Making.{IsSameMerge, Making, MakesOn, making, run_records, unmade, unwritten}
 use Rattle.run_merge.specs.Mergers.{HaveRead, kept_of, runs_of}
 use Rattle.run_merge.specs.Counters.{CounterValue, IsCounting}
 use Rattle.run_merge.specs.Writers.{HasReadRuns, IfUnread, IsMerged, IsWrite, MergedValue, NextPiece, OnePiece, PieceCalls, WritesExactly, WritesOn, again}
@@ -27,7 +25,7 @@ use Rattle.run_merge.specs.declared.writer.PieceDid.TheVariants.{Counted, Wrote}
 use Rattle.run_merge.specs.declared.writer.PieceFault.{PieceFault}
 use Rattle.run_merge.specs.declared.writer.PieceFault.TheVariants.{Unread, Changed, Refused}
 use Rattle.run_merge.proofs.Bytes.{again_ahead, again_whole, same_again}
-use Rattle.run_merge.proofs.Frames.{Grows, ahead_again, grown, not_grown, read_again, runs_kept}
+use Rattle.run_merge.proofs.Frames.{Grows, ahead_again, grown, read_again, runs_kept}
 
 -- ---- at first
 

@@ -4,7 +4,6 @@ use Rattle.law_image.specs.Reading.{ArchiveRecord}
 use Rattle.disk.specs.Calls.{DiskState, Counts, Writes, refused_answer}
 use Rattle.disk.specs.declared.area.DeviceFault.{DeviceFault}
 use Rattle.disk.specs.declared.area.Area.TheVariants.{Archive}
-use Rattle.archive.specs.declared.run.RunEntry.{RunEntry}
 use Rattle.archive.specs.declared.fault.ArchiveFault.{ArchiveFault}
 use Rattle.archive.specs.Pieces.{InWriting}
 use Rattle.archive.specs.Runs.{RunsEndBy, run_bytes}
@@ -14,8 +13,8 @@ use Rattle.run_merge.specs.declared.writer.PieceDid.{PieceDid}
 use Rattle.run_merge.specs.declared.writer.PieceDid.TheVariants.{Counted, Wrote}
 use Rattle.run_merge.specs.declared.writer.PieceFault.{PieceFault}
 use Rattle.run_merge.specs.declared.writer.PieceFault.TheVariants.{Unread, Changed, Refused}
-use Rattle.run_merge.specs.Mergers.{MergerValue, HaveRead, IsBrokenAmong, IsFaultAmong, merger_of, runs_of}
-use Rattle.run_merge.specs.Making.{Making, IsMaking, run_records, unwritten}
+use Rattle.run_merge.specs.Mergers.{MergerValue, HaveRead, IsBrokenAmong, merger_of, runs_of}
+use Rattle.run_merge.specs.Making.{Making, IsMaking, unwritten}
 use Rattle.run_merge.specs.Counters.{CounterValue}
 
 -- a merged run in the writing: what is made of it, how many records it has, where its next piece goes, and how many of its bytes are left to write

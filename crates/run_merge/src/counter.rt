@@ -1,7 +1,7 @@
 //! Counting a merged run before it is written.
-ghost use Rattle.std.specs.Prelude.{◌≡◌, ◌^◌, ◌<◌, ℕ, List, [], IsTrue, IfOk, IfErr, OnOk, OnErr, length};
+ghost use Rattle.std.specs.Prelude.{◌≡◌, ◌^◌, ◌<◌, ℕ, List, [], IsTrue, IfOk, IfErr, OnOk, OnErr};
 ghost use Rattle.law_image.specs.Reading.{ArchiveRecord};
-ghost use Rattle.archive.specs.Runs.{RunsEndBy, run_bytes};
+ghost use Rattle.archive.specs.Runs.{RunsEndBy};
 ghost use Rattle.archive.specs.Searches.{archive_of, after_query};
 ghost use Rattle.run_merge.specs.Counters.{AreSizes, CountsOn, IsCounting, counter_of};
 ghost use Rattle.run_merge.specs.Making.{IsSameMerge, run_records};

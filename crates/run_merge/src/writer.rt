@@ -1,5 +1,5 @@
 //! Writing a merged run.
-ghost use Rattle.std.specs.Prelude.{◌≡◌, ◌+◌, ◌-◌, ◌^◌, ◌<◌, ◌≤◌, ℕ, List, [], IsTrue, IfOk, IfErr, None, length, min, take, drop};
+ghost use Rattle.std.specs.Prelude.{◌≡◌, ◌+◌, ◌-◌, ◌^◌, ◌<◌, ◌≤◌, ℕ, List, IsTrue, IfOk, IfErr, None, length, min, take, drop};
 ghost use Rattle.law_image.specs.Reading.{ArchiveRecord};
 ghost use Rattle.disk.specs.Calls.{Counts, Writes};
 ghost use Rattle.disk.specs.declared.area.Area.TheVariants.{Archive};

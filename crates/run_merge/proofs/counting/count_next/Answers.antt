@@ -1,9 +1,7 @@
-use Rattle.std.proofs.Common.{◌≡◌, ◌+◌, ap, subst, arith, ℕ}
+use Rattle.std.proofs.Common.{◌+◌, ap, subst, arith, ℕ}
 use Rattle.floors.specs.Floors.{floor_at}
 use Rattle.archive.specs.Answers.{record_of}
 use Rattle.run_merge.specs.Mergers.{IsStep, left_of}
-use Rattle.run_merge.specs.declared.step.MergeStep.{MergeStep}
-use Rattle.run_merge.specs.declared.step.MergeStep.TheVariants.{Record}
 use Rattle.run_merge.specs.Making.{IsSameMerge}
 use Rattle.run_merge.proofs.Counts.{counted_past}
 use Rattle.run_merge.proofs.counting.count_next.Goals as goal

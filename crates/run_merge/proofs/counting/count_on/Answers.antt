@@ -1,4 +1,4 @@
-use Rattle.std.proofs.Common.{◌≡◌, ◌∙◌, List, Some, ap, subst, arith}
+use Rattle.std.proofs.Common.{◌∙◌, List, ap, subst, arith}
 use Rattle.std.specs.Prelude.{Option, Ok}
 use Rattle.archive.specs.declared.run.RunEntry.{RunEntry}
 use Rattle.archive.specs.Damages.{IfDamaged}

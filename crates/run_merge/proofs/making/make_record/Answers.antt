@@ -1,4 +1,4 @@
-use Rattle.std.proofs.Common.{◌≡◌, Option, ℕ, None, Some, ap, sym, subst}
+use Rattle.std.proofs.Common.{Option, ℕ, None, Some, sym, subst}
 use Rattle.floors.specs.Floors.{floor_at}
 use Rattle.run_merge.specs.Making.{IsMaking, IsSameMerge, MakesOn, making}
 use Rattle.run_merge.specs.Mergers.{MergerValue, HaveRead, IsStep, left_of, runs_of}

@@ -1,4 +1,4 @@
-use Rattle.std.proofs.Common.{◌≡◌, sym, subst}
+use Rattle.std.proofs.Common.{sym, subst}
 use Rattle.run_merge.specs.Cursors.{CursorValue, HasRead, IsRecordRead}
 use Rattle.run_merge.proofs.Frames.{read_on}
 use Rattle.run_merge.proofs.cursor.RunCursor.next.Goals as goal
