@@ -56,7 +56,7 @@ use Rattle.shared.specs.Archives.{ArchiveSeen, IsArchiveLater, archive_seen, no_
 use Rattle.shared.specs.Counts.{told_count, told_after, AreToldOf}
 use Rattle.shared.specs.Kinds.{Kind, kind_of}
 use Rattle.shared.specs.Moments.{TxnPassValue, GoesWith, token_of}
-use Rattle.shared.specs.Tokens.{Token, Tokens, no_tokens, IsOut, IsFree, AreOpen, without, taken_back}
+use Rattle.shared.specs.Tokens.{Token, Tokens, no_tokens, IsOut, IsFree, AreOpen, AreOut, without, taken_back}
 use Rattle.shared.specs.Reached.{Reached, opened, stepped}
 use Rattle.shared.specs.Seen.{Seen, SightValue, seen_of, order_of, IsLater}
 use Rattle.shared.specs.Shared.{IsShared, Submits, SubmitSays, SubmitHappens, FloorSays, FloorHappens, ArchiveSays, ArchiveHappens, ReclaimSays, ReclaimHappens}
@@ -67,7 +67,7 @@ use Rattle.shared.proofs.Counting.{told-push, after-push, told-redeemed, after-r
 use Rattle.shared.proofs.Engines.{in-memory, is-machine, kind-stays, raises-is, none-told}
 use Rattle.shared.proofs.Fronts.{last-seen, later-same}
 use Rattle.shared.proofs.Starting.{archive-says, reclaim-says, growth-says, floor-works}
-use Rattle.shared.proofs.Tokens.{given-open, taken-open, unopened-free, is-its_own}
+use Rattle.shared.proofs.Tokens.{given-open, taken-open, none-out, given-out, taken-out, unopened-free, is-its_own}
 use Rattle.shared.proofs.Stepping.{follows, submit_seen, submit-seen, broken-seen, published-none, pumped-order, job-order, later-pumped, job-seen, later-done}
 use Rattle.shared.proofs.Stepping.{later-job, pumped-seen}
 
@@ -81,6 +81,13 @@ still-open a b places is are = subst (λ (x : Tokens). AreOpen x.out places) (sy
 
 open-still : (out : List Token) (a b : List (Option ℕ)) → b ≡ a → AreOpen out a → AreOpen out b
 open-still out a b is are = subst (λ (x : List (Option ℕ)). AreOpen out x) (sym is) are
+
+-- and what is open is out
+still-out : (a b : Tokens) (places : List (Option ℕ)) → b ≡ a → AreOut places a.out → AreOut places b.out
+still-out a b places is are = subst (λ (x : Tokens). AreOut places x.out) (sym is) are
+
+out-still : (out : List Token) (a b : List (Option ℕ)) → b ≡ a → AreOut a out → AreOut b out
+out-still out a b is are = subst (λ (x : List (Option ℕ)). AreOut x out) (sym is) are
 
 -- the same under another pass of the writer's
 pub repass : (tells : Bool) (start : Machine Value) (kind : Kind) (brand : ℕ) (table : TableId) (v : StoreValue) (shares : ℕ) (at at' : TableId)
@@ -101,6 +108,7 @@ repass tells start kind brand table v shares at at' pass pass' h same on seen ar
   archive = known archive h.archive;
   writes = on;
   given = still-open pass.tokens pass'.tokens (commits_of v).opened tokens h.given;
+  out = λ none. still-out pass.tokens pass'.tokens (commits_of v).opened tokens (h.out none);
 }
 
 -- and where it knows the archive as it is now
@@ -121,6 +129,7 @@ repass-known tells start kind brand table v shares at at' pass pass' h same on s
   archive = known archive (archive-same (archive_seen tells v));
   writes = on;
   given = still-open pass.tokens pass'.tokens (commits_of v).opened tokens h.given;
+  out = λ none. still-out pass.tokens pass'.tokens (commits_of v).opened tokens (h.out none);
 }
 
 -- ---- what is told of
@@ -151,8 +160,9 @@ rested : (tells : Bool) (start : Machine Value) (kind : Kind) (brand : ℕ) (tab
     → Stands tells new after → GoesOn tells old new → KeepsNames old new → Reached start after → seen_of after ≡ seen_of h.state
     → (commits_of new).mark ≡ (commits_of old).mark
     → (commits_of new).heads ≡ (commits_of old).heads → at' ≡ at → pass'.writes ≡ true → pass'.seen ≡ pass.seen → pass'.archive ≡ pass.archive
-    → AreOpen pass'.tokens.out (commits_of new).opened → IsShared tells start kind brand table new shares at' pass'
-rested tells start kind brand table old new shares at at' pass pass' h after stands goes names reached same mark heads cell on seen archive given = record {
+    → AreOpen pass'.tokens.out (commits_of new).opened → (start.snapshots ≡ [] → AreOut (commits_of new).opened pass'.tokens.out)
+    → IsShared tells start kind brand table new shares at' pass'
+rested tells start kind brand table old new shares at at' pass pass' h after stands goes names reached same mark heads cell on seen archive given out = record {
   state = after;
   stands = stands;
   reached = reached;
@@ -169,6 +179,7 @@ rested tells start kind brand table old new shares at at' pass pass' h after sta
   archive = known archive (archive-then pass.archive (archive_seen tells old) (archive_seen tells new) h.archive (archive-on tells old new goes));
   writes = on;
   given = given;
+  out = out;
 }
 
 -- and under the same pass, where the same transactions are open
@@ -182,6 +193,7 @@ quiet : (tells : Bool) (start : Machine Value) (kind : Kind) (brand : ℕ) (tabl
 quiet tells start kind brand table old new shares at pass h after stands goes names reached same mark heads places =
     rested tells start kind brand table old new shares at at pass pass h after stands goes names reached same mark heads refl h.writes refl refl
     (open-still pass.tokens.out (commits_of old).opened (commits_of new).opened places h.given)
+    (λ none. out-still pass.tokens.out (commits_of old).opened (commits_of new).opened places (h.out none))
 
 -- ---- opening
 
@@ -202,6 +214,7 @@ begins tells start kind brand table v total at pass stands layout mark fresh emp
   archive = known archive (archive-first (archive_seen tells v));
   writes = writes;
   given = still-open no_tokens pass.tokens (commits_of v).opened tokens tt;
+  out = λ none. let memory = in-memory tells v start stands in none-out start.snapshots (commits_of v).opened pass.tokens.out memory.snapshots none;
 }
 
 -- ---- transactions
@@ -231,6 +244,9 @@ begin-gives tells start kind brand table old new shares at at' pass pass' txn h 
     (subst (λ (o : List Token). AreOpen o (commits_of new).opened) (sym out)
     (open-still (token_of txn ∷ pass.tokens.out) (with_opened (commits_of old).opened txn.number txn.snapshot) (commits_of new).opened
     (ap (λ (v : CommitsValue). v.opened) is) given))
+    (λ none. subst (λ (o : List Token). AreOut (commits_of new).opened o) (sym out)
+    (out-still (token_of txn ∷ pass.tokens.out) (with_opened (commits_of old).opened txn.number txn.snapshot) (commits_of new).opened
+    (ap (λ (v : CommitsValue). v.opened) is) (given-out pass.tokens.out (commits_of old).opened (token_of txn) (h.out none) b.within)))
 
 -- or none does
 pub begin-keeps : (tells : Bool) (start : Machine Value) (kind : Kind) (brand : ℕ) (table : TableId) (old new : StoreValue) (shares : ℕ) (at : TableId)
@@ -289,6 +305,9 @@ abort-keeps tells start kind brand table old new shares at at' pass pass' txn ow
     (subst (λ (o : List Token). AreOpen o (commits_of new).opened) (sym (out ∙ ap (taken_back pass.tokens.out) goes))
     (open-still (without txn.number pass.tokens.out) (with_closed (commits_of old).opened txn.number) (commits_of new).opened
     (ap (λ (v : CommitsValue). v.opened) a.left) taken))
+    (λ none. subst (λ (o : List Token). AreOut (commits_of new).opened o) (sym (out ∙ ap (taken_back pass.tokens.out) goes))
+    (out-still (without txn.number pass.tokens.out) (with_closed (commits_of old).opened txn.number) (commits_of new).opened
+    (ap (λ (v : CommitsValue). v.opened) a.left) (taken-out pass.tokens.out (commits_of old).opened txn.number (h.out none))))
 
 -- ---- submits
 
@@ -501,6 +520,9 @@ submit-keeps tells start kind brand table old new shares at at' pass pass' t lab
       given = subst (λ (o : List Token). AreOpen o (commits_of new).opened) (sym (out ∙ ap (taken_back pass.tokens.out) goes))
           (open-still (without t.number pass.tokens.out) (with_closed (commits_of old).opened t.number) (commits_of new).opened s.opened
           (taken-open pass.tokens.out (commits_of old).opened t.number h.given));
+      out = λ none. subst (λ (o : List Token). AreOut (commits_of new).opened o) (sym (out ∙ ap (taken_back pass.tokens.out) goes))
+          (out-still (without t.number pass.tokens.out) (with_closed (commits_of old).opened t.number) (commits_of new).opened s.opened
+          (taken-out pass.tokens.out (commits_of old).opened t.number (h.out none)));
     }
 
 -- ---- steps of groups and jobs
@@ -572,6 +594,8 @@ pump-publishes tells start kind brand table old new shares at at' pass pass' r h
       writes = on;
       given = still-open pass.tokens pass'.tokens (commits_of new).opened tokens
           (open-still pass.tokens.out (commits_of old).opened (commits_of new).opened p.left.opened h.given);
+      out = λ none. still-out pass.tokens pass'.tokens (commits_of new).opened tokens
+          (out-still pass.tokens.out (commits_of old).opened (commits_of new).opened p.left.opened (h.out none));
     }
 
 -- that of a shared store
@@ -770,6 +794,8 @@ job-keeps tells start kind brand table old new shares at at' pass pass' r h rais
       writes = on;
       given = still-open pass.tokens pass'.tokens (commits_of new).opened tokens
           (open-still pass.tokens.out (commits_of old).opened (commits_of new).opened p.left.opened h.given);
+      out = λ none. still-out pass.tokens pass'.tokens (commits_of new).opened tokens
+          (out-still pass.tokens.out (commits_of old).opened (commits_of new).opened p.left.opened (h.out none));
     }
 
 -- ---- queries
@@ -823,6 +849,7 @@ redeem-keeps tells start kind brand table old new shares at pass k r h redeems =
           archive = archive-then pass.archive (archive_seen tells old) (archive_seen tells new) h.archive (archive-on tells old new goes);
           writes = h.writes;
           given = open-still pass.tokens.out (commits_of old).opened (commits_of new).opened (ap (λ (v : CommitsValue). v.opened) left.3) h.given;
+          out = λ none. out-still pass.tokens.out (commits_of old).opened (commits_of new).opened (ap (λ (v : CommitsValue). v.opened) left.3) (h.out none);
         }
     by-result (redeemed.Waiting back) left stands = same (redeemed.Waiting back) refl left.1 stands
     by-result redeemed.InDoubt left stands = same redeemed.InDoubt refl left stands

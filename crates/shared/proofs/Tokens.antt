@@ -1,15 +1,17 @@
 -- What is out is open in the store, and is the store's own.
 use Rattle.std.proofs.Common.{◌≡◌, ◌≢◌, ℕ, zero, suc, ◌≤◌, ◌<◌, ◌==◌, ◌||◌, ◌&&◌, nat_lt, Bool, true, false, cond, List, [], ◌∷◌, ◌++◌, length}
 use Rattle.std.proofs.Common.{slice_set, Option, None, Some, is_some, refl, sym, ap, ◌∙◌, subst, inl, inr, ⊎_elim, arith}
-use Rattle.std.specs.Prelude.{IsSome}
+use Rattle.std.specs.Prelude.{IsSome, IsPermutation, Contains}
 use Rattle.std.specs.List.{list_all, AllByRecursion}
 use Rattle.std.proofs.lemmas.Bool.{cases_lt}
 use Rattle.std.proofs.lemmas.Bool.Decides.{nat_tests}
+use Rattle.std.proofs.lemmas.List.Sorted.{IsPermutation-sym, Contains-permutation}
 use Rattle.history.specs.declared.key.Key.{Key}
 use Rattle.history.specs.declared.key.KeyWrite.{KeyWrite}
 use Rattle.history.specs.Histories.{History, IsHistory, HasRisingTimes, last, state}
 use Rattle.history.specs.Machine.{Machine, IsMachine}
 use Rattle.history.specs.Time.{value_at}
+use Rattle.history.proofs.Members.{Contains-head, Contains-nil}
 use Rattle.history.proofs.Histories.{rising-from_following, may_follow-behind, may_follow-front, state-append}
 use Rattle.law_image.specs.Values.{Value, IsValue}
 use Rattle.chains.specs.KeyWrites.{KeyWrites, writes_of}
@@ -17,11 +19,13 @@ use Rattle.snapshot.specs.OpenTable.{snapshot_of, with_opened, with_closed}
 use Rattle.snapshot.specs.Txn.{TxnValue, AreTxnWrites, EndsASeenValue, at_snapshot}
 use Rattle.group.specs.Values.{is_of_value, is_snapshot}
 use Rattle.commits.specs.Values.{CommitsValue, is_own}
+use Rattle.law_refinement.specs.Standing.{snapshots_of}
+use Rattle.law_refinement.proofs.Openings.{closed_one}
 use Rattle.law_commits.specs.Standing.{StandsInMemory}
 use Rattle.law_any_store.proofs.Memory.{open-sees}
 use Rattle.shared.specs.Moments.{GoesWith, TxnPassValue, token_of}
 use Rattle.shared.specs.Seen.{Seen, IsFrontOf, IsLater, seen_of}
-use Rattle.shared.specs.Tokens.{Token, IsAmong, IsOut, IsFree, AreOpen, without}
+use Rattle.shared.specs.Tokens.{Token, IsAmong, IsOut, IsFree, AreOpen, AreOut, without}
 
 -- ---- the table of the open transactions
 
@@ -61,6 +65,36 @@ opened-other places n s m t ne is = elim (cases_lt n (length places)) [
   | inl low ↦ let test : nat_lt n (length places) ≡ true = grind (arith, nat_tests) in rw test (set-other places n m (Some s) ne ∙ is)
   | inr past ↦ let test : nat_lt n (length places) ≡ false = grind (arith, nat_tests) in rw test (push-other places m s t is)
 ]
+
+-- nor are there others
+push-was : (places : List (Option ℕ)) (n m s t : ℕ) → n ≡ length places → m ≢ n → snapshot_of m (places ++ Some s ∷ []) ≡ Some t
+    → snapshot_of m places ≡ Some t
+push-was [] n zero s t here ne is = absurd (ne (sym here))
+push-was [] n (suc m) s t here ne is = absurd cc
+push-was (p ∷ ps) n zero s t here ne is = is
+push-was (p ∷ ps) zero (suc m) s t here ne is = absurd (omega arith)
+push-was (p ∷ ps) (suc n) (suc m) s t here ne is = push-was ps n m s t (omega arith) (λ e. ne (ap suc e)) is
+
+opened-was : (places : List (Option ℕ)) (n s m t : ℕ) → n ≤ length places → m ≢ n → snapshot_of m (with_opened places n s) ≡ Some t
+    → snapshot_of m places ≡ Some t
+opened-was places n s m t within ne is = elim (cases_lt n (length places)) [
+  | inl low ↦
+      let test : nat_lt n (length places) ≡ true = grind (arith, nat_tests) in
+      let found : snapshot_of m (slice_set places n (Some s)) ≡ Some t =
+      subst (λ (b : Bool). snapshot_of m (cond b (slice_set places n (Some s)) (places ++ Some s ∷ [])) ≡ Some t) test is in
+      sym (set-other places n m (Some s) ne) ∙ found
+  | inr past ↦
+      let test : nat_lt n (length places) ≡ false = grind (arith, nat_tests) in
+      let found : snapshot_of m (places ++ Some s ∷ []) ≡ Some t =
+      subst (λ (b : Bool). snapshot_of m (cond b (slice_set places n (Some s)) (places ++ Some s ∷ [])) ≡ Some t) test is in
+      push-was places n m s t (omega arith) ne found
+]
+
+-- the one that was closed is not found
+closed-none : (places : List (Option ℕ)) (n s : ℕ) → snapshot_of n (with_closed places n) ≡ Some s → ⊥
+closed-none [] n s is = absurd cc
+closed-none (p ∷ ps) zero s is = absurd cc
+closed-none (p ∷ ps) (suc n) s is = closed-none ps n s is
 
 -- ---- those that are out
 
@@ -121,6 +155,50 @@ taken-open (t ∷ ts) opened number are = by-test (taken-open ts opened number a
     by-test later false test =
         let apart : t.number ≢ number = grind (arith, nat_tests) in
         (set-other opened number t.number None apart ∙ are.0, later)
+
+-- where none is open, all that are open are out
+pub none-out : (snapshots : List ℕ) (opened : List (Option ℕ)) (out : List Token) → IsPermutation snapshots (snapshots_of opened) → snapshots ≡ []
+    → AreOut opened out
+none-out snapshots opened out same none number snapshot found =
+    let rest = snapshots_of (with_closed opened number) in
+    let there : Contains (snapshots_of opened) snapshot =
+    Contains-permutation (snapshot ∷ rest) (snapshots_of opened) snapshot
+    (IsPermutation-sym (snapshots_of opened) (snapshot ∷ rest) (closed_one opened number snapshot found)) (Contains-head snapshot rest snapshot refl) in
+    let here : Contains snapshots snapshot =
+    Contains-permutation (snapshots_of opened) snapshots snapshot (IsPermutation-sym snapshots (snapshots_of opened) same) there in
+    absurd (Contains-nil snapshot (subst (λ (l : List ℕ). Contains l snapshot) none here))
+
+-- and once one more was opened and given out
+pub given-out : (out : List Token) (opened : List (Option ℕ)) (token : Token) → AreOut opened out → token.number ≤ length opened
+    → AreOut (with_opened opened token.number token.snapshot) (token ∷ out)
+given-out out opened token are within number snapshot found = by-test (number == token.number) refl
+  where
+    by-test : (b : Bool) → (number == token.number) ≡ b → IsAmong (token ∷ out) (record { number = number; snapshot = snapshot })
+    by-test true test =
+        let same : number ≡ token.number = grind (arith, nat_tests) in
+        let both : Path (Option ℕ) (Some token.snapshot) (Some snapshot) =
+        sym (opened-here opened token.number token.snapshot within)
+        ∙ ap (λ (n : ℕ). snapshot_of n (with_opened opened token.number token.snapshot)) (sym same) ∙ found in
+        let one : token.snapshot ≡ snapshot = cc in
+        let is : Path Token token (record { number = number; snapshot = snapshot }) =
+        ap (λ (n : ℕ). record { number = n; snapshot = token.snapshot }) (sym same) ∙ ap (λ (s : ℕ). record { number = number; snapshot = s }) one in
+        inl is
+    by-test false test =
+        let apart : number ≢ token.number = grind (arith, nat_tests) in
+        inr (are number snapshot (opened-was opened token.number token.snapshot number snapshot within apart found))
+
+-- and once one was taken back and closed
+pub taken-out : (out : List Token) (opened : List (Option ℕ)) (number : ℕ) → AreOut opened out → AreOut (with_closed opened number) (without number out)
+taken-out out opened number are other snapshot found = by-test (other == number) refl
+  where
+    by-test : (b : Bool) → (other == number) ≡ b → IsAmong (without number out) (record { number = other; snapshot = snapshot })
+    by-test true test =
+        let same : other ≡ number = grind (arith, nat_tests) in
+        absurd (closed-none opened number snapshot (subst (λ (n : ℕ). snapshot_of n (with_closed opened number) ≡ Some snapshot) same found))
+    by-test false test =
+        let apart : other ≢ number = grind (arith, nat_tests) in
+        among-without out number (record { number = other; snapshot = snapshot })
+        (are other snapshot (sym (set-other opened number other None apart) ∙ found)) apart
 
 -- ---- the store's own transactions
 

@@ -46,13 +46,13 @@ use Rattle.shared.specs.Kinds.{Kind, kind_of}
 use Rattle.shared.specs.Moments.{OfSeen}
 use Rattle.shared.specs.Reached.{Reached}
 use Rattle.shared.specs.Seen.{Seen, SightValue, floors_listed, floor_in, seen_of}
-use Rattle.shared.specs.Tokens.{AreOpen}
+use Rattle.shared.specs.Tokens.{AreOpen, AreOut}
 
 -- ---- the value under the lock
 
 -- The store stands for a state that steps of the machine lead to, and is of this layout. The commits for which Done was answered since opening are those in the
 -- shares, and none of them waits. The pass is the cell's writer, and has seen all commits and the floors; what it knows of the archive is there still, and the
--- transactions that it gave out are open.
+-- transactions that it gave out are open. If none was open when the store was opened, no others are: who takes a transaction back ends it in the store.
 pub record IsShared (tells : Bool) (start : Machine Value) (kind : Kind) (brand : ℕ) (table : TableId) (store : StoreValue) (shares : ℕ) (at : TableId)
     (pass : SightValue) : Type 0 where
   pub state : Machine Value
@@ -67,6 +67,7 @@ pub record IsShared (tells : Bool) (start : Machine Value) (kind : Kind) (brand 
   pub archive : IsArchiveLater pass.archive (archive_seen tells store)
   pub writes : pass.writes ≡ true
   pub given : AreOpen pass.tokens.out (commits_of store).opened
+  pub out : start.snapshots ≡ [] → AreOut (commits_of store).opened pass.tokens.out
 
 -- ---- what was seen
 

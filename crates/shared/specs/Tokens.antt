@@ -51,3 +51,7 @@ taken_back out (Some token) = without token.number out
 abbrev pub AreOpen : List Token → List (Option ℕ) → Type 0
 AreOpen [] opened = Unit {0}
 AreOpen (token ∷ tokens) opened = (snapshot_of token.number opened ≡ Some token.snapshot) × AreOpen tokens opened
+
+-- and all that are open in this table are out
+abbrev pub AreOut : List (Option ℕ) → List Token → Type 0
+AreOut opened out = (number snapshot : ℕ) → snapshot_of number opened ≡ Some snapshot → IsAmong out (record { number = number; snapshot = snapshot })
