@@ -26,6 +26,10 @@ mod noted;
 #[cfg(test)]
 mod refused;
 #[cfg(test)]
+mod refused_reader;
+#[cfg(test)]
+mod unread_disk;
+#[cfg(test)]
 mod vacuum_loop;
 #[cfg(test)]
 mod vacuumed;

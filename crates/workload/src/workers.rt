@@ -166,7 +166,8 @@ fn count_worked<L: Opening>(share: Share<L>, done: u32) -> Worked<L>
     Worked { share, done }
 }
 
-// Asks for the writers' keys in turn, each by a view of its own. Whether all were answered.
+// Asks for the writers' keys in turn, as they are and as they were at the first commit, each by a view of
+// its own. Below the reclaim mark the archive is read. Whether all were answered.
 fn read_rounds<D: Disk, L: Opening, R: Wait>(
     rt: &R,
     store: &SharedStore<D, L>,
@@ -179,6 +180,9 @@ fn read_rounds<D: Disk, L: Opening, R: Wait>(
         let last = store.last_published(rt, &mut me);
         let key = key_of(round % writers + 1);
         if read(rt, store, &mut me, key, last).is_err() {
+            return false;
+        }
+        if read(rt, store, &mut me, key, last.min(1)).is_err() {
             return false;
         }
     }
