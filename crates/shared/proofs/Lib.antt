@@ -9,6 +9,7 @@ pub mod Passes
 pub mod Counting
 pub mod Engines
 pub mod Starting
+pub mod Working
 pub mod Stepping
 pub mod Moves
 pub mod Awaiting

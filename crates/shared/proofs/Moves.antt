@@ -1,5 +1,5 @@
 -- What one call of the store leaves under the lock.
-use Rattle.std.proofs.Common.{◌≡◌, ℕ, ◌+◌, ◌<◌, ◌^◌, ◌≤◌, Bool, true, false, cond, List, [], ◌∷◌, ◌++◌, length}
+use Rattle.std.proofs.Common.{◌≡◌, ◌↔◌, ℕ, ◌+◌, ◌<◌, ◌^◌, ◌≤◌, Bool, true, false, cond, List, [], ◌∷◌, ◌++◌, length}
 use Rattle.std.proofs.Common.{Option, Some, Result, Ok, Err, MatchBool, refl, sym, ap, ◌∙◌, subst, arith}
 use Rattle.std.specs.Prelude.{IsTrue}
 use Rattle.std.proofs.lemmas.List.{length-append}
@@ -32,6 +32,7 @@ use Rattle.store.specs.declared.job.StartFault.TheVariants as fault
 use Rattle.commits.specs.Values.{CommitsValue, is_own, over}
 use Rattle.any_store.specs.declared.steps.Did.{Did}
 use Rattle.any_store.specs.declared.steps.JobDid.{JobDid}
+use Rattle.any_store.specs.declared.steps.JobDid.TheVariants as job_did
 use Rattle.any_store.specs.Values.{StoreValue, is_log, commits_of, disk_of}
 use Rattle.any_store.specs.Calls as stores
 use Rattle.any_store.specs.Jobs.{StartsArchive, StartsReclaim, StartsFloor, StartsGrowth, PumpsJob}
@@ -58,14 +59,17 @@ use Rattle.shared.specs.Kinds.{Kind, kind_of}
 use Rattle.shared.specs.Moments.{TxnPassValue, GoesWith, token_of}
 use Rattle.shared.specs.Tokens.{Token, Tokens, no_tokens, IsOut, IsFree, AreOpen, AreOut, without, taken_back}
 use Rattle.shared.specs.Reached.{Reached, opened, stepped}
-use Rattle.shared.specs.Seen.{Seen, SightValue, seen_of, order_of, IsLater}
+use Rattle.shared.specs.Cell.{marked}
+use Rattle.shared.specs.Seen.{Seen, Known, SightValue, seen_of, order_of, IsLater}
 use Rattle.shared.specs.Shared.{IsShared, Submits, SubmitSays, SubmitHappens, FloorSays, FloorHappens, ArchiveSays, ArchiveHappens, ReclaimSays, ReclaimHappens}
 use Rattle.shared.specs.Shared.{GrowthHappens, queued_seen, pumped_seen, done_seen, job_seen, noted, done_in}
-use Rattle.shared.specs.Shared.{raising_in}
+use Rattle.shared.specs.Shared.{is_busy, raising_in, TellsOfJobs}
 use Rattle.shared.proofs.Archives.{archive-same, archive-then, archive-first, archive-on}
 use Rattle.shared.proofs.Counting.{told-push, after-push, told-redeemed, after-redeemed, after-later, length-redeemed}
 use Rattle.shared.proofs.Engines.{in-memory, is-machine, kind-stays, raises-is, none-told}
 use Rattle.shared.proofs.Fronts.{last-seen, later-same}
+use Rattle.shared.proofs.Working.{begin-busy, abort-busy, submit-busy, redeem-busy, pump-busy, archive-tells, reclaim-tells, floor-tells, growth-tells}
+use Rattle.shared.proofs.Working.{job-idles}
 use Rattle.shared.proofs.Starting.{archive-says, reclaim-says, growth-says, floor-works}
 use Rattle.shared.proofs.Tokens.{given-open, taken-open, none-out, given-out, taken-out, unopened-free, is-its_own}
 use Rattle.shared.proofs.Stepping.{follows, submit_seen, submit-seen, broken-seen, published-none, pumped-order, job-order, later-pumped, job-seen, later-done}
@@ -93,9 +97,9 @@ out-still out a b is are = subst (λ (x : List (Option ℕ)). AreOut x out) (sym
 pub repass : (tells : Bool) (start : Machine Value) (kind : Kind) (brand : ℕ) (table : TableId) (v : StoreValue) (shares : ℕ) (at at' : TableId)
     (pass pass' : SightValue)
     → IsShared tells start kind brand table v shares at pass
-    → at' ≡ at → pass'.writes ≡ true → pass'.seen ≡ pass.seen → pass'.archive ≡ pass.archive → pass'.tokens ≡ pass.tokens
+    → at' ≡ at → pass'.writes ≡ true → pass'.seen ≡ pass.seen → pass'.archive ≡ pass.archive → pass'.tokens ≡ pass.tokens → pass'.busy ≡ pass.busy
     → IsShared tells start kind brand table v shares at' pass'
-repass tells start kind brand table v shares at at' pass pass' h same on seen archive tokens = record {
+repass tells start kind brand table v shares at at' pass pass' h same on seen archive tokens busy = record {
   state = h.state;
   stands = h.stands;
   reached = h.reached;
@@ -106,6 +110,7 @@ repass tells start kind brand table v shares at at' pass pass' h same on seen ar
   cell = same ∙ h.cell;
   seen = seen ∙ h.seen;
   archive = known archive h.archive;
+  busy = busy ∙ h.busy;
   writes = on;
   given = still-open pass.tokens pass'.tokens (commits_of v).opened tokens h.given;
   out = λ none. still-out pass.tokens pass'.tokens (commits_of v).opened tokens (h.out none);
@@ -114,9 +119,9 @@ repass tells start kind brand table v shares at at' pass pass' h same on seen ar
 -- and where it knows the archive as it is now
 pub repass-known : (tells : Bool) (start : Machine Value) (kind : Kind) (brand : ℕ) (table : TableId) (v : StoreValue) (shares : ℕ) (at at' : TableId)
     (pass pass' : SightValue) → IsShared tells start kind brand table v shares at pass
-    → at' ≡ at → pass'.writes ≡ true → pass'.seen ≡ pass.seen → pass'.archive ≡ archive_seen tells v → pass'.tokens ≡ pass.tokens
+    → at' ≡ at → pass'.writes ≡ true → pass'.seen ≡ pass.seen → pass'.archive ≡ archive_seen tells v → pass'.tokens ≡ pass.tokens → pass'.busy ≡ pass.busy
     → IsShared tells start kind brand table v shares at' pass'
-repass-known tells start kind brand table v shares at at' pass pass' h same on seen archive tokens = record {
+repass-known tells start kind brand table v shares at at' pass pass' h same on seen archive tokens busy = record {
   state = h.state;
   stands = h.stands;
   reached = h.reached;
@@ -127,6 +132,7 @@ repass-known tells start kind brand table v shares at at' pass pass' h same on s
   cell = same ∙ h.cell;
   seen = seen ∙ h.seen;
   archive = known archive (archive-same (archive_seen tells v));
+  busy = busy ∙ h.busy;
   writes = on;
   given = still-open pass.tokens pass'.tokens (commits_of v).opened tokens h.given;
   out = λ none. still-out pass.tokens pass'.tokens (commits_of v).opened tokens (h.out none);
@@ -161,26 +167,28 @@ rested : (tells : Bool) (start : Machine Value) (kind : Kind) (brand : ℕ) (tab
     → (commits_of new).mark ≡ (commits_of old).mark
     → (commits_of new).heads ≡ (commits_of old).heads → at' ≡ at → pass'.writes ≡ true → pass'.seen ≡ pass.seen → pass'.archive ≡ pass.archive
     → AreOpen pass'.tokens.out (commits_of new).opened → (start.snapshots ≡ [] → AreOut (commits_of new).opened pass'.tokens.out)
-    → IsShared tells start kind brand table new shares at' pass'
-rested tells start kind brand table old new shares at at' pass pass' h after stands goes names reached same mark heads cell on seen archive given out = record {
-  state = after;
-  stands = stands;
-  reached = reached;
-  layout = kind-stays tells old new goes names ∙ h.layout;
-  mark = mark ∙ h.mark;
-  told =
-      told-ordered (commits_of old).heads (commits_of new).heads (seen_of h.state) (seen_of after) (length start.published) shares heads (ap order_of same)
-      h.told;
-  none_waits =
-      ap (λ (l : List CommitHead). told_after (last after.published) l) heads ∙ ap (λ (s : Seen). told_after (last s.published) (commits_of old).heads) same
-      ∙ h.none_waits;
-  cell = cell ∙ h.cell;
-  seen = seen ∙ h.seen ∙ sym same;
-  archive = known archive (archive-then pass.archive (archive_seen tells old) (archive_seen tells new) h.archive (archive-on tells old new goes));
-  writes = on;
-  given = given;
-  out = out;
-}
+    → pass'.busy ≡ is_busy new → IsShared tells start kind brand table new shares at' pass'
+rested tells start kind brand table old new shares at at' pass pass' h after stands goes names reached same mark heads cell on seen archive given out busy
+    = record {
+      state = after;
+      stands = stands;
+      reached = reached;
+      layout = kind-stays tells old new goes names ∙ h.layout;
+      mark = mark ∙ h.mark;
+      told =
+          told-ordered (commits_of old).heads (commits_of new).heads (seen_of h.state) (seen_of after) (length start.published) shares heads (ap order_of same)
+          h.told;
+      none_waits =
+          ap (λ (l : List CommitHead). told_after (last after.published) l) heads ∙ ap (λ (s : Seen). told_after (last s.published) (commits_of old).heads) same
+          ∙ h.none_waits;
+      cell = cell ∙ h.cell;
+      seen = seen ∙ h.seen ∙ sym same;
+      archive = known archive (archive-then pass.archive (archive_seen tells old) (archive_seen tells new) h.archive (archive-on tells old new goes));
+      busy = busy;
+      writes = on;
+      given = given;
+      out = out;
+    }
 
 -- and under the same pass, where the same transactions are open
 quiet : (tells : Bool) (start : Machine Value) (kind : Kind) (brand : ℕ) (table : TableId) (old new : StoreValue) (shares : ℕ) (at : TableId)
@@ -189,19 +197,32 @@ quiet : (tells : Bool) (start : Machine Value) (kind : Kind) (brand : ℕ) (tabl
     → Stands tells new after → GoesOn tells old new → KeepsNames old new → Reached start after → seen_of after ≡ seen_of h.state
     → (commits_of new).mark ≡ (commits_of old).mark
     → (commits_of new).heads ≡ (commits_of old).heads → (commits_of new).opened ≡ (commits_of old).opened
-    → IsShared tells start kind brand table new shares at pass
-quiet tells start kind brand table old new shares at pass h after stands goes names reached same mark heads places =
+    → is_busy new ≡ is_busy old → IsShared tells start kind brand table new shares at pass
+quiet tells start kind brand table old new shares at pass h after stands goes names reached same mark heads places jobs =
     rested tells start kind brand table old new shares at at pass pass h after stands goes names reached same mark heads refl h.writes refl refl
     (open-still pass.tokens.out (commits_of old).opened (commits_of new).opened places h.given)
-    (λ none. out-still pass.tokens.out (commits_of old).opened (commits_of new).opened places (h.out none))
+    (λ none. out-still pass.tokens.out (commits_of old).opened (commits_of new).opened places (h.out none)) (h.busy ∙ sym jobs)
+
+-- and where the writer's pass knows whether a job runs now
+worked : (tells : Bool) (start : Machine Value) (kind : Kind) (brand : ℕ) (table : TableId) (old new : StoreValue) (shares : ℕ) (at at' : TableId)
+    (pass pass' : SightValue)
+    (h : IsShared tells start kind brand table old shares at pass) (after : Machine Value)
+    → Stands tells new after → GoesOn tells old new → KeepsNames old new → Reached start after → seen_of after ≡ seen_of h.state
+    → Leaves (commits_of old) (commits_of new) → at' ≡ at → pass' ≡ marked (is_busy new) pass → IsShared tells start kind brand table new shares at' pass'
+worked tells start kind brand table old new shares at at' pass pass' h after stands goes names reached same left cell is =
+    subst (λ (p : SightValue). IsShared tells start kind brand table new shares at' p) (sym is)
+    (rested tells start kind brand table old new shares at at' pass (marked (is_busy new) pass) h after stands goes names reached same left.mark left.heads cell
+    h.writes refl refl
+    (open-still pass.tokens.out (commits_of old).opened (commits_of new).opened left.opened h.given)
+    (λ none. out-still pass.tokens.out (commits_of old).opened (commits_of new).opened left.opened (h.out none)) refl)
 
 -- ---- opening
 
 pub begins : (tells : Bool) (start : Machine Value) (kind : Kind) (brand : ℕ) (table : TableId) (v : StoreValue) (total : ℕ) (at : TableId) (pass : SightValue)
     → Stands tells v start → kind_of v ≡ kind → (commits_of v).mark ≡ brand → told_count (commits_of v).heads ≡ length (commits_of v).heads
     → start.queue ≡ [] → total ≡ 0 → at ≡ table → pass.seen ≡ seen_of start → pass.archive ≡ no_archive → pass.writes ≡ true → pass.tokens ≡ no_tokens
-    → IsShared tells start kind brand table v total at pass
-begins tells start kind brand table v total at pass stands layout mark fresh empty none cell seen archive writes tokens = record {
+    → pass.busy ≡ is_busy v → IsShared tells start kind brand table v total at pass
+begins tells start kind brand table v total at pass stands layout mark fresh empty none cell seen archive writes tokens busy = record {
   state = start;
   stands = stands;
   reached = opened;
@@ -212,6 +233,7 @@ begins tells start kind brand table v total at pass stands layout mark fresh emp
   cell = cell;
   seen = seen;
   archive = known archive (archive-first (archive_seen tells v));
+  busy = busy;
   writes = writes;
   given = still-open no_tokens pass.tokens (commits_of v).opened tokens tt;
   out = λ none. let memory = in-memory tells v start stands in none-out start.snapshots (commits_of v).opened pass.tokens.out memory.snapshots none;
@@ -230,8 +252,8 @@ begin-fresh tells start kind brand table old new shares at pass txn h begins =
 pub begin-gives : (tells : Bool) (start : Machine Value) (kind : Kind) (brand : ℕ) (table : TableId) (old new : StoreValue) (shares : ℕ) (at at' : TableId)
     (pass pass' : SightValue) (txn : TxnValue) → IsShared tells start kind brand table old shares at pass → stores.Begins old (Ok txn) new → at' ≡ at
     → pass'.writes ≡ true → pass'.seen ≡ pass.seen → pass'.archive ≡ pass.archive → pass'.tokens.out ≡ token_of txn ∷ pass.tokens.out
-    → IsShared tells start kind brand table new shares at' pass'
-begin-gives tells start kind brand table old new shares at at' pass pass' txn h begins cell on seen archive out =
+    → pass'.busy ≡ pass.busy → IsShared tells start kind brand table new shares at' pass'
+begin-gives tells start kind brand table old new shares at at' pass pass' txn h begins cell on seen archive out busy =
     let did = begin-stands tells old new (Ok txn) h.state h.stands begins in
     let b = laws.begin-leaves old new (Ok txn) begins in
     let is = b.new_is in
@@ -247,6 +269,7 @@ begin-gives tells start kind brand table old new shares at at' pass pass' txn h 
     (λ none. subst (λ (o : List Token). AreOut (commits_of new).opened o) (sym out)
     (out-still (token_of txn ∷ pass.tokens.out) (with_opened (commits_of old).opened txn.number txn.snapshot) (commits_of new).opened
     (ap (λ (v : CommitsValue). v.opened) is) (given-out pass.tokens.out (commits_of old).opened (token_of txn) (h.out none) b.within)))
+    (busy ∙ h.busy ∙ sym (begin-busy old new (Ok txn) begins))
 
 -- or none does
 pub begin-keeps : (tells : Bool) (start : Machine Value) (kind : Kind) (brand : ℕ) (table : TableId) (old new : StoreValue) (shares : ℕ) (at : TableId)
@@ -258,13 +281,13 @@ begin-keeps tells start kind brand table old new shares at pass begin.NoMemory h
     let is = laws.begin-leaves old new (Err begin.NoMemory) begins in
     quiet tells start kind brand table old new shares at pass h h.state did.1 (begin-goes tells old new (Err begin.NoMemory) begins)
     (begin-names old new (Err begin.NoMemory) begins) h.reached refl (ap (λ (v : CommitsValue). v.mark) is) (ap (λ (v : CommitsValue). v.heads) is)
-    (ap (λ (v : CommitsValue). v.opened) is)
+    (ap (λ (v : CommitsValue). v.opened) is) (begin-busy old new (Err begin.NoMemory) begins)
 begin-keeps tells start kind brand table old new shares at pass begin.Failed h begins =
     let did = begin-stands tells old new (Err begin.Failed) h.state h.stands begins in
     let is = laws.begin-leaves old new (Err begin.Failed) begins in
     quiet tells start kind brand table old new shares at pass h h.state did.1 (begin-goes tells old new (Err begin.Failed) begins)
     (begin-names old new (Err begin.Failed) begins) h.reached refl (ap (λ (v : CommitsValue). v.mark) is) (ap (λ (v : CommitsValue). v.heads) is)
-    (ap (λ (v : CommitsValue). v.opened) is)
+    (ap (λ (v : CommitsValue). v.opened) is) (begin-busy old new (Err begin.Failed) begins)
 
 -- a transaction that is out is the store's own, by what the writer's pass has seen since it began
 pub its-own : (tells : Bool) (start : Machine Value) (kind : Kind) (brand : ℕ) (table : TableId) (v : StoreValue) (shares : ℕ) (at : TableId)
@@ -295,8 +318,8 @@ pub abort-keeps : (tells : Bool) (start : Machine Value) (kind : Kind) (brand : 
     (pass pass' : SightValue) (txn : TxnValue) (own : Option Token) (h : IsShared tells start kind brand table old shares at pass)
     → stores.Aborts old txn new → Aborting tells start h.state old new txn → own ≡ Some (token_of txn) → at' ≡ at → pass'.writes ≡ true
     → pass'.seen ≡ pass.seen → pass'.archive ≡ pass.archive → pass'.tokens.out ≡ taken_back pass.tokens.out own
-    → IsShared tells start kind brand table new shares at' pass'
-abort-keeps tells start kind brand table old new shares at at' pass pass' txn own h aborts a goes cell on seen archive out =
+    → pass'.busy ≡ pass.busy → IsShared tells start kind brand table new shares at' pass'
+abort-keeps tells start kind brand table old new shares at at' pass pass' txn own h aborts a goes cell on seen archive out busy =
     let mark : (commits_of new).mark ≡ (commits_of old).mark = ap (λ (v : CommitsValue). v.mark) a.left in
     let taken = taken-open pass.tokens.out (commits_of old).opened txn.number h.given in
     rested tells start kind brand table old new shares at at' pass pass' h a.after a.stands (abort-goes tells old new txn aborts)
@@ -308,6 +331,7 @@ abort-keeps tells start kind brand table old new shares at at' pass pass' txn ow
     (λ none. subst (λ (o : List Token). AreOut (commits_of new).opened o) (sym (out ∙ ap (taken_back pass.tokens.out) goes))
     (out-still (without txn.number pass.tokens.out) (with_closed (commits_of old).opened txn.number) (commits_of new).opened
     (ap (λ (v : CommitsValue). v.opened) a.left) (taken-out pass.tokens.out (commits_of old).opened txn.number (h.out none))))
+    (busy ∙ h.busy ∙ sym (abort-busy old new txn aborts))
 
 -- ---- submits
 
@@ -447,6 +471,7 @@ pub record SubmitLeaves (tells : Bool) (start : Machine Value) (brand : ℕ) (m 
   pub opened : (commits_of new).opened ≡ with_closed (commits_of old).opened t.number
   pub goes : GoesOn tells old new
   pub names : KeepsNames old new
+  pub busy : is_busy new ≡ is_busy old
   pub happens : SubmitHappens start brand t label now r (seen_of after)
 
 pub submit-leaves : (tells : Bool) (start : Machine Value) (brand : ℕ) (m : Machine Value) (old new : StoreValue) (t : TxnValue) (label now : ℕ)
@@ -477,6 +502,7 @@ submit-leaves tells start brand m old new t label now r stands reached mark are 
           opened = left-opened (commits_of old) (commits_of new) t label x s.left;
           goes = submit-goes tells old new t label now r does;
           names = submit-names old new t label now r does;
+          busy = submit-busy old new t label now r does;
           happens = tells_so s.after (record { before = m; after = s.after; reached = reached; step = s.step; seen_is = refl; says = says });
         }
 
@@ -502,8 +528,8 @@ pub submit-keeps : (tells : Bool) (start : Machine Value) (kind : Kind) (brand :
     (pass pass' : SightValue) (t : TxnValue) (label now : ℕ) (r : Result Submitted SubmitFault) (h : IsShared tells start kind brand table old shares at pass)
     → (s : SubmitLeaves tells start brand h.state old new t label now r) → at' ≡ table → pass'.writes ≡ true → pass'.seen ≡ seen_of s.after → pass'.archive
     ≡ pass.archive → (own : Option Token) → own ≡ Some (token_of t) → pass'.tokens.out ≡ taken_back pass.tokens.out own
-    → IsShared tells start kind brand table new shares at' pass'
-submit-keeps tells start kind brand table old new shares at at' pass pass' t label now r h s cell on seen archive own goes out =
+    → pass'.busy ≡ pass.busy → IsShared tells start kind brand table new shares at' pass'
+submit-keeps tells start kind brand table old new shares at at' pass pass' t label now r h s cell on seen archive own goes out busy =
     let published : s.after.published ≡ h.state.published = ap (λ (x : Seen). x.published) s.noted_is ∙ noted-published r (seen_of h.state) label t.writes in
     record {
       state = s.after;
@@ -516,6 +542,7 @@ submit-keeps tells start kind brand table old new shares at at' pass pass' t lab
       cell = cell;
       seen = seen;
       archive = known archive (archive-then pass.archive (archive_seen tells old) (archive_seen tells new) h.archive (archive-on tells old new s.goes));
+      busy = busy ∙ h.busy ∙ sym s.busy;
       writes = on;
       given = subst (λ (o : List Token). AreOpen o (commits_of new).opened) (sym (out ∙ ap (taken_back pass.tokens.out) goes))
           (open-still (without t.number pass.tokens.out) (with_closed (commits_of old).opened t.number) (commits_of new).opened s.opened
@@ -537,6 +564,7 @@ pub record Pumped (tells : Bool) (start : Machine Value) (m : Machine Value) (ol
   pub left : Leaves (commits_of old) (commits_of new)
   pub goes : GoesOn tells old new
   pub names : KeepsNames old new
+  pub busy : is_busy new ≡ is_busy old
 
 pub pumped : (tells : Bool) (start : Machine Value) (m : Machine Value) (old new : StoreValue) (r : Result Did PumpFault) → Reached start m → Stands tells old m
     → (IsTrue tells → AreSound (disk_of new).areas) → stores.Pumps tells old r new → Pumped tells start m old new r
@@ -554,6 +582,7 @@ pumped tells start m old new r reached stands sound pumps = by-failure m.failed 
       left = laws.pump-leaves tells old new r pumps;
       goes = pump-goes tells old new r m stands pumps;
       names = pump-names tells old new r pumps;
+      busy = pump-busy tells old new r pumps;
     }
     by-failure false is did = record {
       after = did.after;
@@ -564,14 +593,15 @@ pumped tells start m old new r reached stands sound pumps = by-failure m.failed 
       left = laws.pump-leaves tells old new r pumps;
       goes = pump-goes tells old new r m stands pumps;
       names = pump-names tells old new r pumps;
+      busy = pump-busy tells old new r pumps;
     }
 
 -- once the pass has gone on
 pub pump-publishes : (tells : Bool) (start : Machine Value) (kind : Kind) (brand : ℕ) (table : TableId) (old new : StoreValue) (shares : ℕ) (at at' : TableId)
     (pass pass' : SightValue) (r : Result Did PumpFault) (h : IsShared tells start kind brand table old shares at pass) → Pumped tells start h.state old new r
     → at' ≡ table → pass'.writes ≡ true → pass'.seen ≡ pumped_seen r (seen_of h.state) → pass'.archive ≡ pass.archive → pass'.tokens ≡ pass.tokens
-    → IsShared tells start kind brand table new shares at' pass'
-pump-publishes tells start kind brand table old new shares at at' pass pass' r h p cell on seen archive tokens =
+    → pass'.busy ≡ pass.busy → IsShared tells start kind brand table new shares at' pass'
+pump-publishes tells start kind brand table old new shares at at' pass pass' r h p cell on seen archive tokens busy =
     let later' : IsLater (seen_of h.state) (seen_of p.after) =
     subst (λ (s : Seen). IsLater (seen_of h.state) s) (sym p.seen) (later-pumped r (seen_of h.state)) in
     let rises : last h.state.published ≤ last p.after.published =
@@ -591,6 +621,7 @@ pump-publishes tells start kind brand table old new shares at at' pass pass' r h
       cell = cell;
       seen = seen ∙ sym p.seen;
       archive = known archive (archive-then pass.archive (archive_seen tells old) (archive_seen tells new) h.archive (archive-on tells old new p.goes));
+      busy = busy ∙ h.busy ∙ sym p.busy;
       writes = on;
       given = still-open pass.tokens pass'.tokens (commits_of new).opened tokens
           (open-still pass.tokens.out (commits_of old).opened (commits_of new).opened p.left.opened h.given);
@@ -611,54 +642,60 @@ pumped-run tells start kind brand table old new shares at pass r h p =
     subst (λ (b : Bool). MatchBool h.state.failed ((r ≡ Err pump.Failed) × (p.after ≡ h.state)) (Run IsValue h.state (pumped_in b h.state r) p.after))
     (in-heap tells start kind brand table old shares at pass h) p.run
 
+-- ---- starts
+
 -- an archive begins, or is refused
-pub archive-begins : (tells : Bool) (start : Machine Value) (kind : Kind) (brand : ℕ) (table : TableId) (old new : StoreValue) (shares : ℕ) (at : TableId)
-    (pass : SightValue) (upto : ℕ) (r : Result (Unit {0}) StartFault) → IsShared tells start kind brand table old shares at pass → StartsArchive old upto r new
-    → IsShared tells start kind brand table new shares at pass × ArchiveHappens start kind upto r pass.seen
-archive-begins tells start kind brand table old new shares at pass upto r h starts =
-    let left = laws.start-leaves old new upto r starts in (
-      quiet tells start kind brand table old new shares at pass h h.state (archive-start-stands tells old new upto r h.state h.stands starts)
-          (archive-start-goes tells old new upto r h.state h.stands starts) (start-names old new upto r starts) h.reached refl left.mark left.heads left.opened,
-      (
-        h.state,
-        h.reached,
-        h.seen,
-        subst (λ (b : Bool). ArchiveSays b h.state upto r) (in-heap tells start kind brand table old shares at pass h)
-            (archive-says tells old new upto h.state r h.stands starts),
-      ),
-    )
+pub archive-begins : (tells : Bool) (start : Machine Value) (kind : Kind) (brand : ℕ) (table : TableId) (old new : StoreValue) (shares : ℕ) (at at' : TableId)
+    (pass pass' : SightValue) (upto : ℕ) (r : Result (Unit {0}) StartFault) → IsShared tells start kind brand table old shares at pass
+    → StartsArchive old upto r new → at' ≡ at → pass' ≡ marked (is_busy new) pass → IsShared tells start kind brand table new shares at' pass'
+archive-begins tells start kind brand table old new shares at at' pass pass' upto r h starts cell is =
+    worked tells start kind brand table old new shares at at' pass pass' h h.state (archive-start-stands tells old new upto r h.state h.stands starts)
+    (archive-start-goes tells old new upto r h.state h.stands starts) (start-names old new upto r starts) h.reached refl
+    (laws.start-leaves old new upto r starts) cell is
+
+pub archive-happens : (tells : Bool) (start : Machine Value) (kind : Kind) (brand : ℕ) (table : TableId) (old new : StoreValue) (shares : ℕ) (at : TableId)
+    (pass : SightValue) (upto : ℕ) (r : Result (Unit {0}) StartFault) → IsShared tells start kind brand table old shares at pass
+    → StartsArchive old upto r new → (known : Known) → known.seen ≡ pass.seen → known.busy ≡ pass.busy → ArchiveHappens start kind upto r known
+archive-happens tells start kind brand table old new shares at pass upto r h starts known seen busy = (
+  (
+    h.state,
+    h.reached,
+    seen ∙ h.seen,
+    subst (λ (b : Bool). ArchiveSays b h.state upto r) (in-heap tells start kind brand table old shares at pass h)
+        (archive-says tells old new upto h.state r h.stands starts),
+  ),
+  subst (λ (b : Bool). TellsOfJobs b r) (sym (busy ∙ h.busy)) (archive-tells old new upto r starts),
+)
 
 -- a reclaim begins, or is refused
-pub reclaim-begins : (tells : Bool) (start : Machine Value) (kind : Kind) (brand : ℕ) (table : TableId) (old new : StoreValue) (shares : ℕ) (at : TableId)
+pub reclaim-begins : (tells : Bool) (start : Machine Value) (kind : Kind) (brand : ℕ) (table : TableId) (old new : StoreValue) (shares : ℕ) (at at' : TableId)
+    (pass pass' : SightValue) (r : Result (Unit {0}) StartFault) → IsShared tells start kind brand table old shares at pass → StartsReclaim old r new
+    → at' ≡ at → pass' ≡ marked (is_busy new) pass → IsShared tells start kind brand table new shares at' pass'
+reclaim-begins tells start kind brand table old new shares at at' pass pass' r h starts cell is =
+    worked tells start kind brand table old new shares at at' pass pass' h h.state (reclaim-start-stands tells old new r h.state h.stands starts)
+    (reclaim-start-goes tells old new r h.state h.stands starts) (reclaim-names old new r starts) h.reached refl (laws.reclaim-leaves old new r starts) cell is
+
+pub reclaim-happens : (tells : Bool) (start : Machine Value) (kind : Kind) (brand : ℕ) (table : TableId) (old new : StoreValue) (shares : ℕ) (at : TableId)
     (pass : SightValue) (r : Result (Unit {0}) StartFault) → IsShared tells start kind brand table old shares at pass → StartsReclaim old r new
-    → IsShared tells start kind brand table new shares at pass × ReclaimHappens start kind r pass.seen
-reclaim-begins tells start kind brand table old new shares at pass r h starts =
-    let left = laws.reclaim-leaves old new r starts in (
-      quiet tells start kind brand table old new shares at pass h h.state (reclaim-start-stands tells old new r h.state h.stands starts)
-          (reclaim-start-goes tells old new r h.state h.stands starts) (reclaim-names old new r starts) h.reached refl left.mark left.heads left.opened,
-      (
-        h.state,
-        h.reached,
-        h.seen,
-        subst (λ (b : Bool). ReclaimSays b h.state r) (in-heap tells start kind brand table old shares at pass h)
-            (reclaim-says tells old new h.state r h.stands starts),
-      ),
-    )
+    → (known : Known) → known.seen ≡ pass.seen → known.busy ≡ pass.busy → ReclaimHappens start kind r known
+reclaim-happens tells start kind brand table old new shares at pass r h starts known seen busy = (
+  (
+    h.state,
+    h.reached,
+    seen ∙ h.seen,
+    subst (λ (b : Bool). ReclaimSays b h.state r) (in-heap tells start kind brand table old shares at pass h)
+        (reclaim-says tells old new h.state r h.stands starts),
+  ),
+  subst (λ (b : Bool). TellsOfJobs b r) (sym (busy ∙ h.busy)) (reclaim-tells old new r starts),
+)
 
 -- a floor begins, or is refused
-pub floor-begins : (tells : Bool) (start : Machine Value) (kind : Kind) (brand : ℕ) (table : TableId) (old new : StoreValue) (shares : ℕ) (at : TableId)
-    (pass : SightValue) (scope : Option ℕ) (floor : ℕ) (r : Result (Unit {0}) StartFault) → IsShared tells start kind brand table old shares at pass
-    → StartsFloor old scope floor r new → IsShared tells start kind brand table new shares at pass × FloorHappens start kind scope floor r pass.seen
-floor-begins tells start kind brand table old new shares at pass scope floor r h starts =
-    let did = by-answer r refl (floor-start-stands tells old new scope floor r h.state h.stands starts) in (
-      did.0,
-      (
-        h.state,
-        h.reached,
-        h.seen,
-        subst (λ (b : Bool). FloorSays b h.state (raising_to scope floor) r) (in-heap tells start kind brand table old shares at pass h) did.1,
-      ),
-    )
+pub floor-begins : (tells : Bool) (start : Machine Value) (kind : Kind) (brand : ℕ) (table : TableId) (old new : StoreValue) (shares : ℕ) (at at' : TableId)
+    (pass pass' : SightValue) (scope : Option ℕ) (floor : ℕ) (r : Result (Unit {0}) StartFault)
+    → IsShared tells start kind brand table old shares at pass → StartsFloor old scope floor r new → at' ≡ at → pass' ≡ marked (is_busy new) pass
+    → IsShared tells start kind brand table new shares at' pass'
+floor-begins tells start kind brand table old new shares at at' pass pass' scope floor r h starts cell is =
+    by-answer r (floor-start-stands tells old new scope floor r h.state h.stands starts)
   where
     left : Leaves (commits_of old) (commits_of new)
     left = laws.floor-leaves old new scope floor r starts
@@ -669,41 +706,73 @@ floor-begins tells start kind brand table old new shares at pass scope floor r h
     names : KeepsNames old new
     names = floor-names old new scope floor r starts
 
-    same : Stands tells new h.state → IsShared tells start kind brand table new shares at pass
-    same stands = quiet tells start kind brand table old new shares at pass h h.state stands goes names h.reached refl left.mark left.heads left.opened
+    same : Stands tells new h.state → IsShared tells start kind brand table new shares at' pass'
+    same stands = worked tells start kind brand table old new shares at at' pass pass' h h.state stands goes names h.reached refl left cell is
 
+    by-answer : (x : Result (Unit {0}) StartFault) → StartsOn tells (is_log old) h.state (raising_to scope floor) x new
+        → IsShared tells start kind brand table new shares at' pass'
+    by-answer (Ok done) did =
+        worked tells start kind brand table old new shares at at' pass pass' h (floor_started h.state (raising_to scope floor)) did.1 goes names
+        (stepped (FloorStarted (raising_to scope floor)) h.reached did.0) refl left cell is
+    by-answer (Err fault.NothingToDo) did = same did.1
+    by-answer (Err (fault.NotYet time)) did = same did.1
+    by-answer (Err (fault.InUse snapshot)) did = same did.1
+    by-answer (Err fault.Failed) did = same did.1
+    by-answer (Err fault.WrongProfile) did = same did
+    by-answer (Err fault.JobBusy) did = same did
+    by-answer (Err fault.StatusFull) did = same did
+    by-answer (Err fault.ArchiveFull) did = absurd did
+    by-answer (Err fault.HeapFull) did = same did.1
+    by-answer (Err fault.NoMemory) did = same did.1
+    by-answer (Err fault.NotGrowable) did = absurd did
+
+pub floor-happens : (tells : Bool) (start : Machine Value) (kind : Kind) (brand : ℕ) (table : TableId) (old new : StoreValue) (shares : ℕ) (at : TableId)
+    (pass : SightValue) (scope : Option ℕ) (floor : ℕ) (r : Result (Unit {0}) StartFault) → IsShared tells start kind brand table old shares at pass
+    → StartsFloor old scope floor r new → (known : Known) → known.seen ≡ pass.seen → known.busy ≡ pass.busy → FloorHappens start kind scope floor r known
+floor-happens tells start kind brand table old new shares at pass scope floor r h starts known seen busy = (
+  (
+    h.state,
+    h.reached,
+    seen ∙ h.seen,
+    subst (λ (b : Bool). FloorSays b h.state (raising_to scope floor) r) (in-heap tells start kind brand table old shares at pass h)
+        (by-answer r refl (floor-start-stands tells old new scope floor r h.state h.stands starts)),
+  ),
+  subst (λ (b : Bool). TellsOfJobs b r) (sym (busy ∙ h.busy)) (floor-tells old new scope floor r starts),
+)
+  where
     works : (x : Result (Unit {0}) StartFault) → r ≡ x → (x ≡ Err fault.Failed → ⊥) → h.state.failed ≡ false
     works x is other = floor-works tells old new scope floor r h.state h.stands starts (λ failed. other (sym is ∙ failed))
 
     by-answer : (x : Result (Unit {0}) StartFault) → r ≡ x → StartsOn tells (is_log old) h.state (raising_to scope floor) x new
-        → IsShared tells start kind brand table new shares at pass × FloorSays (is_log old) h.state (raising_to scope floor) x
-    by-answer (Ok done) is did = (
-      quiet tells start kind brand table old new shares at pass h (floor_started h.state (raising_to scope floor)) did.1 goes names
-          (stepped (FloorStarted (raising_to scope floor)) h.reached did.0) refl left.mark left.heads left.opened,
-      did.0,
-    )
-    by-answer (Err fault.NothingToDo) is did = (same did.1, did.0)
-    by-answer (Err (fault.NotYet time)) is did = (same did.1, did.0)
-    by-answer (Err (fault.InUse snapshot)) is did = (same did.1, did.0)
-    by-answer (Err fault.Failed) is did = (same did.1, did.0)
-    by-answer (Err fault.WrongProfile) is did = (same did, works (Err fault.WrongProfile) is (λ no. absurd cc))
-    by-answer (Err fault.JobBusy) is did = (same did, works (Err fault.JobBusy) is (λ no. absurd cc))
-    by-answer (Err fault.StatusFull) is did = (same did, works (Err fault.StatusFull) is (λ no. absurd cc))
+        → FloorSays (is_log old) h.state (raising_to scope floor) x
+    by-answer (Ok done) is did = did.0
+    by-answer (Err fault.NothingToDo) is did = did.0
+    by-answer (Err (fault.NotYet time)) is did = did.0
+    by-answer (Err (fault.InUse snapshot)) is did = did.0
+    by-answer (Err fault.Failed) is did = did.0
+    by-answer (Err fault.WrongProfile) is did = works (Err fault.WrongProfile) is (λ no. absurd cc)
+    by-answer (Err fault.JobBusy) is did = works (Err fault.JobBusy) is (λ no. absurd cc)
+    by-answer (Err fault.StatusFull) is did = works (Err fault.StatusFull) is (λ no. absurd cc)
     by-answer (Err fault.ArchiveFull) is did = absurd did
-    by-answer (Err fault.HeapFull) is did = (same did.1, (did.0, works (Err fault.HeapFull) is (λ no. absurd cc)))
-    by-answer (Err fault.NoMemory) is did = (same did.1, (works (Err fault.NoMemory) is (λ no. absurd cc), did.0))
+    by-answer (Err fault.HeapFull) is did = (did.0, works (Err fault.HeapFull) is (λ no. absurd cc))
+    by-answer (Err fault.NoMemory) is did = (works (Err fault.NoMemory) is (λ no. absurd cc), did.0)
     by-answer (Err fault.NotGrowable) is did = absurd did
 
 -- a growth begins, or is refused
-pub growth-begins : (tells : Bool) (start : Machine Value) (kind : Kind) (brand : ℕ) (table : TableId) (old new : StoreValue) (shares : ℕ) (at : TableId)
+pub growth-begins : (tells : Bool) (start : Machine Value) (kind : Kind) (brand : ℕ) (table : TableId) (old new : StoreValue) (shares : ℕ) (at at' : TableId)
+    (pass pass' : SightValue) (r : Result (Unit {0}) StartFault) → IsShared tells start kind brand table old shares at pass → StartsGrowth old r new
+    → at' ≡ at → pass' ≡ marked (is_busy new) pass → IsShared tells start kind brand table new shares at' pass'
+growth-begins tells start kind brand table old new shares at at' pass pass' r h starts cell is =
+    worked tells start kind brand table old new shares at at' pass pass' h h.state (grow-start-stands tells old new r h.state h.stands starts)
+    (grow-start-goes tells old new r h.state h.stands starts) (grow-names old new r starts) h.reached refl (laws.grow-leaves old new r starts) cell is
+
+pub growth-happens : (tells : Bool) (start : Machine Value) (kind : Kind) (brand : ℕ) (table : TableId) (old new : StoreValue) (shares : ℕ) (at : TableId)
     (pass : SightValue) (r : Result (Unit {0}) StartFault) → IsShared tells start kind brand table old shares at pass → StartsGrowth old r new
-    → IsShared tells start kind brand table new shares at pass × GrowthHappens start r pass.seen
-growth-begins tells start kind brand table old new shares at pass r h starts =
-    let left = laws.grow-leaves old new r starts in (
-      quiet tells start kind brand table old new shares at pass h h.state (grow-start-stands tells old new r h.state h.stands starts)
-          (grow-start-goes tells old new r h.state h.stands starts) (grow-names old new r starts) h.reached refl left.mark left.heads left.opened,
-      (h.state, h.reached, h.seen, growth-says tells old new h.state r h.stands starts),
-    )
+    → (known : Known) → known.seen ≡ pass.seen → known.busy ≡ pass.busy → GrowthHappens start r known
+growth-happens tells start kind brand table old new shares at pass r h starts known seen busy = (
+  (h.state, h.reached, seen ∙ h.seen, growth-says tells old new h.state r h.stands starts),
+  subst (λ (b : Bool). TellsOfJobs b r) (sym (busy ∙ h.busy)) (growth-tells old new r starts),
+)
 
 pub record JobPumped (tells : Bool) (start : Machine Value) (m : Machine Value) (old new : StoreValue) (r : Result JobDid PumpFault) : Type 0 where
   pub after : Machine Value
@@ -756,6 +825,14 @@ job-run tells start kind brand table old new shares at pass r h p =
     subst (λ (b : Bool). MatchBool h.state.failed ((r ≡ Err pump.Failed) × (p.after ≡ h.state)) (Run IsValue h.state (job_ends_in b h.state r) p.after))
     (in-heap tells start kind brand table old shares at pass h) p.run
 
+-- nothing is to be done just where none ran
+pub job-idle : (tells : Bool) (start : Machine Value) (kind : Kind) (brand : ℕ) (table : TableId) (old new : StoreValue) (shares : ℕ) (at : TableId)
+    (pass : SightValue) (r : Result JobDid PumpFault) (h : IsShared tells start kind brand table old shares at pass) → PumpsJob tells old r new
+    → (busy : Bool) → busy ≡ pass.busy → h.state.failed ≡ false → (r ≡ Ok job_did.Idle) ↔ (busy ≡ false)
+job-idle tells start kind brand table old new shares at pass r h pumps busy known works =
+    subst (λ (b : Bool). (r ≡ Ok job_did.Idle) ↔ (b ≡ false)) (sym (known ∙ h.busy))
+    (job-idles tells old new r pumps ((in-memory tells old h.state h.stands).failed ∙ works))
+
 -- what the pass is to see next is later
 pub job-later : (tells : Bool) (start : Machine Value) (kind : Kind) (brand : ℕ) (table : TableId) (old new : StoreValue) (shares : ℕ) (at : TableId)
     (pass : SightValue) (r : Result JobDid PumpFault) (h : IsShared tells start kind brand table old shares at pass) (raising : Option Raising)
@@ -770,8 +847,8 @@ pub job-keeps : (tells : Bool) (start : Machine Value) (kind : Kind) (brand : �
     (pass pass' : SightValue) (r : Result JobDid PumpFault) (h : IsShared tells start kind brand table old shares at pass) (raising : Option Raising)
     → raising_in old ≡ raising
     → JobPumped tells start h.state old new r → at' ≡ at → pass'.writes ≡ true → pass'.seen ≡ job_seen r raising pass.seen → pass'.archive ≡ pass.archive
-    → pass'.tokens ≡ pass.tokens → IsShared tells start kind brand table new shares at' pass'
-job-keeps tells start kind brand table old new shares at at' pass pass' r h raising is p same on seen archive tokens =
+    → pass'.tokens ≡ pass.tokens → pass'.busy ≡ is_busy new → IsShared tells start kind brand table new shares at' pass'
+job-keeps tells start kind brand table old new shares at at' pass pass' r h raising is p same on seen archive tokens busy =
     let later : IsLater (seen_of h.state) (seen_of p.after) =
     subst (λ (s : Seen). IsLater (seen_of h.state) s) (sym p.seen) (later-job r (raising_in old) (seen_of h.state) p.later) in
     let rises : last h.state.published ≤ last p.after.published =
@@ -791,6 +868,7 @@ job-keeps tells start kind brand table old new shares at at' pass pass' r h rais
       cell = same ∙ h.cell;
       seen = seen ∙ ap (job_seen r raising) h.seen ∙ ap (λ (o : Option Raising). job_seen r o (seen_of h.state)) (sym is) ∙ sym p.seen;
       archive = known archive (archive-then pass.archive (archive_seen tells old) (archive_seen tells new) h.archive (archive-on tells old new p.goes));
+      busy = busy;
       writes = on;
       given = still-open pass.tokens pass'.tokens (commits_of new).opened tokens
           (open-still pass.tokens.out (commits_of old).opened (commits_of new).opened p.left.opened h.given);
@@ -802,10 +880,11 @@ job-keeps tells start kind brand table old new shares at at' pass pass' r h rais
 
 pub query-keeps : (tells : Bool) (start : Machine Value) (kind : Kind) (brand : ℕ) (table : TableId) (old new : StoreValue) (shares : ℕ) (at : TableId)
     (pass : SightValue) (h : IsShared tells start kind brand table old shares at pass) → IsKept tells old new h.state
-    → IsShared tells start kind brand table new shares at pass
-query-keeps tells start kind brand table old new shares at pass h kept =
+    → is_busy new ≡ is_busy old → IsShared tells start kind brand table new shares at pass
+query-keeps tells start kind brand table old new shares at pass h kept jobs =
     quiet tells start kind brand table old new shares at pass h h.state kept.stands kept.goes (kept-names tells old new kept.goes kept.commits) h.reached refl
     (ap (λ (v : CommitsValue). v.mark) kept.commits) (ap (λ (v : CommitsValue). v.heads) kept.commits) (ap (λ (v : CommitsValue). v.opened) kept.commits)
+    jobs
 
 -- ---- tickets
 
@@ -821,11 +900,14 @@ redeem-keeps tells start kind brand table old new shares at pass k r h redeems =
     names : KeepsNames old new
     names = redeem-names old new k r redeems
 
+    jobs : is_busy new ≡ is_busy old
+    jobs = redeem-busy old new k r redeems
+
     same : (x : Redeemed) → done_in x ≡ 0 → commits_of new ≡ commits_of old → Stands tells new h.state
         → IsShared tells start kind brand table new (shares + done_in x) at pass
     same x none is stands = subst (λ (n : ℕ). IsShared tells start kind brand table new n at pass) (omega (arith, none))
         (quiet tells start kind brand table old new shares at pass h h.state stands goes names h.reached refl (ap (λ (v : CommitsValue). v.mark) is)
-        (ap (λ (v : CommitsValue). v.heads) is) (ap (λ (v : CommitsValue). v.opened) is))
+        (ap (λ (v : CommitsValue). v.heads) is) (ap (λ (v : CommitsValue). v.opened) is) jobs)
 
     by-result : (x : Redeemed) → LeftByRedeem (commits_of old) (stores.last old) k x (commits_of new) → Stands tells new h.state
         → IsShared tells start kind brand table new (shares + done_in x) at pass
@@ -847,6 +929,7 @@ redeem-keeps tells start kind brand table old new shares at pass k r h redeems =
           cell = h.cell;
           seen = h.seen;
           archive = archive-then pass.archive (archive_seen tells old) (archive_seen tells new) h.archive (archive-on tells old new goes);
+          busy = h.busy ∙ sym jobs;
           writes = h.writes;
           given = open-still pass.tokens.out (commits_of old).opened (commits_of new).opened (ap (λ (v : CommitsValue). v.opened) left.3) h.given;
           out = λ none. out-still pass.tokens.out (commits_of old).opened (commits_of new).opened (ap (λ (v : CommitsValue). v.opened) left.3) (h.out none);

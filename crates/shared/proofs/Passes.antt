@@ -12,7 +12,8 @@ use Rattle.law_image.specs.Values.{IsValue}
 use Rattle.shared.specs.Archives.{ArchiveSeen, IsArchiveLater}
 use Rattle.shared.specs.Seen.{Seen, Known, nothing_known, order_of, known_by, IsLater, IsMore, SightValue, first_sight}
 use Rattle.shared.specs.Tokens.{Token, IsOut, IsFree, AreApart, taken_back}
-use Rattle.shared.specs.Cell.{IsPublished, Sees, Learns, Confirms, Advances, Moves, GivesOut, TakesBack, told, informed, idle, handed, handed_on, returned}
+use Rattle.shared.specs.Cell.{IsPublished, Sees, Learns, Confirms, Advances, Moves, GivesOut, TakesBack, told, marked, informed, idle, handed, handed_on}
+use Rattle.shared.specs.Cell.{returned}
 use Rattle.shared.proofs.Archives.{archive-same, more-same, more-then, more-nothing}
 use Rattle.shared.proofs.Fronts.{later-same}
 use Rattle.shared.proofs.Tokens.{free-apart, among-without}
@@ -319,19 +320,32 @@ stays : (words : List ℕ) (views : List SightValue) (by : ℕ) (v w : SightValu
     → IsPublished words (set views by w)
 stays words views by v w h at on on' seen archive heard fits =
     let own = own_is words views by v h at on in
-    let known : known_by w ≡ known_by v = ap (λ (s : Seen). record { seen = s; archive = w.archive }) seen
-    ∙ ap (λ (a : ArchiveSeen). record { seen = v.seen; archive = a }) archive in
+    let more : IsMore (known_by v) (known_by w) = record {
+      seen = subst (λ (s : Seen). IsLater v.seen s) (sym seen) (later-same v.seen);
+      archive = subst (λ (a : ArchiveSeen). IsArchiveLater v.archive a) (sym archive) (archive-same v.archive);
+    } in
     let word : last w.seen.published ≡ slice_index words 0 =
     ap (λ (s : Seen). last s.published) seen ∙ ap (λ (x : SightValue). last x.seen.published) (sym own) ∙ h.word in
     let legal : IsHistory IsValue (order_of w.seen) =
     subst (λ (s : Seen). IsHistory IsValue (order_of s)) (sym seen) (subst (λ (x : SightValue). IsHistory IsValue (order_of x.seen)) own h.legal) in
-    mine words words views by v w h at on on' (subst (λ (k : Known). IsMore (known_by v) k) (sym known) (more-same (known_by v)))
-    (subst (λ (k : Known). IsMore w.heard k) (sym known) heard) word legal fits
+    mine words words views by v w h at on on' more (more-then w.heard (known_by v) (known_by w) heard more) word legal fits
 
 -- what the writer was told of is a front of what it has seen
 its-heard : (words : List ℕ) (views : List SightValue) (by : ℕ) (v : SightValue) → IsPublished words views → get_elem? views by ≡ some v → v.writes ≡ true
     → IsMore v.heard (known_by v)
 its-heard words views by v h at on = subst (λ (x : SightValue). IsMore v.heard (known_by x)) (own_is words views by v h at on) (h.each by v at).1
+
+-- it knows whether a job runs now, and a fresh pass is told what it knew
+pub marks_job : (by : ℕ) (v : SightValue) (busy : Bool) → v.writes ≡ true → Forks IsPublished by v (marked busy v) (told v)
+marks_job by v busy on words views h at =
+    let w = marked busy v in
+    let first =
+    stays words views by v w h at on on refl refl (its-heard words views by v h at on) (fits-kept words views by v h at on) in
+    let own = own_is words (set views by w) by w first (set_there views by v w at) on in
+    let more : IsMore (known_by (told v)) (known_by w) = record { seen = later-same v.seen; archive = archive-same v.archive } in
+    longer words (set views by w) (told v) first refl
+    (subst (λ (x : SightValue). IsMore (known_by (told v)) (known_by x)) (sym own) more)
+    (more-nothing (known_by first.own)) tt (λ j u e. tt)
 
 -- the writer gives a transaction out, of a number that none has that is out
 pub gives_out : (by : ℕ) (v : SightValue) (token : Token) → v.writes ≡ true → IsFree token.number v.tokens.out

@@ -1,5 +1,5 @@
 -- The cell of the published time: its word, and what each pass has seen of the commits and the floors and knows of the archive.
-use Rattle.std.specs.Prelude.{◌≡◌, ◌≢◌, ℕ, List, [], ◌∷◌, slice_index, None, Some, true, false}
+use Rattle.std.specs.Prelude.{◌≡◌, ◌≢◌, ℕ, Bool, List, [], ◌∷◌, slice_index, None, Some, true, false}
 use mathlib.Core.Option.{some}
 use lib.ListN.{get_elem?}
 use Rattle.history.specs.Histories.{IsHistory, last}
@@ -46,7 +46,7 @@ Moves archive v before after w = w ≡ record v { archive = archive }
 
 -- what a new pass is told
 abbrev pub told : SightValue → SightValue
-told v = record { seen = v.seen; archive = v.archive; heard = nothing_known; writes = false; tokens = no_tokens }
+told v = record { seen = v.seen; archive = v.archive; busy = v.busy; heard = nothing_known; writes = false; tokens = no_tokens }
 
 -- a pass once it was told what another pass has seen and knows
 abbrev pub informed : SightValue → SightValue → SightValue
@@ -54,7 +54,11 @@ informed v w = record v { heard = known_by w }
 
 -- what is left of the pass that told it: it has seen nothing and knows nothing
 abbrev pub idle : SightValue
-idle = record { seen = nothing; archive = no_archive; heard = nothing_known; writes = false; tokens = no_tokens }
+idle = record { seen = nothing; archive = no_archive; busy = false; heard = nothing_known; writes = false; tokens = no_tokens }
+
+-- the writer knows whether a job runs now
+abbrev pub marked : Bool → SightValue → SightValue
+marked busy v = record v { busy = busy }
 
 -- ---- transactions
 
@@ -71,6 +75,7 @@ abbrev pub handed_on : SightValue → SightValue
 handed_on v = record {
   seen = v.seen;
   archive = v.archive;
+  busy = v.busy;
   heard = nothing_known;
   writes = false;
   tokens = record { out = []; own = v.tokens.own };

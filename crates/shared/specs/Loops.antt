@@ -18,7 +18,7 @@ use Rattle.shared.specs.declared.vacuuming.Vacuumed.TheVariants as vacuumed
 use Rattle.shared.specs.declared.vacuuming.VacuumEnd.{VacuumEnd}
 use Rattle.shared.specs.declared.vacuuming.VacuumEnd.TheVariants as vacuum_end
 use Rattle.shared.specs.Kinds.{Kind}
-use Rattle.shared.specs.Seen.{Seen}
+use Rattle.shared.specs.Seen.{Seen, Known}
 use Rattle.shared.specs.Shared.{PumpHappens, JobHappens, ArchiveHappens, ReclaimHappens}
 
 -- ---- the committer
@@ -66,9 +66,9 @@ is_running (doing.Reclaims moves) = false
 is_running doing.Reclaiming = true
 
 -- what the store answered to a start of an archive or of a reclaim, or to a step of a job
-abbrev pub VacuumHappens : Machine Value → Kind → Vacuumed → Seen → Type 0
-VacuumHappens start kind (vacuumed.Start result) seen = ((upto : ℕ) × ArchiveHappens start kind upto result seen) ⊎ ReclaimHappens start kind result seen
-VacuumHappens start kind (vacuumed.Job result) seen = JobHappens start kind result seen
+abbrev pub VacuumHappens : Machine Value → Kind → Vacuumed → Known → Type 0
+VacuumHappens start kind (vacuumed.Start result) known = ((upto : ℕ) × ArchiveHappens start kind upto result known) ⊎ ReclaimHappens start kind result known
+VacuumHappens start kind (vacuumed.Job result) known = JobHappens start kind result known
 
 -- after this answer no job of the vacuum's own runs
 abbrev pub Rests : Vacuumed → Type 0
@@ -135,11 +135,11 @@ TriesAgain doing (vacuumed.Job (Err pump.NoMemory)) next = next ≡ vacuuming.Go
 TriesAgain doing answer next = Unit {0}
 
 -- the last answer so far, if there is one, and what comes next
-abbrev pub IsSoFar : Machine Value → Kind → Doing → Option Vacuumed → Seen → Type 0
-IsSoFar start kind next None seen = Unit {0}
-IsSoFar start kind next (Some answer) seen = VacuumHappens start kind answer seen × (is_running next ≡ false → Rests answer)
+abbrev pub IsSoFar : Machine Value → Kind → Doing → Option Vacuumed → Known → Type 0
+IsSoFar start kind next None known = Unit {0}
+IsSoFar start kind next (Some answer) known = VacuumHappens start kind answer known × (is_running next ≡ false → Rests answer)
 
 -- it ended so, with this seen
-abbrev pub VacuumEnds : Machine Value → Kind → VacuumEnd → Seen → Type 0
-VacuumEnds start kind (vacuum_end.Told last) seen = MatchOption last (Unit {0}) (λ answer. VacuumHappens start kind answer seen × Rests answer)
-VacuumEnds start kind (vacuum_end.Over answer) seen = VacuumHappens start kind answer seen × EndsVacuum answer
+abbrev pub VacuumEnds : Machine Value → Kind → VacuumEnd → Known → Type 0
+VacuumEnds start kind (vacuum_end.Told last) known = MatchOption last (Unit {0}) (λ answer. VacuumHappens start kind answer known × Rests answer)
+VacuumEnds start kind (vacuum_end.Over answer) known = VacuumHappens start kind answer known × EndsVacuum answer

@@ -46,16 +46,17 @@ pub record IsLater (old new : Seen) : Type 0 where
   pub floors : (relation : ℕ) → floor_in old.floors relation ≤ floor_in new.floors relation
   pub failed : old.failed ≡ true → new.failed ≡ true
 
--- the commits and the floors that were seen, and what is known of the archive
+-- the commits and the floors that were seen, what is known of the archive, and whether a job ran then
 pub record Known : Type 0 where
   pub seen : Seen
   pub archive : ArchiveSeen
+  pub busy : Bool
 
 -- no commit was seen, and nothing is known of the archive
 abbrev pub nothing_known : Known
-nothing_known = record { seen = nothing; archive = no_archive }
+nothing_known = record { seen = nothing; archive = no_archive; busy = false }
 
--- the second has seen as much or more, and knows no earlier archive
+-- the second has seen as much or more, and knows no earlier archive; jobs come and go
 pub record IsMore (old new : Known) : Type 0 where
   pub seen : IsLater old.seen new.seen
   pub archive : IsArchiveLater old.archive new.archive
@@ -64,18 +65,19 @@ pub record IsMore (old new : Known) : Type 0 where
 pub record SightValue : Type 0 where
   pub seen : Seen
   pub archive : ArchiveSeen
+  pub busy : Bool
   pub heard : Known
   pub writes : Bool
   pub tokens : Tokens
 
--- what a pass has seen, and what it knows of the archive
+-- what a pass has seen, and what it knows of the archive and of jobs
 abbrev pub known_by : SightValue → Known
-known_by v = record { seen = v.seen; archive = v.archive }
+known_by v = record { seen = v.seen; archive = v.archive; busy = v.busy }
 
 -- the writer's pass before it has seen anything
 abbrev pub first_sight : SightValue
-first_sight = record { seen = nothing; archive = no_archive; heard = nothing_known; writes = true; tokens = no_tokens }
+first_sight = record { seen = nothing; archive = no_archive; busy = false; heard = nothing_known; writes = true; tokens = no_tokens }
 
 -- a pass that is not the writer's and has seen nothing
 abbrev pub unmade_sight : SightValue
-unmade_sight = record { seen = nothing; archive = no_archive; heard = nothing_known; writes = false; tokens = no_tokens }
+unmade_sight = record { seen = nothing; archive = no_archive; busy = false; heard = nothing_known; writes = false; tokens = no_tokens }

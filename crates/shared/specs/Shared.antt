@@ -1,6 +1,6 @@
 -- What the value under the lock keeps, and what the calls of a shared store answer.
 use Rattle.std.specs.Prelude.{◌≡◌, ℕ, ◌<◌, ◌≤◌, ◌++◌, ◌↔◌, Bool, true, false, IsTrue, List, [], ◌∷◌, length, take, drop, IsSome, Contains, Option, None}
-use Rattle.std.specs.Prelude.{Some}
+use Rattle.std.specs.Prelude.{Some, is_some}
 use Rattle.std.specs.Prelude.{Result, Ok, Err, MatchBool, if◌then◌else◌}
 use Rattle.atomic_table.specs.Seated.{TableId}
 use Rattle.history.specs.declared.key.Key.{Key}
@@ -37,6 +37,7 @@ use Rattle.any_store.specs.declared.steps.Did.TheVariants as did
 use Rattle.any_store.specs.declared.steps.JobDid.{JobDid}
 use Rattle.any_store.specs.declared.steps.JobDid.TheVariants as job_did
 use Rattle.any_store.specs.Values.{StoreValue, commits_of}
+use Rattle.log_store.specs.Values as log_values
 use Rattle.law_log_steps.specs.Store as logs
 use Rattle.law_any_store.specs.Calls.{pumped_in, job_ends_in}
 use Rattle.law_any_store.specs.Standing.{Stands}
@@ -45,14 +46,20 @@ use Rattle.shared.specs.Counts.{told_after, AreToldOf}
 use Rattle.shared.specs.Kinds.{Kind, kind_of}
 use Rattle.shared.specs.Moments.{OfSeen}
 use Rattle.shared.specs.Reached.{Reached}
-use Rattle.shared.specs.Seen.{Seen, SightValue, floors_listed, floor_in, seen_of}
+use Rattle.shared.specs.Seen.{Seen, Known, SightValue, floors_listed, floor_in, seen_of}
 use Rattle.shared.specs.Tokens.{AreOpen, AreOut}
 
 -- ---- the value under the lock
 
+-- a job of the store's runs
+abbrev pub is_busy : StoreValue → Bool
+is_busy (Slots s) = is_some s.job
+is_busy (Log l) = log_values.is_busy l
+
 -- The store stands for a state that steps of the machine lead to, and is of this layout. The commits for which Done was answered since opening are those in the
--- shares, and none of them waits. The pass is the cell's writer, and has seen all commits and the floors; what it knows of the archive is there still, and the
--- transactions that it gave out are open. If none was open when the store was opened, no others are: who takes a transaction back ends it in the store.
+-- shares, and none of them waits. The pass is the cell's writer, has seen all commits and the floors, and knows whether a job runs; what it knows of the
+-- archive is there still, and the transactions that it gave out are open. If none was open when the store was opened, no others are: who takes a transaction
+-- back ends it in the store.
 pub record IsShared (tells : Bool) (start : Machine Value) (kind : Kind) (brand : ℕ) (table : TableId) (store : StoreValue) (shares : ℕ) (at : TableId)
     (pass : SightValue) : Type 0 where
   pub state : Machine Value
@@ -65,6 +72,7 @@ pub record IsShared (tells : Bool) (start : Machine Value) (kind : Kind) (brand 
   pub cell : at ≡ table
   pub seen : pass.seen ≡ seen_of state
   pub archive : IsArchiveLater pass.archive (archive_seen tells store)
+  pub busy : pass.busy ≡ is_busy store
   pub writes : pass.writes ≡ true
   pub given : AreOpen pass.tokens.out (commits_of store).opened
   pub out : start.snapshots ≡ [] → AreOut (commits_of store).opened pass.tokens.out
@@ -230,13 +238,37 @@ pub record PumpHappens (start : Machine Value) (kind : Kind) (result : Result Di
   pub idle : before.failed ≡ false → (result ≡ Ok did.Idle) ↔ (before.queue ≡ [])
   pub seen_is : seen ≡ seen_of after
 
--- From a state that steps lead to the machine does what a step of a job answers, and what follows was seen.
-pub record JobHappens (start : Machine Value) (kind : Kind) (result : Result JobDid PumpFault) (seen : Seen) : Type 0 where
+-- From a state that steps lead to the machine does what a step of a job answers, and what follows was seen. While it works, nothing is to be done just where no
+-- job ran, which is known.
+pub record JobHappens (start : Machine Value) (kind : Kind) (result : Result JobDid PumpFault) (known : Known) : Type 0 where
   pub before : Machine Value
   pub after : Machine Value
   pub reached : Reached start before
   pub run : MatchBool before.failed ((result ≡ Err pump.Failed) × (after ≡ before)) (Run IsValue before (job_ends_in kind.in_heap before result) after)
-  pub seen_is : seen ≡ seen_of after
+  pub idle : before.failed ≡ false → (result ≡ Ok job_did.Idle) ↔ (known.busy ≡ false)
+  pub seen_is : known.seen ≡ seen_of after
+
+-- ---- jobs that begin
+
+-- What an answer to a start tells of whether a job ran when it was asked: where one begins, and where it is refused for a reason of its own, none did. A store
+-- that has failed, or that has no such jobs, answers that in any case.
+abbrev pub TellsOfJobs : Bool → Result (Unit {0}) StartFault → Type 0
+TellsOfJobs busy (Ok done) = busy ≡ false
+TellsOfJobs busy (Err start_fault.JobBusy) = busy ≡ true
+TellsOfJobs busy (Err start_fault.NothingToDo) = busy ≡ false
+TellsOfJobs busy (Err (start_fault.NotYet time)) = busy ≡ false
+TellsOfJobs busy (Err (start_fault.InUse snapshot)) = busy ≡ false
+TellsOfJobs busy (Err start_fault.StatusFull) = busy ≡ false
+TellsOfJobs busy (Err start_fault.ArchiveFull) = busy ≡ false
+TellsOfJobs busy (Err start_fault.HeapFull) = busy ≡ false
+TellsOfJobs busy (Err start_fault.NoMemory) = busy ≡ false
+TellsOfJobs busy (Err start_fault.Failed) = Unit {0}
+TellsOfJobs busy (Err start_fault.WrongProfile) = Unit {0}
+TellsOfJobs busy (Err start_fault.NotGrowable) = Unit {0}
+
+-- this holds of a state that steps lead to, which was seen, and the answer tells of jobs what is known
+abbrev pub Starts : Machine Value → Result (Unit {0}) StartFault → Known → (Machine Value → Type 0) → Type 0
+Starts start result known Holds = OfSeen start known.seen Holds × TellsOfJobs known.busy result
 
 -- ---- floors
 
@@ -257,8 +289,8 @@ FloorSays in_heap m r (Err start_fault.NotGrowable) = ⊥
 FloorSays in_heap m r (Err start_fault.NoMemory) = (m.failed ≡ false) × IsSome r.scope
 
 -- at a state that steps lead to the machine does this, and it was seen
-abbrev pub FloorHappens : Machine Value → Kind → Option ℕ → ℕ → Result (Unit {0}) StartFault → Seen → Type 0
-FloorHappens start kind scope floor result seen = OfSeen start seen (λ m. FloorSays kind.in_heap m (raising_to scope floor) result)
+abbrev pub FloorHappens : Machine Value → Kind → Option ℕ → ℕ → Result (Unit {0}) StartFault → Known → Type 0
+FloorHappens start kind scope floor result known = Starts start result known (λ m. FloorSays kind.in_heap m (raising_to scope floor) result)
 
 -- ---- archives and reclaims
 
@@ -280,8 +312,8 @@ ArchiveSays in_heap m upto (Err (start_fault.InUse snapshot)) = ⊥
 ArchiveSays in_heap m upto (Err start_fault.NotGrowable) = ⊥
 
 -- at a state that steps lead to it is so, and nothing of the machine's happens; that state was seen
-abbrev pub ArchiveHappens : Machine Value → Kind → ℕ → Result (Unit {0}) StartFault → Seen → Type 0
-ArchiveHappens start kind upto result seen = OfSeen start seen (λ m. ArchiveSays kind.in_heap m upto result)
+abbrev pub ArchiveHappens : Machine Value → Kind → ℕ → Result (Unit {0}) StartFault → Known → Type 0
+ArchiveHappens start kind upto result known = Starts start result known (λ m. ArchiveSays kind.in_heap m upto result)
 
 -- A reclaim begins where the store works; or it has failed, another job runs, nothing was archived since the last one, a transaction reads what would go, the
 -- first of whose snapshots is told, the log has no slot for it, or its anchors find no extents or no memory. Only where the log lies in the heap does it write
@@ -302,8 +334,8 @@ ReclaimSays in_heap m (Err start_fault.ArchiveFull) = IsTrue in_heap × (m.faile
 ReclaimSays in_heap m (Err start_fault.NotGrowable) = ⊥
 
 -- at a state that steps lead to it is so, and nothing of the machine's happens; that state was seen
-abbrev pub ReclaimHappens : Machine Value → Kind → Result (Unit {0}) StartFault → Seen → Type 0
-ReclaimHappens start kind result seen = OfSeen start seen (λ m. ReclaimSays kind.in_heap m result)
+abbrev pub ReclaimHappens : Machine Value → Kind → Result (Unit {0}) StartFault → Known → Type 0
+ReclaimHappens start kind result known = Starts start result known (λ m. ReclaimSays kind.in_heap m result)
 
 -- ---- growths
 
@@ -323,8 +355,8 @@ GrowthSays m (Err start_fault.HeapFull) = ⊥
 GrowthSays m (Err start_fault.NoMemory) = ⊥
 
 -- at a state that steps lead to it is so, and nothing of the machine's happens; that state was seen
-abbrev pub GrowthHappens : Machine Value → Result (Unit {0}) StartFault → Seen → Type 0
-GrowthHappens start result seen = OfSeen start seen (λ m. GrowthSays m result)
+abbrev pub GrowthHappens : Machine Value → Result (Unit {0}) StartFault → Known → Type 0
+GrowthHappens start result known = Starts start result known (λ m. GrowthSays m result)
 
 -- ---- tickets
 

@@ -20,7 +20,7 @@ pub(crate) fn confirm<R: Wait>(
     ensures more { IsMore (known_by (cell_view pass.old)) (known_by (cell_view writer.old)) }
     ensures writer { (writer.new.table_id ≡ writer.old.table_id) × ((cell_view writer.new).writes ≡ true)
         × ((cell_view writer.new).seen ≡ (cell_view writer.old).seen) × ((cell_view writer.new).archive ≡ (cell_view writer.old).archive)
-        × ((cell_view writer.new).tokens ≡ (cell_view writer.old).tokens) }
+        × ((cell_view writer.new).tokens ≡ (cell_view writer.old).tokens) × ((cell_view writer.new).busy ≡ (cell_view writer.old).busy) }
 {
     let mine = cell.split_pass::<Tell>(pass);
     cell.join_pass::<Hear>(writer, mine);

@@ -20,7 +20,7 @@ impl<D: Disk, L: Opening> SharedStore<D, L> {
         me: &mut Observer<L>,
     ) -> Result<(), StartFault>
         ensures happens { ArchiveHappens L.start L.kind upto result me.new }
-        ensures later { IsLater me.old me.new }
+        ensures later { IsLater me.old.seen me.new.seen }
     {
         self.locked.lock(rt).archive_start(rt, &self.cell, upto, me)
     }
@@ -28,7 +28,7 @@ impl<D: Disk, L: Opening> SharedStore<D, L> {
     /// Begins a reclaim: the heap and memory are to hold only what ended after the archive mark.
     pub fn reclaim_start<R: Wait>(&self, rt: &R, me: &mut Observer<L>) -> Result<(), StartFault>
         ensures happens { ReclaimHappens L.start L.kind result me.new }
-        ensures later { IsLater me.old me.new }
+        ensures later { IsLater me.old.seen me.new.seen }
     {
         self.locked.lock(rt).reclaim_start(rt, &self.cell, me)
     }
@@ -43,7 +43,7 @@ impl<D: Disk, L: Opening> SharedStore<D, L> {
         me: &mut Observer<L>,
     ) -> Result<(), StartFault>
         ensures happens { FloorHappens L.start L.kind None floor result me.new }
-        ensures later { IsLater me.old me.new }
+        ensures later { IsLater me.old.seen me.new.seen }
     {
         self.locked
             .lock(rt)
@@ -60,7 +60,7 @@ impl<D: Disk, L: Opening> SharedStore<D, L> {
         me: &mut Observer<L>,
     ) -> Result<(), StartFault>
         ensures happens { FloorHappens L.start L.kind (Some relation) floor result me.new }
-        ensures later { IsLater me.old me.new }
+        ensures later { IsLater me.old.seen me.new.seen }
     {
         self.locked
             .lock(rt)
@@ -72,7 +72,7 @@ impl<D: Disk, L: Opening> SharedStore<D, L> {
     /// `NotGrowable`.
     pub fn grow_start<R: Wait>(&self, rt: &R, me: &mut Observer<L>) -> Result<(), StartFault>
         ensures happens { GrowthHappens L.start result me.new }
-        ensures later { IsLater me.old me.new }
+        ensures later { IsLater me.old.seen me.new.seen }
     {
         self.locked.lock(rt).grow_start(rt, &self.cell, me)
     }
@@ -80,7 +80,7 @@ impl<D: Disk, L: Opening> SharedStore<D, L> {
     /// One step of the job that runs.
     pub fn job_pump<R: Wait>(&self, rt: &R, me: &mut Observer<L>) -> Result<JobDid, PumpFault>
         ensures happens { JobHappens L.start L.kind result me.new }
-        ensures later { IsLater me.old me.new }
+        ensures later { IsLater me.old.seen me.new.seen }
     {
         let mut locked = self.locked.lock(rt);
         let did = locked.job_pump(rt, &self.cell, me);

@@ -19,12 +19,12 @@ use std::sync::atomic::Ordering;
 pub(crate) struct KeptView<L: Opening> {
     view: SharedView<L>,
     seen: Observer<L>,
-    ghost same: { seen ≡ view.seen },
+    ghost same: { seen.seen ≡ view.seen },
 }
 
 impl<L: Opening> KeptView<L> {
     pub(crate) fn of(view: SharedView<L>, seen: Observer<L>) -> KeptView<L>
-        requires { seen ≡ view.seen }
+        requires { seen.seen ≡ view.seen }
     {
         KeptView { view, seen }
     }
@@ -45,9 +45,9 @@ impl<L: Opening> KeptView<L> {
         me: &mut Observer<L>,
     ) -> Result<SharedView<L>, AllocError>
         requires cell { cell.now.table.shared.table_id ≡ L.table }
-        requires earlier { last me.old.published ≤ last self.old.view.seen.published }
-        ensures holds { IfOk result (HoldsSeen me.old me.new) }
-        ensures later { IsLater me.old me.new }
+        requires earlier { last me.old.seen.published ≤ last self.old.view.seen.published }
+        ensures holds { IfOk result (HoldsSeen me.old.seen me.new.seen) }
+        ensures later { IsLater me.old.seen me.new.seen }
     {
         let view = self.view.another(cell)?;
         let seen = self.seen.another(cell);
@@ -106,8 +106,8 @@ fn another_of<L: Opening, R: Wait>(
     me: &mut Observer<L>,
 ) -> Result<Option<SharedView<L>>, AllocError>
     requires { cell.now.table.shared.table_id ≡ L.table }
-    ensures holds { IfOk result (λ found. IfSome found (HoldsSeen me.old me.new)) }
-    ensures later { IsLater me.old me.new }
+    ensures holds { IfOk result (λ found. IfSome found (HoldsSeen me.old.seen me.new.seen)) }
+    ensures later { IsLater me.old.seen me.new.seen }
 {
     let time = me.load(rt, cell);
     match kept {
@@ -127,8 +127,8 @@ impl<D: Disk, L: Opening> SharedStore<D, L> {
         rt: &R,
         me: &mut Observer<L>,
     ) -> Result<SharedView<L>, AllocError>
-        ensures holds { IfOk result (HoldsSeen me.old me.new) }
-        ensures later { IsLater me.old me.new }
+        ensures holds { IfOk result (HoldsSeen me.old.seen me.new.seen) }
+        ensures later { IsLater me.old.seen me.new.seen }
     {
         // Readers of a flag that none of them changes do not wait for one another.
         if !self.is_asked.load(Ordering::SeqCst) {
@@ -159,9 +159,9 @@ impl<D: Disk, L: Opening> SharedStore<D, L> {
         view: &mut SharedView<L>,
         me: &mut Observer<L>,
     ) -> Result<(), AllocError>
-        ensures ok { OnOk result (HoldsSeen me.old me.new view.new) }
+        ensures ok { OnOk result (HoldsSeen me.old.seen me.new.seen view.new) }
         ensures err { OnErr result (view.new ≡ view.old) }
-        ensures later { IsLater me.old me.new }
+        ensures later { IsLater me.old.seen me.new.seen }
     {
         if view.last() < me.load(rt, &self.cell) {
             let next = self.latest_view(rt, me)?;
@@ -183,8 +183,8 @@ impl<D: Disk, L: Opening> SharedStore<D, L> {
         renewals: u64,
         me: &mut Observer<L>,
     ) -> Result<SharedView<L>, AllocError>
-        ensures holds { IfOk result (HoldsSeen me.old me.new) }
-        ensures later { IsLater me.old me.new }
+        ensures holds { IfOk result (HoldsSeen me.old.seen me.new.seen) }
+        ensures later { IsLater me.old.seen me.new.seen }
     {
         let mut view = self.view(rt, me)?;
         let seen = me.another(&self.cell);

@@ -22,14 +22,15 @@ ghost use Rattle.shared.specs.Reached.{Reached};
 ghost use Rattle.shared.specs.Seen.{IsLater, seen_of};
 ghost use Rattle.shared.specs.Tokens.{no_tokens};
 ghost use Rattle.shared.specs.Shared.{BeginHappens, AbortHappens, SubmitHappens, SeenReached, PumpHappens, JobHappens, FloorHappens, ArchiveHappens};
-ghost use Rattle.shared.specs.Shared.{ReclaimHappens, GrowthHappens, RedeemSays, done_in, raising_in};
+ghost use Rattle.shared.specs.Shared.{ReclaimHappens, GrowthHappens, RedeemSays, done_in, is_busy, raising_in};
 
 use crate::cell::{PublishedCell, WriterPass};
 use crate::latest::KeptView;
 use crate::moment::Moment;
 use crate::naming::Opening;
 use crate::noting::{
-    count_done, has_failed, note_archive, note_failed, note_job, note_published, note_queued,
+    count_done, has_failed, note_archive, note_busy, note_failed, note_job, note_published,
+    note_queued,
 };
 use crate::observer::Observer;
 use crate::shared_txn::SharedTxn;
@@ -82,6 +83,7 @@ impl<D: Disk, L: Opening> Locked<D, L> {
         requires cell { writer.table_id ≡ L.table }
         requires writer { ((cell_view writer).seen ≡ seen_of L.start) × ((cell_view writer).archive ≡ no_archive) × ((cell_view writer).writes ≡ true)
             × ((cell_view writer).tokens ≡ no_tokens) }
+        requires busy { (cell_view writer).busy ≡ is_busy store }
         ensures { result ≡ store }
     {
         Locked {
@@ -100,8 +102,8 @@ impl<D: Disk, L: Opening> Locked<D, L> {
     ) -> Result<SharedView<L>, AllocError>
         requires { cell.now.table.shared.table_id ≡ L.table }
         ensures same { self.new ≡ self.old }
-        ensures moment { IfOk result (λ v. v.seen ≡ me.new) }
-        ensures later { IsLater me.old me.new }
+        ensures moment { IfOk result (λ v. v.seen ≡ me.new.seen) }
+        ensures later { IsLater me.old.seen me.new.seen }
     {
         me.meet(rt, cell, &mut self.writer);
         note_archive(rt, cell, &mut self.writer, &self.store);
@@ -129,9 +131,9 @@ impl<D: Disk, L: Opening> Locked<D, L> {
     ) -> Result<SharedTxn<L>, BeginFault>
         requires { cell.now.table.shared.table_id ≡ L.table }
         ensures is { Begins self.old (begun_txn result) self.new }
-        ensures happens { BeginHappens L.start L.mark (begun_txn result) me.new }
-        ensures moment { IfOk result (λ t. t.seen ≡ me.new) }
-        ensures later { IsLater me.old me.new }
+        ensures happens { BeginHappens L.start L.mark (begun_txn result) me.new.seen }
+        ensures moment { IfOk result (λ t. t.seen ≡ me.new.seen) }
+        ensures later { IsLater me.old.seen me.new.seen }
     {
         me.meet(rt, cell, &mut self.writer);
         match self.store.begin() {
@@ -153,8 +155,8 @@ impl<D: Disk, L: Opening> Locked<D, L> {
     )
         requires { cell.now.table.shared.table_id ≡ L.table }
         ensures is { Aborts self.old txn.txn self.new }
-        ensures happens { AbortHappens L.start txn.txn.snapshot me.new }
-        ensures later { IsLater me.old me.new }
+        ensures happens { AbortHappens L.start txn.txn.snapshot me.new.seen }
+        ensures later { IsLater me.old.seen me.new.seen }
     {
         let (txn, pass) = txn.spend();
         // A transaction's writes are in range.
@@ -176,8 +178,8 @@ impl<D: Disk, L: Opening> Locked<D, L> {
     ) -> Result<Submitted, SubmitFault>
         requires { cell.now.table.shared.table_id ≡ L.table }
         ensures is { Submits self.old txn.txn label now result self.new }
-        ensures happens { SubmitHappens L.start L.mark txn.txn label now result me.new }
-        ensures later { IsLater me.old me.new }
+        ensures happens { SubmitHappens L.start L.mark txn.txn label now result me.new.seen }
+        ensures later { IsLater me.old.seen me.new.seen }
     {
         let (txn, pass) = txn.spend();
         let submitted = self.submit_writes(rt, cell, txn, pass, label, now, me);
@@ -195,8 +197,8 @@ impl<D: Disk, L: Opening> Locked<D, L> {
     ) -> Result<Did, PumpFault>
         requires { cell.now.table.shared.table_id ≡ L.table }
         ensures is { Pumps D.tells self.old result self.new }
-        ensures happens { PumpHappens L.start L.kind result me.new }
-        ensures later { IsLater me.old me.new }
+        ensures happens { PumpHappens L.start L.kind result me.new.seen }
+        ensures later { IsLater me.old.seen me.new.seen }
     {
         let did = self.store.pump();
         let last = self.store.last();
@@ -217,10 +219,12 @@ impl<D: Disk, L: Opening> Locked<D, L> {
         requires { cell.now.table.shared.table_id ≡ L.table }
         ensures is { StartsArchive self.old upto result self.new }
         ensures happens { ArchiveHappens L.start L.kind upto result me.new }
-        ensures later { IsLater me.old me.new }
+        ensures later { IsLater me.old.seen me.new.seen }
     {
         me.meet(rt, cell, &mut self.writer);
-        self.store.archive_start(upto)
+        let started = self.store.archive_start(upto);
+        note_busy(cell, &mut self.writer, &self.store);
+        started
     }
 
     pub(crate) fn reclaim_start<R: Wait>(
@@ -232,10 +236,12 @@ impl<D: Disk, L: Opening> Locked<D, L> {
         requires { cell.now.table.shared.table_id ≡ L.table }
         ensures is { StartsReclaim self.old result self.new }
         ensures happens { ReclaimHappens L.start L.kind result me.new }
-        ensures later { IsLater me.old me.new }
+        ensures later { IsLater me.old.seen me.new.seen }
     {
         me.meet(rt, cell, &mut self.writer);
-        self.store.reclaim_start()
+        let started = self.store.reclaim_start();
+        note_busy(cell, &mut self.writer, &self.store);
+        started
     }
 
     pub(crate) fn start_floor<R: Wait>(
@@ -249,10 +255,12 @@ impl<D: Disk, L: Opening> Locked<D, L> {
         requires { cell.now.table.shared.table_id ≡ L.table }
         ensures is { StartsFloor self.old scope floor result self.new }
         ensures happens { FloorHappens L.start L.kind scope floor result me.new }
-        ensures later { IsLater me.old me.new }
+        ensures later { IsLater me.old.seen me.new.seen }
     {
         me.meet(rt, cell, &mut self.writer);
-        self.store.start_floor(scope, floor)
+        let started = self.store.start_floor(scope, floor);
+        note_busy(cell, &mut self.writer, &self.store);
+        started
     }
 
     pub(crate) fn grow_start<R: Wait>(
@@ -264,10 +272,12 @@ impl<D: Disk, L: Opening> Locked<D, L> {
         requires { cell.now.table.shared.table_id ≡ L.table }
         ensures is { StartsGrowth self.old result self.new }
         ensures happens { GrowthHappens L.start result me.new }
-        ensures later { IsLater me.old me.new }
+        ensures later { IsLater me.old.seen me.new.seen }
     {
         me.meet(rt, cell, &mut self.writer);
-        self.store.grow_start()
+        let started = self.store.grow_start();
+        note_busy(cell, &mut self.writer, &self.store);
+        started
     }
 
     /// One step of the job that runs. Where it raises a floor, the writer's pass has seen it before
@@ -281,7 +291,7 @@ impl<D: Disk, L: Opening> Locked<D, L> {
         requires { cell.now.table.shared.table_id ≡ L.table }
         ensures is { PumpsJob D.tells self.old result self.new }
         ensures happens { JobHappens L.start L.kind result me.new }
-        ensures later { IsLater me.old me.new }
+        ensures later { IsLater me.old.seen me.new.seen }
     {
         let did = self.job_step(rt, cell, me);
         self.signals.note_job_pumped(&did);
@@ -301,11 +311,11 @@ impl<D: Disk, L: Opening> Locked<D, L> {
         requires cell { cell.now.table.shared.table_id ≡ L.table }
         requires part { 0 < share.old.parts }
         ensures is { Redeems self.old ticket result self.new }
-        ensures says { RedeemSays L.mark ticket result me.new }
-        ensures reached { SeenReached L.start me.new }
+        ensures says { RedeemSays L.mark ticket result me.new.seen }
+        ensures reached { SeenReached L.start me.new.seen }
         ensures parts { share.new.parts ≡ share.old.parts }
         ensures amount { share.new.amount ≡ share.old.amount + done_in result }
-        ensures later { IsLater me.old me.new }
+        ensures later { IsLater me.old.seen me.new.seen }
     {
         me.meet(rt, cell, &mut self.writer);
         let redeemed = self.store.redeem(ticket);
@@ -394,8 +404,8 @@ impl<D: Disk, L: Opening> Locked<D, L> {
     ) -> Result<Vec<u64>, QueryFault>
         requires { cell.now.table.shared.table_id ≡ L.table }
         ensures is { AnswersTimes D.tells self.old label result self.new }
-        ensures says { OfSeen L.start me.new (λ m. SaysTimes D.tells L.kind.in_heap L.kind.names_from (answers.times_of m.published label) result) }
-        ensures later { IsLater me.old me.new }
+        ensures says { OfSeen L.start me.new.seen (λ m. SaysTimes D.tells L.kind.in_heap L.kind.names_from (answers.times_of m.published label) result) }
+        ensures later { IsLater me.old.seen me.new.seen }
     {
         me.meet(rt, cell, &mut self.writer);
         self.store.times_of(label)
@@ -442,12 +452,13 @@ impl<D: Disk, L: Opening> Locked<D, L> {
         requires raising { raising_in self.old ≡ raising }
         ensures is { PumpsJob D.tells self.old result self.new }
         ensures happens { JobHappens L.start L.kind result me.new }
-        ensures later { IsLater me.old me.new }
+        ensures later { IsLater me.old.seen me.new.seen }
     {
         let did = self.store.job_pump();
         note_job(rt, cell, &mut self.writer, &did);
         note_failed(rt, cell, &mut self.writer, has_failed(&did));
         me.meet(rt, cell, &mut self.writer);
+        note_busy(cell, &mut self.writer, &self.store);
         did
     }
 
@@ -467,8 +478,8 @@ impl<D: Disk, L: Opening> Locked<D, L> {
         requires writes { txn.writes ≡ writes }
         requires goes { GoesWith L.start L.mark txn pass }
         ensures is { Submits self.old txn label now result self.new }
-        ensures happens { SubmitHappens L.start L.mark txn label now result me.new }
-        ensures later { IsLater me.old me.new }
+        ensures happens { SubmitHappens L.start L.mark txn label now result me.new.seen }
+        ensures later { IsLater me.old.seen me.new.seen }
     {
         // A transaction's writes are in range.
         let _count = txn.writes().len();

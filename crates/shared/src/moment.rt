@@ -76,7 +76,7 @@ impl<L: Opening> Moment<L> {
         ensures more { IsMore self.old (known_by (cell_view writer.old)) }
         ensures writer { (writer.new.table_id ≡ writer.old.table_id) × ((cell_view writer.new).writes ≡ true)
             × ((cell_view writer.new).seen ≡ (cell_view writer.old).seen) × ((cell_view writer.new).archive ≡ (cell_view writer.old).archive)
-            × ((cell_view writer.new).tokens ≡ (cell_view writer.old).tokens) }
+            × ((cell_view writer.new).tokens ≡ (cell_view writer.old).tokens) × ((cell_view writer.new).busy ≡ (cell_view writer.old).busy) }
     {
         confirm(rt, cell, &mut self.pass, writer);
     }

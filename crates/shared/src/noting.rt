@@ -6,11 +6,12 @@ ghost use Rattle.history.specs.Floors.{Raising};
 ghost use Rattle.history.specs.Histories.{IsHistory, last};
 ghost use Rattle.law_image.specs.Values.{Value, IsValue};
 ghost use Rattle.shared.specs.Archives.{IsArchiveLater, archive_seen};
+ghost use Rattle.shared.specs.Cell.{marked};
 ghost use Rattle.shared.specs.Seen.{IsLater, order_of};
-ghost use Rattle.shared.specs.Shared.{count_in, published_seen, queued_seen, done_seen, failed_seen, is_done, has_failed, noted, done_in};
+ghost use Rattle.shared.specs.Shared.{count_in, published_seen, queued_seen, done_seen, failed_seen, is_done, has_failed, is_busy, noted, done_in};
 
 use crate::cell::{PublishedCell, WriterPass};
-use crate::observer::{go_on, publish_next, queue_next, see_next};
+use crate::observer::{go_on, mark_job, publish_next, queue_next, see_next};
 use any_store::{Did, JobDid, PumpFault, Redeemed, Store, SubmitFault, Submitted};
 use disk::Disk;
 use std::marker::Brand;
@@ -32,6 +33,7 @@ fn queue_commit<R: Wait>(
     ensures writes { (cell_view writer.new).writes ≡ true }
     ensures seen { (cell_view writer.new).seen ≡ queued_seen (cell_view writer.old).seen (record { time = time; label = label; writes = writes }) }
     ensures archive { (cell_view writer.new).archive ≡ (cell_view writer.old).archive }
+    ensures busy { (cell_view writer.new).busy ≡ (cell_view writer.old).busy }
     ensures tokens { (cell_view writer.new).tokens ≡ (cell_view writer.old).tokens }
 {
     queue_next(rt, cell, writer, time, label);
@@ -53,6 +55,7 @@ pub(crate) fn note_queued<R: Wait>(
     ensures writes { (cell_view writer.new).writes ≡ true }
     ensures seen { (cell_view writer.new).seen ≡ noted submitted.now (cell_view writer.old).seen label writes }
     ensures archive { (cell_view writer.new).archive ≡ (cell_view writer.old).archive }
+    ensures busy { (cell_view writer.new).busy ≡ (cell_view writer.old).busy }
     ensures tokens { (cell_view writer.new).tokens ≡ (cell_view writer.old).tokens }
 {
     match submitted {
@@ -78,6 +81,7 @@ pub(crate) fn note_published<R: Wait>(
     ensures writes { (cell_view writer.new).writes ≡ true }
     ensures seen { (cell_view writer.new).seen ≡ published_seen (cell_view writer.old).seen (count_in did.now) }
     ensures archive { (cell_view writer.new).archive ≡ (cell_view writer.old).archive }
+    ensures busy { (cell_view writer.new).busy ≡ (cell_view writer.old).busy }
     ensures tokens { (cell_view writer.new).tokens ≡ (cell_view writer.old).tokens }
 {
     let count = published_in(did);
@@ -103,6 +107,7 @@ pub(crate) fn note_job<R: Wait>(
     ensures writes { (cell_view writer.new).writes ≡ true }
     ensures seen { (cell_view writer.new).seen ≡ done_seen did.now raising (cell_view writer.old).seen }
     ensures archive { (cell_view writer.new).archive ≡ (cell_view writer.old).archive }
+    ensures busy { (cell_view writer.new).busy ≡ (cell_view writer.old).busy }
     ensures tokens { (cell_view writer.new).tokens ≡ (cell_view writer.old).tokens }
 {
     if is_done(did) {
@@ -124,6 +129,7 @@ pub(crate) fn note_failed<R: Wait>(
     ensures writes { (cell_view writer.new).writes ≡ true }
     ensures seen { (cell_view writer.new).seen ≡ failed_seen failed (cell_view writer.old).seen }
     ensures archive { (cell_view writer.new).archive ≡ (cell_view writer.old).archive }
+    ensures busy { (cell_view writer.new).busy ≡ (cell_view writer.old).busy }
     ensures tokens { (cell_view writer.new).tokens ≡ (cell_view writer.old).tokens }
 {
     if failed {
@@ -140,6 +146,7 @@ fn see_failure<R: Wait>(rt: &R, cell: &PublishedCell, writer: &mut WriterPass)
     ensures writes { (cell_view writer.new).writes ≡ true }
     ensures seen { (cell_view writer.new).seen ≡ record (cell_view writer.old).seen { failed = true } }
     ensures archive { (cell_view writer.new).archive ≡ (cell_view writer.old).archive }
+    ensures busy { (cell_view writer.new).busy ≡ (cell_view writer.old).busy }
     ensures tokens { (cell_view writer.new).tokens ≡ (cell_view writer.old).tokens }
 {
     see_next(rt, cell, writer);
@@ -159,9 +166,20 @@ pub(crate) fn note_archive<D: Disk, R: Wait>(
     ensures writes { (cell_view writer.new).writes ≡ true }
     ensures seen { (cell_view writer.new).seen ≡ (cell_view writer.old).seen }
     ensures archive { (cell_view writer.new).archive ≡ archive_seen D.tells store.now }
+    ensures busy { (cell_view writer.new).busy ≡ (cell_view writer.old).busy }
     ensures tokens { (cell_view writer.new).tokens ≡ (cell_view writer.old).tokens }
 {
     go_on::<Brand, D, R>(rt, cell, writer, store);
+}
+
+/// The writer's pass knows whether a job of the store's runs now.
+pub(crate) fn note_busy<D: Disk>(cell: &PublishedCell, writer: &mut WriterPass, store: &Store<D>)
+    requires cell { writer.old.table_id ≡ cell.now.table.shared.table_id }
+    requires writes { (cell_view writer.old).writes ≡ true }
+    ensures cell { writer.new.table_id ≡ writer.old.table_id }
+    ensures view { cell_view writer.new ≡ marked (is_busy store.now) (cell_view writer.old) }
+{
+    mark_job::<Brand, D>(cell, writer, store);
 }
 
 // How many commits a step of a group published.

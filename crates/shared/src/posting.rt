@@ -37,10 +37,10 @@ impl<D: Disk, L: Opening> SharedStore<D, L> {
         me: &mut Observer<L>,
     ) -> Result<Committed, CommitFault>
         requires { 0 < share.old.parts }
-        ensures happens { CommitHappens L.start L.mark changes.now label result me.new }
+        ensures happens { CommitHappens L.start L.mark changes.now label result me.new.seen }
         ensures parts { share.new.parts ≡ share.old.parts }
         ensures amount { share.new.amount ≡ share.old.amount + commits_in result }
-        ensures later { IsLater me.old me.new }
+        ensures later { IsLater me.old.seen me.new.seen }
     {
         let writes = match copy_changes(self.alloc, changes) {
             Ok(writes) => writes,
@@ -138,10 +138,10 @@ impl<D: Disk, L: Opening> SharedStore<D, L> {
     ) -> Result<Committed, CommitFault>
         requires part { 0 < share.old.parts }
         requires answer { IsAnswerTo changes.now label served }
-        ensures happens { CommitHappens L.start L.mark changes.now label result me.new }
+        ensures happens { CommitHappens L.start L.mark changes.now label result me.new.seen }
         ensures parts { share.new.parts ≡ share.old.parts }
         ensures amount { share.new.amount ≡ share.old.amount + commits_in result }
-        ensures later { IsLater me.old me.new }
+        ensures later { IsLater me.old.seen me.new.seen }
     {
         let (outcome, seen) = served.spend();
         me.learn(rt, &self.cell, seen);
@@ -162,11 +162,11 @@ impl<D: Disk, L: Opening> SharedStore<D, L> {
         settled: &mut u64,
     ) -> Redeemed
         requires { 0 < share.old.parts }
-        ensures says { RedeemSays L.mark ticket result me.new }
-        ensures reached { SeenReached L.start me.new }
+        ensures says { RedeemSays L.mark ticket result me.new.seen }
+        ensures reached { SeenReached L.start me.new.seen }
         ensures parts { share.new.parts ≡ share.old.parts }
         ensures amount { share.new.amount ≡ share.old.amount + done_in result }
-        ensures later { IsLater me.old me.new }
+        ensures later { IsLater me.old.seen me.new.seen }
     {
         let mut locked = self.locked.lock(rt);
         *settled = locked.signals().settled();
@@ -183,10 +183,10 @@ impl<D: Disk, L: Opening> SharedStore<D, L> {
         me: &mut Observer<L>,
     ) -> Result<Committed, CommitFault>
         requires { 0 < share.old.parts }
-        ensures says { WaitSays L.mark ticket result me.new }
+        ensures says { WaitSays L.mark ticket result me.new.seen }
         ensures parts { share.new.parts ≡ share.old.parts }
         ensures amount { share.new.amount ≡ share.old.amount + commits_in result }
-        ensures later { IsLater me.old me.new }
+        ensures later { IsLater me.old.seen me.new.seen }
     {
         let mut ticket = ticket;
         let mut settled = 0;
@@ -250,7 +250,7 @@ impl<D: Disk, L: Opening> SharedStore<D, L> {
         now: u64,
         me: &mut Observer<L>,
     ) -> Result<Submitted, CommitFault>
-        ensures { ServedSays L.start L.mark writes.now label result me.new }
+        ensures { ServedSays L.start L.mark writes.now label result me.new.seen }
     {
         let mut txn = match self.begin(rt, me) {
             Ok(txn) => txn,
@@ -320,8 +320,8 @@ impl<D: Disk, L: Opening> SharedStore<D, L> {
         mut pause: F,
     ) -> Result<Did, PumpFault>
         requires { F.IsAlwaysCallable pause }
-        ensures ends { CommitterEnds L.start L.kind result me.new }
-        ensures later { IsLater me.old me.new }
+        ensures ends { CommitterEnds L.start L.kind result me.new.seen }
+        ensures later { IsLater me.old.seen me.new.seen }
     {
         self.posts.lock(rt).attend();
         let mut after = Signals::new();

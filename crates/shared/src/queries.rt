@@ -98,8 +98,8 @@ impl<D: Disk, L: Opening> SharedStore<D, L> {
         label: u64,
         me: &mut Observer<L>,
     ) -> Result<Vec<u64>, QueryFault>
-        ensures says { OfSeen L.start me.new (λ m. SaysTimes D.tells L.kind.in_heap L.kind.names_from (answers.times_of m.published label) result) }
-        ensures later { IsLater me.old me.new }
+        ensures says { OfSeen L.start me.new.seen (λ m. SaysTimes D.tells L.kind.in_heap L.kind.names_from (answers.times_of m.published label) result) }
+        ensures later { IsLater me.old.seen me.new.seen }
     {
         self.locked.lock(rt).times_of(rt, &self.cell, label, me)
     }

@@ -35,9 +35,9 @@ impl<L: Opening> Model for Served<L> {
 
     ghost Value = { ServedValue };
 
-    ghost view = { λ s. record { writes = s.writes.items; label = s.label; outcome = s.outcome; seen = s.seen } };
+    ghost view = { λ s. record { writes = s.writes.items; label = s.label; outcome = s.outcome; seen = s.seen.seen } };
 
-    ghost invariant = { λ s. ServedSays L.start L.mark s.writes.items s.label s.outcome s.seen };
+    ghost invariant = { λ s. ServedSays L.start L.mark s.writes.items s.label s.outcome s.seen.seen };
 }
 
 impl<L: Opening> Served<L> {
@@ -47,7 +47,7 @@ impl<L: Opening> Served<L> {
         outcome: Result<Submitted, CommitFault>,
         seen: Observer<L>,
     ) -> Served<L>
-        requires { ServedSays L.start L.mark writes.items label outcome seen }
+        requires { ServedSays L.start L.mark writes.items label outcome seen.seen }
     {
         Served {
             writes,
@@ -74,7 +74,7 @@ impl<L: Opening> Served<L> {
 
     /// What came of it, and what was seen then.
     pub(crate) fn spend(self) -> (Result<Submitted, CommitFault>, Observer<L>)
-        ensures { ServedSays L.start L.mark self.writes self.label result.0 result.1 }
+        ensures { ServedSays L.start L.mark self.writes self.label result.0 result.1.seen }
     {
         let Served {
             writes: _,

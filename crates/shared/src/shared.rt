@@ -74,34 +74,34 @@ impl<D: Disk, L: Opening> SharedStore<D, L> {
 
     /// The time of the last published commit, or of one that was last a moment ago. It takes no lock.
     pub fn last_published<R: Wait>(&self, rt: &R, me: &mut Observer<L>) -> u64
-        ensures later { IsLater me.old me.new }
-        ensures last { result ≡ last me.new.published }
-        ensures no_less { last me.old.published ≤ result }
+        ensures later { IsLater me.old.seen me.new.seen }
+        ensures last { result ≡ last me.new.seen.published }
+        ensures no_less { last me.old.seen.published ≤ result }
     {
         me.load(rt, &self.cell)
     }
 
     /// A view of all that is published. Its own reads take no lock.
     pub fn view<R: Wait>(&self, rt: &R, me: &mut Observer<L>) -> Result<SharedView<L>, AllocError>
-        ensures moment { IfOk result (λ v. v.seen ≡ me.new) }
-        ensures later { IsLater me.old me.new }
+        ensures moment { IfOk result (λ v. v.seen ≡ me.new.seen) }
+        ensures later { IsLater me.old.seen me.new.seen }
     {
         self.locked.lock(rt).view(rt, &self.cell, me)
     }
 
     /// A transaction on all that is published. Its own reads and writes take no lock.
     pub fn begin<R: Wait>(&self, rt: &R, me: &mut Observer<L>) -> Result<SharedTxn<L>, BeginFault>
-        ensures happens { BeginHappens L.start L.mark (begun_txn result) me.new }
-        ensures moment { IfOk result (λ t. t.seen ≡ me.new) }
-        ensures later { IsLater me.old me.new }
+        ensures happens { BeginHappens L.start L.mark (begun_txn result) me.new.seen }
+        ensures moment { IfOk result (λ t. t.seen ≡ me.new.seen) }
+        ensures later { IsLater me.old.seen me.new.seen }
     {
         self.locked.lock(rt).begin(rt, &self.cell, me)
     }
 
     /// Gives the transaction's snapshot up.
     pub fn abort<R: Wait>(&self, rt: &R, txn: SharedTxn<L>, me: &mut Observer<L>)
-        ensures happens { AbortHappens L.start txn.txn.snapshot me.new }
-        ensures later { IsLater me.old me.new }
+        ensures happens { AbortHappens L.start txn.txn.snapshot me.new.seen }
+        ensures later { IsLater me.old.seen me.new.seen }
     {
         self.locked.lock(rt).abort(rt, &self.cell, txn, me);
         self.moved.notify_all();
@@ -116,8 +116,8 @@ impl<D: Disk, L: Opening> SharedStore<D, L> {
         now: u64,
         me: &mut Observer<L>,
     ) -> Result<Submitted, SubmitFault>
-        ensures happens { SubmitHappens L.start L.mark txn.txn label now result me.new }
-        ensures later { IsLater me.old me.new }
+        ensures happens { SubmitHappens L.start L.mark txn.txn label now result me.new.seen }
+        ensures later { IsLater me.old.seen me.new.seen }
     {
         let submitted = self
             .locked
@@ -145,8 +145,8 @@ impl<D: Disk, L: Opening> SharedStore<D, L> {
     /// One step of the group that is written. A step that publishes writes the published time before
     /// the lock is given up.
     pub fn pump<R: Wait>(&self, rt: &R, me: &mut Observer<L>) -> Result<Did, PumpFault>
-        ensures happens { PumpHappens L.start L.kind result me.new }
-        ensures later { IsLater me.old me.new }
+        ensures happens { PumpHappens L.start L.kind result me.new.seen }
+        ensures later { IsLater me.old.seen me.new.seen }
     {
         let mut after = Signals::new();
         self.step(rt, &mut after, me)
@@ -159,8 +159,8 @@ impl<D: Disk, L: Opening> SharedStore<D, L> {
         after: &mut Signals,
         me: &mut Observer<L>,
     ) -> Result<Did, PumpFault>
-        ensures happens { PumpHappens L.start L.kind result me.new }
-        ensures later { IsLater me.old me.new }
+        ensures happens { PumpHappens L.start L.kind result me.new.seen }
+        ensures later { IsLater me.old.seen me.new.seen }
     {
         let mut locked = self.locked.lock(rt);
         let did = locked.pump(rt, &self.cell, me);
@@ -186,11 +186,11 @@ impl<D: Disk, L: Opening> SharedStore<D, L> {
         me: &mut Observer<L>,
     ) -> Redeemed
         requires { 0 < share.old.parts }
-        ensures says { RedeemSays L.mark ticket result me.new }
-        ensures reached { SeenReached L.start me.new }
+        ensures says { RedeemSays L.mark ticket result me.new.seen }
+        ensures reached { SeenReached L.start me.new.seen }
         ensures parts { share.new.parts ≡ share.old.parts }
         ensures amount { share.new.amount ≡ share.old.amount + done_in result }
-        ensures later { IsLater me.old me.new }
+        ensures later { IsLater me.old.seen me.new.seen }
     {
         self.locked
             .lock(rt)

@@ -155,7 +155,7 @@ impl<L: Opening> SharedView<L> {
         ensures shows { Shows L.start L.mark (cell_view writer.old).archive self.new.shown self.new.seen }
         ensures writer { (writer.new.table_id ≡ writer.old.table_id) × ((cell_view writer.new).writes ≡ true)
             × ((cell_view writer.new).seen ≡ (cell_view writer.old).seen) × ((cell_view writer.new).archive ≡ (cell_view writer.old).archive)
-            × ((cell_view writer.new).tokens ≡ (cell_view writer.old).tokens) }
+            × ((cell_view writer.new).tokens ≡ (cell_view writer.old).tokens) × ((cell_view writer.new).busy ≡ (cell_view writer.old).busy) }
     {
         self.moment.compare(rt, cell, writer);
     }

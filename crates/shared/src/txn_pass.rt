@@ -55,7 +55,8 @@ impl<L: Opening> TxnPass<L> {
         ensures given { result ≡ record { seen = (cell_view writer.old).seen; token = Some (record { number = number; snapshot = snapshot }) } }
         ensures writer { (writer.new.table_id ≡ writer.old.table_id) × ((cell_view writer.new).writes ≡ true)
             × ((cell_view writer.new).seen ≡ (cell_view writer.old).seen) × ((cell_view writer.new).archive ≡ (cell_view writer.old).archive)
-            × ((cell_view writer.new).tokens.out ≡ record { number = number; snapshot = snapshot } ∷ (cell_view writer.old).tokens.out) }
+            × ((cell_view writer.new).tokens.out ≡ record { number = number; snapshot = snapshot } ∷ (cell_view writer.old).tokens.out)
+            × ((cell_view writer.new).busy ≡ (cell_view writer.old).busy) }
     {
         give_out::<Brand, R>(rt, cell, writer, number, snapshot);
         TxnPass::of(cell.split_pass::<Hand>(writer))
@@ -69,7 +70,8 @@ impl<L: Opening> TxnPass<L> {
         ensures out { IsOut (cell_view writer.old).tokens.out self.token }
         ensures writer { (writer.new.table_id ≡ writer.old.table_id) × ((cell_view writer.new).writes ≡ true)
             × ((cell_view writer.new).seen ≡ (cell_view writer.old).seen) × ((cell_view writer.new).archive ≡ (cell_view writer.old).archive)
-            × ((cell_view writer.new).tokens.out ≡ taken_back (cell_view writer.old).tokens.out self.token) }
+            × ((cell_view writer.new).tokens.out ≡ taken_back (cell_view writer.old).tokens.out self.token)
+            × ((cell_view writer.new).busy ≡ (cell_view writer.old).busy) }
     {
         let TxnPass { pass, of: _ } = self;
         cell.join_pass::<Return>(writer, pass);

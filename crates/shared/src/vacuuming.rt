@@ -61,7 +61,7 @@ impl<D: Disk, L: Opening> SharedStore<D, L> {
     ) -> VacuumEnd
         requires { F.IsAlwaysCallable pause }
         ensures ends { VacuumEnds L.start L.kind result me.new }
-        ensures later { IsLater me.old me.new }
+        ensures later { IsLater me.old.seen me.new.seen }
     {
         let mut doing = Doing::Archives;
         let mut last = None;
@@ -89,7 +89,7 @@ impl<D: Disk, L: Opening> SharedStore<D, L> {
     fn vacuum<R: Wait>(&self, rt: &R, doing: Doing, me: &mut Observer<L>) -> Vacuumed
         ensures happens { VacuumHappens L.start L.kind result me.new }
         ensures kind { IsAnswerFor doing result }
-        ensures later { IsLater me.old me.new }
+        ensures later { IsLater me.old.seen me.new.seen }
     {
         match doing {
             Doing::Archives => {

@@ -198,8 +198,8 @@ pub fn read<D: Disk, L: Opening, R: Wait>(
     key: Key,
     time: u64,
 ) -> Result<Option<SharedValue>, QueryFault>
-    ensures says { ReadSays D.tells L.start key time result me.new }
-    ensures later { IsLater me.old me.new }
+    ensures says { ReadSays D.tells L.start key time result me.new.seen }
+    ensures later { IsLater me.old.seen me.new.seen }
 {
     let mut view = match store.view(rt, me) {
         Ok(view) => view,

@@ -2,13 +2,15 @@ use Rattle.any_store.specs.Queries as queries
 use Rattle.law_any_store.proofs.Views.{between-stands}
 use Rattle.shared.proofs.Asked.{as-lent, between-says}
 use Rattle.shared.proofs.Moves.{repass, query-keeps}
+use Rattle.shared.proofs.Working.{between-busy}
 use Rattle.shared.proofs.locked.Locked.between.Goals as goal
 
 pub invariant_of-self : goal.invariant_of-self
 invariant_of-self g c =
     let w = c.compare.ensures.writer in
     repass _ _ _ _ _ _ _ _ _ _ _
-    (query-keeps _ _ _ _ _ _ _ _ _ _ c.self.invariant (between-stands _ _ _ _ _ _ _ _ _ c.self.invariant.stands c.between.ensures)) w.0 w.1 w.2 w.3 w.4
+    (query-keeps _ _ _ _ _ _ _ _ _ _ c.self.invariant (between-stands _ _ _ _ _ _ _ _ _ c.self.invariant.stands c.between.ensures)
+    (between-busy _ _ _ _ _ _ _ c.between.ensures)) w.0 w.1 w.2 w.3 w.4 w.5
 
 pub returns-clause-says : goal.returns-clause-says
 returns-clause-says g c =

@@ -4,10 +4,10 @@ use Rattle.history.specs.Floors.{Raising}
 use Rattle.history.specs.Histories.{History, IsHistory}
 use Rattle.law_image.specs.Values.{Value, IsValue}
 use Rattle.any_store.specs.Values.{StoreValue}
-use Rattle.shared.specs.Seen.{Seen, order_of, seen_of}
+use Rattle.shared.specs.Seen.{Seen, SightValue, order_of, seen_of}
 use Rattle.shared.specs.Shared.{failed_seen, has_failed, job_seen, raising_in}
 use Rattle.shared.proofs.Engines.{is-machine}
-use Rattle.shared.proofs.Moves.{job-pumped, job-run, job-later, job-keeps}
+use Rattle.shared.proofs.Moves.{job-pumped, job-run, job-idle, job-later, job-keeps}
 use Rattle.shared.proofs.Stepping.{done-order, failed-order}
 use Rattle.shared.proofs.locked.Locked.job_step.Goals as goal
 
@@ -49,7 +49,10 @@ invariant_of-self g c =
     let w = c.meet.ensures.writer in
     let raising = ap (λ (v : StoreValue). raising_in v) c.self.view_is ∙ c.requires.1.1.1.1 in
     let seen = f.seen ∙ ap (λ (b : Bool). failed_seen b (cell_view c.note_job.new.writer).seen) c.has_failed.ensures ∙ ap (failed_seen (has_failed r)) n.seen in
-    job-keeps _ _ _ _ _ _ _ _ _ _ _ _ _ h _ raising p (w.0 ∙ f.cell ∙ n.cell) w.1 (w.2 ∙ seen) (w.3 ∙ f.archive ∙ n.archive) (w.4 ∙ f.tokens ∙ n.tokens)
+    let m = c.note_busy.ensures in
+    job-keeps _ _ _ _ _ _ _ _ _ _ _ _ _ h _ raising p (m.cell ∙ w.0 ∙ f.cell ∙ n.cell) (ap (λ (v : SightValue). v.writes) m.view
+    ∙ w.1) (ap (λ (v : SightValue). v.seen) m.view ∙ w.2 ∙ seen) (ap (λ (v : SightValue). v.archive) m.view ∙ w.3 ∙ f.archive
+    ∙ n.archive) (ap (λ (v : SightValue). v.tokens) m.view ∙ w.4 ∙ f.tokens ∙ n.tokens) (ap (λ (v : SightValue). v.busy) m.view)
 
 pub returns-clause-happens : goal.returns-clause-happens
 returns-clause-happens g c =
@@ -65,6 +68,7 @@ returns-clause-happens g c =
       after = p.after;
       reached = h.reached;
       run = job-run _ _ _ _ _ _ _ _ _ _ _ h p;
+      idle = job-idle _ _ _ _ _ _ _ _ _ _ _ h c.job_pump-did.ensures.is _ (c.meet.ensures.busy ∙ c.note_failed.ensures.busy ∙ c.note_job.ensures.busy);
       seen_is =
           c.meet.ensures.seen ∙ seen ∙ ap (job_seen r g.raising) h.seen ∙ ap (λ (o : Option Raising). job_seen r o (seen_of h.state)) (sym raising)
           ∙ sym p.seen;

@@ -2,6 +2,7 @@ use Rattle.any_store.specs.Queries as queries
 use Rattle.law_any_store.proofs.Views.{scan_between-stands}
 use Rattle.shared.proofs.Asked.{as-lent, scan_between-says}
 use Rattle.shared.proofs.Moves.{repass, query-keeps}
+use Rattle.shared.proofs.Working.{scan_between-busy}
 use Rattle.shared.proofs.locked.Locked.scan_between.Goals as goal
 
 pub invariant_of-self : goal.invariant_of-self
@@ -9,7 +10,7 @@ invariant_of-self g c =
     let w = c.compare.ensures.writer in
     repass _ _ _ _ _ _ _ _ _ _ _
     (query-keeps _ _ _ _ _ _ _ _ _ _ c.self.invariant (scan_between-stands _ _ _ _ _ _ _ _ _ c.self.invariant.stands
-    c.scan_between.ensures)) w.0 w.1 w.2 w.3 w.4
+    c.scan_between.ensures) (scan_between-busy _ _ _ _ _ _ _ _ c.scan_between.ensures)) w.0 w.1 w.2 w.3 w.4 w.5
 
 pub returns-clause-says : goal.returns-clause-says
 returns-clause-says g c =

@@ -39,7 +39,7 @@ invariant_of-self g c =
     let w = c.meet.ensures.writer in
     let n = c.note_queued.ensures in
     submit-keeps _ _ _ _ _ _ _ _ _ _ _ _ _ _ _ _ h s (w.0 ∙ n.cell ∙ b.writer.0 ∙ h.cell) w.1 (w.2 ∙ n.seen ∙ is) (w.3 ∙ n.archive ∙ b.writer.3) _
-    c.requires.1.1.1.1.1.1 (ap (λ (t : Tokens). t.out) (w.4 ∙ n.tokens) ∙ b.writer.4)
+    c.requires.1.1.1.1.1.1 (ap (λ (t : Tokens). t.out) (w.4 ∙ n.tokens) ∙ b.writer.4) (w.5 ∙ n.busy ∙ b.writer.5)
 
 pub returns-clause-happens : goal.returns-clause-happens
 returns-clause-happens g c =

@@ -15,10 +15,10 @@ returns-in-Ok-Queued-clause-happens g c =
     let v = c.args.served in
     let a = c.requires.answer in
     let is : s.0 ≡ Ok (submitted.Queued q.ticket) = cc (q.is, q.field-0-is) in
-    let says = subst (λ (r : Result Submitted CommitFault). ServedSays o.start o.mark v.writes v.label r s.1) is c.spend-outcome.ensures in
-    let waits = subst (λ (n : ℕ). Asked o.start o.mark v.writes n (Ok (submitted.Queued q.ticket)) s.1) a.label_is says in
-    commit-waits o.start o.mark c.args.changes.now v.writes c.args.label q.ticket s.1 c.wait_for.new.me c.wait_for.result a.writes waits
-    (later-then s.1 c.learn.new.self c.wait_for.new.me c.learn.ensures.other c.wait_for.ensures.later) c.wait_for.ensures.says
+    let says = subst (λ (r : Result Submitted CommitFault). ServedSays o.start o.mark v.writes v.label r s.1.seen) is c.spend-outcome.ensures in
+    let waits = subst (λ (n : ℕ). Asked o.start o.mark v.writes n (Ok (submitted.Queued q.ticket)) s.1.seen) a.label_is says in
+    commit-waits o.start o.mark c.args.changes.now v.writes c.args.label q.ticket s.1.seen c.wait_for.new.me.seen c.wait_for.result a.writes waits
+    (later-then s.1.seen c.learn.new.self.seen c.wait_for.new.me.seen c.learn.ensures.other c.wait_for.ensures.later) c.wait_for.ensures.says
 
 pub returns-in-Ok-ReadOnly-clause-happens : goal.returns-in-Ok-ReadOnly-clause-happens
 returns-in-Ok-ReadOnly-clause-happens g c =
@@ -27,8 +27,9 @@ returns-in-Ok-ReadOnly-clause-happens g c =
     let s = c.spend-outcome.result in
     let v = c.args.served in
     let is : s.0 ≡ Ok (submitted.ReadOnly q.snapshot) = cc (q.is, q.field-0-is) in
-    let says = subst (λ (r : Result Submitted CommitFault). ServedSays o.start o.mark v.writes v.label r s.1) is c.spend-outcome.ensures in
-    commit-reads o.start o.mark c.args.changes.now v.writes v.label q.snapshot s.1 c.learn.new.self c.requires.answer.writes says c.learn.ensures.other
+    let says = subst (λ (r : Result Submitted CommitFault). ServedSays o.start o.mark v.writes v.label r s.1.seen) is c.spend-outcome.ensures in
+    commit-reads o.start o.mark c.args.changes.now v.writes v.label q.snapshot s.1.seen c.learn.new.self.seen c.requires.answer.writes says
+    c.learn.ensures.other
 
 pub returns-in-Err-clause-happens : goal.returns-in-Err-clause-happens
 returns-in-Err-clause-happens g c =
@@ -36,6 +37,6 @@ returns-in-Err-clause-happens g c =
     let s = c.spend-outcome.result in
     let v = c.args.served in
     let a = c.requires.answer in
-    let says = subst (λ (r : Result Submitted CommitFault). ServedSays o.start o.mark v.writes v.label r s.1) c.in-Err.is c.spend-outcome.ensures in
-    let asked = subst (λ (n : ℕ). ServedSays o.start o.mark v.writes n (Err c.in-Err.fault) s.1) a.label_is says in
-    commit-refused o.start o.mark c.args.changes.now v.writes c.args.label c.in-Err.fault s.1 c.learn.new.self a.writes asked c.learn.ensures.other
+    let says = subst (λ (r : Result Submitted CommitFault). ServedSays o.start o.mark v.writes v.label r s.1.seen) c.in-Err.is c.spend-outcome.ensures in
+    let asked = subst (λ (n : ℕ). ServedSays o.start o.mark v.writes n (Err c.in-Err.fault) s.1.seen) a.label_is says in
+    commit-refused o.start o.mark c.args.changes.now v.writes c.args.label c.in-Err.fault s.1.seen c.learn.new.self.seen a.writes asked c.learn.ensures.other
