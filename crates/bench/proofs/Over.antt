@@ -125,6 +125,7 @@ log-over tells l m disk s =
       };
       place = s.place;
       runs = λ told. untold told;
+      names = λ told. untold told;
     }
 
 -- in either layout
