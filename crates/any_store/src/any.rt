@@ -139,8 +139,8 @@ impl<D: Disk> Store<D> {
         }
     }
 
-    /// One step of the group of commits that is being written; where none stands, one begins of the
-    /// first that wait. Each step makes at most one write or sync of the disk.
+    /// One step of the group of commits that is being written; where there is none, one begins of
+    /// the first that wait. Each step makes at most one write or sync of the disk.
     pub fn pump(&mut self) -> Result<Did, PumpFault>
         ensures is { Pumps D.tells self.old result self.new }
         ensures sound { IsTrue D.tells → AreSound (disk_of self.new).areas }

@@ -61,16 +61,16 @@ fn format_as<D: Disk>(alloc: Global, disk: &mut D, layout: Layout) -> Result<(),
     }
 }
 
-/// Makes the image of a new store of this layout, where no store of either layout stands. Slots leave the heap and the archive as they
-/// are; a log in the heap leaves the archive, and what follows the first extent and the header.
+/// Makes the image of a new store of this layout, where there is no store of either layout. Slots leave the heap and the archive as
+/// they are; a log in the heap leaves the archive, and what follows the first extent and the header.
 ///
 /// A stop within a format of slots leaves the first 512 bytes as they were, or all slots closed; one of a log leaves the status area as
 /// it was, or the first extent zeros. Where it is refused before its first write, nothing has changed; later, a next call goes by what
-/// the status area then holds. Where a store stands, nothing changes in any case.
+/// the status area then holds. Where there is a store, nothing changes in any case.
 ///
 /// # Errors
 ///
-/// `BadSlots` for a size that the layout has not, before the disk is read; `Occupied` where a header of either layout stands there;
+/// `BadSlots` for a size that the layout has not, before the disk is read; `Occupied` where there is a header of either layout;
 /// `NoMemory` before any write, and of slots alone; `Device` where the disk refused a call.
 pub fn format<D: Disk>(alloc: Global, disk: &mut D, layout: Layout) -> Result<(), FormatFault>
     ensures bad_size { (result ≡ Err FormatFault.BadSlots) ↔ ¬ IsSize layout }

@@ -12,13 +12,13 @@ use store::Store as SlotStore;
 
 impl<D: Disk> Store<D> {
     /// Opens the store that the disk holds, of any profile. It first looks at the header, then syncs the three areas,
-    /// and then only reads. The mark is a number of the caller's, which the store's transactions and tickets carry. A
-    /// refused opening hands the disk back.
+    /// and then only reads. The store mark is a number of the caller's, which the store's transactions and tickets
+    /// carry. A refused opening hands the disk back.
     ///
     /// # Errors
     ///
-    /// `NotAStore` where no header stands; `Damaged` tells the first check that fails, with its area and place;
-    /// `Device` where a read or sync is refused; `NoMemory`.
+    /// `NotAStore` where there is no header; `Damaged` tells the first check that fails, with its area and
+    /// place; `Device` where a read or sync is refused; `NoMemory`.
     pub fn open(alloc: Global, disk: D, mark: u64) -> Result<Store<D>, (OpenFault, D)>
         ensures ok { IfOk result (λ s. Opens D.tells (D.state disk) mark s) }
         ensures err { IfErr result (λ e. OpenRefuses D.tells (D.state disk) e.0 (D.state e.1)) }

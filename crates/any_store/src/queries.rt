@@ -64,8 +64,8 @@ impl<D: Disk> Store<D> {
     }
 
     /// The rows of a key from `a` up to `b` in microseconds since 1970, by rising time: of each
-    /// version that stood in between the value, and the times from which and up to which it did.
-    /// `Stranger` comes first, then `EmptyInterval`, then the refusals of `at`.
+    /// version that was valid in between the value, and the times from which and up to which it
+    /// was. `Stranger` comes first, then `EmptyInterval`, then the refusals of `at`.
     pub fn between(
         &mut self,
         view: &View,

@@ -33,7 +33,7 @@ pub enum Did {
 pub enum JobDid {
     /// Nothing: no job runs.
     Idle,
-    /// The next piece of the run is written.
+    /// The next part of the run is written.
     WroteRun,
     RunSynced,
     /// The next extent of the anchors is written, or of a base.
@@ -49,7 +49,7 @@ pub enum JobDid {
     WroteEntry,
     /// There too: the gate where the log will end is closed.
     GateClosed,
-    /// There too: the next piece of a roll of names is written.
+    /// There too: the next part of a roll of names is written.
     WroteRoll,
     RollSynced,
     /// There too: the root that does not count yet names the base.

@@ -22,7 +22,7 @@ pub(crate) struct BlockReader {
 impl BlockReader {
     ghost use Rattle.archive.specs.Parts.{parts_in};
 
-    /// Keeps up to 64 blocks.
+    /// A cache of up to 64 blocks.
     pub fn new(alloc: Global) -> Result<Self, AllocError>
         ensures { IfOk result (λ r. parts_in r.cache.blocks ≡ []) }
     {
@@ -31,7 +31,7 @@ impl BlockReader {
         })
     }
 
-    /// Keeps no block.
+    /// No cache.
     pub fn without_cache(alloc: Global) -> Self
         ensures { parts_in result.cache.blocks ≡ [] }
     {
@@ -64,8 +64,8 @@ impl BlockReader {
         Ok(there)
     }
 
-    /// The same of a block that is not kept. It stays a call of its own: its array is cleared, which
-    /// would take longer than to copy from a block that is kept.
+    /// The same of a block that is not in the cache. It is a call of its own: its array is cleared,
+    /// which would take longer than to copy from a block of the cache.
     #[inline(never)]
     fn read_missing<D: Disk>(
         &mut self,
@@ -88,7 +88,7 @@ impl BlockReader {
         Ok(there)
     }
 
-    /// The same from the disk. The block is kept, if there is memory for it.
+    /// The same from the disk. The block goes to the cache, if there is memory for it.
     fn fetch_block<D: Disk>(
         &mut self,
         disk: &mut D,

@@ -43,7 +43,7 @@ fn put_u64(out: &mut [u8], at: usize, number: u64) -> usize
     put(out, at, &bytes)
 }
 
-/// Writes a place of the index to the buffer's front, 8 bytes.
+/// Writes a place of the index to the beginning of the buffer, 8 bytes.
 pub(crate) fn encode_place(place: u64, out: &mut [u8]) -> usize
     requires { 8 ≤ length out.old }
     ensures len { result ≡ 8 }
@@ -52,7 +52,7 @@ pub(crate) fn encode_place(place: u64, out: &mut [u8]) -> usize
     put_u64(out, 0, place)
 }
 
-/// Writes a head to the buffer's front, 26 bytes.
+/// Writes a head to the beginning of the buffer, 26 bytes.
 fn encode_head(head: &Head, out: &mut [u8]) -> usize
     requires { 26 ≤ length out.old }
     ensures len { result ≡ 26 }
@@ -74,7 +74,7 @@ pub(crate) fn record_len(value: &Value) -> usize
     27 + value.fields().spelled().len()
 }
 
-/// Writes a record to the buffer's front, and tells its length.
+/// Writes a record to the beginning of the buffer, and tells its length.
 pub(crate) fn encode_record(head: &Head, value: &Value, out: &mut [u8]) -> usize
     requires { 4123 ≤ length out.old }
     ensures most { result ≤ 4123 }

@@ -52,7 +52,7 @@ impl ArchiveReader {
         Ok(())
     }
 
-    /// Where a walk over the rows of one run goes on behind the record with this head.
+    /// Where a walk over the rows of one run goes on after the record with this head.
     fn go_on<D: Disk>(
         &mut self,
         disk: &mut D,

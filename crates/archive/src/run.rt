@@ -5,7 +5,7 @@ use floors::Floors;
 use std::alloc::AllocError;
 use wire::Run;
 
-/// A run as its slot of the log names it, with the mark and the floors that stood before that slot.
+/// A run as its slot of the log names it, with the archive mark and the floors before that slot.
 #[derive(Drop)]
 pub struct RunEntry {
     pub slot: Run,

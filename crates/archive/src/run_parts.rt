@@ -29,7 +29,7 @@ fn check_place(run: &RunEntry, n: u64, place: u64) -> Result<u64, ArchiveFault>
     Ok(place)
 }
 
-/// Whether a record may stand from this place to that end.
+/// Whether a record may lie from this place to that end.
 fn is_record_room(place: u64, end: u64) -> bool
     ensures { IsTrue result ↔ (place + 28 ≤ end) × (end ≤ place + 4123) }
 {
@@ -95,7 +95,7 @@ impl ArchiveReader {
         check_place(run, n, LittleEndian::read_u64(&bytes))
     }
 
-    /// The head of the n-th record, beside what was read last.
+    /// The head of the n-th record, by what was read last.
     pub(crate) fn read_head<D: Disk>(
         &mut self,
         disk: &mut D,

@@ -59,7 +59,7 @@ impl ArchiveReader {
         Ok(Bound { number: low, last })
     }
 
-    /// The same, where the record with this head is one of them: it looks first at those behind it,
+    /// The same, where the record with this head is one of them: it looks first at those after it,
     /// `stride` records on, and then farther and farther.
     pub(crate) fn count_from<D: Disk>(
         &mut self,
@@ -106,7 +106,7 @@ impl ArchiveReader {
         Ok(Bound { number: low, last })
     }
 
-    /// The value of the key's version that stands at this time, in one run.
+    /// The value of the key's version that is valid at this time, in one run.
     pub(crate) fn find_in<D: Disk>(
         &mut self,
         disk: &mut D,

@@ -17,7 +17,7 @@ pub trait RecordWalk: Drop + Sized {
     fn peek(&self) -> Option<(Head, &Value)>
         ensures { option_map (λ p. record_of p.0 p.1.now) result ≡ slice_get (left self.now) 0 };
 
-    /// Goes on behind the next record, which has this head.
+    /// Goes on after the next record, which has this head.
     fn advance(&mut self, head: &Head)
         requires { option_map head_of (slice_get (left self.old) 0) ≡ Some head.now }
         ensures left { left self.new ≡ drop 1 (left self.old) }

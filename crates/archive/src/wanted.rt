@@ -46,14 +46,14 @@ impl Wanted {
         }
     }
 
-    /// Whether the head is neither before the first key's part of the interval nor behind the last one's.
+    /// Whether the head is neither before the first key's part of the interval nor after the last one's.
     pub(crate) fn has(&self, head: &Head) -> bool
         ensures { result ≡ answers.is_wanted self.now head.now }
     {
         !precedes(head, &self.first, self.a) && !follows(head, &self.last, self.b)
     }
 
-    /// Where a walk over records goes on behind one with this head that need not look at each: at the
+    /// Where a walk over records goes on after one with this head that need not look at each: at the
     /// first that is not of a lesser key than this, nor of it and ended by `a`.
     pub(crate) fn skip_to(&self, head: &Head) -> Option<Key>
         ensures { result ≡ answers.skip_to self.now head.now }

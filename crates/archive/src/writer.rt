@@ -8,8 +8,8 @@ use disk::{Area, DeviceFault, Disk};
 use std::marker::Model;
 use wire::LAST_PLACE;
 
-/// Writes the bytes of a run in pieces of 8,192, the last of which may be shorter, as it walks its
-/// records, each straight into the piece that it is of. No call holds more of them than one piece and
+/// Writes the bytes of a run in parts of 8,192, the last of which may be shorter, as it walks its
+/// records, each straight into the part that it is of. No call holds more of them than one part and
 /// two records.
 #[derive(Drop)]
 pub struct RunWriter<W: RecordWalk> {
@@ -80,8 +80,8 @@ impl<W: RecordWalk> RunWriter<W> {
         self.left
     }
 
-    /// Writes the next piece, in one device write; nothing where all was written. After a refused
-    /// write the writer stands behind the piece too: the run is given up.
+    /// Writes the next part, in one device write; nothing where all was written. After a refused
+    /// write the writer has passed the part too: the run is given up.
     pub fn write_piece<D: Disk>(&mut self, disk: &mut D) -> Result<(), DeviceFault>
         ensures left { self.new.left ≡ drop 8192 self.old.left }
         ensures at { self.new.at ≡ self.old.at + length (take 8192 self.old.left) }

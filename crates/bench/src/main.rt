@@ -1,4 +1,5 @@
-//! Measures the store, beside what the files and the memory can do themselves, and soaks one.
+//! Measures the store, compared with what the files and the memory can do themselves, and soaks
+//! one.
 //!
 //! `bench VERB FOLDER [COUNT [NUMBER]]` makes its stores in FOLDER, which is there and empty, and prints one
 //! line of JSON, of a soak a line for each answer. Without words it prints how it is called.

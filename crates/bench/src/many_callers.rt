@@ -1,4 +1,4 @@
-//! A store on real files that threads share, beside raw writes and syncs, and a soak of one.
+//! A store on real files that threads share, compared with raw writes and syncs, and a soak of one.
 
 mod crew;
 mod groups;

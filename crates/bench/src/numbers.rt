@@ -4,7 +4,7 @@ use std::alloc::{AllocError, Global};
 use std::time::{Clock, Instant};
 use std::{fmt, io};
 
-/// A number with three digits behind the point.
+/// A number with three digits after the point.
 #[derive(Clone, Copy)]
 pub(crate) struct Thousandths(u128);
 

@@ -1,6 +1,6 @@
-//! A store on real files with one caller, with no lines of a script between, beside what the files and the
-//! memory can do themselves. What a vacuum does and leaves is measured step by step, by one call each, on
-//! the store that a call before left in the folder.
+//! A store on real files with one caller, with no lines of a script between, compared with what the files
+//! and the memory can do themselves. What a vacuum does and leaves is measured step by step, by one call
+//! each, on the store that a call before left in the folder.
 
 mod asking;
 mod committing;

@@ -12,7 +12,7 @@ const EXTENT_LEN: u64 = 8_192;
 
 const SLOT_LEN: u64 = 512;
 
-/// The bytes of a slot behind its gate.
+/// The bytes of a slot after its gate.
 const BODY_LEN: usize = 511;
 
 /// An open gate.
@@ -103,7 +103,8 @@ impl RawLog {
         Ok(RawLog { heap, extents: 0 })
     }
 
-    /// Writes so many extents, and a gate behind them; then the gate in front, with a sync after each of the two.
+    /// Writes so many extents, and a gate after them; then the gate before them, with a sync after each of the
+    /// two.
     pub(crate) fn write_group(&mut self, extents: u64) -> io::Result<()> {
         let extent = [(self.extents % 251) as u8; EXTENT_LEN as usize];
         let first = self.extents.wrapping_mul(EXTENT_LEN);

@@ -8,7 +8,7 @@ use std::fs::{File, create_dir};
 use std::rt::Files;
 use store::Store;
 
-/// The mark of the one store that is open.
+/// The store mark of the one store that is open.
 pub(crate) const MARK: u64 = 1;
 
 /// Makes a folder with an empty store of this layout.

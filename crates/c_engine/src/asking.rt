@@ -23,7 +23,7 @@ pub fn view(store: &Kept) -> Result<View, AllocError>
     store.view()
 }
 
-/// The archive that a host lends for one query, and its reader, which keeps nothing of it.
+/// The archive that a host lends for one query, and its reader, which has no cache.
 #[derive(Drop)]
 pub struct Lent<'a> {
     alloc: Global,

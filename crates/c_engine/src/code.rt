@@ -6,7 +6,7 @@ ghost use Rattle.c_engine.specs.Codes.{code_number};
 #[derive(Clone, Copy, Debug, PartialEq, Eq)]
 pub enum Code {
     Ok,
-    /// There is no value; or no device call stands out.
+    /// There is no value; or no device call is due.
     None,
     /// The commit waits.
     Waiting,
@@ -95,7 +95,7 @@ impl Code {
     }
 }
 
-/// Two numbers beside a code.
+/// Two numbers with a code.
 #[repr(C)]
 #[derive(Clone, Copy, Debug, PartialEq, Eq, Drop)]
 pub struct Info {

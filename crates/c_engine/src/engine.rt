@@ -42,7 +42,7 @@ impl Published {
     }
 }
 
-/// A store for a host that makes its device calls, which it pulls. While one stands out nothing else is
+/// A store for a host that makes its device calls, which it pulls. While one is due nothing else is
 /// answered but by views and open transactions; after one that was refused what was published before it.
 pub struct Engine {
     pub(crate) alloc: Global,
@@ -119,7 +119,7 @@ impl Engine {
         }
     }
 
-    /// Whether a device call stands out.
+    /// Whether a device call is due.
     pub(crate) fn asks(&self) -> bool
         ensures { result ≡ asks self.now.state }
     {
@@ -241,7 +241,7 @@ impl Engine {
         })
     }
 
-    /// The step's device call stands out, if it has one: that it is due is told, and what was published before it
+    /// The step's device call is due from now on, if it has one: that is told, and what was published before it
     /// is kept.
     pub(crate) fn stand_out(&mut self, step: Step, published: Published, info: &mut Info) -> Code
         ensures { StandsOut step published self.old result info.new self.new }

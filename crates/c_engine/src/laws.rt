@@ -7,7 +7,7 @@ pub fn calls_are_the_steps()
     ensures job { JobCallIsTheSteps }
 {}
 
-/// A number of one store names nothing in another one, whose mark has other lowest 15 bits.
+/// A number of one store names nothing in another one, whose store mark has other lowest 15 bits.
 pub fn numbers_know_their_store()
     ensures { NumberKnowsItsStore }
 {}

@@ -13,7 +13,7 @@ struct Range {
 }
 
 /// A disk that reads three areas where a host has them, and writes nothing. The host has synced them. It refuses
-/// writes, and all syncs behind the first of them, but no read.
+/// writes, and all syncs after the first of them, but no read.
 #[derive(Drop)]
 pub struct SliceDisk<'a> {
     pub(crate) status: &'a [u8],

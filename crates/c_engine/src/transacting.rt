@@ -152,7 +152,7 @@ impl Engine {
         }
     }
 
-    /// One step of the group that stands; whether a device call is due for it is told.
+    /// One step of the group; whether a device call is due for it is told.
     pub fn pump(&mut self, info: &mut Info) -> Code
         ensures { PumpsEngine self.old result info.new self.new }
     {

@@ -8,7 +8,7 @@ use history::Key;
 use std::alloc::{AllocError, Global};
 use wire::{Value, take_fields};
 
-/// Copies a value to the front; none where there is no room.
+/// Copies a value to the beginning; none where there is no room.
 pub fn copy_out(value: &Value, out: &mut [u8]) -> Option<usize>
     ensures copied { IfSome result (λ len. (len ≡ length (value_bytes value.now)) × (take len out.new ≡ value_bytes value.now)) }
     ensures room { is_some result ≡ nat_le (length (value_bytes value.now)) (length out.old) }
@@ -23,7 +23,7 @@ pub fn copy_out(value: &Value, out: &mut [u8]) -> Option<usize>
     Some(len)
 }
 
-/// Copies bytes to the front, where there is room; else nothing.
+/// Copies bytes to the beginning, where there is room; else nothing.
 pub fn copy_bytes(bytes: &[u8], out: &mut [u8]) -> bool
     ensures room { result ≡ nat_le (length bytes.now) (length out.old) }
     ensures copied { IsTrue result → take (length bytes.now) out.new ≡ bytes.now }

@@ -1,4 +1,4 @@
-//! Branches of a key's older writes that lie together, one behind another.
+//! Branches of a key's older writes that lie together, one after another.
 ghost use Rattle.std.specs.Prelude.{◌≡◌, ◌<◌, ◌≤◌, ◌-◌, ◌++◌, IfOk, OnOk, drop, length, take};
 ghost use Rattle.history.specs.Time.{IsRisingAfter};
 ghost use Rattle.chains.specs.Branches.{BeginBy, BeginAfter, IsFrom};
@@ -25,7 +25,7 @@ pub(crate) fn room_for(count: usize) -> usize {
     }
 }
 
-/// These branches, and the last one again and again behind them, up to as many as lie together at most.
+/// These branches, and the last one again and again after them, up to as many as lie together at most.
 pub(crate) fn padded(branches: Vec<Branch>) -> Result<Vec<Branch>, AllocError>
     requires some { 0 < length branches.items }
     requires few { length branches.items ≤ 32 }
@@ -41,7 +41,7 @@ pub(crate) fn padded(branches: Vec<Branch>) -> Result<Vec<Branch>, AllocError>
     Ok(all)
 }
 
-/// Puts a branch of older writes behind others, where there are some.
+/// Puts a branch of older writes after others, where there are some.
 pub(crate) fn add_branch(branches: &mut Vec<Branch>, older: Older) -> Result<(), AllocError>
     ensures chunks { OnOk result (all_of branches.new.items ≡ all_of branches.old.items ++ older.chunks) }
     ensures branches { OnOk result (branches.new.items ≡ branches.old.items ++ branches_of older older.chunks) }
@@ -62,7 +62,7 @@ pub(crate) fn first_time_or(branches: &[Branch], end: u64) -> u64
     }
 }
 
-/// The first of these branches, from a place on, that begins after a time; behind the last where none does.
+/// The first of these branches, from a place on, that begins after a time; after the last where none does.
 #[inline]
 fn later_from(branches: &[Branch], place: usize, time: u64) -> usize
     ensures within { result ≤ length branches.now }

@@ -22,16 +22,16 @@ use std::sync::Arc;
 /// Where the writes of a chunk lie.
 #[derive(Drop)]
 pub(crate) enum Slots {
-    /// One write lies beside the count of those who share it.
+    /// One write lies next to the count of those who share it.
     One(Arc<StampedWrite>),
-    /// More of them lie in memory that the chunks share that were taken from one another. When the first
-    /// one was made stands beside them, so that a search among chunks reads no chunk but the last.
+    /// More of them lie in memory that the chunks share that were taken from one another. The time of
+    /// the first one lies next to them, so that a search among chunks reads no chunk but the last.
     Many {
         first: u64,
         shared: Arc<Vec<StampedWrite>>,
     },
-    /// As many as one chunk has at most, which lie beside the count of those who share them: one place of
-    /// memory less on the way to them.
+    /// As many as one chunk has at most, which lie next to the count of those who share them: one place
+    /// of memory less on the way to them.
     Full {
         first: u64,
         shared: Arc<FullChunk>,
@@ -188,7 +188,7 @@ impl Chunk {
         Self::of(alloc, longer)
     }
 
-    /// A later write is put behind the others, in place where no other chunk holds them.
+    /// A later write is put after the others, in place where no other chunk holds them.
     pub(crate) fn put_write(
         &mut self,
         alloc: Global,
@@ -282,8 +282,8 @@ impl Chunk {
     }
 }
 
-/// As many writes as one chunk has at most, beside the count of those who share them: a function of its own,
-/// so that no other chunk takes the way of so many bytes.
+/// As many writes as one chunk has at most, next to the count of those who share them: a function of its
+/// own, so that no other chunk takes the way of so many bytes.
 fn packed(alloc: Global, writes: Vec<StampedWrite>) -> Result<Arc<FullChunk>, AllocError>
     requires { length writes.items ≡ 32 }
     ensures { IfOk result (λ shared. shared.value ≡ writes.items) }
@@ -321,7 +321,7 @@ fn more_room(count: usize) -> usize {
     (count / 4).max(2)
 }
 
-/// Puts a write behind others.
+/// Puts a write after others.
 fn put_last(
     alloc: Global,
     writes: &mut Vec<StampedWrite>,

@@ -88,7 +88,7 @@ fn into_with_own(
     }
 }
 
-/// Puts behind others the chains of a commit's writes alone.
+/// Appends to others the chains of a commit's writes alone.
 pub(crate) fn add_new(
     alloc: Global,
     found: &mut Vec<Chain>,
@@ -109,7 +109,7 @@ pub(crate) fn add_new(
     add_new(alloc, found, time, after)
 }
 
-/// Puts behind others the chains with the writes of a commit, each shared: in one walk in the order of the
+/// Appends to others the chains with the writes of a commit, each shared: in one walk in the order of the
 /// keys, found by halving.
 pub(crate) fn add_with_writes(
     alloc: Global,

@@ -12,7 +12,7 @@ use std::marker::Model;
 /// How many writes a chunk has at most.
 pub(crate) const MOST: usize = 32;
 
-/// As many writes as a chunk has at most, oldest first. When each was made stands before them once more: a search
+/// As many writes as a chunk has at most, oldest first. The time of each lies before them once more: a search
 /// reads those times alone, which lie together, and the value is found where its number says.
 #[derive(Drop)]
 pub(crate) struct FullChunk {
@@ -109,7 +109,7 @@ impl FullChunk {
             & (self.times[behind] == self.writes[behind].time())
     }
 
-    /// The first place from this one on whose write was made after a time; behind the last where none was.
+    /// The first place from this one on whose write was made after a time; after the last where none was.
     #[inline]
     fn later_from(&self, place: usize, time: u64) -> usize
         requires { place ≤ 32 }

@@ -29,7 +29,7 @@ fn before_first<'a>(
     }
 }
 
-/// Puts behind other nodes those of a commit's writes alone.
+/// Appends to other nodes those of a commit's writes alone.
 pub(crate) fn add_alone(
     alloc: Global,
     found: &mut Vec<KeyNode>,
@@ -98,7 +98,7 @@ pub(crate) fn one(alloc: Global, chain: Chain) -> Result<Vec<Chain>, AllocError>
     Ok(chains)
 }
 
-/// Puts behind other nodes leaves of chains and of one behind them: a leaf that is full stays as it is.
+/// Appends to other nodes leaves of chains and of one after them: a leaf that is full stays as it is.
 fn add_longer_leaf(
     alloc: Global,
     found: &mut Vec<KeyNode>,
@@ -117,7 +117,7 @@ fn add_longer_leaf(
     add_leaf(alloc, found, one(alloc, chain)?)
 }
 
-/// Puts behind other nodes forks of nodes: the last one has a fork of its own where they are too many.
+/// Appends to other nodes forks of nodes: the last one has a fork of its own where they are too many.
 fn add_longer_fork(
     alloc: Global,
     found: &mut Vec<KeyNode>,
@@ -140,7 +140,7 @@ fn add_longer_fork(
 }
 
 impl KeyNode {
-    /// Puts behind other nodes those of this one with the writes of a commit: what no write is of is shared.
+    /// Appends to other nodes those of this one with the writes of a commit: what no write is of is shared.
     pub(crate) fn add_written(
         &self,
         alloc: Global,
@@ -220,7 +220,7 @@ impl KeyNode {
         add_forks(alloc, found, all)
     }
 
-    /// Puts behind other nodes those of this one with a chain behind its own. Where something else holds a
+    /// Appends to other nodes those of this one with a chain after its own. Where something else holds a
     /// node on the way to the last chain, its other parts are shared.
     pub(crate) fn into_longer(
         self,
@@ -245,8 +245,8 @@ impl KeyNode {
         }
     }
 
-    /// Puts behind other nodes those of this one without what says nothing of times from the mark on, and says
-    /// whether it is the same. What is kept whole is shared.
+    /// Appends to other nodes those of this one without what says nothing of times from the mark on, and says
+    /// whether it is the same. What stays whole is shared.
     pub(crate) fn add_kept(
         &self,
         alloc: Global,

@@ -22,20 +22,20 @@ pub(crate) struct KeyNode {
 #[cycle(key_node)]
 #[derive(Drop)]
 enum KeyInside {
-    /// Chains that lie together. The first of their keys stands beside them, so that a search among nodes
+    /// Chains that lie together. The first of their keys lies next to them, so that a search among nodes
     /// reads none but the one that it goes on in.
     Leaf {
         first: Key,
         shared: Arc<Vec<Chain>>,
     },
-    /// Nodes one behind another that lie together, and the first of their keys.
+    /// Nodes one after another that lie together, and the first of their keys.
     Fork {
         first: Key,
         shared: Arc<Vec<KeyNode>>,
     },
 }
 
-/// What a node is made of, in a loan: chains, or nodes one behind another.
+/// What a node is made of, in a loan: chains, or nodes one after another.
 pub(crate) enum KeyParts<'a> {
     Chains(&'a [Chain]),
     Nodes(&'a [KeyNode]),
@@ -96,7 +96,7 @@ impl KeyNode {
         })
     }
 
-    /// A node of several, one behind another, of which the first begins with this key.
+    /// A node of several, one after another, of which the first begins with this key.
     pub(crate) fn fork(alloc: Global, first: Key, nodes: Vec<KeyNode>) -> Result<Self, AllocError>
         requires first { BeginAt first (all_of nodes.items) }
         requires ordered { IsOrdered (all_of nodes.items) }

@@ -9,7 +9,7 @@ use crate::key_node::KeyNode;
 use std::alloc::{AllocError, Global};
 use std::mem;
 
-/// How many chains lie together at most. A commit to one of them counts one holder more of what stands in
+/// How many chains lie together at most. A commit to one of them counts one holder more of what is in
 /// each, so they are fewer than the nodes of a fork.
 pub(crate) const LEAF_WIDTH: usize = 8;
 
@@ -24,7 +24,7 @@ fn part_length(count: usize, most: usize) -> usize
     (count / parts).saturating_add(1)
 }
 
-/// Puts behind other nodes one of chains, if there are some.
+/// Appends to other nodes one of chains, if there are some.
 pub(crate) fn add_leaf(
     alloc: Global,
     found: &mut Vec<KeyNode>,
@@ -41,7 +41,7 @@ pub(crate) fn add_leaf(
     Ok(())
 }
 
-/// Puts behind other nodes a leaf of some chains where they are as many as that, so that none are left of them.
+/// Appends to other nodes a leaf of some chains where they are as many as that, so that none are left of them.
 fn put_full_leaf(
     alloc: Global,
     found: &mut Vec<KeyNode>,
@@ -60,7 +60,7 @@ fn put_full_leaf(
     add_leaf(alloc, found, full)
 }
 
-/// Puts behind other nodes those of chains.
+/// Appends to other nodes those of chains.
 pub(crate) fn add_leaves(
     alloc: Global,
     found: &mut Vec<KeyNode>,
@@ -81,7 +81,7 @@ pub(crate) fn add_leaves(
     add_leaf(alloc, found, part)
 }
 
-/// Puts behind other nodes a fork of nodes, if there are some.
+/// Appends to other nodes a fork of nodes, if there are some.
 pub(crate) fn add_fork(
     alloc: Global,
     found: &mut Vec<KeyNode>,
@@ -98,7 +98,7 @@ pub(crate) fn add_fork(
     Ok(())
 }
 
-/// Puts behind other nodes a fork of some nodes where they are as many as that, so that none are left of them.
+/// Appends to other nodes a fork of some nodes where they are as many as that, so that none are left of them.
 fn put_full_fork(
     alloc: Global,
     found: &mut Vec<KeyNode>,
@@ -117,7 +117,7 @@ fn put_full_fork(
     add_fork(alloc, found, full)
 }
 
-/// Puts behind other nodes forks of nodes.
+/// Appends to other nodes forks of nodes.
 pub(crate) fn add_forks(
     alloc: Global,
     found: &mut Vec<KeyNode>,

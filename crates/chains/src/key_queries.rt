@@ -77,7 +77,7 @@ impl KeyNode {
         None
     }
 
-    /// Puts behind what was found the records of a relation that have a value at a time, in rising order,
+    /// Appends to what was found the records of a relation that have a value at a time, in rising order,
     /// with their values. It goes only where there may be some.
     pub(crate) fn add_values(
         &self,
@@ -111,7 +111,7 @@ impl KeyNode {
         Ok(())
     }
 
-    /// Puts behind what was found the rows of a relation's records from `a` to `b`, by record and then by
+    /// Appends to what was found the rows of a relation's records from `a` to `b`, by record and then by
     /// time, each with its record. It goes only where there may be some.
     pub(crate) fn add_records(
         &self,

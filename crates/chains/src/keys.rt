@@ -89,7 +89,7 @@ impl Keys {
         }
     }
 
-    /// Puts behind what was found the records of a relation that have a value at a time, in rising order,
+    /// Appends to what was found the records of a relation that have a value at a time, in rising order,
     /// with their values.
     pub(crate) fn add_values(
         &self,
@@ -106,7 +106,7 @@ impl Keys {
         }
     }
 
-    /// Puts behind what was found the rows of a relation's records from `a` to `b`, by record and then by
+    /// Appends to what was found the rows of a relation's records from `a` to `b`, by record and then by
     /// time, each with its record.
     pub(crate) fn add_records(
         &self,
@@ -191,7 +191,7 @@ impl Keys {
         Keys::of(alloc, nodes)
     }
 
-    /// The same with a chain behind all others.
+    /// The same with a chain after all others.
     pub(crate) fn with_last(self, alloc: Global, chain: Chain) -> Result<Self, AllocError>
         requires { IsOrdered (self ++ chain ∷ []) }
         ensures { IfOk result (λ k. k ≡ self ++ chain ∷ []) }

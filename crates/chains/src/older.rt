@@ -30,13 +30,13 @@ enum Inside {
     Nothing,
     /// The writes of one chunk.
     Few(Arc<Vec<StampedWrite>>),
-    /// As many as one chunk has at most, which lie beside the count of those who share them: one place of
-    /// memory less on the way to them.
+    /// As many as one chunk has at most, which lie next to the count of those who share them: one place
+    /// of memory less on the way to them.
     Full(Arc<FullChunk>),
-    /// Branches one behind another that lie together, so that a search among them reads few places that lie
+    /// Branches one after another that lie together, so that a search among them reads few places that lie
     /// apart.
     Fork(Arc<Vec<Branch>>),
-    /// Nearly as many as can, or as many, beside the count of those who share them. Those behind so many are
+    /// Nearly as many as can, or as many, next to the count of those who share them. Those after so many are
     /// the last of them again.
     Wide {
         count: u8,
@@ -55,7 +55,7 @@ pub(crate) struct Branch {
 
 const _: () = prove!(size_of::<Older>() == 16 && size_of::<Branch>() == 24);
 
-/// What older writes are made of, in a loan: the writes of one chunk, or branches one behind another.
+/// What older writes are made of, in a loan: the writes of one chunk, or branches one after another.
 #[derive(Drop)]
 pub(crate) enum Parts<'a> {
     Writes(&'a [StampedWrite]),
@@ -157,7 +157,7 @@ impl Older {
         }
     }
 
-    /// The writes of branches, one behind another.
+    /// The writes of branches, one after another.
     pub(crate) fn fork(alloc: Global, branches: Vec<Branch>) -> Result<Self, AllocError>
         requires { IsRisingAfter 0 (all_of branches.items) }
         ensures is { IfOk result (λ o. o.chunks ≡ all_of branches.items) }

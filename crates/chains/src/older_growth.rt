@@ -14,7 +14,7 @@ use crate::stamped::StampedWrite;
 use crate::write::ended_by;
 use std::alloc::{AllocError, Global};
 
-/// The writes of branches, and some more behind them.
+/// The writes of branches, and some more after them.
 fn with_last(alloc: Global, front: &[Branch], last: Older) -> Result<Older, AllocError>
     requires { IsRisingAfter 0 (all_of front.now ++ last.chunks) }
     ensures is { IfOk result (λ o. o.chunks ≡ all_of front.now ++ last.chunks) }
@@ -26,7 +26,7 @@ fn with_last(alloc: Global, front: &[Branch], last: Older) -> Result<Older, Allo
     Older::fork(alloc, all)
 }
 
-/// Some writes, and those of branches behind them.
+/// Some writes, and those of branches after them.
 fn with_first(alloc: Global, first: Older, behind: &[Branch]) -> Result<Older, AllocError>
     requires { IsRisingAfter 0 (first.chunks ++ all_of behind.now) }
     ensures is { IfOk result (λ o. o.chunks ≡ first.chunks ++ all_of behind.now) }
@@ -76,7 +76,7 @@ impl Older {
         with_last(alloc, &[], below)
     }
 
-    /// The same with a later chunk behind, where there is room for it.
+    /// The same with a later chunk at the end, where there is room for it.
     fn with_room_taken(&self, alloc: Global, chunk: Chunk) -> Result<Self, AllocError>
         requires { IsRisingAfter 0 (self.now.chunks ++ chunk) }
         ensures is { IfOk result (λ o. o.chunks ≡ self.now.chunks ++ chunk) }
@@ -100,7 +100,7 @@ impl Older {
         with_last(alloc, branches, later)
     }
 
-    /// The same with a later chunk behind: the last two are made one where they are small.
+    /// The same with a later chunk at the end: the last two are made one where they are small.
     pub(crate) fn with_chunk(&self, alloc: Global, chunk: Chunk) -> Result<Self, AllocError>
         requires { IsRisingAfter 0 (self.now.chunks ++ chunk) }
         ensures is { IfOk result (λ o. o.chunks ≡ self.now.chunks ++ chunk) }

@@ -21,7 +21,7 @@ use history::Version;
 use std::alloc::AllocError;
 
 impl Older {
-    /// Where the value at a time lies. That the first of the writes was made at `first`, and those behind them from
+    /// Where the value at a time lies. That the first of the writes was made at `first`, and those after them from
     /// `end` on, says where the search in a full chunk begins, and no more; so does `near` of a search among
     /// branches, where the last such search ended, and where this one does from then on.
     pub(crate) fn spot(&self, first: u64, end: u64, time: u64, near: &mut usize) -> Spot<'_>
@@ -130,7 +130,7 @@ impl Older {
         }
     }
 
-    /// Puts behind the rows those of its versions, of which the last ends at `end`, from `a` to `b`. It
+    /// Appends to the rows those of its versions, of which the last ends at `end`, from `a` to `b`. It
     /// goes only where there may be some.
     pub(crate) fn add_rows(
         &self,

@@ -48,7 +48,7 @@ fn is_ending_after(write: &StampedWrite, to: u64, time: u64) -> bool
     time < to
 }
 
-/// How many of these writes stand before the first version that ends after the time; the last version
+/// How many of these writes come before the first version that ends after the time; the last version
 /// ends at `end`.
 fn before_ending(writes: &[StampedWrite], end: u64, time: u64) -> usize
     ensures within { result ≤ length writes.now }
@@ -84,7 +84,7 @@ fn first_version(writes: &[StampedWrite], end: u64) -> Option<Version<&SharedVal
     None
 }
 
-/// How many of these writes stand up to the first version, with that one's own.
+/// How many of these writes there are up to the first version, with that one's own.
 fn upto_first(writes: &[StampedWrite]) -> usize
     ensures within { result ≤ length writes.now }
     ensures left { (end : ℕ) → versions_upto end (drop result writes.now) ≡ drop 1 (versions_upto end writes.now) }
@@ -131,7 +131,7 @@ fn version_count(writes: &[StampedWrite], near: u64) -> usize
     count
 }
 
-/// How many of these writes stand before the first version that ends after the time, none where no version
+/// How many of these writes come before the first version that ends after the time, none where no version
 /// does; the last one ends at `end`. It looks at those that begin before the time `near`.
 pub(crate) fn before_part(writes: &[StampedWrite], end: u64, time: u64, near: u64) -> Option<usize>
     ensures within { IfSome result (λ passed. passed ≤ length writes.now) }
@@ -177,7 +177,7 @@ impl Part {
         first_version(&self.chunk.as_slice()[self.passed..], self.end)
     }
 
-    /// Goes on behind the first of the versions.
+    /// Goes on after the first of the versions.
     pub fn advance(&mut self)
         ensures { self.new ≡ drop 1 self.old }
     {

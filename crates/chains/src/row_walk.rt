@@ -45,7 +45,7 @@ impl<'a> Model for RowWalk<'a> {
     ghost invariant = { λ w. IsRisingAfter 0 w.left.now };
 }
 
-/// The first row of these writes, and the writes behind it; the last version ends at `end`. It goes no
+/// The first row of these writes, and the writes after it; the last version ends at `end`. It goes no
 /// further than the interval.
 fn next_row(
     writes: &[StampedWrite],

@@ -9,11 +9,11 @@ use crate::write::first_time_or;
 use history::Version;
 use std::alloc::AllocError;
 
-/// Rows, each a part of a version: the value, and from which time on and up to which it stands.
+/// Rows, each a part of a version: the value, and from which time on and up to which it is valid.
 pub(crate) type Rows = Vec<Version<SharedValue>>;
 
-/// 1 where the write has a value, at which it looks in front and where its second field begins, and else
-/// 0.
+/// 1 where the write has a value, at which it looks at the beginning and where its second field begins,
+/// and else 0.
 pub(crate) fn one_if_near(write: &StampedWrite) -> usize
     ensures is { (from to : ℕ) → result ≡ length (spans.version_of from to write.now.write) }
     ensures most { result ≤ 1 }
@@ -70,7 +70,7 @@ pub(crate) fn row_of(write: &StampedWrite, to: u64, a: u64, b: u64) -> Option<Ve
     Some(Version { from, to, value })
 }
 
-/// Puts behind the rows the part from `a` to `b` of a version that ends at `to`, if there is one.
+/// Appends to the rows the part from `a` to `b` of a version that ends at `to`, if there is one.
 fn add_row(rows: &mut Rows, write: &StampedWrite, to: u64, a: u64, b: u64) -> Result<(), AllocError>
     ensures { OnOk result (rows.new.items ≡ rows.old.items ++ spans.rows (spans.version_of write.now.time to write.now.write) a b) }
 {
@@ -91,7 +91,7 @@ fn add_row(rows: &mut Rows, write: &StampedWrite, to: u64, a: u64, b: u64) -> Re
     Ok(())
 }
 
-/// Puts the rows of one record behind those of the records before it.
+/// Puts the rows of one record after those of the records before it.
 pub(crate) fn add_record(
     found: &mut Vec<(u64, Version<SharedValue>)>,
     record: u64,
@@ -105,7 +105,7 @@ pub(crate) fn add_record(
     Ok(())
 }
 
-/// Puts behind the rows those of the versions of these writes, of which the last ends at `end`.
+/// Appends to the rows those of the versions of these writes, of which the last ends at `end`.
 fn add_rows_of(
     rows: &mut Rows,
     writes: &[StampedWrite],

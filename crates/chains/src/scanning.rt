@@ -15,7 +15,7 @@ use std::alloc::{AllocError, Global};
 /// Records of a relation with what each shows.
 pub(crate) type Found<X> = Vec<(u64, X)>;
 
-/// Puts behind what was found a record with its value, if it has one.
+/// Appends to what was found a record with its value, if it has one.
 #[inline]
 fn add_value(
     found: &mut Found<SharedValue>,
@@ -34,7 +34,7 @@ fn add_value(
     Ok(())
 }
 
-/// Puts behind other places where the chain's value at a time lies, with its record.
+/// Appends to other places where the chain's value at a time lies, with its record.
 fn add_spot<'a>(
     spots: &mut Vec<(u64, Spot<'a>)>,
     chain: &'a Chain,
@@ -80,7 +80,7 @@ fn near_count(spots: &[(u64, Spot<'_>)]) -> usize {
     count
 }
 
-/// Puts behind what was found each record with its value, if it has one.
+/// Appends to what was found each record with its value, if it has one.
 fn add_values(found: &mut Found<SharedValue>, spots: &[(u64, Spot<'_>)]) -> Result<(), AllocError>
     ensures { OnOk result (found.new.items ≡ found.old.items ++ shown_there spots.now) }
 {
@@ -102,7 +102,7 @@ fn is_some_long(chains: &[Chain]) -> bool {
     false
 }
 
-/// Puts behind what was found the chain's record with each of its rows from `a` to `b`.
+/// Appends to what was found the chain's record with each of its rows from `a` to `b`.
 fn add_rows(
     alloc: Global,
     found: &mut Found<Version<SharedValue>>,
@@ -115,7 +115,7 @@ fn add_rows(
     add_record(found, chain.key().record, chain.rows(alloc, a, b)?)
 }
 
-/// Puts behind what was found those of the chains' records that are of a relation and have a value at a
+/// Appends to what was found those of the chains' records that are of a relation and have a value at a
 /// time, with their values. Where a value may lie far away, all are found first, and then fetched.
 pub(crate) fn add_values_of_relation(
     alloc: Global,
@@ -141,7 +141,7 @@ pub(crate) fn add_values_of_relation(
     Ok(())
 }
 
-/// Puts behind what was found the rows of those of the chains' records that are of a relation, from `a` to
+/// Appends to what was found the rows of those of the chains' records that are of a relation, from `a` to
 /// `b`, each with its record.
 pub(crate) fn add_rows_of_relation(
     alloc: Global,

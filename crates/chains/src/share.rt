@@ -9,7 +9,7 @@ pub(crate) trait Share: Drop + Sized {
         ensures { IfOk result (λ s. s ≡ self.now) };
 }
 
-/// Puts behind others one more holder of each of these.
+/// Appends to others one more holder of each of these.
 pub(crate) fn add_shared<T: Share>(found: &mut Vec<T>, items: &[T]) -> Result<(), AllocError>
     ensures { OnOk result (found.new.items ≡ found.old.items ++ items.now) }
 {

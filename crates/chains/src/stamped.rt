@@ -31,7 +31,7 @@ impl Model for StampedWrite {
 
 const _: () = prove!(size_of::<StampedWrite>() == 80);
 
-/// A value with no bytes, which stands in the place of one. It takes no memory.
+/// A value with no bytes, which takes the place of one. It takes no memory.
 fn stand_in(alloc: Global) -> Result<SharedValue, AllocError> {
     match Value::new(alloc, &[&[]]) {
         Ok(value) => Ok(SharedValue::new(value)),

@@ -501,7 +501,7 @@ fn keeping<'a>(alloc: Global) -> Result<Command<'a>, AllocError>
     with_command(working(alloc), dump(alloc))
 }
 
-/// These, and the commands that ask about what stands now.
+/// These, and the commands that ask about what is valid now.
 fn reading<'a>(alloc: Global) -> Result<Command<'a>, AllocError>
     ensures { IfOk result (λ c. told.IsCommand c told.reading) }
 {

@@ -4,7 +4,7 @@ use history::Key;
 /// A time that is asked about.
 #[derive(Clone, Copy, Debug, PartialEq, Eq)]
 pub enum When {
-    /// The first that is kept of the relation.
+    /// The first that the relation answers: its floor.
     First,
     /// This one, in microseconds since 1970.
     At(u64),
@@ -19,7 +19,7 @@ pub enum Question {
     Value(Key, When),
     /// The records of a relation that have a value at a time.
     Records(u16, When),
-    /// The rows of a key from one time up to another; up to `Now`, with what stands now.
+    /// The rows of a key from one time up to another; up to `Now`, with what is valid now.
     Rows(Key, When, When),
     /// The times of the commits with a label.
     Times(u64),

@@ -19,7 +19,7 @@ use std::marker::Model;
 use timequery::View;
 
 /// The open transactions, the commit order with the versions of each key, the commits that wait and
-/// the group that stands.
+/// the group.
 #[derive(Drop)]
 pub struct Commits {
     pub(crate) mark: u64,
@@ -68,9 +68,9 @@ impl Model for Commits {
 }
 
 impl Commits {
-    /// Those of a store that was just opened: the mark that its transactions carry, the published
-    /// commits, the versions of each key, the floors, and the mark in microseconds since 1970 up to
-    /// which the versions have forgotten what ended.
+    /// Those of a store that was just opened: the store mark that its transactions carry, the
+    /// published commits, the versions of each key, the floors, and the reclaim mark in
+    /// microseconds since 1970, up to which the versions have forgotten what ended.
     pub fn of_recovered(
         alloc: Global,
         mark: u64,
@@ -207,7 +207,7 @@ impl Commits {
         gone_is_of_value(&self.versions, txn.snapshot, &txn.writes)
     }
 
-    /// The mark that its transactions, tickets and views carry.
+    /// The store mark, which its transactions, tickets and views carry.
     pub fn mark(&self) -> u64
         ensures { result ≡ self.now.mark }
     {
@@ -237,15 +237,15 @@ impl Commits {
         &self.floors
     }
 
-    /// Puts these floors into the place of those that stand. It takes no memory.
+    /// Puts these floors in the place of those before. It takes no memory.
     pub fn put_floors(&mut self, floors: Floors)
         ensures { self.new ≡ with_floors self.old floors }
     {
         self.floors = floors;
     }
 
-    /// The mark up to which the published versions have forgotten what ended, in microseconds since
-    /// 1970.
+    /// The reclaim mark, up to which the published versions have forgotten what ended, in
+    /// microseconds since 1970.
     pub fn reclaimed(&self) -> u64
         ensures is { result ≡ self.now.reclaimed }
         ensures in_range { result < 2 ^ 63 }
@@ -253,7 +253,7 @@ impl Commits {
         self.reclaimed
     }
 
-    /// The commits in memory, those that wait behind those that are published.
+    /// The commits in memory, those that are published, and then those that wait.
     pub fn heads(&self) -> &[CommitHead]
         ensures is { result.now ≡ self.now.heads }
         ensures rising { IsRisingAfter 0 self.now.heads }

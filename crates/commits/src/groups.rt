@@ -19,7 +19,7 @@ impl Commits {
         self.queue.len()
     }
 
-    /// How many of those that wait the group has, 0 where none stands.
+    /// How many of those that wait the group has, 0 where there is none.
     pub fn group(&self) -> usize
         ensures is { result ≡ self.now.group }
         ensures within { result ≤ length self.now.queue }
@@ -28,7 +28,7 @@ impl Commits {
         self.group
     }
 
-    /// The time of the last commit of the group that stands, in microseconds since 1970.
+    /// The time of the last commit of the group, in microseconds since 1970.
     pub fn group_last(&self) -> u64
         requires { 0 < self.now.group }
         ensures { result ≡ group_last self.now }
@@ -39,7 +39,8 @@ impl Commits {
         }
     }
 
-    /// Where no group stands and commits wait, one begins: of the first `most`, or of all of them.
+    /// Where there is no group and commits wait, one begins: of the first `most`, or of all of
+    /// them.
     pub fn begin_group(&mut self, most: usize)
         requires { most ≤ 1024 }
         ensures { self.new ≡ grouped most self.old }
@@ -49,8 +50,8 @@ impl Commits {
         }
     }
 
-    /// The commits of the group are published, and no group stands. Says how many they are. It takes
-    /// no memory.
+    /// The commits of the group are published, and there is no group. Says how many they are. It
+    /// takes no memory.
     pub fn publish(&mut self) -> u32
         ensures count { result ≡ self.old.group }
         ensures new { self.new ≡ published self.old }

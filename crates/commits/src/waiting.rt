@@ -24,7 +24,7 @@ impl Model for Waiting {
 
 impl Waiting {
     /// A commit of this time, in microseconds since 1970, with this label and these versions after it,
-    /// which have forgotten what ended by the mark `reclaimed`.
+    /// which have forgotten what ended by the reclaim mark `reclaimed`.
     pub fn new(time: u64, label: u64, after: Frozen, reclaimed: u64) -> Self
         ensures { result ≡ record { time = time; label = label; after = after; reclaimed = reclaimed } }
     {
@@ -50,7 +50,8 @@ impl Waiting {
         &self.after
     }
 
-    /// The mark up to which these versions have forgotten what ended, in microseconds since 1970.
+    /// The reclaim mark, up to which these versions have forgotten what ended, in microseconds
+    /// since 1970.
     pub fn reclaimed(&self) -> u64
         ensures { result ≡ self.now.reclaimed }
     {

@@ -1,4 +1,4 @@
-//! The records of one extent, in the memory of its image.
+//! The records of one extent, in the memory of its bytes.
 
 ghost use Rattle.std.specs.Prelude.{◌≡◌, ◌++◌, ◌+◌, ◌≤◌, [], length, IfOk};
 ghost use Rattle.deltas.specs.Records.{spelling};
@@ -11,8 +11,8 @@ use crate::slice_writer::{put_header, put_record};
 use std::alloc::{AllocError, Global};
 use std::marker::Model;
 
-/// The bytes of the records that go into one extent: at most 8,176. They stand where the extent's
-/// image has them, so that `seal` copies none.
+/// The bytes of the records that go into one extent: at most 8,176. They lie where the extent's
+/// bytes have them, so that `seal` copies none.
 #[derive(Drop)]
 pub struct ExtentBody {
     // All bytes of the extent: room for its header, the records, zeros.

@@ -48,7 +48,7 @@ impl Image {
         Image { bytes }
     }
 
-    /// The bytes as they stand on the disk.
+    /// The bytes as they are on the disk.
     pub fn bytes(&self) -> &[u8]
         ensures is { result.now ≡ self.now }
         ensures len { length self.now ≡ 8192 }

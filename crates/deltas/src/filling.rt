@@ -44,7 +44,7 @@ fn fill_body<S: RecordSource>(source: &mut S, body: &mut [u8]) -> FilledExtent
 }
 
 /// Fills all bytes of the extent of this number, before the extent `next` of its chain or the last
-/// where that is 0, with as many of the records that are left as it holds, and goes on behind them.
+/// where that is 0, with as many of the records that are left as it holds, and goes on after them.
 /// Where no record is left, it holds none.
 pub fn fill_extent<S: RecordSource>(
     source: &mut S,

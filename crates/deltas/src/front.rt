@@ -1,4 +1,4 @@
-//! The record at the front of bytes, if it is one that a chain may hold.
+//! The record at the beginning of bytes, if it is one that a chain may hold.
 
 ghost use Rattle.std.specs.Prelude.{◌≡◌, ◌≢◌, ◌++◌, ℕ, List, ◌↔◌, IsTrue, IfOk, MatchOption};
 ghost use Rattle.deltas.specs.declared.«record».Record.{Record};
@@ -17,7 +17,7 @@ fn is_record_of(kinds: Kinds, record: &Record) -> bool
     is_record(record) && is_permitted(kinds, &record.content)
 }
 
-/// The record at the front, and what follows it; none where no record of these kinds is spelled there.
+/// The first record, and what follows it; none where no record of these kinds is spelled there.
 pub fn take_record_of(
     alloc: Global,
     kinds: Kinds,

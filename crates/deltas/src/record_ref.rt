@@ -1,4 +1,4 @@
-//! A record whose values stand elsewhere.
+//! A record whose values lie elsewhere.
 
 ghost use Rattle.std.specs.Prelude.{◌≡◌};
 

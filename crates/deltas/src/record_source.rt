@@ -15,7 +15,7 @@ pub trait RecordSource {
     fn peek(&self) -> Option<RecordRef<'_>>
         ensures { option_map record_of_loan result ≡ slice_get (left self.now) 0 };
 
-    /// Goes on behind the next record. At the end nothing changes.
+    /// Goes on after the next record. At the end nothing changes.
     fn advance(&mut self)
         ensures { left self.new ≡ drop 1 (left self.old) };
 }

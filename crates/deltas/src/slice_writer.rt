@@ -203,7 +203,7 @@ pub fn loan_len(one: RecordRef) -> usize
     11 + rest_len(one.content)
 }
 
-/// Writes the header of an extent in front of its records, which have `used` bytes.
+/// Writes the header of an extent before its records, which have `used` bytes.
 #[tactic(auto, unfolding(wire::specs::Numbers::u32_bytes))]
 pub fn put_header(image: &mut [u8], number: u32, next: u32, used: u32)
     requires { 16 ≤ length image.old }

@@ -2,7 +2,7 @@
 ghost use Rattle.disk.specs.Laws.{WriteKeeps};
 ghost use Rattle.disk.specs.Within.{WithinWrite};
 
-/// A write keeps what lies apart from it.
+/// A write changes nothing that lies apart from it.
 pub fn write_keeps()
     ensures { WriteKeeps }
 {}

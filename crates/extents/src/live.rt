@@ -1,4 +1,4 @@
-//! Extents from the numbers of those that are live, as they stand in the chains of a log.
+//! Extents from the numbers of those that are live, as the chains of a log name them.
 
 ghost use Rattle.std.specs.Prelude.{◌≡◌, ℕ, ◌↔◌, Contains, length, IfOk, IfErr};
 ghost use Rattle.extents.specs.Usages.{IsFree, IsKept, used_count};
@@ -12,7 +12,7 @@ use std::alloc::{AllocError, Global};
 #[derive(Clone, Copy, Debug, PartialEq, Eq)]
 pub enum LiveFault {
     NoMemory,
-    /// The first number that is none of 1 to `LAST_EXTENT` or stands there a second time.
+    /// The first number that is none of 1 to `LAST_EXTENT` or is there a second time.
     NotFree(u32),
 }
 
@@ -33,7 +33,7 @@ impl Extents {
     ///
     /// # Errors
     ///
-    /// `NotFree` with the first number that is none of 1 to `LAST_EXTENT` or stands there a second
+    /// `NotFree` with the first number that is none of 1 to `LAST_EXTENT` or is there a second
     /// time; `NoMemory`.
     pub fn of_live(alloc: Global, numbers: &[u32]) -> Result<Extents, LiveFault>
         ensures live { IfOk result (λ extents. AreLive numbers.now × (extents ≡ usages_of_live numbers.now)) }

@@ -14,8 +14,8 @@ pub struct OwnFloor {
     pub floor: u64,
 }
 
-/// The floors of all relations at one moment, which several may hold: one of every relation, and beside it
-/// those that some relations have of their own. They never change; raised ones are others. Times are
+/// The floors of all relations at one moment, which several may hold: one of every relation, and those
+/// that some relations have of their own. They never change; raised ones are others. Times are
 /// microseconds since 1970, and 0 is no floor.
 #[derive(Drop)]
 pub struct Floors {

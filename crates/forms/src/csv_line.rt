@@ -219,7 +219,7 @@ pub fn spell_row_head(alloc: Global, text: &mut Vec<u8>, width: u8) -> Result<()
     spell_cells(alloc, text, &cells)
 }
 
-/// Spells the row that says from when on and up to when a value stood, and the value.
+/// Spells the row that says from when on and up to when a value was valid, and the value.
 pub fn spell_row(
     alloc: Global,
     text: &mut Vec<u8>,

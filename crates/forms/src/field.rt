@@ -8,7 +8,7 @@ use crate::text_field::{spell_hex_field, spell_text_field};
 use std::alloc::{AllocError, Global};
 use wire::Value;
 
-/// Spells what stands before each word but the first of a line.
+/// Spells what comes before each word but the first of a line.
 pub fn spell_gap(text: &mut Vec<u8>, form: Form) -> Result<(), AllocError>
     ensures { OnOk result (Appends (Some text.old.items) (Some text.new.items) (told.gap form)) }
 {

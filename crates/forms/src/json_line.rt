@@ -77,7 +77,7 @@ fn begin(alloc: Global, text: &mut Vec<u8>) -> Writer
     Writer::new(mem::replace(text, Vec::new(alloc)))
 }
 
-/// Ends a line, after which the text is what stood before it and the line.
+/// Ends a line, after which the text is what was before it and the line.
 fn end(line: Writer, text: &mut Vec<u8>) -> Result<(), AllocError>
     ensures { OnOk result (Appends (Some line.before) (Some text.new.items) (told.json_line line.tokens)) }
 {
@@ -142,7 +142,7 @@ pub fn spell_record(
     end(line, text)
 }
 
-/// Writes from when on and up to when a value stood.
+/// Writes from when on and up to when a value was valid.
 fn write_times(line: &mut Writer, from: Shown<'_>, to: Shown<'_>) -> Result<(), AllocError>
     ensures { OnOk result (Adds line.old line.new (told.span_tokens (moment_of from.entry) (moment_of to.entry))) }
 {

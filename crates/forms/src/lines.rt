@@ -76,7 +76,7 @@ fn spell_record_words(
     Ok(text.push(b'\n')?)
 }
 
-/// Spells what stands before the lines of records: in CSV the names of the columns, of which so many
+/// Spells what comes before the lines of records: in CSV the names of the columns, of which so many
 /// are those of fields.
 ///
 /// # Errors
@@ -149,7 +149,7 @@ fn spell_row_words(
     Ok(text.push(b'\n')?)
 }
 
-/// Spells what stands before the lines of rows.
+/// Spells what comes before the lines of rows.
 ///
 /// # Errors
 ///
@@ -204,8 +204,8 @@ fn as_shown(time: u64, instant: &Option<String>) -> Shown<'_>
     }
 }
 
-/// Spells the line that says from when on and up to when a value stood, and the value, in CSV with so
-/// many columns of fields.
+/// Spells the line that says from when on and up to when a value was valid, and the value, in CSV
+/// with so many columns of fields.
 ///
 /// # Errors
 ///
@@ -299,7 +299,7 @@ fn spell_pieces(
     Ok(())
 }
 
-/// Spells what stands before the times.
+/// Spells what comes before the times.
 fn spell_front(alloc: Global, text: &mut Vec<u8>, form: Form) -> Result<(), AllocError>
     ensures { OnOk result (Appends (Some text.old.items) (Some text.new.items) (told.times_front form)) }
 {
@@ -311,7 +311,7 @@ fn spell_front(alloc: Global, text: &mut Vec<u8>, form: Form) -> Result<(), Allo
     }
 }
 
-/// Spells what stands after the times.
+/// Spells what comes after the times.
 fn spell_end(text: &mut Vec<u8>, form: Form) -> Result<(), AllocError>
     ensures { OnOk result (Appends (Some text.old.items) (Some text.new.items) (told.times_end form)) }
 {

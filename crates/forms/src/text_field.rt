@@ -103,7 +103,7 @@ pub fn spell_hex_field(alloc: Global, text: &mut Vec<u8>, field: &[u8]) -> Resul
     spell_hex(alloc, text, field)
 }
 
-/// The byte for which a backslash and a letter stand.
+/// The byte that a backslash and a letter spell.
 fn escaped_byte(letter: u8) -> Option<u8>
     ensures { result ≡ told.escaped_byte letter }
 {
@@ -116,8 +116,8 @@ fn escaped_byte(letter: u8) -> Option<u8>
     }
 }
 
-/// Reads a byte that stands after a backslash or not, and tells whether the next one does; none where a
-/// backslash stands before a letter that it may not stand before.
+/// Reads a byte that follows a backslash or not, and tells whether the next one does; none where a
+/// backslash comes before a letter that it may not precede.
 fn read_byte(bytes: &mut Vec<u8>, is_after: bool, byte: u8) -> Result<Option<bool>, AllocError>
     ensures { IfOk result (told.ReadsByte bytes.old.items is_after byte bytes.new.items) }
 {

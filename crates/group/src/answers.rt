@@ -32,7 +32,7 @@ pub enum SubmitFault {
 /// What a step of a group did.
 #[derive(Clone, Copy, Debug, PartialEq, Eq)]
 pub enum Did {
-    /// Nothing: no group stands, and nothing waits.
+    /// Nothing: there is no group, and nothing waits.
     Idle,
     WroteExtent,
     HeapSynced,

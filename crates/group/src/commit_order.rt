@@ -107,7 +107,7 @@ impl CommitOrder {
         self.published += count;
     }
 
-    /// The commits, those that wait behind those that are published.
+    /// The commits, those that are published, and then those that wait.
     pub fn heads(&self) -> &[CommitHead]
         ensures is { result.now ≡ self.now.heads }
         ensures rising { IsRisingAfter 0 self.now.heads }
@@ -124,7 +124,7 @@ impl CommitOrder {
         self.published
     }
 
-    /// Where the commit of a time stands, of which a ticket was given out. A published one is
+    /// What became of the commit of a time, of which a ticket was given out. A published one is
     /// awaited no longer.
     pub fn redeem(&mut self, time: u64) -> TicketState
         ensures is { result ≡ state_of_ticket time self.old }
@@ -166,7 +166,7 @@ fn published_times(alloc: Global, heads: &[CommitHead], label: u64) -> Result<Ve
     Ok(times)
 }
 
-/// Where a commit stands of which a ticket was given out.
+/// What became of a commit of which a ticket was given out.
 #[derive(Clone, Copy, Debug, PartialEq, Eq)]
 pub enum TicketState {
     /// No ticket of this time is out.

@@ -39,8 +39,8 @@ impl Model for Queued {
 }
 
 impl Queued {
-    /// A commit with these versions after it, which have forgotten what ended by the mark `reclaimed`
-    /// in microseconds since 1970, stored in these extents.
+    /// A commit with these versions after it, which have forgotten what ended by the reclaim mark
+    /// `reclaimed` in microseconds since 1970, stored in these extents.
     pub fn new(entry: Member, after: Frozen, reclaimed: u64, stored: Vec<StoredExtent>) -> Self
         ensures { result ≡ record { entry = entry; after = after; reclaimed = reclaimed; stored = stored.items } }
     {
@@ -66,14 +66,15 @@ impl Queued {
         &self.after
     }
 
-    /// The mark up to which these versions have forgotten what ended, in microseconds since 1970.
+    /// The reclaim mark, up to which these versions have forgotten what ended, in microseconds
+    /// since 1970.
     pub fn reclaimed(&self) -> u64
         ensures { result ≡ self.now.reclaimed }
     {
         self.reclaimed
     }
 
-    /// The versions after it are these, which have forgotten what ended by the mark.
+    /// The versions after it are these, which have forgotten what ended by the reclaim mark.
     pub fn forget(&mut self, after: Frozen, mark: u64)
         ensures { self.new ≡ record self.old { after = after; reclaimed = mark } }
     {

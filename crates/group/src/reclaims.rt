@@ -52,7 +52,7 @@ impl Transactions {
     }
 
     /// Makes the published versions without what ended by the mark, in microseconds since 1970,
-    /// beside those that stand.
+    /// while the others stay.
     pub fn prepare_reclaim(&mut self, alloc: Global, mark: u64) -> Result<(), AllocError>
         ensures is { Prepares self.old mark result self.new }
         ensures slots { KeepsSlots self.old self.new }
@@ -66,7 +66,7 @@ impl Transactions {
 
     /// The reclaim up to the mark, in microseconds since 1970, is done: the chains of the commits up
     /// to it and that of the anchors before are free, the extents that were out for the reclaim are
-    /// kept, and what was made of the versions stands. It takes no memory.
+    /// kept, and what was made of the versions takes their place. It takes no memory.
     pub fn reclaim(&mut self, alloc: Global, mark: u64)
         ensures is { self.new ≡ reclaimed_to self.old mark }
         ensures slots { KeepsSlots self.old self.new }

@@ -1,4 +1,4 @@
-//! A write set as the records that the heap keeps of it.
+//! A write set as the records that the heap has of it.
 ghost use Rattle.std.specs.Prelude.{◌≡◌, map, option_copied};
 ghost use Rattle.history.specs.declared.key.KeyWrite.{KeyWrite};
 ghost use Rattle.law_image.specs.Facts.{latest};
@@ -33,8 +33,8 @@ fn record_for<'a>(before: &'a Frozen, write: &'a KeyWrite<SharedValue>) -> Recor
     }
 }
 
-/// Goes over the records that the heap keeps of a write set, in the order of the writes: each as
-/// the one record that it is stored as, over the key's latest value in the versions before it, an
+/// Goes over the records that the heap has of a write set, in the order of the writes: each as the
+/// one record that it is stored as, over the key's latest value in the versions before it, an
 /// anchor, a delta or gone. It takes no memory.
 #[derive(Drop)]
 pub struct WriteRecords<'a> {

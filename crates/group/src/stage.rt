@@ -1,10 +1,10 @@
-//! What is done of the group that stands.
+//! What is done of the group.
 
 /// The next thing to do for a group. `member` and `extent` count from 0: all extents of the members
 /// before, and the first extents of this one, are written.
 #[derive(Clone, Copy, Debug, PartialEq, Eq)]
 pub enum GroupStage {
-    /// No group stands.
+    /// There is no group.
     NoGroup,
     /// Extents are being written.
     Storing { member: usize, extent: usize },
@@ -17,7 +17,7 @@ pub enum GroupStage {
 /// What a group needs next.
 #[derive(Clone, Copy, Debug, PartialEq, Eq)]
 pub enum NextStep {
-    /// No group stands and no commit waits.
+    /// There is no group and no commit waits.
     Idle,
     /// The next extent of the group is to be written.
     WriteExtent,

@@ -24,7 +24,7 @@ use wire::{Body, Member};
 pub const MOST_MEMBERS: usize = 16;
 
 impl Transactions {
-    /// What the group needs next. Where none stands, one begins of the first 16 that wait.
+    /// What the group needs next. Where there is none, one begins of the first 16 that wait.
     pub fn next_step(&mut self) -> NextStep
         ensures new { self.new ≡ steps.grouped self.old }
         ensures is { result ≡ steps.due self.new }

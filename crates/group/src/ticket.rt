@@ -18,14 +18,14 @@ impl Model for Ticket {
 }
 
 impl Ticket {
-    /// The ticket of the commit of this time, from the store of this mark.
+    /// The ticket of the commit of this time, with this store mark.
     pub fn new(mark: u64, time: u64) -> Self
         ensures { result ≡ record { mark = mark; time = time } }
     {
         Ticket { mark, time }
     }
 
-    /// The mark of the store that gave it out.
+    /// The store mark of the store that gave it out.
     pub fn mark(&self) -> u64
         ensures { result ≡ self.now.mark }
     {

@@ -1,4 +1,4 @@
-//! What a store keeps in memory of its transactions.
+//! What a store has in memory of its transactions.
 ghost use Rattle.std.specs.Prelude.{◌≡◌, ◌<◌, ◌≤◌, ◌^◌, [], length, max, false, None, IfOk, if◌then◌else◌};
 ghost use Rattle.chains.specs.KeyWrites.{latest};
 ghost use Rattle.snapshot.specs.OpenTable.{open_count};
@@ -23,7 +23,7 @@ use std::marker::Model;
 use timequery::View;
 
 /// The open transactions, the commit order with the versions of each key, the commits that wait and
-/// the group that stands, the use of the extents, and the room in the log.
+/// the group, the use of the extents, and the room in the log.
 pub struct Transactions {
     pub(crate) mark: u64,
     pub(crate) opened: OpenTable,
@@ -306,7 +306,8 @@ impl Transactions {
         }
     }
 
-    /// The mark up to which the versions after the whole commit order have forgotten what ended.
+    /// The reclaim mark, up to which the versions after the whole commit order have forgotten what
+    /// ended.
     pub(crate) fn ordered_mark(&self) -> u64
         ensures { result ≡ ordered_mark self.now }
     {
@@ -316,7 +317,7 @@ impl Transactions {
         }
     }
 
-    /// The mark that its transactions, tickets and views carry.
+    /// The store mark, which its transactions, tickets and views carry.
     pub fn mark(&self) -> u64
         ensures { result ≡ self.now.mark }
     {
@@ -345,7 +346,7 @@ impl Transactions {
         &self.floors
     }
 
-    /// Puts these floors into the place of those that stand. It takes no memory.
+    /// Puts these floors in the place of those before. It takes no memory.
     pub fn put_floors(&mut self, floors: Floors)
         ensures is { self.new ≡ with_floors self.old floors }
         ensures slots { KeepsSlots self.old self.new }
@@ -353,8 +354,8 @@ impl Transactions {
         self.floors = floors;
     }
 
-    /// The mark up to which the published versions have forgotten what ended, in microseconds since
-    /// 1970.
+    /// The reclaim mark, up to which the published versions have forgotten what ended, in
+    /// microseconds since 1970.
     pub fn reclaimed(&self) -> u64
         ensures { result ≡ self.now.reclaimed }
     {

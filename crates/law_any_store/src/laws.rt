@@ -22,8 +22,8 @@ pub fn calls_stand()
     ensures redeem { RedeemStands }
 {}
 
-/// A step of a group is a run of the machine: a group begins, its gate is due, is written, or so many commits are
-/// published; or the machine fails.
+/// A step of a group is some steps of the machine: a group begins, its gate is due, is written, or so many
+/// commits are published; or the machine fails.
 pub fn pump_stands()
     ensures { PumpStands }
 {}
@@ -65,7 +65,7 @@ pub fn view_is_answered()
     ensures scan_between { ScanBetweenIsAnswered }
 {}
 
-/// A query changes nothing of what the store stands for.
+/// A query changes nothing of what the store represents.
 pub fn queries_stand()
     ensures at { AtStands }
     ensures scan_at { ScanAtStands }

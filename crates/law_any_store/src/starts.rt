@@ -1,4 +1,4 @@
-//! Laws of what the calls say and leave beside the machine's steps, whatever the layout.
+//! Laws of what the calls say and leave besides the machine's steps, whatever the layout.
 ghost use Rattle.law_any_store.specs.Names.{TimesAreOfLabel, TimesStand, BeginKeepsNames, AbortKeepsNames, SubmitKeepsNames};
 ghost use Rattle.law_any_store.specs.Names.{RedeemKeepsNames, PumpKeepsNames, SameKeepsNames};
 ghost use Rattle.law_any_store.specs.Names.{ArchiveStartKeepsNames, ReclaimStartKeepsNames, FloorStartKeepsNames, GrowStartKeepsNames, JobPumpKeepsNames};
@@ -17,7 +17,7 @@ pub fn starts_say()
 
 /// The times of a label are those of the published history, from the time on up to which names may have left memory. Where the log lies in the heap the
 /// earlier ones are those of the history where the disk tells its bytes, and only there may the device refuse or a part of the archive be damaged. Nothing
-/// changes of what the store stands for.
+/// changes of what the store represents.
 pub fn times_are_of_label()
     ensures says { TimesAreOfLabel }
     ensures stands { TimesStand }

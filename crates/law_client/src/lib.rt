@@ -1,6 +1,6 @@
-//! What an application that keeps a store may rely on: laws, each as a function with nothing to do.
-//! They are proved from the public clauses of `run` and of `history` alone, and speak of a list of calls as it went,
-//! the `Trace` of `run`, whose start is any moment of a store.
+//! What an application with a store may rely on: laws, each as a function with nothing to do. They are proved from
+//! the public clauses of `run` and of `history` alone, and speak of a list of calls as it went, the `Trace` of
+//! `run`, whose start is any moment of a store.
 #![tactic(auto)]
 
 ghost use Rattle.law_client.specs.Public.{Public};
@@ -31,7 +31,7 @@ fn public_clauses()
 /// An acknowledged commit is read: where `Done` was answered for a ticket, the call that gave it
 /// submitted a write set, and whoever opens a store on what any later stop leaves reads each of its
 /// writes at the commit's time and until a later commit of the key, unless the device or memory gives
-/// out; the image is kept as a history that has the commit. At the commit's own time that needs
+/// out; the image represents a history that has the commit. At the commit's own time that needs
 /// nothing more than that no later floor is begun.
 pub fn done_is_read()
     ensures read { DoneIsRead }

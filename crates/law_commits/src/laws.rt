@@ -39,7 +39,7 @@ pub fn redeem_stands()
     ensures others { OthersAreStrangers }
 {}
 
-/// A group that is published is that of the first commits that wait. A store that has failed stands for
+/// A group that is published is that of the first commits that wait. A store that has failed represents
 /// the machine that has.
 pub fn publish_stands()
     ensures published { PublishStands }
@@ -47,14 +47,14 @@ pub fn publish_stands()
     ensures broken { BreakStands }
 {}
 
-/// A view of what memory has stands for the published history: from its reclaim mark on it is answered
+/// A view of what memory has represents the published history: from its reclaim mark on it is answered
 /// by that, whatever lies on the disk.
 pub fn view_stands()
     ensures { ViewIsOfHistory }
 {}
 
 /// A group that begins, a floor in the making and where the gate is leave memory as it is; floors that are
-/// raised stand in the place of those before.
+/// raised replace those before.
 pub fn floors_stand()
     ensures beside { BesideStands }
     ensures group { GroupStands }
@@ -62,7 +62,7 @@ pub fn floors_stand()
 {}
 
 /// A reclaim makes memory forget, and the names up to its mark leave it but for those that wait for their
-/// Done: it stands for the same machine.
+/// Done: it represents the same machine.
 pub fn reclaims_stand()
     ensures { ReclaimStands }
 {

@@ -4,7 +4,7 @@ ghost use Rattle.law_image.specs.Laws.{ArchivePlanStays, ReclaimPlanStays, Retir
 ghost use Rattle.law_image.specs.Laws.{ImageAnswersBetween, ImageScansAt, ImageScansBetween, KeptIsSet, HeapIsSet, ArchiveIsSet, HeapVersionsAreSpans};
 ghost use Rattle.law_image.specs.Laws.{SetsAreLists, StoredIsRead, RecentValues, RecentRows, StoredIsGroup, GroupPublishes, RaiseMayCome, FloorPublishes};
 
-/// The image of a new store stands for the empty history.
+/// The image of a new store represents the empty history.
 pub fn empty_stands()
     ensures { EmptyStands }
 {}
@@ -22,14 +22,14 @@ pub fn jobs_stand()
     ensures piece { PieceStands }
 {}
 
-/// What is planned of an image that stands for a history is a plan.
+/// What is planned of an image that represents a history is a plan.
 pub fn plans_are()
     ensures archive { ArchiveIsPlanned }
     ensures reclaim { ReclaimIsPlanned }
     ensures retired { RetiredAreGivenUp }
 {}
 
-/// And it stays a plan while groups are published beside its job.
+/// And it stays a plan while groups are published during its job.
 pub fn plans_stay()
     ensures archive { ArchivePlanStays }
     ensures reclaim { ReclaimPlanStays }
@@ -41,7 +41,7 @@ pub fn kept_queries_agree()
     ensures rows { KeptRows }
 {}
 
-/// What queries of the store that opens an image read stands for the history, and each is answered as the history says.
+/// What queries of the store that opens an image read represents the history, and each is answered as the history says.
 pub fn image_answers()
     ensures view { ImageIsView }
     ensures at { ImageAnswersAt }
@@ -63,7 +63,7 @@ pub fn stored_is_read()
     ensures { StoredIsRead }
 {}
 
-/// Whether homes are told as sets or as lists, the image stands for the same.
+/// Whether homes are told as sets or as lists, the image represents the same.
 pub fn sets_are_lists()
     ensures { SetsAreLists }
 {}
@@ -79,12 +79,12 @@ pub fn stored_is_group()
     ensures { StoredIsGroup }
 {}
 
-/// Where the machine publishes a group, the image with the group's slot stands for what is then published.
+/// Where the machine publishes a group, the image with the group's slot represents what is then published.
 pub fn group_publishes()
     ensures { GroupPublishes }
 {}
 
-/// A floor that may be raised may come next in the log, and the image with its slot stands for the machine with the floor raised.
+/// A floor that may be raised may come next in the log, and the image with its slot represents the machine with the floor raised.
 pub fn floor_publishes()
     ensures may_come { RaiseMayCome }
     ensures publishes { FloorPublishes }

@@ -11,17 +11,17 @@ pub fn frame_reads()
     ensures { FrameReads }
 {}
 
-/// An image with the slot of a group and its extents stands for the history with the group's commits.
+/// An image with the slot of a group and its extents represents the history with the group's commits.
 pub fn slot_stands()
     ensures { SlotStands }
 {}
 
-/// Areas at rest leave only images that stand for the history.
+/// Areas at rest leave only images that represent the history.
 pub fn rest_stands()
     ensures { RestStands }
 {}
 
-/// A header with closed gates stands for the empty history.
+/// A header with closed gates represents the empty history.
 pub fn empty_stands()
     ensures { EmptyStands }
 {}
@@ -36,7 +36,7 @@ pub fn slot_goes()
     ensures { SlotGoes }
 {}
 
-/// At every moment of a group's way to the disk, whatever a stop leaves stands for the history, with the whole group or without it.
+/// At every moment of a group's way to the disk, whatever a stop leaves represents the history, with the whole group or without it.
 pub fn group_goes()
     ensures goes { GroupGoes }
     ensures ends { GroupEnds }
@@ -49,14 +49,14 @@ pub fn jobs_laid()
     ensures floor { FloorLaid }
 {}
 
-/// And their parts are kept.
+/// And their parts stay.
 pub fn jobs_kept()
     ensures archive { ArchiveKept }
     ensures reclaim { ReclaimKept }
     ensures floor { FloorKept }
 {}
 
-/// A write beside the live chains, and one behind the last run, keep all that the log names.
+/// A write apart from the live chains, and one after the last run, leave all that the log names.
 pub fn write_beside()
     ensures heap { HeapBeside }
     ensures archive { ArchiveBeside }
@@ -68,23 +68,23 @@ pub fn bytes_are_one()
     ensures chain { OneChain }
 {}
 
-/// While a slot is in the writing, an extent beside both layouts may be written, and the heap may be synced.
+/// While a slot is in the writing, an extent of neither layout may be written, and the heap may be synced.
 pub fn turn_beside()
     ensures write { TurnBesideWrite }
     ensures sync { TurnBesideSync }
 {}
 
-/// At every moment of the writing of a slot, whatever a stop leaves stands for the old history or for the one that the slot leads to.
+/// At every moment of the writing of a slot, whatever a stop leaves represents the old history or the one that the slot leads to.
 pub fn turn_stands()
     ensures { TurnStands }
 {}
 
-/// An image with an open gate before bytes that are no slot stands for nothing.
+/// An image with an open gate before bytes that are no slot represents nothing.
 pub fn torn_is_none()
     ensures { TornIsNone }
 {}
 
-/// An image that stands for a history opens, as the reading by which it does.
+/// An image that represents a history opens, as the reading by which it does.
 pub fn image_opens()
     ensures { StandsOpens }
 {}
@@ -96,7 +96,7 @@ pub fn opens_once()
     ensures fails { FailsOnce }
 {}
 
-/// While a piece of slots is being made, a stop leaves what is beside something that it may leave of the calm area.
+/// While a piece of slots is being made, a stop leaves, but for the piece, what it may leave of the calm area.
 pub fn growth_leaves()
     ensures { GrowthLeaves }
 {}

@@ -1,4 +1,4 @@
-//! What the library keeps for a host that upholds what the header asks of it, and what it answers: laws, no code.
+//! What the library promises a host that upholds what the header asks of it, and what it answers: laws, no code.
 #![tactic(auto)]
 
 ghost use Rattle.law_library.specs.Answers.{EventsHaveMoments, TimesAreAnswered, ViewsAreAnswered};

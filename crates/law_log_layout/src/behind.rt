@@ -1,5 +1,5 @@
-//! What a reclaim has counted stays right while groups are published behind the log: laws, each as a
-//! function with nothing to do.
+//! What a reclaim has counted stays right while groups are published at the end of the log: laws,
+//! each as a function with nothing to do.
 ghost use Rattle.law_log_layout.specs.Behind.{NamesAreOne, SharesOfBase, SmallBaseIsLog, BaseStaysByGroup, FreeStays, PlanStaysByGroup};
 ghost use Rattle.law_log_layout.specs.Behind.{BaseIsLogBehind, ValuesStay, GroupOfBoth};
 
@@ -8,15 +8,15 @@ pub fn names_are_one()
     ensures { NamesAreOne }
 {}
 
-/// A small base in the place of the log's front leaves the log within its shares, so it is a log that
-/// stands for the same history.
+/// A small base in the place of the log's first chains leaves the log within its shares, so it is a
+/// log that represents the same history.
 pub fn small_base_is_log()
     ensures shares { SharesOfBase }
     ensures stands { SmallBaseIsLog }
 {}
 
-/// With a group behind the log, what was counted for a base stays right: the place that it may take, the
-/// extents that it is written to, and its anchors.
+/// With a group at the end of the log, what was counted for a base stays right: the place that it may
+/// take, the extents that it is written to, and its anchors.
 pub fn base_stays_by_group()
     ensures place { BaseStaysByGroup }
     ensures free { FreeStays }

@@ -7,8 +7,8 @@ ghost use Rattle.law_log_layout.specs.Beside.{BaseLiesBeside, ChainAmongOthers, 
 ghost use Rattle.law_log_layout.specs.Beside.{SyncLeavesChain, SyncLeavesOthers, SyncLeavesParts, WriteAddsPart, WriteLeavesChain, WriteLeavesOthers};
 ghost use Rattle.law_log_layout.specs.Beside.{WriteLeavesParts};
 
-/// A chain's way behind the log, at every moment: a stop leaves the log without it, or, from the write
-/// of its gate on, with it or without; and once that is synced with it.
+/// A chain's way to the end of the log, at every moment: a stop leaves the log without it, or, from
+/// the write of its gate on, with it or without; and once that is synced with it.
 pub fn chain_goes()
     ensures { ChainGoes }
 {}
@@ -19,38 +19,38 @@ pub fn root_goes()
     ensures { RootGoes }
 {}
 
-/// A group's way to the disk, at every moment: what a stop leaves stands for the history, or, from the
-/// write of its gate on, for it with the whole group or without; and once that is synced with it.
+/// A group's way to the disk, at every moment: what a stop leaves represents the history, or, from the
+/// write of its gate on, it with the whole group or without; and once that is synced with it.
 pub fn group_goes()
     ensures goes { GroupGoes }
     ensures ends { GroupEnds }
 {}
 
-/// The same of any chain, told of histories: what a stop leaves stands for what the log tells without the
+/// The same of any chain, told of histories: what a stop leaves represents what the log tells without the
 /// chain, or, from the write of its gate on, without or with it; and once that is synced with it.
 pub fn entry_goes()
     ensures { EntryGoes }
 {}
 
 /// A reclaim, once its base and anchors are on the disk: at every moment of the way from the old root to
-/// the base, what a stop leaves stands for the history.
+/// the base, what a stop leaves represents the history.
 pub fn reclaim_goes()
     ensures { ReclaimGoes }
 {}
 
-/// A base in the place of the log's front is a log that stands for the same history.
+/// A base in the place of the log's first chains is a log that represents the same history.
 pub fn base_is_log()
     ensures { BaseIsLog }
 {}
 
-/// The entry of a floor behind the log raises that floor alone, and that of an archive, whose run may take
-/// the place of the last ones, changes neither history nor floors.
+/// The entry of a floor at the end of the log raises that floor alone, and that of an archive, whose run
+/// may take the place of the last ones, changes neither history nor floors.
 pub fn entry_is_log()
     ensures floor { FloorIsLog }
     ensures run { RunIsLog }
 {}
 
-/// The writing of a base and its anchors, at every moment: what a stop leaves stands for the history, and
+/// The writing of a base and its anchors, at every moment: what a stop leaves represents the history, and
 /// once all is synced the log that the base begins is at rest.
 pub fn base_goes()
     ensures goes { BaseGoes }
@@ -64,9 +64,9 @@ pub fn one_log_in_heap()
     ensures reading { OneReading }
 {}
 
-/// Chains beside each other. While a chain is on its way, what is written beside it, and each sync,
-/// leaves it where it is; and its calls leave what lies beside it, and the other areas, as they were.
-/// So a base can be written while groups go to the heap.
+/// A chain and writes elsewhere. While a chain is on its way, what is written elsewhere, and each
+/// sync, leaves it where it is; and its calls leave what lies elsewhere, and the other areas, as they
+/// were. So a base can be written while groups go to the heap.
 pub fn chains_beside()
     // A chain on its way is left where it is, whether the call is made or refused.
     ensures chain_by_write { WriteLeavesChain }

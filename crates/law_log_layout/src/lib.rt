@@ -1,4 +1,4 @@
-//! From the bytes of an image whose log lies in the heap to what it stands for: laws, each as a function
+//! From the bytes of an image whose log lies in the heap to what it represents: laws, each as a function
 //! with nothing to do.
 #![tactic(auto)]
 

@@ -4,14 +4,14 @@ ghost use Rattle.law_log_opened.specs.Laws.{OpenRefusesFor, ImageHasHeader, Clos
 ghost use Rattle.law_log_opened.specs.Laws.{OpeningStops, SecondStops, OpeningMoments};
 ghost use Rattle.law_log_opened.specs.Answers.{StandsAnswers, KeptAnswers, AnswersStay, LabelsStay};
 
-/// Where opening an image that stands for a history is refused, the device or memory gave out, the disk still holds the image, and a
+/// Where opening an image that represents a history is refused, the device or memory gave out, the disk still holds the image, and a
 /// stop leaves nothing that it might not have left before.
 pub fn open_stands()
     ensures { OpenRefusesFor }
 {}
 
-/// A formatted disk stands for the empty history, and so does a store that is opened on it or created with it. What a stop within a
-/// format left has the status area as it was, or an empty first extent: a header that begins its log there stands for the empty
+/// A formatted disk represents the empty history, and so does a store that is opened on it or created with it. What a stop within a
+/// format left has the status area as it was, or an empty first extent: a header that begins its log there represents the empty
 /// history too, and so does a store that is opened with it.
 pub fn format_stands()
     ensures makes { FormatMakes }
@@ -23,12 +23,12 @@ pub fn format_stands()
     ensures creates { CreateStands }
 {}
 
-/// Whatever a stop may leave of a closed store's disk has a header of as many extents, and stands for a front of the commit order.
+/// Whatever a stop may leave of a closed store's disk has a header of as many extents, and represents a front of the commit order.
 pub fn close_leaves()
     ensures { CloseLeaves }
 {}
 
-/// A store that is opened again after a stop has as many extents as there were, and stands for a front of its commit order, with all that
+/// A store that is opened again after a stop has as many extents as there were, and represents a front of its commit order, with all that
 /// was published. So it does where it was closed. A stop at any moment while it is opened, refused or not, and a second stop leave
 /// nothing that the first might not have left.
 pub fn reopen_stands()

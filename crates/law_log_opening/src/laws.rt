@@ -1,7 +1,7 @@
 //! Laws of opening.
 ghost use Rattle.law_log_opening.specs.Laws.{ArchiveFailsOnce, FailsOnce, HoldsOrFails, OpensOrFails, StandsIsSound, StandsOpens};
 
-/// An image that stands for a history opens, as the log by which it does.
+/// An image that represents a history opens, as the log by which it does.
 pub fn stands_opens()
     ensures { StandsOpens }
 {}
@@ -15,7 +15,7 @@ pub fn checks_decide()
     ensures archive_once { ArchiveFailsOnce }
 {}
 
-/// An image that stands for a history is never answered as no store or as damaged: where it does not open,
+/// An image that represents a history is never answered as no store or as damaged: where it does not open,
 /// the disk refused a call, or memory was short.
 pub fn stands_is_sound()
     ensures { StandsIsSound }

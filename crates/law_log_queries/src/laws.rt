@@ -5,21 +5,21 @@ ghost use Rattle.law_log_queries.specs.Views.{ViewIsOfHistory, ViewGoesOn, AtIsA
 ghost use Rattle.law_log_queries.specs.Views.{AtIsFrozen, ScanAtIsFrozen, BetweenIsFrozen, ScanBetweenIsFrozen};
 ghost use Rattle.law_log_queries.specs.Views.{AtIsAnsweredRecently, ScanAtIsAnsweredRecently, BetweenIsAnsweredRecently, ScanBetweenIsAnsweredRecently};
 
-/// A store that was opened on an image which stands for a history stands for a machine that is opened on it, with its archive; so does
-/// one that is opened on what a stop left, for what is published, or, once the group's gate may be open, for that with the whole group.
+/// A store that was opened on an image of a history represents a machine that is opened on it, with its archive; so does one that is
+/// opened on what a stop left, of what is published, or, once the group's gate may be open, of that with the whole group.
 pub fn open_stands()
     ensures stands { OpenStands }
     ensures again { StopReopens }
 {}
 
-/// No call takes from the archive what it stands for, and from views what they read.
+/// No call takes from the archive what it has, and from views what they read.
 pub fn calls_keep()
     ensures keeps { CallKeeps }
     ensures stands { CallStands }
     ensures go_on { CallsGoOn }
 {}
 
-/// A view stands for the published history of its moment, and is answered by it, from memory and from the archive, also once the store
+/// A view represents the published history of its moment, and is answered by it, from memory and from the archive, also once the store
 /// has gone on.
 pub fn view_is_answered()
     ensures view { ViewIsOfHistory }

@@ -9,28 +9,28 @@ pub fn old_len_is()
     ensures fits { OldLenFits }
 {}
 
-/// The anchors of the state at a time have as many bytes as the number behind the last member up to the
+/// The anchors of the state at a time have as many bytes as the number after the last member up to the
 /// time says. Each state has one list of anchors.
 pub fn state_has_size()
     ensures size { StateHasSize }
     ensures anchors { StateHasAnchors }
 {}
 
-/// All states from the reclaim mark on keep a bound of extents exactly where all numbers do, and so where
-/// the greatest does.
+/// All states from the reclaim mark on are within a bound of extents exactly where all numbers are, and
+/// so where the greatest is.
 pub fn bounds_are_same()
     ensures all { BoundsAreSame }
     ensures most { MostIsBound }
 {}
 
-/// Behind more members the numbers go on from the last one; and so they do with a group more.
+/// After more members the numbers go on from the last one; and so they do with a group more.
 pub fn numbers_go_on()
     ensures members { MembersGoOn }
     ensures group { GroupGrows }
 {}
 
-/// The number behind a member follows from the values of its keys before and behind it; so does that of a
-/// member that comes behind others.
+/// The number after a member follows from the values of its keys before and after it; so does that of a
+/// member that comes after others.
 pub fn member_is_moved()
     ensures moved { MemberIsMoved }
     ensures next { MemberComesNext }
@@ -42,7 +42,7 @@ pub fn sizes_are_counted()
     ensures group { GroupIsCounted }
 {}
 
-/// Where the laws hold: of an image that stands for a history, of it with a group more, and of what
+/// Where the laws hold: of an image that represents a history, of it with a group more, and of what
 /// chains tell that follow each other.
 pub fn readings_are_ordered()
     ensures standing { StandingIsOrdered }
@@ -51,8 +51,8 @@ pub fn readings_are_ordered()
     ensures members { MembersByChain }
 {}
 
-/// A base in the place of the log's front changes no state from its mark on, and the last number is what
-/// it was.
+/// A base in the place of the log's first chains changes no state from its reclaim mark on, and the last
+/// number is what it was.
 pub fn base_keeps_states()
     ensures { BaseKeepsStates }
 {}

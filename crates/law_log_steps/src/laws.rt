@@ -2,24 +2,24 @@
 ghost use Rattle.law_log_steps.specs.Laws.{AbortStands, ArchiveStartStands, BeginStands, FloorStartStands, JobPumpStands, OpenedStands, OpenStands};
 ghost use Rattle.law_log_steps.specs.Laws.{LeavesFronts, PumpStands, ReclaimStartStands, RedeemStands, RestsOnFront, StopOpens, StopReopens, SubmitStands};
 
-/// A store that is opened on an image that stands for a history stands for a machine that is opened on it.
+/// A store that is opened on an image of a history represents a machine that is opened on it.
 pub fn opened_stands()
     ensures { OpenedStands }
 {}
 
-/// A store that was opened on an image which stands for a history, with its floors, stands for a machine that is
+/// A store that was opened on an image which represents a history, with its floors, represents a machine that is
 /// opened on it.
 pub fn open_stands()
     ensures { OpenStands }
 {}
 
-/// Whatever a crash leaves between two calls, also after a refused one, stands for what is published, or for that
+/// Whatever a crash leaves between two calls, also after a refused one, represents what is published, or that
 /// with the whole group that is being written.
 pub fn rests_on_front()
     ensures { RestsOnFront }
 {}
 
-/// What a crash leaves opens, unless the device refuses a call or memory is short, and the opened store stands for a
+/// What a crash leaves opens, unless the device refuses a call or memory is short, and the opened store represents a
 /// machine that is opened on what is published, or, once the group's gate may be open, on that with the whole group.
 pub fn stops_reopen()
     ensures fronts { LeavesFronts }
@@ -54,7 +54,7 @@ pub fn pump_stands()
     ensures { PumpStands }
 {}
 
-/// A step of a job goes on with the raising of its floor: the floor stands once its last call is made, and nothing else of the
+/// A step of a job goes on with the raising of its floor: the floor is raised once its last call is made, and nothing else of the
 /// machine's changes; or the job waits for a group, or the machine fails. A step of an archive or a reclaim changes nothing of the
 /// machine's.
 pub fn job_stands()

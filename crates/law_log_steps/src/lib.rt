@@ -1,4 +1,4 @@
-//! The calls of a store whose log lies in the heap are steps of the machine, and keep what a stop may leave: laws, each as a
+//! The calls of a store whose log lies in the heap are steps of the machine, with what a stop may leave: laws, each as a
 //! function with nothing to do.
 #![tactic(auto)]
 

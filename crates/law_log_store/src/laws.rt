@@ -4,15 +4,15 @@ ghost use Rattle.law_log_store.specs.Calls.{PumpLeaves, PumpSteps, ReclaimBegins
 ghost use Rattle.law_log_store.specs.Opened.{OpenedStands, OpensAny, OpenStands, RoomOpens};
 ghost use Rattle.law_log_store.specs.Laws.{GroupBegins, GroupGoesOn, GroupJoins, StandingStops, SubmitKeeps};
 
-/// A store that is opened on a log that stands for a history stands for that history: the heap has the room that
+/// A store that is opened on a log that represents a history represents that history: the heap has the room that
 /// an opened one is to have, and all is on the disk.
 pub fn opened_stands()
     ensures room { RoomOpens }
     ensures stands { OpenedStands }
 {}
 
-/// A store that was opened on an image which stands for a history stands for that history, and no opening is
-/// refused for what such an image says: only where the disk refuses a call, or memory is short.
+/// A store that was opened on an image of a history represents that history, and no opening is refused for
+/// what such an image says: only where the disk refuses a call, or memory is short.
 pub fn open_stands()
     ensures stands { OpenStands }
     ensures any { OpensAny }
@@ -24,47 +24,47 @@ pub fn group_joins()
     ensures { GroupJoins }
 {}
 
-/// A group's way to the disk, call by call: what a crash leaves stands for what is published, or, from the
-/// write of the gate on, for that or for it with the whole group, also where the call is refused. Once the
-/// last call is made the disk stands for what is published then.
+/// A group's way to the disk, call by call: what a crash leaves represents what is published, or, from the
+/// write of the gate on, that or that with the whole group, also where the call is refused. Once the last
+/// call is made the disk represents what is published then.
 pub fn group_goes_on()
     ensures stops { StandingStops }
     ensures call { GroupGoesOn }
 {}
 
-/// A group begins: its chain begins where the log ends and takes free extents, and with it the heap keeps its
-/// shares. The disk stands for what it did.
+/// A group begins: its chain begins where the log ends and takes free extents, and with it the heap stays
+/// within its shares. The disk represents what it did.
 pub fn group_begins()
     ensures { GroupBegins }
 {}
 
-/// A commit that may follow the commit order, and has room, is queued with its bytes. The disk stands for what it
-/// did, and the states behind the queue have room for their anchors.
+/// A commit that may follow the commit order, and has room, is queued with its bytes. The disk represents what it
+/// did, and the states after the queue have room for their anchors.
 pub fn submit_keeps()
     ensures { SubmitKeeps }
 {}
 
 /// A step of a group of a store that works: as many of the first commits of the queue are published as it says,
-/// and the disk stands for that; or nothing has changed for want of memory; or the store has failed, and what a
-/// crash leaves stands for what is published, or for that with the whole group. So does what a crash leaves
-/// before the step and after it, whatever its answer.
+/// and the disk represents that; or nothing has changed for want of memory; or the store has failed, and what a
+/// crash leaves represents what is published, or that with the whole group. So does what a crash leaves before
+/// the step and after it, whatever its answer.
 pub fn pump_steps()
     ensures steps { PumpSteps }
     ensures leaves { PumpLeaves }
     ensures failed { FailedRests }
 {}
 
-/// A step of a job of a store that works: the run of an archive is written behind all that the log names, and is synced; its entry
-/// goes its way to the disk as a group does, and behind its last call the disk stands for what it says; or the job waits for a
+/// A step of a job of a store that works: the run of an archive is written after all that the log names, and is synced; its entry
+/// goes its way to the disk as a group does, and after its last call the disk represents what it says; or the job waits for a
 /// group, or nothing has changed for want of memory, or the store has failed. What a crash leaves before the step and after it
-/// stands for what is published, with what the entry says or without. An archive's says nothing else: it loses no version. Nor
-/// does a reclaim: whichever root a crash leaves, what it leaves stands for what is published, or for that with the whole group.
+/// represents what is published, with what the entry says or without. An archive's says nothing else: it loses no version. Nor
+/// does a reclaim: whichever root a crash leaves, what it leaves represents what is published, or that with the whole group.
 pub fn job_steps()
     ensures steps { JobSteps }
     ensures leaves { JobLeaves }
 {}
 
-/// A floor that begins changes nothing of what the disk stands for.
+/// A floor that begins changes nothing of what the disk represents.
 pub fn floor_begins()
     ensures { FloorBegins }
 {}
@@ -75,8 +75,8 @@ pub fn archive_begins()
     ensures { ArchiveBegins }
 {}
 
-/// Nor does a reclaim that begins: its base and its anchors have free extents, and the base may take the place of the front. Of the
-/// versions that stand at the archive mark memory has to have those of the heap.
+/// Nor does a reclaim that begins: its base and its anchors have free extents, and the base may take the place of the first chains.
+/// Of the versions that are valid at the archive mark memory has to have those of the heap.
 pub fn reclaim_begins()
     ensures { ReclaimBegins }
 {}
@@ -88,7 +88,7 @@ pub fn memory_keeps()
     ensures redeem { RedeemKeeps }
 {}
 
-/// A submit queues one commit or none. The disk stands for what it did, and the queue has it at its end.
+/// A submit queues one commit or none. The disk represents what it did, and the queue has it at its end.
 pub fn submit_steps()
     ensures steps { SubmitSteps }
     ensures failed { FailedQueuesNone }

@@ -1,35 +1,34 @@
-//! What opening a store, formatting a disk and closing a store stand for: laws, each as a function with nothing to do.
+//! What opening a store, formatting a disk and closing a store mean: laws, each as a function with nothing to do.
 #![tactic(auto)]
 
 ghost use Rattle.law_opening.specs.Laws.{OpenStands, OpenAnswers, OpenRefusesFor, FormatStands, FormatStops, FormatOpens, CloseLeaves, ReopenStands};
 ghost use Rattle.law_opening.specs.Laws.{ReopenRefuses, OpeningStops, SecondStops, OpeningMoments, ClosedIsLeft, ReopenHasSlots, ImageHasHeader, StandsAnswers};
 ghost use Rattle.law_opening.specs.Laws.{KeptAnswers, AnswersStay, LabelsStay};
 
-/// On an image that stands for a history an opened store stands for it, and there is one that
-/// opening answers. Where opening is refused, the device or memory gave out, the disk still holds the image, and a stop leaves nothing that it
-/// might not have left before.
+/// On an image of a history an opened store represents it, and there is one that opening answers. Where opening is refused, the device or
+/// memory gave out, the disk still holds the image, and a stop leaves nothing that it might not have left before.
 pub fn open_stands()
     ensures opens { OpenStands }
     ensures answers { OpenAnswers }
     ensures refuses { OpenRefusesFor }
 {}
 
-/// A formatted disk stands for the empty history, and so does a store that is opened on it.
+/// A formatted disk represents the empty history, and so does a store that is opened on it.
 pub fn format_stands()
     ensures leaves { FormatStands }
     ensures stops { FormatStops }
     ensures opens { FormatOpens }
 {}
 
-/// Whatever a stop may leave of a closed store's disk stands for a front of the commit order.
+/// Whatever a stop may leave of a closed store's disk represents a front of the commit order.
 pub fn close_leaves()
     ensures { CloseLeaves }
 {}
 
-/// A store that is opened again after a stop stands for a front of its commit order, with all that
+/// A store that is opened again after a stop represents a front of its commit order, with all that
 /// was published, and has the slots that there were or, once the gate of a piece might be open, 256
-/// more. So it does where it was closed. A stop at any moment while it is opened, refused
-/// or not, and a second stop leave nothing that the first might not have left.
+/// more. So it does where it was closed. A stop at any moment while it is opened, refused or not,
+/// and a second stop leave nothing that the first might not have left.
 pub fn reopen_stands()
     ensures opens { ReopenStands }
     ensures refuses { ReopenRefuses }

@@ -1,4 +1,4 @@
-//! A store's calls are steps of the machine, and keep what a stop may leave: laws, each as a function
+//! A store's calls are steps of the machine, with what a stop may leave: laws, each as a function
 //! with nothing to do.
 #![tactic(auto)]
 
@@ -30,16 +30,16 @@ pub fn submit_stands()
 
 /// In a step of a group the machine's group begins, is published, or the machine fails, or nothing
 /// of the machine's happens. Before the step and after it, made or refused, whatever a stop may
-/// leave stands for what is published, or for that with the whole group.
+/// leave represents what is published, or that with the whole group.
 pub fn pump_stands()
     ensures { PumpStands }
 {}
 
 /// An archive, a reclaim or a growth that begins, and each step of these, changes nothing of the machine's;
 /// a floor that begins is one in the making, and its last step raises it. Before each step and after it,
-/// made or refused, whatever a stop may leave stands for what is published, with the floors that stand
-/// or, once a floor's gate may be open, with that floor; and it has the slots that there are or, once a
-/// piece's gate may be open, 256 more.
+/// made or refused, whatever a stop may leave represents what is published, with the present floors or,
+/// once a floor's gate may be open, with that floor; and it has the slots that there are or, once a piece's
+/// gate may be open, 256 more.
 pub fn jobs_stand()
     ensures archive { ArchiveStartStands }
     ensures reclaim { ReclaimStartStands }
@@ -53,7 +53,7 @@ pub fn redeem_stands()
     ensures { RedeemStands }
 {}
 
-/// No step of a group or of a job, and no beginning of a job, changes the store's mark, its open
+/// No step of a group or of a job, and no beginning of a job, changes the store mark, the open
 /// transactions or the heads of its commit order.
 pub fn steps_leave()
     ensures pump { PumpLeaves }
@@ -64,7 +64,7 @@ pub fn steps_leave()
     ensures job_pump { JobPumpLeaves }
 {}
 
-/// A ticket has the store's mark and the time of the machine's commit, and what only reads tells its
+/// A ticket has the store mark and the time of the machine's commit, and what only reads tells its
 /// snapshot. Done is of the ticket's own head, which is published and is awaited no more. A step of a
 /// group publishes the first commits of the queue, as many as it says, and changes nothing else that is
 /// read.
@@ -80,7 +80,7 @@ pub fn times_are_of_label()
     ensures { TimesAreOfLabel }
 {}
 
-/// A view stands for the published history of its moment, and goes on answering by it, from memory and
+/// A view represents the published history of its moment, and goes on answering by it, from memory and
 /// from the archive.
 pub fn view_is_answered()
     ensures view { ViewIsOfHistory }
@@ -91,7 +91,7 @@ pub fn view_is_answered()
     ensures scan_between { ScanBetweenIsAnswered }
 {}
 
-/// A query leaves the store standing for what it stood for, and no call takes from views what they read.
+/// A query changes nothing of what the store represents, and no call takes from views what they read.
 pub fn views_go_on()
     ensures at { AtStands }
     ensures scan_at { ScanAtStands }
@@ -116,7 +116,7 @@ pub fn recent_is_answered()
     ensures scan_between { ScanBetweenIsAnsweredRecently }
 {}
 
-/// Memory that forgets what ended by a mark stands for the same history, from the mark on.
+/// Memory that forgets what ended by a mark represents the same history, from the mark on.
 pub fn forgotten_holds()
     ensures { ForgottenHolds }
 {}

@@ -1,4 +1,4 @@
-//! The base that takes the place of a log's front.
+//! The base that takes the place of a log's first chains.
 
 ghost use Rattle.std.specs.Prelude.{◌≡◌, ◌++◌, [], OnOk, IfOk, option_to_list};
 ghost use Rattle.log_base.specs.Bases.{in_base, with_run, runs_behind, runs_from, rolls_of, base_on};
@@ -79,8 +79,8 @@ fn with_roll(alloc: Global, rolls: &[Roll], roll: Option<Roll>) -> Result<Vec<Ro
     Ok(all)
 }
 
-/// The base in the place of these chains, the front of a log: it goes up to this time in microseconds since 1970,
-/// names these anchors, has the rolls, runs and floors that the front leaves, and the roll, if one is added.
+/// The base in the place of these chains, the first of a log: it goes up to this time in microseconds since 1970,
+/// names these anchors, has the rolls, runs and floors that these leave, and the roll, if one is added.
 pub fn base_of(
     alloc: Global,
     front: &[LiveChain],

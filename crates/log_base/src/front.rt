@@ -1,4 +1,4 @@
-//! The front of a log: the chains that a reclaim takes the place of. Times are microseconds since 1970.
+//! The first chains of a log, which a reclaim replaces. Times are microseconds since 1970.
 
 ghost use Rattle.std.specs.Prelude.{◌≡◌, ◌≤◌, length};
 ghost use Rattle.log_base.specs.Bases.{is_later, front_len, mark_of, anchors_of};
@@ -16,7 +16,7 @@ fn is_later(mark: u64, part: &LivePart) -> bool
     }
 }
 
-/// How many chains stand before the first that has a commit later than this time.
+/// How many chains come before the first that has a commit later than this time.
 pub fn front_len(chains: &[LiveChain], mark: u64) -> usize
     ensures is { result ≡ front_len mark chains.now }
     ensures within { result ≤ length chains.now }

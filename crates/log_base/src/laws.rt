@@ -1,9 +1,10 @@
-//! What holds of a base that takes the place of a log's front.
+//! What holds of a base that takes the place of a log's first chains.
 ghost use Rattle.log_base.specs.Laws.{FrontIs, MarkIs, RunsAre, RollsAre, AnchorsAre, NamesGoOn, HeadsAre, BaseTakesFront, BaseIsEntry};
 ghost use Rattle.log_base.specs.Laws.{RunsStayInRow, RollComesBehind, NewRollIs};
 ghost use Rattle.log_base.specs.Places.{MadeBaseMay};
 
-/// The front has no commit later than the mark, the first chain of the rest has one, and no base stands in the rest.
+/// The first chains have no commit later than the mark, the first chain of the rest has one, and no base is in the
+/// rest.
 pub fn front_is()
     ensures { FrontIs }
 {}
@@ -13,12 +14,12 @@ pub fn mark_is()
     ensures { MarkIs }
 {}
 
-/// The runs of the base are those that stand behind the front.
+/// The runs of the base are those that the first chains leave.
 pub fn runs_are()
     ensures { RunsAre }
 {}
 
-/// The rolls of the front are those that the log names.
+/// The rolls of the first chains are those that the log names.
 pub fn rolls_are()
     ensures { RollsAre }
 {}
@@ -33,7 +34,7 @@ pub fn heads_are()
     ensures { HeadsAre }
 {}
 
-/// The base takes the place of the front: the log tells the same, but for the reclaim mark.
+/// The base takes the place of the first chains: the log tells the same, but for the reclaim mark.
 pub fn base_takes_front()
     ensures { BaseTakesFront }
 {}
@@ -48,12 +49,12 @@ pub fn anchors_are()
     ensures { AnchorsAre }
 {}
 
-/// The runs of the base and those of the chains behind it are in a row.
+/// The runs of the base and those of the chains after it are in a row.
 pub fn runs_stay_in_row()
     ensures { RunsStayInRow }
 {}
 
-/// A roll that begins where all else of the archive ends comes behind the rolls, and is apart from all.
+/// A roll that begins where all else of the archive ends comes after the rolls, and is apart from all.
 pub fn roll_comes_behind()
     ensures { RollComesBehind }
 {}
@@ -63,8 +64,8 @@ pub fn new_roll_is()
     ensures { NewRollIs }
 {}
 
-/// The base that is computed may take the place of the front, where its extents are free and its roll lies behind all
-/// that the log names in the archive.
+/// The base that is computed may take the place of the first chains, where its extents are free and its roll lies
+/// after all that the log names in the archive.
 pub fn made_base_may()
     ensures { MadeBaseMay }
 {}

@@ -1,5 +1,5 @@
-//! What a reclaim puts in the place of a log's front, computed from what memory keeps: the base, and the names of
-//! commits that its roll has.
+//! What a reclaim puts in the place of a log's first chains, computed from what memory has: the base, and the
+//! names of commits that its roll has.
 #![tactic(auto)]
 
 mod base;

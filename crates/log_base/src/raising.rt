@@ -85,7 +85,7 @@ fn spelled(alloc: Global, own: &[OwnFloor]) -> Result<Vec<RelationFloor>, AllocE
     Ok(floors)
 }
 
-/// The floors behind these chains, as a base has them.
+/// The floors after these chains, as a base has them.
 pub(crate) fn floors_from(
     alloc: Global,
     chains: &[LiveChain],

@@ -8,7 +8,7 @@ use std::marker::Model;
 /// How many bytes one write has at the most.
 const PIECE_LEN: usize = 8192;
 
-/// Writes the bytes of a roll to the archive, in pieces of 8,192, the last of which may be shorter.
+/// Writes the bytes of a roll to the archive, in parts of 8,192, the last of which may be shorter.
 #[derive(Drop)]
 pub struct RollWriter {
     // Where the roll begins, its bytes, and how many of them are written.
@@ -52,8 +52,8 @@ impl RollWriter {
         self.bytes.len() - self.written
     }
 
-    /// Writes the next piece, in one device write; nothing where all was written. Where the write is refused the
-    /// piece is left to write.
+    /// Writes the next part, in one device write; nothing where all was written. Where the write is refused the
+    /// part is left to write.
     pub fn write_piece<D: Disk>(&mut self, disk: &mut D) -> Result<(), DeviceFault>
         ensures left { self.new.left ≡ (if is_ok result then drop 8192 self.old.left else self.old.left) }
         ensures at { self.new.at ≡ (if is_ok result then self.old.at + length (take 8192 self.old.left) else self.old.at) }

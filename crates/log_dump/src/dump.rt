@@ -77,8 +77,8 @@ fn fault_of(end: &ShownEnd) -> Option<OpenFault>
 ///
 /// # Errors
 ///
-/// `NotAStore` where no header of a store whose log lies in the heap stands in front; `Device` where the disk refused a
-/// read; `NoMemory`.
+/// `NotAStore` where there is no header of a store whose log lies in the heap; `Device` where the disk refused a read;
+/// `NoMemory`.
 pub fn read_dump<D: Disk>(alloc: Global, disk: &mut D) -> Result<Dump, OpenFault>
     ensures dump { IfOk result (IsDumpOf D.tells (D.state disk.old).areas.status.bytes (D.state disk.old).areas.heap.bytes) }
     ensures fault { IsTrue D.tells → IfErr result (IsShownFault (D.state disk.old).areas.status.bytes) }

@@ -1,4 +1,4 @@
-//! An ARCHIVED at the front of bytes.
+//! An ARCHIVED at the beginning of bytes.
 
 ghost use Rattle.std.specs.Prelude.{◌≡◌, ◌≤◌, ◌↔◌, length, drop, IsTrue};
 ghost use Rattle.log_entries.specs.Spelling.{archive_bytes};

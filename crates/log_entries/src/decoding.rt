@@ -81,7 +81,7 @@ fn decode_kind(alloc: Global, most: u32, bytes: &[u8]) -> Result<Option<Entry>, 
 
 /// What a chain of the log holds that has these bytes, in a heap of so many extents. None where they
 /// are of none of the forms of a chain: commits, a run, a floor or a base. It takes no more memory
-/// than so many bytes can say, whatever counts stand among them.
+/// than so many bytes can say, whatever counts are among them.
 pub fn decode(alloc: Global, most: u32, bytes: &[u8]) -> Result<Option<Entry>, AllocError>
     ensures found { IfOk result (λ o. IfSome o (λ entry. (bytes.now ≡ entry_bytes entry) × IsEntry most entry)) }
     ensures only { (entry : Entry) → IsEntry most entry → bytes.now ≡ entry_bytes entry → IfOk result (λ o. o ≡ Some entry) }

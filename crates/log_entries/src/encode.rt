@@ -79,7 +79,7 @@ fn mark_array(upto: u64, anchors: &AnchorName) -> [u8; BASE_LEN]
 }
 
 /// Appends a COMMIT: the caller's number, the time in microseconds since 1970, and how many records
-/// follow it. These are pushed behind it.
+/// follow it. These are pushed after it.
 pub fn push_commit(out: &mut Vec<u8>, label: u64, time: u64, count: u16) -> Result<(), AllocError>
     ensures items { out.new.items ≡ (if is_ok result then out.old.items ++ commit_bytes label time count else out.old.items) }
     ensures len { OnOk result (length out.new.items ≡ length out.old.items + 19) }

@@ -26,7 +26,7 @@ pub struct Archive {
     pub runs: u16,
 }
 
-/// The time from which on the history of one relation is kept.
+/// The time from which on the history of one relation is answered.
 #[derive(Clone, Copy, Debug, PartialEq, Eq)]
 pub struct RelationFloor {
     pub relation: u16,
@@ -49,7 +49,7 @@ pub struct AnchorName {
     pub records: u32,
 }
 
-/// What a reclaim put in the place of the log's front.
+/// What a reclaim put in the place of the log's first chains.
 #[derive(Drop)]
 pub struct Base {
     /// Commits up to this time are in the archive and the anchors alone.

@@ -1,4 +1,4 @@
-//! A FLOOR at the front of bytes.
+//! A FLOOR at the beginning of bytes.
 
 ghost use Rattle.std.specs.Prelude.{◌≡◌, ◌≤◌, ◌↔◌, length, drop, IsTrue};
 ghost use Rattle.log_entries.specs.Spelling.{floor_bytes};

@@ -1,4 +1,4 @@
-//! The commits of a group at the front of bytes.
+//! The commits of a group at the beginning of bytes.
 
 ghost use Rattle.std.specs.Prelude.{◌≡◌, ◌≢◌, ◌<◌, ◌≤◌, ◌↔◌, ◌++◌, ℕ, List, length, drop, IsTrue, IfOk, IfSome, MatchOption};
 ghost use Rattle.deltas.specs.Records.{spelling};

@@ -1,4 +1,4 @@
-//! What stands in a list, one behind the other.
+//! What is in a list, one after the other.
 
 ghost use Rattle.std.specs.Prelude.{◌≡◌, ◌<◌, ◌≤◌, ◌↔◌, ◌++◌, ℕ, List, length, slice_index, IsTrue, IfOk, MatchOption};
 ghost use Rattle.std.specs.List.{flat_map, AllByRecursion};
@@ -6,7 +6,7 @@ ghost use Rattle.log_entries.specs.Items.{HasNone};
 
 use std::alloc::{AllocError, Global};
 
-/// What is spelled in one way alone, and read from the front of bytes.
+/// What is spelled in one way alone, and read from the beginning of bytes.
 pub(crate) trait Item: Sized + Drop {
     /// The one spelling.
     ghost bytes_of: { Self → List ℕ };
@@ -14,7 +14,7 @@ pub(crate) trait Item: Sized + Drop {
     /// Each number is in its range.
     ghost Is: { Self → Type 0 };
 
-    /// The one at the front, and what follows it; none where none is spelled there.
+    /// The first one, and what follows it; none where none is spelled there.
     fn take(alloc: Global, bytes: &[u8]) -> Result<Option<(Self, &[u8])>, AllocError>
         ensures { IfOk result (λ o. MatchOption o (HasNone bytes_of Is bytes.now) (λ p. Is p.0 × (bytes.now ≡ bytes_of p.0 ++ p.1.now))) };
 
@@ -30,7 +30,7 @@ pub(crate) fn has_kind(bytes: &[u8], kind: u8, len: usize) -> bool
     len <= bytes.len() && bytes[0] == kind
 }
 
-/// As many as stand at the front, and what follows them.
+/// As many as there are at the beginning, and what follows them.
 pub(crate) fn take_list<T: Item>(alloc: Global, bytes: &[u8]) -> Result<(Vec<T>, &[u8]), AllocError>
     ensures each { IfOk result (λ p. AllByRecursion T.Is p.0.items) }
     ensures bytes { IfOk result (λ p. bytes.now ≡ flat_map T.bytes_of p.0.items ++ p.1.now) }

@@ -1,4 +1,4 @@
-//! A ROLL at the front of bytes.
+//! A ROLL at the beginning of bytes.
 
 ghost use Rattle.std.specs.Prelude.{◌≡◌, ◌≤◌, ◌↔◌, length, drop, IsTrue};
 ghost use Rattle.log_entries.specs.Spelling.{roll_bytes};

@@ -29,7 +29,7 @@ pub enum Taken {
     More(u32),
     /// A whole chain.
     Whole,
-    /// No chain, whatever comes behind them.
+    /// No chain, whatever comes after them.
     Bad,
 }
 

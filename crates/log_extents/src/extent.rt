@@ -3,8 +3,8 @@
 ghost use Rattle.std.specs.Prelude.{◌≡◌, ◌↔◌, IsTrue};
 ghost use Rattle.log_extents.specs.Chains.{count_of};
 
-/// How many bytes of an extent stand before its part of the chain's bytes: the gate and three
-/// zeros, and five numbers of four bytes each.
+/// How many bytes of an extent come before its part of the chain's bytes: the gate and three zeros,
+/// and five numbers of four bytes each.
 pub const HEAD_LEN: usize = 24;
 
 /// How many bytes of a chain one extent holds.

@@ -32,7 +32,7 @@ fn put_head(image: &mut [u8], number: u32, next: u32, used: u32, link: u32)
     LittleEndian::write_u32(&mut image[20..], 0);
 }
 
-/// Writes all bytes of an extent: its gate is closed, and behind its part of the chain's bytes stand
+/// Writes all bytes of an extent: its gate is closed, and after its part of the chain's bytes come
 /// zeros.
 pub fn fill_extent(link: u32, number: u32, next: u32, body: &[u8], image: &mut [u8; EXTENT_LEN])
     requires { length body.now ≤ 8168 }

@@ -7,7 +7,7 @@ pub fn one_extent()
     ensures len { ExtentLength }
 {}
 
-/// The pieces of a content are as many as are counted, and joined they are the content.
+/// The parts of a content are as many as are counted, and joined they are the content.
 pub fn pieces_joined()
     ensures joined { PiecesJoined }
     ensures counted { PiecesCounted }
@@ -18,7 +18,7 @@ pub fn count_joined()
     ensures { CountJoined }
 {}
 
-/// Images are at most one chain, and its extents hold the pieces of its content.
+/// Extents are at most one chain, and its extents hold the parts of its content.
 pub fn one_chain()
     ensures pieces { ChainHoldsPieces }
     ensures one { OneChain }

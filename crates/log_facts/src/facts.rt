@@ -157,7 +157,8 @@ fn extents_by(mark: u64, before: u64, members: &[Member]) -> u64
     count
 }
 
-/// The extents that the heap has to keep: those that the last reclaim left, and those of later commits.
+/// The extents of the heap that are in use: those that the last reclaim left, and those of later
+/// commits.
 pub fn extents(slots: &[Slot]) -> u64
     ensures { result ≡ told.extents slots.now }
 {

@@ -58,7 +58,7 @@ pub fn heap_info_text(
 ///
 /// # Errors
 ///
-/// `NotAStore` where no header of such a store stands in front; `Damaged` with an extent of the heap where a check of
+/// `NotAStore` where there is no header of such a store; `Damaged` with an extent of the heap where a check of
 /// opening fails; `Device` where the disk refused a read; `NoMemory`.
 pub fn read_heap_info<D: Disk>(
     alloc: Global,

@@ -10,7 +10,7 @@ pub(crate) const NAME_LEN: usize = 16;
 
 pub(crate) const NAME_BYTES: u64 = NAME_LEN as u64;
 
-/// A name of a commit, as it stands in the archive. The time is in microseconds since 1970.
+/// A name of a commit, as it is in the archive. The time is in microseconds since 1970.
 #[derive(Clone, Copy, Debug, PartialEq, Eq)]
 pub(crate) struct Name {
     pub label: u64,
@@ -35,8 +35,8 @@ pub(crate) fn is_in_time(name: &Name, upto: u64) -> bool
     0 < name.time && name.time <= upto
 }
 
-/// Whether the name may stand behind the one that was read just before it on the walk, if one was: by its label, and then
-/// by its time.
+/// Whether the name may follow the one that was read just before it on the walk, if one was: by its label, and then by
+/// its time.
 pub(crate) fn may_follow(last: &Option<Name>, name: &Name) -> bool
     ensures { result ≡ standing.may_follow last.now name.now }
 {

@@ -5,9 +5,10 @@ ghost use Rattle.log_names.specs.Looks.{LooksAt, Follows};
 use archive::ArchiveFault;
 use disk::{Area, Disk};
 
-/// Reads parts of what lies in the archive. It may keep some, each with the place in the archive at which it begins.
+/// Reads parts of what lies in the archive. It may have a cache of some, each with the place in the archive at which
+/// it begins.
 pub trait ReadsParts {
-    /// What is kept.
+    /// What is in the cache.
     ghost kept: { Self → List (ℕ × List ℕ) };
 
     /// The bytes from `at` on, of what lies from `start` on and has `len` bytes. Damaged, with the start, only where
@@ -28,7 +29,7 @@ pub trait ReadsParts {
             (λ area _. length area < start + len) };
 }
 
-/// A reader that keeps nothing.
+/// A reader without a cache.
 #[derive(Clone, Copy, Debug, PartialEq, Eq)]
 pub struct UncachedParts;
 

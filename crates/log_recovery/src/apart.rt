@@ -17,7 +17,7 @@ fn ends_by(start: u64, len: u64, place: u64) -> bool
     len == 0 || start + len <= place
 }
 
-/// Whether no byte of the archive lies in two of these runs and rolls, where each run starts behind the one before
+/// Whether no byte of the archive lies in two of these runs and rolls, where each run starts after the one before
 /// it, and each roll too.
 pub(crate) fn are_apart(runs: &[Run], rolls: &[Roll]) -> bool
     requires runs { AreSpansInRow 0 (map run_span runs.now) }

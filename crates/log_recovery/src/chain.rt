@@ -6,7 +6,7 @@ ghost use Rattle.log_entries.specs.Spelling.{entry_bytes};
 use log_entries::Entry;
 use std::marker::Model;
 
-/// A chain of the log: its extents, its head first, the extent where the log goes on behind it, and what it says.
+/// A chain of the log: its extents, its head first, the extent where the log goes on after it, and what it says.
 #[derive(Drop)]
 pub struct LogChain {
     pub numbers: Vec<u32>,

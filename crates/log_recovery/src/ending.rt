@@ -31,7 +31,7 @@ fn extents_beside(end: &LogEnd) -> usize
     if end.archived < end.told_time() { 2 } else { 1 }
 }
 
-/// How many extents the log has, those of the base aside. None where the log or the base does not keep its share of a
+/// How many extents the log has, those of the base aside. None where the log or the base is not within its share of a
 /// heap of so many extents.
 pub fn kept_log(most: u32, chains: &[LogChain], end: &LogEnd) -> Option<usize>
     ensures kept { MatchOption result (¬ KeepsLogShare most chains.now end.now)

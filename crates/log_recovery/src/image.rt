@@ -61,9 +61,9 @@ fn read_settled<D: Disk>(alloc: Global, disk: &mut D) -> Result<LogRecovered, Op
 ///
 /// # Errors
 ///
-/// Of the checks that fail, the first: `NotAStore` where no header stands in front; `Damaged` with an extent
-/// of the heap, or with the byte of the archive at which the first run or roll starts that does not end
-/// within it. `Device` where the disk refused a call; `NoMemory`.
+/// Of the checks that fail, the first: `NotAStore` where there is no header; `Damaged` with an extent of the
+/// heap, or with the byte of the archive at which the first run or roll starts that does not end within it.
+/// `Device` where the disk refused a call; `NoMemory`.
 pub fn read_log<D: Disk>(alloc: Global, disk: &mut D) -> Result<LogRecovered, OpenFault>
     ensures mark { IfOk result (λ read. read.heap.end.mark < 2 ^ 63) }
     ensures runs { IfOk result (λ read. AllByRecursion IsRun read.heap.end.runs.items) }

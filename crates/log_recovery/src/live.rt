@@ -1,4 +1,4 @@
-//! The chains of a log as memory keeps them.
+//! The chains of a log as memory has them.
 
 ghost use Rattle.std.specs.Prelude.{◌≡◌, ℕ, map};
 ghost use Rattle.std.specs.List.{AllByRecursion};
@@ -22,7 +22,7 @@ pub enum LivePart {
     Base(Base),
 }
 
-/// A chain of the log as memory keeps it: its extents, its head first, and what it says but for the records of its
+/// A chain of the log as memory has it: its extents, its head first, and what it says but for the records of its
 /// commits.
 #[derive(Drop)]
 pub struct LiveChain {

@@ -1,4 +1,4 @@
-//! The members of the log: its commits later than the reclaim mark, each record over what stood before it.
+//! The members of the log: its commits later than the reclaim mark, each record over the value before it.
 
 ghost use Rattle.std.specs.Prelude.{◌≡◌, ◌++◌, ◌∷◌, [], ◌≤◌, ◌<◌, ◌^◌, ℕ, List, IfOk, IfErr, IfSome, MatchOption, map};
 ghost use Rattle.std.specs.List.{AllByRecursion};
@@ -126,7 +126,7 @@ pub struct LogMembers {
     pub live: Vec<LiveChain>,
 }
 
-/// The members of these chains, behind the anchors whose versions are these, and which take so many bytes.
+/// The members of these chains, after the anchors whose versions are these, and which take so many bytes.
 ///
 /// # Errors
 ///

@@ -20,7 +20,7 @@ pub struct MembersRead {
     pub commits: Vec<CommitName>,
     /// The time of the last of these commits, or the reclaim mark before the first.
     pub last: u64,
-    /// The bytes of the anchors of the state behind the last of these commits, and the most of any state up to it.
+    /// The bytes of the anchors of the state after the last of these commits, and the most of any state up to it.
     pub sizes: AnchorSizes,
     ghost upto_last: { latest versions ≤ last },
 }

@@ -35,7 +35,7 @@ use log_space::Space;
 use recovery::OpenFault;
 use std::alloc::Global;
 
-/// The chains of a log that keep the rules between them, and its end.
+/// The chains of a log that obey the rules between them, and its end.
 #[derive(Drop)]
 pub struct LogRead {
     pub chains: Vec<LogChain>,
@@ -183,7 +183,7 @@ pub struct LogHeap {
     pub members: MembersRead,
 }
 
-/// How many extents the log has, where it ends right and the anchors keep their share.
+/// How many extents the log has, where it ends right and the anchors are within their share.
 pub fn seen_log(kept: Option<usize>, ends_right: bool, anchors_fit: bool) -> Option<usize>
     ensures { MatchOption result (¬ (IsTrue (is_some kept) × IsTrue ends_right × IsTrue anchors_fit)) (λ count. (kept ≡ Some count) × IsTrue ends_right
         × IsTrue anchors_fit) }

@@ -13,7 +13,7 @@ use recovery::OpenFault;
 ///
 /// # Errors
 ///
-/// `NotAStore` where no header of a store whose log lies in the heap stands in front; `Device` where the disk
+/// `NotAStore` where there is no header of a store whose log lies in the heap; `Device` where the disk
 /// refused a call.
 pub fn read_roots<D: Disk>(disk: &mut D) -> Result<Roots, OpenFault>
     ensures found { IsTrue D.tells → IfOk result (ReadsRoots (D.state disk.old).areas.status.bytes) }

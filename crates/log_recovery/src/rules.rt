@@ -49,12 +49,12 @@ struct BaseEnds {
     rolls_end: u64,
 }
 
-/// Whether the chains of a log keep the rules between them.
+/// Whether the chains of a log obey the rules between them.
 #[derive(Drop)]
 pub enum RuleCheck {
     /// They do, and this is the end of the log.
     Keeps(LogEnd),
-    /// The chain whose head is this extent may not come behind those before it.
+    /// The chain whose head is this extent may not follow those before it.
     Breaks(u32),
 }
 
@@ -313,8 +313,8 @@ impl LogEnd {
         Ok(true)
     }
 
-    /// Whether the chain that holds this may come behind those before it. If so, the end is then that of the log with
-    /// it; if not, or without memory, nothing is known of the end.
+    /// Whether the chain that holds this may follow those before it. If so, the end is then that of the log with it;
+    /// if not, or without memory, nothing is known of the end.
     pub fn follow(&mut self, alloc: Global, entry: &Entry) -> Result<bool, AllocError>
         requires { (most : ℕ) × IsEntry most entry.now }
         ensures answers { IfOk result (λ follows. Answers follows self.old self.new entry.now) }
@@ -329,7 +329,7 @@ impl LogEnd {
     }
 }
 
-/// The end of a log of these chains, or the head of the first chain that may not come behind those before it.
+/// The end of a log of these chains, or the head of the first chain that may not follow those before it.
 pub fn check_rules(alloc: Global, chains: &[LogChain]) -> Result<RuleCheck, AllocError>
     requires { AreEntries chains.now }
     ensures { IfOk result (IsCheckOf chains.now) }

@@ -74,7 +74,8 @@ pub(crate) fn count_log(chains: &[LogChain], most: usize) -> Option<usize>
     Some(most - left)
 }
 
-/// Whether the anchors of each state, of these sizes, keep their share of a heap of so many extents.
+/// Whether the anchors of each state, of these sizes, are within their share of a heap of so many
+/// extents.
 pub fn are_anchors_small(most: u32, sizes: AnchorSizes) -> bool
     ensures { (olds : List OldRecord) (members : List Member) → AreSizesBehind olds members sizes
         → (IsTrue result ↔ (count_of (greatest (anchors_len olds) (lens_behind (anchors_len olds) (values_of olds) members)) ≤ (3 * most) / 16)) }

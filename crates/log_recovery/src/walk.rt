@@ -1,4 +1,4 @@
-//! The chains of the log, read one behind the other from the root on.
+//! The chains of the log, read one after the other from the root on.
 
 ghost use Rattle.std.specs.Prelude.{◌≡◌, ◌↔◌, ◌≤◌, ◌<◌, ◌^◌, IsTrue, IfOk, IfErr, IfSome, MatchOption, length};
 ghost use Rattle.disk.specs.declared.area.Area.TheVariants.{Heap};
@@ -28,7 +28,7 @@ pub struct ChainsRead {
     pub space: Space,
 }
 
-/// Whether an open gate stands in the first byte of this extent.
+/// Whether the first byte of this extent is an open gate.
 ///
 /// # Errors
 ///

@@ -59,7 +59,7 @@ fn may_open(space: &Space, next: u32, log: u32, anchors: u64) -> bool
         && AnchorSizes::of(anchors).fit(len * 3 / 16)
 }
 
-/// The extents of a chain, its head first, and the one where the log goes on behind it.
+/// The extents of a chain, its head first, and the one where the log goes on after it.
 #[derive(Drop)]
 pub struct TakenChain {
     pub numbers: Vec<u32>,
@@ -120,7 +120,7 @@ impl HeapRoom {
         Some(HeapRoom::of_opened(space, next, log, anchors))
     }
 
-    /// How many extents the heap has. The shares of each are kept.
+    /// How many extents the heap has. The log and the anchors are within their shares of it.
     pub fn len(&self) -> u32
         ensures is { result ≡ length self.now.used }
         ensures room { IsRoom self.now }
@@ -135,7 +135,7 @@ impl HeapRoom {
         self.next
     }
 
-    /// The bytes of the anchors of the state behind a commit of these writes, where these are the versions of the whole commit order.
+    /// The bytes of the anchors of the state after a commit of these writes, where these are the versions of the whole commit order.
     pub fn anchors_behind(&self, ordered: &Frozen, writes: &[KeyWrite<SharedValue>]) -> u64
         requires { length writes.now ≤ 1024 }
         ensures { result ≡ len_behind self.now.anchors (values_in ordered.now) writes.now }
@@ -145,7 +145,7 @@ impl HeapRoom {
             .len
     }
 
-    /// Whether a commit of so many extents has room, behind which the anchors have so many bytes.
+    /// Whether a commit of so many extents has room, after which the anchors have so many bytes.
     pub fn fits(&self, count: usize, anchors: u64) -> bool
         ensures { result ≡ fits self.now count anchors }
     {
@@ -156,7 +156,7 @@ impl HeapRoom {
         taken <= limit && count <= (limit - taken) as usize && AnchorSizes::of(anchors).fit(share)
     }
 
-    /// A commit is promised so many extents; behind it the anchors have so many bytes.
+    /// A commit is promised so many extents; after it the anchors have so many bytes.
     pub fn promise(&mut self, count: usize, anchors: u64)
         requires log { self.old.log + self.old.promised + count ≤ length self.old.used / 2 }
         requires share { count_of anchors ≤ (3 * length self.old.used) / 16 }
@@ -182,14 +182,15 @@ impl HeapRoom {
         self.log + self.promised + 1 <= self.space.len() / 2
     }
 
-    /// Whether a base that names these parts, and two rolls and two archives more, keeps its share of the heap.
+    /// Whether a base that names these parts, and two rolls and two archives more, is within its share of the
+    /// heap.
     pub fn has_base_room(&self, parts: BaseParts) -> bool
         ensures { result ≡ has_base_room self.now parts }
     {
         parts.extents() <= u128::from(self.space.len() / BASE_SHARE)
     }
 
-    /// Whether such a base keeps half of its share where it names one floor more.
+    /// Whether such a base is within half of its share where it names one floor more.
     pub fn has_floor_room(&self, parts: BaseParts) -> bool
         ensures { result ≡ has_floor_room self.now parts }
     {
@@ -205,7 +206,7 @@ impl HeapRoom {
         self.promised += 1;
     }
 
-    /// Takes the extents of a chain of so many, which begins where the log ends, and the one where the log goes on behind it. So many
+    /// Takes the extents of a chain of so many, which begins where the log ends, and the one where the log goes on after it. So many
     /// extents are promised no longer.
     pub fn take_chain(
         &mut self,
@@ -270,7 +271,7 @@ impl HeapRoom {
         })
     }
 
-    /// The anchors and the base that a reclaim has made stand, in these extents, and of the log nothing is counted: `keep` counts the chains
+    /// The anchors and the base that a reclaim has made count, in these extents, and of the log nothing is counted: `keep` counts the chains
     /// that stay, and the extent where the log ends.
     pub fn put_base(&mut self, anchors: &[u32], base: &[u32])
         requires anchors { AllByRecursion (λ (number : ℕ). 0 < number) anchors.now }

@@ -6,7 +6,7 @@ ghost use Rattle.log_room.specs.Rooms.{TakesLeast};
 use log_space::Space;
 use std::alloc::{AllocError, Global};
 
-/// This number, and behind it so many of the free extents, which are in use now: each the least free one.
+/// This number, and after it so many of the free extents, which are in use now: each the least free one.
 pub(crate) fn take_least(
     alloc: Global,
     space: &mut Space,
@@ -29,7 +29,8 @@ pub(crate) fn take_least(
     Ok(numbers)
 }
 
-/// So many of the free extents, which are in use now: each the least free one. They stand in the place that was made for them.
+/// So many of the free extents, which are in use now: each the least free one. They are put in the place that was made for
+/// them.
 pub(crate) fn take_free(space: &mut Space, place: Vec<u32>, count: usize) -> Vec<u32>
     requires room { used_count space.old + count ≤ length space.old }
     requires few { length space.old ≤ 1048576 }

@@ -10,7 +10,7 @@ use log_entries::{AnchorName, Archive, Base, Entry, Member, RelationFloor, Roll}
 use log_recovery::LogChain;
 use std::alloc::{AllocError, Global};
 
-/// One thing that a log says: what a chain is, or a part of it, which stands behind its chain.
+/// One thing that a log says: what a chain is, or a part of it, which comes after its chain.
 #[derive(Clone, Copy, Debug, PartialEq, Eq)]
 pub enum LogItem {
     /// The base, which begins at the extent `head`.
@@ -203,7 +203,7 @@ fn count_before(place: u64, items: &[LogItem]) -> usize
     count
 }
 
-/// What is said in front of the chain that begins at this extent.
+/// What is said before the chain that begins at this extent.
 pub(crate) fn items_before(place: u64, items: Vec<LogItem>) -> Vec<LogItem>
     ensures { result.items ≡ items_before place items.items }
 {

@@ -27,7 +27,7 @@ pub struct LogShown {
 ///
 /// # Errors
 ///
-/// `NotAStore` where no header stands in front; `Device` where the disk refused a read; `NoMemory`.
+/// `NotAStore` where there is no header; `Device` where the disk refused a read; `NoMemory`.
 pub fn read_shown<D: Disk>(alloc: Global, disk: &mut D) -> Result<LogShown, OpenFault>
     ensures shown { IsTrue D.tells → IfOk result (IsLogShown (D.state disk.old).areas.status.bytes (D.state disk.old).areas.heap.bytes) }
     ensures in_range { IfOk result (λ shown. IsRoots shown.roots) }

@@ -14,7 +14,7 @@ use log_space::Space;
 use recovery::OpenFault;
 use std::alloc::Global;
 
-/// The chains of a log, or those in front of the first that is not right.
+/// The chains of a log, or those before the first that is not right.
 #[derive(Drop)]
 pub(crate) struct FrontRead {
     pub read: ChainsRead,

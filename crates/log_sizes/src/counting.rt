@@ -24,7 +24,7 @@ impl AnchorSizes {
         AnchorSizes { len, most: len }
     }
 
-    /// Those with one state more: the one behind a commit of these writes, where these are the versions before it.
+    /// Those with one state more: the one after a commit of these writes, where these are the versions before it.
     pub fn with_writes(self, before: &Frozen, writes: &[KeyWrite<SharedValue>]) -> AnchorSizes
         requires few { length writes.now ≤ 1024 }
         ensures len { self.most ≤ 2 ^ 62 → result.len ≡ len_behind self.len (values_in before.now) writes.now }

@@ -54,7 +54,7 @@ fn len_with(len: u64, before: &Frozen, write: &KeyWrite<SharedValue>) -> u64
     others + len_written(&write.write)
 }
 
-/// The bytes of the anchors behind a commit's writes, where they were so many before, and these are the versions
+/// The bytes of the anchors after a commit's writes, where they were so many before, and these are the versions
 /// before it.
 pub(crate) fn len_with_all(len: u64, before: &Frozen, writes: &[KeyWrite<SharedValue>]) -> u64
     requires counted { len ≤ 2 ^ 62 }

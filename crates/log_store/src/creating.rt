@@ -19,8 +19,8 @@ use std::collections::VecDeque;
 use timequery::StoreArchive;
 
 impl<D: Disk> LogStore<D> {
-    /// Makes a new store whose heap has so many extents, as `format` does, and opens it. The mark is a number of the caller's, which the
-    /// store's transactions and tickets carry. Where it is refused the disk comes back.
+    /// Makes a new store whose heap has so many extents, as `format` does, and opens it. The store mark is a number of the caller's,
+    /// which the store's transactions and tickets carry. Where it is refused the disk comes back.
     ///
     /// # Errors
     ///

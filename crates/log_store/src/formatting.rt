@@ -118,7 +118,7 @@ fn write_store<D: Disk>(disk: &mut D, extents: u32) -> Result<(), DeviceFault>
 ///
 /// # Errors
 ///
-/// `BadSlots` unless the number is a multiple of 16 from 64 to 1,048,576; `Occupied` where a header stands there, of any profile; `Device`
+/// `BadSlots` unless the number is a multiple of 16 from 64 to 1,048,576; `Occupied` where there is a header, of any profile; `Device`
 /// where the disk refused a call.
 pub fn format<D: Disk>(disk: &mut D, extents: u32) -> Result<(), FormatFault>
     ensures bad_size { (result ≡ Err FormatFault.BadSlots) ↔ ¬ IsHeapSize extents }

@@ -10,7 +10,7 @@ use vacuum::ArchiveWalk;
 /// What a job puts into the log by its entry.
 #[derive(Drop)]
 pub enum JobWork {
-    /// A floor of one relation, and the floors that stand once its entry is the log's.
+    /// A floor of one relation, and the floors once its entry is the log's.
     Floor {
         floor: RelationFloor,
         floors: Floors,
@@ -45,7 +45,7 @@ pub struct Job {
 pub enum JobDid {
     /// No job runs.
     Idle,
-    /// The next piece of the run is written.
+    /// The next part of the run is written.
     WroteRun,
     RunSynced,
     /// Its entry is written, but for its gate.
@@ -57,7 +57,7 @@ pub enum JobDid {
     GateWritten,
     /// The next extent of a base's anchors is written, or of the base.
     WroteExtent,
-    /// The next piece of a base's roll is written.
+    /// The next part of a base's roll is written.
     WroteRoll,
     RollSynced,
     /// The status area names the base as the root that does not count yet.
@@ -78,8 +78,8 @@ pub enum StartFault {
     WrongProfile,
     /// A job runs, or a reclaim.
     JobBusy,
-    /// The floor of the relation is as late, or all versions that ended by then are archived, or the base that stands says all that the
-    /// front of the log does.
+    /// The floor of the relation is as late, or all versions that ended by then are archived, or the present base says all that the
+    /// first chains of the log do.
     NothingToDo,
     /// The last commit that is published has this earlier time, in microseconds since 1970.
     NotYet(u64),

@@ -1,4 +1,4 @@
-//! The chains of the log, as memory keeps them.
+//! The chains of the log, as memory has them.
 ghost use Rattle.std.specs.Prelude.{◌≡◌, ◌<◌, ◌≤◌, ◌∷◌, [], ◌↔◌, IsTrue, IfOk, OnOk, length, drop, vec_len, vec_capacity};
 ghost use Rattle.std.specs.List.{AllByRecursion};
 ghost use Rattle.log_recovery.specs.declared.live.LivePart.TheVariants as parts;
@@ -85,7 +85,7 @@ fn put_first(chains: &mut Vec<LiveChain>, front: usize, first: LiveChain)
     chains.as_mut_slice().rotate_right(1);
 }
 
-/// The chains of the log, and the extents of the anchors that stand.
+/// The chains of the log, and the extents of the base's anchors.
 #[derive(Drop)]
 pub struct Live {
     // In their order, the base first if there is one. While a group or an entry is in the writing its chain is the last one.
@@ -132,7 +132,7 @@ impl Live {
         self.chains.as_slice()
     }
 
-    /// The extents of the anchors that stand.
+    /// The extents of the base's anchors.
     pub(crate) fn anchors(&self) -> &[u32]
         ensures { result.now ≡ self.now.live.anchors }
     {
@@ -168,7 +168,7 @@ impl Live {
         }
     }
 
-    /// A base takes the place of so many of the first chains, among them the one that stands, if one does. It takes no memory.
+    /// A base takes the place of so many of the first chains, among them the base before, if there is one. It takes no memory.
     pub(crate) fn put_base(
         &mut self,
         front: usize,

@@ -61,14 +61,14 @@ impl Named {
         self.upto
     }
 
-    /// Where the next run begins, in bytes: behind all that the log has named since the store was opened.
+    /// Where the next run begins, in bytes: after all that the log has named since the store was opened.
     pub fn end(&self) -> u64
         ensures { result ≡ self.now.end }
     {
         self.end
     }
 
-    /// What a base would name beside so many floors.
+    /// What a base would name with so many floors.
     pub fn parts(&self, floors: usize) -> BaseParts
         ensures { result ≡ record { rolls = length self.now.rolls; archives = length self.now.archives; floors = floors } }
     {
@@ -79,7 +79,7 @@ impl Named {
         }
     }
 
-    /// The archives with one more behind them.
+    /// The archives with one more after them.
     pub fn archives_with(
         &self,
         alloc: Global,

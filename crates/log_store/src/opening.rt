@@ -164,8 +164,8 @@ fn parts_of(alloc: Global, mark: u64, read: LogRecovered) -> Result<MemoryParts,
 }
 
 impl<D: Disk> LogStore<D> {
-    /// Opens the store that the disk holds. It first syncs the three areas, and then only reads. The mark is a number of the caller's,
-    /// which the store's transactions and tickets carry. A refused opening hands the disk back.
+    /// Opens the store that the disk holds. It first syncs the three areas, and then only reads. The store mark is a number of the
+    /// caller's, which the store's transactions and tickets carry. A refused opening hands the disk back.
     ///
     /// # Errors
     ///

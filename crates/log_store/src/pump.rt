@@ -56,8 +56,8 @@ fn bars_gate(reclaim: &Option<Reclaim>) -> bool
 }
 
 impl<D: Disk> LogStore<D> {
-    /// One step of the group of commits that is being written; where none stands, one begins of the first 1,024 that wait. Each step makes
-    /// one write or sync of the disk. `Idle` is answered where no group stands and no commit waits.
+    /// One step of the group of commits that is being written; where there is none, one begins of the first 1,024 that wait. Each step
+    /// makes one write or sync of the disk. `Idle` is answered where there is no group and no commit waits.
     ///
     /// # Errors
     ///

@@ -31,7 +31,7 @@ pub enum ReclaimStage {
     Turning(RootWriter),
 }
 
-/// A base that takes the place of the log's front.
+/// A base that takes the place of the log's first chains.
 #[derive(Drop)]
 pub struct Reclaim {
     // How many chains of the log it takes the place of.

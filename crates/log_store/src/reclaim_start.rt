@@ -30,7 +30,7 @@ use log_writer::ExtentsWriter;
 use std::alloc::{AllocError, Global};
 use vacuum::AnchorSource;
 
-/// No roll ends at this byte of the archive, or behind it.
+/// No roll ends at this byte of the archive, or after it.
 const ARCHIVE_END: u64 = 1 << 63;
 
 /// So many bytes of a base are left for one roll more.
@@ -262,9 +262,10 @@ fn begun(
 }
 
 impl<D: Disk> LogStore<D> {
-    /// Begins to put a base in the place of the log's front: the chains before the first that has a commit later than the archive mark. Its
-    /// anchors are the versions that stand at the archive mark, and its roll the names of the commits that were archived since the last
-    /// reclaim. `job_pump` writes them, and gives up the front. No call of the disk is made. Where it is refused nothing changes.
+    /// Begins to put a base in the place of the log's first chains: the chains before the first that has a commit later than the archive
+    /// mark. Its anchors are the versions that are valid at the archive mark, and its roll the names of the commits that were archived
+    /// since the last reclaim. `job_pump` writes them, and gives up those chains. No call of the disk is made. Where it is refused nothing
+    /// changes.
     pub fn reclaim_start(&mut self) -> Result<(), StartFault>
         ensures { StartsReclaim self.old result self.new }
     {

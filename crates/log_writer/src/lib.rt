@@ -1,4 +1,4 @@
-//! The writing of a chain, one device call at a time: behind the chains of the log, or where no log names it yet.
+//! The writing of a chain, one device call at a time: at the end of the log, or where no log names it yet.
 #![tactic(auto)]
 
 mod extents_writer;

@@ -38,7 +38,8 @@ pub enum Wrote {
     Settled,
 }
 
-/// A chain on its way behind the log: its extents, the one where the log goes on behind it, and its bytes.
+/// A chain on its way to the end of the log: its extents, the one where the log goes on after it, and its
+/// bytes.
 #[derive(Drop)]
 pub struct ChainWriter {
     numbers: Vec<u32>,
@@ -73,7 +74,7 @@ impl ChainWriter {
     ghost use Rattle.log_writer.specs.declared.writer.Step.TheVariants.{Writing};
 
     /// A chain of this content, of which nothing is written yet, in these extents, its head first. The
-    /// log is to go on in the extent `link` behind it.
+    /// log is to go on in the extent `link` after it.
     pub fn new(numbers: Vec<u32>, link: u32, content: Vec<u8>) -> ChainWriter
         requires some { 0 < length numbers.items }
         requires count { length numbers.items ≡ count_of (length content.items) }

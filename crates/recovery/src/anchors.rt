@@ -1,4 +1,4 @@
-//! The chain of the anchors: what a reclaim left of the versions that stood at its mark.
+//! The chain of the anchors: what a reclaim left of the versions that were valid at its mark.
 
 ghost use Rattle.std.specs.Prelude.{◌≡◌, ◌≤◌, ◌<◌, ◌^◌, ◌∷◌, [], IsTrue, IfOk, IfErr, IfSome, MatchOption, Some, length, map};
 ghost use Rattle.chains.specs.KeyWrites.{latest};

@@ -76,7 +76,8 @@ pub struct ReadChain {
     pub images: Vec<Image>,
 }
 
-/// Reads this many extents, each named by the one before it, and keeps them. None where one of them does not lie in the heap or is not free.
+/// Reads this many extents, each named by the one before it, and counts them as used. None where one of them does not lie in the heap or is
+/// not free.
 pub fn read_chain<D: Disk>(
     alloc: Global,
     disk: &mut D,

@@ -137,7 +137,7 @@ fn write_store<D: Disk>(disk: &mut D, zeros: &[u8], slots: u32) -> Result<(), De
 ///
 /// # Errors
 ///
-/// `BadSlots` unless there are 16 to 65,536; `Occupied` where a header stands there; `NoMemory` before any write; `Device` where the disk refused a call.
+/// `BadSlots` unless there are 16 to 65,536; `Occupied` where there is a header; `NoMemory` before any write; `Device` where the disk refused a call.
 pub fn format<D: Disk>(alloc: Global, disk: &mut D, slots: u32) -> Result<(), FormatFault>
     ensures bad_slots { (result ≡ Err FormatFault.BadSlots) ↔ ¬ IsSlotCount slots }
     ensures occupied { IsTrue D.tells → result ≡ Err FormatFault.Occupied → IsOccupied (D.state disk.old).areas.status.bytes }

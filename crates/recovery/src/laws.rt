@@ -12,7 +12,7 @@ pub fn opens_once()
     ensures { OpensOnce }
 {}
 
-/// An image that stands for a history is never answered NotAStore or Damaged, and what is read of it is that history.
+/// An image that represents a history is never answered NotAStore or Damaged, and what is read of it is that history.
 pub fn stands_opens()
     ensures { StandsOpens }
 {}

@@ -1,4 +1,4 @@
-//! The chains of the log's commits, behind that of the anchors.
+//! The chains of the log's commits, after that of the anchors.
 
 ghost use Rattle.std.specs.Prelude.{◌≡◌, ◌<◌, ◌≤◌, ◌^◌, ◌++◌, ◌∷◌, [], ℕ, IsTrue, IfOk, IfErr, IfSome, MatchOption, map, length};
 ghost use Rattle.std.specs.List.{AllByRecursion};

@@ -151,8 +151,8 @@ fn read_settled<D: Disk>(alloc: Global, disk: &mut D) -> Result<Recovered, OpenF
 ///
 /// # Errors
 ///
-/// Of the checks that fail, the first: `NotAStore` where no header stands in front; `Damaged` with the slot's number,
-/// the first extent of the chain or the start of the run. `Device` where the disk refused a call; `NoMemory`.
+/// Of the checks that fail, the first: `NotAStore` where there is no header; `Damaged` with the slot's number, the
+/// first extent of the chain or the start of the run. `Device` where the disk refused a call; `NoMemory`.
 pub fn read_image<D: Disk>(alloc: Global, disk: &mut D) -> Result<Recovered, OpenFault>
     ensures used { IfOk result (λ r. (r.used ≤ total r.header) × (total r.header ≤ 65536)) }
     ensures rising { IfOk result (λ r. AreRisingAfter 0 (map head_of r.commits.items)) }

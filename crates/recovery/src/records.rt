@@ -22,7 +22,8 @@ pub struct ReadRecords {
     pub records: Vec<Record>,
 }
 
-/// Reads the chain of this name, and keeps its extents. None where they are not just records of these kinds.
+/// Reads the chain of this name, and counts its extents as used. None where they are not just records of
+/// these kinds.
 pub fn read_records<D: Disk>(
     alloc: Global,
     disk: &mut D,

@@ -46,7 +46,7 @@ pub struct Recovered {
     pub runs: Vec<RunEntry>,
     /// The byte of the archive at which the last run ends, 0 for none.
     pub runs_end: u64,
-    /// The extents of the live chains are kept, and the others are free.
+    /// The extents of the live chains are used, and the others are free.
     pub extents: Extents,
     /// The live chains of commits; that of the anchors is none of them.
     pub live: Vec<LiveChain>,

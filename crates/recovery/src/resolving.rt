@@ -1,4 +1,4 @@
-//! Records as the writes that they stand for.
+//! Records as the writes that they store.
 
 ghost use Rattle.std.specs.Prelude.{◌≡◌, ◌↔◌, IfOk, IsSome, MatchOption, map};
 ghost use Rattle.std.specs.Option.{option_copied};
@@ -55,7 +55,7 @@ fn resolve_one(
     }))
 }
 
-/// The writes that the records of a commit stand for, over the values before them. None where one of them is not the record that its write is stored as.
+/// The writes that the records of a commit store, over the values before them. None where one of them is not the record that its write is stored as.
 pub fn resolve(
     alloc: Global,
     chains: &Frozen,

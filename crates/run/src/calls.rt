@@ -87,7 +87,8 @@ pub enum Call<'a> {
     },
     /// Begins a reclaim: the heap and memory are to give up what ended by the archive mark.
     Reclaim,
-    /// Begins to raise the floor of one relation, or of every relation, to this time, in microseconds since 1970: what ended by it need not be kept.
+    /// Begins to raise the floor of one relation, or of every relation, to this time, in microseconds since 1970: what ended by it need not be
+    /// answered.
     Floor {
         scope: Option<u16>,
         floor: u64,

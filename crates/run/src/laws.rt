@@ -25,8 +25,8 @@ impl Stored for StoredValue {
     ghost IsValue = { values.IsValue };
 }
 
-/// A store that stands for a machine is at its first moment; whatever a stop may leave at a moment
-/// survives; and an image that stands for a history is kept as it.
+/// A store that represents a machine is at its first moment; whatever a stop may leave at a moment
+/// survives; and an image of a history is kept as that.
 pub fn stops_survive()
     ensures first { FirstMoment }
     ensures survives { MomentSurvives }

@@ -1,4 +1,4 @@
-//! Formatting, opening and closing, with what they stand for.
+//! Formatting, opening and closing, with what they mean.
 ghost use Rattle.std.specs.Prelude.{ℕ, ◌≡◌, ◌↔◌, [], IsTrue, IfOk, IfErr, OnOk, MatchResult, Err};
 ghost use Rattle.disk.specs.Areas.{Image, LeavesImage, LeavesNoMore, image_of};
 ghost use Rattle.history.specs.Fronts.{OnFront};
@@ -20,11 +20,11 @@ use any_store::{FormatFault, Layout, OpenFault, Store};
 use disk::Disk;
 use std::alloc::Global;
 
-/// Makes the disk that of a new store of this layout, where no store of either layout stands.
+/// Makes the disk that of a new store of this layout, where there is no store of either layout.
 ///
 /// # Errors
 ///
-/// Those of `any_store::format`. Where a store stands, nothing changes.
+/// Those of `any_store::format`. Where there is a store, nothing changes.
 pub fn format<D: Disk>(alloc: Global, disk: &mut D, layout: Layout) -> Result<(), FormatFault>
     // Whatever a stop may leave of a formatted disk is an image of the empty history.
     ensures stands { IsTrue D.tells → OnOk result ((image : Image) → LeavesImage (D.state disk.new).areas image
@@ -42,7 +42,7 @@ pub fn format<D: Disk>(alloc: Global, disk: &mut D, layout: Layout) -> Result<()
     any_store::format(alloc, disk, layout)
 }
 
-/// Opens the store that the disk holds, with a mark of the caller's.
+/// Opens the store that the disk holds, with a store mark of the caller's.
 ///
 /// # Errors
 ///
@@ -77,7 +77,7 @@ pub fn close<D: Disk>(store: Store<D>) -> D
 }
 
 /// The promise of the whole store: for every list of calls, by any number of callers in turn, on a
-/// store opened on an image that stands for some history, whatever a stop may leave then stands for
+/// store opened on an image that represents some history, whatever a stop may leave then represents
 /// a prefix of the commit order that has every acknowledged commit; it opens, and every query over
 /// kept times that is answered there is answered as the prefix's write sets alone say.
 pub fn whatever_a_stop_leaves()

@@ -76,7 +76,7 @@ pub fn give_back(mut places: Vec<Held>) {
     places.destroy_empty();
 }
 
-/// One call: its answer, and what its place holds from then on, which is the next one behind the
+/// One call: its answer, and what its place holds from then on, which is the next one after the
 /// places that the call may name.
 pub fn step<D: Disk>(
     alloc: Global,

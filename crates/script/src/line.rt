@@ -43,8 +43,8 @@ pub enum Line<'a> {
     Archive(u64),
     /// Begins a reclaim of what is archived.
     Reclaim,
-    /// Begins to raise the floor of one relation, or of every relation, to a time: what stood before it need
-    /// not be kept.
+    /// Begins to raise the floor of one relation, or of every relation, to a time: what was valid before it
+    /// need not be answered.
     Floor(Option<u16>, u64),
     /// Begins to make 256 slots more.
     Grow,

@@ -1,6 +1,6 @@
-//! How a run ends.
+//! How a script ends.
 
-/// Why a script's run ended.
+/// Why a script ended.
 #[derive(Clone, Copy, Debug, PartialEq, Eq)]
 pub enum Ending {
     /// At the end of the input.

@@ -18,8 +18,8 @@ use disk::Disk;
 use std::alloc::Global;
 use std::io::Write;
 
-/// Opens the session's store again, and says so. Where the run ends with it, how it ended and the
-/// disk come back.
+/// Opens the session's store again, and says so. Where the script ends with it, how it ended and
+/// the disk come back.
 fn reopen<D: Disk, W: Write>(
     session: Session<D>,
     alloc: Global,
@@ -51,7 +51,7 @@ fn reopen<D: Disk, W: Write>(
 ///
 /// # Errors
 ///
-/// How the run ends with the line; the session is to be closed.
+/// How the script ends with the line; the session is to be closed.
 fn turn<D: Disk, W: Write>(
     session: &mut Session<D>,
     alloc: Global,

@@ -17,7 +17,7 @@ pub trait LineInput: BufRead {
 }
 
 impl<R: Read, A: Allocator> LineInput for BufReader<R, A> {
-    /// Unless a line feed stands among the bytes that were read ahead.
+    /// Unless a line feed is among the bytes that were read ahead.
     fn may_wait(&self) -> bool
         ensures { IsTrue result ↔ (¬ Contains (reader_buffer self.now) 10) }
     {

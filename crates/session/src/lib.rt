@@ -1,4 +1,4 @@
-//! A script's run on a store.
+//! Scripts on a store.
 #![tactic(auto)]
 
 mod digits;

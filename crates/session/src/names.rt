@@ -10,13 +10,13 @@ use script::Name;
 /// At most so many names are in use.
 pub(crate) const MAX_NAMES: usize = 64;
 
-/// A name that stands for an open transaction.
+/// A name of an open transaction.
 pub struct OpenName {
     pub name: Name,
     pub txn: Txn,
 }
 
-/// A name that stands for the ticket of a commit that was queued.
+/// A name of the ticket of a commit that was queued.
 pub struct TicketName {
     pub name: Name,
     pub ticket: Ticket,

@@ -14,7 +14,8 @@ use history::Version;
 use std::alloc::Global;
 use std::io::{ErrorKind, Write};
 
-/// Writes a front of a text, and says what is left of it. Of none where the writer was interrupted.
+/// Writes a first part of a text, and says what is left of it. Of none where the writer was
+/// interrupted.
 fn write_front<'a, W: Write>(writer: &mut W, text: &'a [u8]) -> Result<&'a [u8], Refused>
     ensures { MatchResult result (λ left. Writes (W.contents writer.old) (W.contents writer.new) text.entry.now left.now)
         (λ _. AppendsFront (W.contents writer.old) (W.contents writer.new) text.entry.now) }
@@ -31,7 +32,7 @@ fn write_front<'a, W: Write>(writer: &mut W, text: &'a [u8]) -> Result<&'a [u8],
     }
 }
 
-/// Writes a text. Where the writer refuses, it may have taken a front of it.
+/// Writes a text. Where the writer refuses, it may have taken a first part of it.
 fn write_text<W: Write>(writer: &mut W, text: &[u8]) -> Result<(), Refused>
     ensures { MatchResult result (λ _. Appends (W.contents writer.old) (W.contents writer.new) text.now)
         (λ _. AppendsFront (W.contents writer.old) (W.contents writer.new) text.now) }
@@ -86,7 +87,7 @@ impl<W: Write> Answers<W> {
     ///
     /// # Errors
     ///
-    /// Where the writer refuses; it may have taken a front of the text.
+    /// Where the writer refuses; it may have taken a first part of the text.
     pub fn say(&mut self, text: &[u8]) -> Result<(), Refused>
         ensures { Says (text_said W.contents self.old) text.now result (text_said W.contents self.new) (is_output_refused self.new) }
     {

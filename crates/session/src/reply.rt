@@ -35,7 +35,7 @@ pub enum Reply {
     JobDid(JobDid),
     /// The times of the commits with a label.
     Times(Vec<u64>),
-    /// The rows of a key: each value with the times from which and up to which it stood.
+    /// The rows of a key: each value with the times from which and up to which it was valid.
     Rows(Vec<Version<SharedValue>>),
     /// Records with their values.
     Records(Vec<(u64, SharedValue)>),

@@ -11,7 +11,7 @@ use script::Line;
 use std::alloc::Global;
 use std::marker::Model;
 
-/// The mark of a session's store.
+/// The store mark of a session's store.
 pub const MARK: u64 = 1;
 
 /// The store of a script, and the names in use: at most 64, each of an open transaction or of a

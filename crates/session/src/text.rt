@@ -78,7 +78,7 @@ pub fn spell_times(text: &mut Vec<u8>, times: &[u64]) -> Result<(), AllocError>
     Ok(())
 }
 
-/// Spells a row's line: from when on and up to when the value stood, and its fields.
+/// Spells a row's line: from when on and up to when the value was valid, and its fields.
 pub fn spell_row(text: &mut Vec<u8>, row: &Version<SharedValue>) -> Result<(), AllocError>
     ensures { OnOk result (Appends (Some text.old.items) (Some text.new.items) (told.row_text row.now)) }
 {

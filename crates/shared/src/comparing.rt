@@ -1,4 +1,4 @@
-//! What a pass knows beside what the writer's does.
+//! What a pass knows, compared with the writer's.
 ghost use Rattle.std.specs.Prelude.{◌≡◌, true, false};
 ghost use Rattle.crossbeam_utils.specs.Seq.{cell_view};
 ghost use Rattle.shared.specs.Seen.{IsMore, known_by};

@@ -1,4 +1,4 @@
-//! The view that readers share beside the lock.
+//! The view that readers share without the lock.
 ghost use Rattle.std.specs.Prelude.{◌≡◌, ◌≤◌, IfOk, IfSome, OnErr, OnOk};
 ghost use Rattle.history.specs.Histories.{last};
 ghost use Rattle.shared.specs.Moments.{HoldsSeen};
@@ -15,7 +15,7 @@ use std::mem;
 use std::sync::Wait;
 use std::sync::atomic::Ordering;
 
-/// A view that is kept, and a pass that has seen as much.
+/// A view that readers share, and a pass that has seen as much.
 pub(crate) struct KeptView<L: Opening> {
     view: SharedView<L>,
     seen: Observer<L>,
@@ -65,8 +65,8 @@ impl<L: Opening> Drop for KeptView<L> {
     }
 }
 
-/// The view that is kept, where there is one, and how often it was let go since what it shows had changed: who
-/// took a view before that keeps it no more.
+/// The view that readers share, where there is one, and how often it was let go since what it shows had
+/// changed: a view that was taken before is not shared then.
 #[derive(Drop)]
 pub(crate) struct Latest<L: Opening> {
     kept: Option<KeptView<L>>,
@@ -146,7 +146,7 @@ impl<D: Disk, L: Opening> SharedStore<D, L> {
 
     /// Makes a view one of what is published, or was a moment ago, with every commit that the caller has seen
     /// published. Where nothing was published since the view's moment it stays as it is: so a reader that asks
-    /// again and again, and keeps a view of its own, takes no lock and counts no holder, and waits for no other
+    /// again and again, and has a view of its own, takes no lock and counts no holder, and waits for no other
     /// reader. A floor that was raised since is no reason to renew it: who needs the floors of now asks for
     /// `view`.
     ///

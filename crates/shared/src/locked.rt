@@ -47,9 +47,9 @@ use std::marker::Model;
 use std::sync::Wait;
 use std::sync::ledger::{Book, Share};
 
-/// A store that stands for a state that steps of the machine lead to from the opening one, the book
-/// of the commits that callers were told of, and the pass that writes the published time. To a
-/// contract it is the store. Each method makes one call of the store at most, and its first clause says
+/// A store that represents a state that steps of the machine lead to from the opening one, the book of
+/// the commits that callers were told of, and the pass that writes the published time. To a contract it
+/// is the store. Each method makes at most one call that changes the store, and its first clause says
 /// that no more than that changes.
 pub struct Locked<D: Disk, L: Opening> {
     store: Store<D>,
@@ -109,7 +109,8 @@ impl<D: Disk, L: Opening> Locked<D, L> {
         taken_at(self.store.view(), moment)
     }
 
-    /// A view of all that is published, to be kept beside the lock, unless memory is refused.
+    /// A view of all that is published, for readers to share without the lock, unless memory is
+    /// refused.
     pub(crate) fn kept_view<R: Wait>(&mut self, rt: &R, cell: &PublishedCell) -> Option<KeptView<L>>
         requires { cell.now.table.shared.table_id ≡ L.table }
         ensures { self.new ≡ self.old }

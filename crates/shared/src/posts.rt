@@ -1,4 +1,4 @@
-//! The requests of callers of `commit`, and where each of them stands.
+//! The requests of callers of `commit`, and what became of each.
 use crate::naming::Opening;
 use crate::served::{Request, Served};
 use crate::signals::Signals;

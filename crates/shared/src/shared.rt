@@ -27,9 +27,10 @@ use std::sync::atomic::AtomicBool;
 use std::sync::ledger::Share;
 use std::sync::{Condvar, Mutex, Wait};
 
-/// A store under a lock, and the cell of its published time, which needs none. One holding of the lock
-/// makes at most one call of the store. The posts of those who call `commit` have a lock of their own, and
-/// so has the view that is kept for those who read; a flag says whether one of them asked since it was.
+/// A store under a lock, and the cell of its published time, which needs none. One holding of the lock is
+/// to make at most one call that changes the store (no clause says so). The posts of those who call
+/// `commit` have a lock of their own, and so has the view that readers share; a flag says whether one of
+/// them asked since it was taken.
 pub struct SharedStore<D: Disk, L: Opening> {
     pub(crate) alloc: Global,
     pub(crate) locked: Mutex<Locked<D, L>>,
@@ -197,7 +198,7 @@ impl<D: Disk, L: Opening> SharedStore<D, L> {
             .redeem(rt, &self.cell, ticket, share, me)
     }
 
-    /// Ends a view. It is given no runtime and so takes no lock: the store keeps nothing of its views.
+    /// Ends a view. It is given no runtime and so takes no lock: the store has nothing of its views.
     pub fn end(&self, view: SharedView<L>) {
         view.spend().spend();
     }
@@ -222,7 +223,7 @@ impl<D: Disk, L: Opening> SharedStore<D, L> {
         self.moved.notify_all();
     }
 
-    /// The store, which stands for a state that steps of the machine lead to. Where the share has every
+    /// The store, which represents a state that steps of the machine lead to. Where the share has every
     /// part, the commits published since opening are its amount and those for which Done was not
     /// answered.
     pub fn into_store(self, all: &mut Share<L>) -> Store<D>

@@ -466,7 +466,7 @@ pub(crate) fn refuse_log<W: Write>(output: &mut Answers<W>, fault: LogFault) -> 
     refuse(output, Fault::Open(open_fault(fault)))
 }
 
-/// Says how many slots a store has, by the header that stands on its disk.
+/// Says how many slots a store has, by the header on its disk.
 fn tell_slots<D: Disk, W: Write>(disk: &mut D, output: &mut Answers<W>) -> u8
     ensures { SaysSlots D.tells (D.state disk.old) (told W.contents result output.old output.new) (D.state disk.new) }
 {

@@ -99,7 +99,7 @@ fn dump<D: Disk, W: Write>(alloc: Global, disk: D, output: &mut Answers<W>) -> (
     }
 }
 
-/// Says a text, and behind it why no more of it is said.
+/// Says a text, and after it why no more of it is said.
 fn say_cut_off<W: Write>(
     output: &mut Answers<W>,
     text: &[u8],
@@ -121,7 +121,7 @@ fn refuse_behind<W: Write>(output: &mut Answers<W>, text: &[u8], fault: OpenFaul
     REFUSED
 }
 
-/// Says what is shown of a log, and behind it the check that fails.
+/// Says what is shown of a log, and after it the check that fails.
 fn tell_dump<W: Write>(output: &mut Answers<W>, dump: &Dump) -> u8
     ensures { SaysDump dump.now (told W.contents result output.old output.new) }
 {

@@ -11,7 +11,7 @@ use std::io::Write;
 ///
 /// # Errors
 ///
-/// That of the output, of which a front of the answer may have been written.
+/// That of the output, of which a first part of the answer may have been written.
 pub fn write_stress_answer<W: Write>(output: &mut W, commits: u64, last: u64) -> io::Result<()>
     ensures { OnOk result (Appends (W.contents output.old) (W.contents output.new)
         (codes "commits " ++ (decimal commits ++ (codes " last " ++ (decimal last ++ codes "\n"))))) }

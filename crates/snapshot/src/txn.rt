@@ -94,7 +94,7 @@ impl Txn {
         }
     }
 
-    /// The mark of the store that began it.
+    /// The store mark of the store that began it.
     pub fn mark(&self) -> u64
         ensures { result ≡ self.now.mark }
     {

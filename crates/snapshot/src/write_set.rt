@@ -10,8 +10,8 @@ use std::alloc::AllocError;
 /// The most keys that a transaction writes.
 pub const MOST_KEYS: usize = 1024;
 
-/// Where the write of a key stands, counted from 0: `Err` with the place where it is to stand, if the
-/// key has none.
+/// The place of the write of a key, counted from 0: `Err` with the place where it belongs, if the key
+/// has none.
 pub fn place_of<V>(writes: &[KeyWrite<V>], key: Key) -> Result<usize, usize>
     requires { AreRising writes.now }
     ensures { IsPlace key writes.now result }

@@ -8,7 +8,7 @@ use std::alloc::{AllocError, AllocFailed};
 /// Why no log is read from a status area.
 #[derive(Clone, Copy, Debug, PartialEq, Eq)]
 pub enum LogFault {
-    /// No header stands at the front, or the area is too short for the header's slots.
+    /// There is no header, or the area is too short for the header's slots.
     NotAStore,
     /// The slot of this number is open, and is none or may not follow those before it.
     Damaged(u32),

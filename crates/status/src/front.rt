@@ -1,4 +1,4 @@
-//! The front of a status area as bytes.
+//! The first 512 bytes of a status area.
 ghost use Rattle.std.specs.Prelude.{◌≡◌, ◌≢◌, ◌↔◌, ℕ, ◌<◌, ◌≤◌, ◌++◌, length, take, drop, slice_index, codes, IsTrue, IfSome, IfNone};
 ghost use Rattle.byteorder.specs.Endian.{little_number, little_bytes};
 ghost use Rattle.wire.specs.Profiles.{IsProfile};

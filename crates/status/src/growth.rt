@@ -121,7 +121,7 @@ fn sync_piece_gate<D: Disk>(disk: &mut D) -> Result<(), DeviceFault>
     disk.sync(Area::Status)
 }
 
-/// The next device call of a piece. The piece stands behind it, whatever the device answers.
+/// The next device call of a piece. The piece has passed it, whatever the device answers.
 pub(crate) fn advance_growth<D: Disk>(
     growth: &mut Growth,
     disk: &mut D,

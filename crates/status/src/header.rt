@@ -1,4 +1,4 @@
-//! What the front of a status area says.
+//! What the first 512 bytes of a status area say.
 ghost use Rattle.std.specs.Prelude.{◌≡◌};
 
 use crate::sizes::PIECE_TOTAL;

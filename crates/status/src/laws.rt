@@ -7,7 +7,7 @@ pub fn gate_changes()
     ensures { GateChanges }
 {}
 
-/// The floors that are kept of a log are the log's.
+/// The floors that memory has of a log are the log's.
 pub fn floors_are_kept()
     ensures { FloorsAreKept }
 {}
@@ -17,7 +17,7 @@ pub fn piece_shut()
     ensures { PieceShut }
 {}
 
-/// With its gate open, and zeros behind the slots that there were, the log is the same.
+/// With its gate open, and zeros after the slots that there were, the log is the same.
 pub fn piece_opens()
     ensures { PieceOpens }
 {}

@@ -64,8 +64,8 @@ fn find_header<D: Disk>(disk: &mut D) -> Result<Option<Header>, DeviceFault>
 ///
 /// # Errors
 ///
-/// `NotAStore` where no header of a built profile stands there, or the area is too short for its
-/// slots; `Device` where the device refused a call.
+/// `NotAStore` where there is no header of a built profile, or the area is too short for its slots;
+/// `Device` where the device refused a call.
 pub fn read_header<D: Disk>(disk: &mut D) -> Result<Header, LogFault>
     ensures numbers { IfOk result (λ header. HasNumbers header) }
     ensures built { IfOk result (λ header. IsTrue (is_built header.profile 1)) }

@@ -6,7 +6,7 @@ pub const FRONT_LEN: u64 = 512;
 /// The bytes of a slot: its gate and its body.
 pub const SLOT_LEN: u64 = 512;
 
-/// The bytes of the front and of a slot, as the lengths of arrays and slices.
+/// The bytes of the header and of a slot, as the lengths of arrays and slices.
 pub(crate) const FRONT_BYTES: usize = FRONT_LEN as usize;
 
 pub(crate) const SLOT_BYTES: usize = SLOT_LEN as usize;

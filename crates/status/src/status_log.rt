@@ -154,7 +154,7 @@ impl StatusLog {
         }
     }
 
-    /// The next device call of a piece, which stands behind it whatever the device answers. Once the
+    /// The next device call of a piece, which has passed it whatever the device answers. Once the
     /// piece is open its slots are the log's.
     pub fn grow<D: Disk>(&mut self, growth: &mut Growth, disk: &mut D) -> Result<Grew, DeviceFault>
         ensures call { IsTrue D.tells → IsGrowthCall growth.old.stage growth.old.slots growth.old.piece (answer_of result) (D.state disk.old).areas

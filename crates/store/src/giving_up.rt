@@ -23,7 +23,7 @@ impl GiveUp for Job {
     }
 }
 
-/// Puts a value into its place, and gives up the one that stood there.
+/// Puts a value into its place, and gives up the one that was there.
 pub(crate) fn put_in_place<T: GiveUp>(place: &mut Option<T>, next: Option<T>)
     ensures { place.new ≡ next }
 {

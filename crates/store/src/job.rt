@@ -35,13 +35,13 @@ pub enum JobWork {
         written: usize,
     },
     /// Nothing: its slot alone names the floor, in microseconds since 1970, that of one relation or of
-    /// every one. The floors are those that stand once it is open.
+    /// every one. The floors are those once it is open.
     Floor {
         scope: Option<u16>,
         floor: u64,
         floors: Floors,
     },
-    /// A piece of 256 slots more, behind those of the log. It has no slot.
+    /// A piece of 256 slots more, after those of the log. It has no slot.
     Grow {
         growth: Growth,
     },
@@ -100,7 +100,7 @@ pub enum StartFault {
 pub enum JobDid {
     /// Nothing: no job runs.
     Idle,
-    /// The next piece of the run is written.
+    /// The next part of the run is written.
     WroteRun,
     RunSynced,
     /// The next extent of the anchors is written.

@@ -1,4 +1,4 @@
-//! The steps of a job before its slot: the pieces of what its slot is to name, or those of a growth.
+//! The steps of a job before its slot: the parts of what its slot is to name, or those of a growth.
 ghost use Rattle.std.specs.Prelude.{◌≡◌, ◌+◌, ◌<◌, ◌≤◌, ◌^◌, slice_get, IfSome, length, drop, ℕ, Option, None, Some, MatchOption};
 ghost use Rattle.status.specs.TurnState.{LogState, TurnState};
 ghost use Rattle.deltas.specs.Chains.{first_number};

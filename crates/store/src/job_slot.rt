@@ -1,4 +1,4 @@
-//! The steps of a job's slot, and what stands once it is open.
+//! The steps of a job's slot, and what counts once it is open.
 ghost use Rattle.std.specs.Prelude.{◌≡◌, ◌<◌, false, OnOk, OnErr, ℕ, Option, Some};
 ghost use Rattle.status.specs.TurnState.{LogState, TurnState};
 ghost use Rattle.store.specs.Jobs.{BeginsJobSlot, TurnsJob, stored, slot_body, made_ready, work_done, TakesMemory};

@@ -70,8 +70,8 @@ fn commits_of(
 
 impl<D: Disk> Store<D> {
     /// Opens the store that the disk holds. It first syncs the three areas, and then only reads. The
-    /// mark is a number of the caller's, which the store's transactions, tickets and views carry.
-    /// A refused opening hands the disk back.
+    /// store mark is a number of the caller's, which the store's transactions, tickets and views
+    /// carry. A refused opening hands the disk back.
     pub fn open(alloc: Global, disk: D, mark: u64) -> Result<Store<D>, (OpenFault, D)>
         ensures ok { IfOk result (λ s. Opens D.tells (D.state disk) mark s) }
         ensures err { IfErr result (λ e. OpenRefuses D.tells (D.state disk) e.0 (D.state e.1)) }

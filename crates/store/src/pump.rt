@@ -17,9 +17,9 @@ use std::mem;
 use wire::Body;
 
 impl<D: Disk> Store<D> {
-    /// One step of the group of commits that is being written; where none stands, one begins of the
-    /// first 16 that wait. Each step makes one write or sync of the disk. `Idle` is answered where no
-    /// group stands and no commit waits.
+    /// One step of the group of commits that is being written; where there is none, one begins of the
+    /// first 16 that wait. Each step makes one write or sync of the disk. `Idle` is answered where
+    /// there is no group and no commit waits.
     pub fn pump(&mut self) -> Result<Did, PumpFault>
         ensures is { Pumps D.tells self.old result self.new }
         ensures sound { IsTrue D.tells → AreSound self.new.disk.areas }

@@ -41,9 +41,9 @@ impl<D: Disk> Store<D> {
             .scan_at(self.alloc, mark, &mut self.disk, view, relation, time)
     }
 
-    /// The rows of a key from `a` up to `b` in microseconds since 1970, by rising time: of each
-    /// version that stood in between the value, and the times from which and up to which it did.
-    /// `Stranger` comes first, then `BeforeKept`, `NotYet` and `EmptyInterval`, and then those of `at`.
+    /// The rows of a key from `a` up to `b` in microseconds since 1970, by rising time: of each version
+    /// that was valid in between the value, and the times from which and up to which it was. `Stranger`
+    /// comes first, then `BeforeKept`, `NotYet` and `EmptyInterval`, and then those of `at`.
     pub fn between(
         &mut self,
         view: &View,

@@ -96,9 +96,9 @@ impl<D: Disk> Store<D> {
     }
 
     /// Begins a reclaim: the heap is to hold only what ended after the archive mark, and so is
-    /// memory. It takes a slot and an extent for each 8,176 bytes of anchors, the versions that stand
-    /// at the mark, and `job_pump` writes them. No call of the disk is made. Where it is refused
-    /// nothing changes.
+    /// memory. It takes a slot and an extent for each 8,176 bytes of anchors, the versions that are
+    /// valid at the mark, and `job_pump` writes them. No call of the disk is made. Where it is
+    /// refused nothing changes.
     pub fn reclaim_start(&mut self) -> Result<(), StartFault>
         ensures { StartsReclaim self.old result self.new }
     {

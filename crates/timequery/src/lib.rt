@@ -1,4 +1,4 @@
-//! What stood in a record at a time.
+//! What a record held at a time.
 #![tactic(auto)]
 
 mod fault;

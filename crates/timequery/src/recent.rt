@@ -14,7 +14,7 @@ use history::{Key, Version};
 use std::alloc::Global;
 
 impl View {
-    /// Whether memory has every version that stands at this time or later.
+    /// Whether memory has every version that is valid at this time or later.
     fn check_memory(&self, time: u64) -> Result<(), QueryFault>
         ensures { MatchResult result (λ _. self.now.reclaimed ≤ time) (NeedsRuns self.now time) }
     {

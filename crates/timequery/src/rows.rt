@@ -52,7 +52,7 @@ fn part_after(row: Version<SharedValue>, mark: u64, a: u64, b: u64) -> Option<Ve
     Some(Version { from, to, value })
 }
 
-/// Puts behind the rows the parts from `a` to `b` of those whose versions end after the mark.
+/// Appends to the rows the parts from `a` to `b` of those whose versions end after the mark.
 pub(crate) fn add_rows_after(
     found: &mut Vec<Version<SharedValue>>,
     rows: Vec<Version<SharedValue>>,
@@ -129,7 +129,7 @@ fn add_all(found: &mut Vec<ScanRow>, rows: VecDeque<ScanRow>) -> Result<(), Allo
     Ok(())
 }
 
-/// The rows of the archive and those of memory as one list by record, where those of memory come behind
+/// The rows of the archive and those of memory as one list by record, where those of memory come after
 /// those of the archive of the same record. Both are by record.
 pub(crate) fn merged(
     alloc: Global,

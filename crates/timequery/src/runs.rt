@@ -83,7 +83,7 @@ impl Runs {
         }
     }
 
-    /// The same with one more run behind them. `self` stays as it is.
+    /// The same with one more run after them. `self` stays as it is.
     ///
     /// # Errors
     ///

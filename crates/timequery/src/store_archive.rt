@@ -89,7 +89,7 @@ impl StoreArchive {
         self.runs.share()
     }
 
-    /// Makes the place of one more run behind those of the log.
+    /// Makes the place of one more run after those of the log.
     ///
     /// # Errors
     ///
@@ -116,8 +116,8 @@ impl StoreArchive {
         view.mark() == mark && is_front(view.runs(), self.runs.as_slice())
     }
 
-    /// The value of a key at a time in microseconds since 1970, as the view's moment knows it, of the store with this mark. Only below the
-    /// view's reclaim mark the disk is read.
+    /// The value of a key at a time in microseconds since 1970, as the view's moment knows it, of the store with this store mark. Only
+    /// below the view's reclaim mark the disk is read.
     ///
     /// # Errors
     ///
@@ -161,8 +161,8 @@ impl StoreArchive {
         view.values_at(alloc, &mut self.reader, disk, relation, time)
     }
 
-    /// The rows of a key from `a` up to `b` in microseconds since 1970, by rising time: of each version that stood in between the value,
-    /// and the times from which and up to which it did.
+    /// The rows of a key from `a` up to `b` in microseconds since 1970, by rising time: of each version that was valid in between the
+    /// value, and the times from which and up to which it was.
     ///
     /// # Errors
     ///

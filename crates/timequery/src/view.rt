@@ -35,8 +35,8 @@ impl Model for View {
 }
 
 impl View {
-    /// A view of a store with this mark: the time of its last commit, its floors and its versions. Nothing
-    /// is archived or reclaimed.
+    /// A view of a store with this store mark: the time of its last commit, its floors and its versions.
+    /// Nothing is archived or reclaimed.
     pub fn new(mark: u64, last: u64, floors: Floors, state: Frozen) -> Self
         ensures { result ≡ record { mark = mark; last = last; floors = floors; reclaimed = 0; runs = []; state = state } }
     {
@@ -75,7 +75,7 @@ impl View {
         }
     }
 
-    /// The mark of the store that gave it.
+    /// The store mark of the store that gave it.
     pub fn mark(&self) -> u64
         ensures { result ≡ self.now.mark }
     {
@@ -126,7 +126,8 @@ impl View {
         } = self;
     }
 
-    /// Whether a time in microseconds since 1970 is kept of a relation: from its floor up to the last commit.
+    /// Whether a time in microseconds since 1970 is answered of a relation: from its floor up to the last
+    /// commit.
     pub(crate) fn check_time(&self, relation: u16, time: u64) -> Result<(), QueryFault>
         ensures { MatchResult result (λ _. (floor_at self.now.floors relation ≤ time) × (time ≤ self.now.last)) (RefusesTime self.now relation time) }
     {
@@ -140,8 +141,8 @@ impl View {
         Ok(())
     }
 
-    /// Whether all times from `a` up to `b`, itself no longer among them, are kept of a relation, and there
-    /// are some.
+    /// Whether all times from `a` up to `b`, itself no longer among them, are answered of a relation, and
+    /// there are some.
     pub(crate) fn check_interval(&self, relation: u16, a: u64, b: u64) -> Result<(), QueryFault>
         ensures { MatchResult result (λ _. IsInView self.now relation a b) (RefusesBounds self.now relation a b) }
     {

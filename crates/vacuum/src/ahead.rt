@@ -1,4 +1,4 @@
-//! What stands next in a walk over one key's versions.
+//! What comes next in a walk over one key's versions.
 ghost use Rattle.std.specs.Prelude.{◌≡◌, IfOk, IsTrue, MatchOption, [], option_map};
 ghost use Rattle.archive.specs.Answers.{record_of};
 ghost use Rattle.vacuum.specs.Archives.{key_records};
@@ -38,7 +38,7 @@ impl Ahead {
     }
 }
 
-/// Goes on behind the first of the versions, if there are some. Gives whether the next one of them
+/// Goes on after the first of the versions, if there are some. Gives whether the next one of them
 /// has a record too.
 pub(crate) fn moves(ahead: &mut Option<Ahead>, upto: u64) -> bool
     ensures { IsTrue result → HasMoved upto ahead.old ahead.new }
@@ -50,7 +50,7 @@ pub(crate) fn moves(ahead: &mut Option<Ahead>, upto: u64) -> bool
     found.record(upto).is_some()
 }
 
-/// What stands next of a key of which the versions that ended by `passed` are behind, if there is a
+/// What comes next of a key of which the versions that ended by `passed` are done, if there is a
 /// record.
 pub(crate) fn ahead_in(chain: &Chain, passed: u64, upto: u64) -> Result<Option<Ahead>, AllocError>
     ensures { IfOk result (λ found. MatchOption found (key_records passed upto chain.now ≡ []) (IsAheadOf passed upto chain.now)) }

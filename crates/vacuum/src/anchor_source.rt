@@ -1,4 +1,4 @@
-//! A walk over the versions that a reclaim keeps as anchors.
+//! A walk over the versions that a reclaim writes as anchors.
 ghost use Rattle.std.specs.Prelude.{◌≡◌, drop, option_map, slice_get};
 ghost use Rattle.deltas.specs.Loans.{record_of_loan};
 ghost use Rattle.vacuum.specs.Anchors.{IsAnchored, key_olds, olds_of, olds_at};
@@ -9,8 +9,8 @@ use deltas::{ContentRef, RecordRef, RecordSource};
 use history::Key;
 use std::marker::Model;
 
-/// Goes over the anchor records of the versions that stand at a mark, one of a key at most, in the
-/// order of the keys. It takes no memory.
+/// Goes over the anchor records of the versions that are valid at a mark, one of a key at most, in
+/// the order of the keys. It takes no memory.
 #[derive(Drop)]
 pub struct AnchorSource {
     frozen: Frozen,
@@ -29,8 +29,8 @@ impl Model for AnchorSource {
 }
 
 impl AnchorSource {
-    /// The anchor records of the versions that stand at the mark, in microseconds since 1970. All
-    /// of them are left.
+    /// The anchor records of the versions that are valid at the mark, in microseconds since 1970.
+    /// All of them are left.
     pub fn new(frozen: Frozen, mark: u64) -> AnchorSource
         ensures is { result ≡ record { all = olds_of mark frozen; left = olds_of mark frozen } }
         ensures versions { AreInMemory frozen }
@@ -66,7 +66,7 @@ impl RecordSource for AnchorSource {
     }
 }
 
-/// The anchor record of a key, if a version stands at the mark.
+/// The anchor record of a key, if a version is valid at the mark.
 fn anchor_of(chain: &Chain, mark: u64) -> Option<RecordRef<'_>>
     ensures { option_map record_of_loan result ≡ slice_get (key_olds mark chain.now) 0 }
 {
@@ -102,7 +102,7 @@ fn settled(frozen: &Frozen, mark: u64, bound: Bound) -> Bound
     bound
 }
 
-/// The bound from which on all records stand.
+/// The bound from which on all records are.
 fn first_bound(frozen: &Frozen, mark: u64) -> Bound
     ensures left { olds_at mark result frozen.now ≡ olds_of mark frozen.now }
     ensures settled { IsAnchored mark result frozen.now }
@@ -115,7 +115,7 @@ fn first_bound(frozen: &Frozen, mark: u64) -> Bound
     settled(frozen, mark, Bound::From(least))
 }
 
-/// The bound behind the next record.
+/// The bound after the next record.
 fn next_bound(frozen: &Frozen, mark: u64, bound: Bound) -> Bound
     requires { IsAnchored mark bound frozen.now }
     ensures left { olds_at mark result frozen.now ≡ drop 1 (olds_at mark bound frozen.now) }

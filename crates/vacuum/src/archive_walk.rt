@@ -34,8 +34,8 @@ impl Since {
     }
 }
 
-/// Where a walk stands: of the first key within the bound the versions that ended by `passed`, in
-/// microseconds since 1970, are behind.
+/// Where a walk is: of the first key within the bound the versions that ended by `passed`, in
+/// microseconds since 1970, are done.
 #[derive(Clone, Copy)]
 pub(crate) struct Place {
     bound: Bound,
@@ -165,14 +165,14 @@ fn next_record<'a>(
     None
 }
 
-/// A place, and what stands next there, if it is held.
+/// A place, and what comes next there, if it is held.
 #[derive(Drop)]
 struct Stand {
     place: Place,
     ahead: Option<Ahead>,
 }
 
-/// What stands next of a key of which those that ended by `passed` are behind, if there is a record.
+/// What comes next of a key of which those that ended by `passed` are done, if there is a record.
 fn ahead_of(
     chain: &Chain,
     since: &Since,
@@ -224,7 +224,7 @@ fn first_place() -> Place
     }
 }
 
-/// The place behind the next record, which has this head.
+/// The place after the next record, which has this head.
 fn place_behind(frozen: &Frozen, head: &Head) -> Place
     ensures is { result ≡ record { bound = From head.now.key; passed = head.now.to } }
     ensures left { (since : Since) (upto : ℕ) (place : Place) → option_map head_of (slice_get (records_at since upto place frozen.now) 0) ≡ Some head.now

@@ -6,7 +6,7 @@ use crate::spelled::Spelled;
 use std::alloc::{AllocError, Global};
 use std::marker::Model;
 
-/// 0 to 16 fields of 0 to 255 bytes. One piece of memory holds each as its length and its bytes.
+/// 0 to 16 fields of 0 to 255 bytes. One block of memory holds each as its length and its bytes.
 #[derive(Drop)]
 pub struct Fields {
     spelled: Spelled,
@@ -83,8 +83,8 @@ fn are_same(a: &[u8], b: &[u8]) -> bool
 impl Fields {
     ghost use Rattle.wire.specs.Fields.{fields_bytes, AreAllFields};
 
-    /// That many fields at the front, and what follows them; none where they aren't there, or are
-    /// more than 16.
+    /// That many fields at the beginning, and what follows them; none where they aren't there, or
+    /// are more than 16.
     pub fn take(
         alloc: Global,
         count: u8,
@@ -226,7 +226,7 @@ impl Fields {
     }
 }
 
-/// The fields that are left of some, from the front.
+/// The fields that are left of some, from the first.
 #[derive(Drop)]
 pub struct FieldsIter<'a> {
     count: u8,

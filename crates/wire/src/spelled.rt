@@ -129,7 +129,7 @@ fn push_field(bytes: &mut Vec<u8>, field: &[u8]) -> Result<(), AllocError>
 #[derive(Drop)]
 enum Place {
     Short(ShortBytes),
-    /// Bytes that several may hold. Who puts a field behind them does so where no other holds them.
+    /// Bytes that several may hold. Who puts a field after them does so where no other holds them.
     Long {
         alloc: Global,
         count: u8,
@@ -137,9 +137,9 @@ enum Place {
     },
 }
 
-/// How many fields there are, and their bytes. Both kinds of place hold the count beside what they
-/// hold of the bytes, and so the whole takes 72 bytes: a `SmallVec` beside a count takes 16 more, for
-/// its length and for what tells its kind of place.
+/// How many fields there are, and their bytes. Both kinds of place hold the count next to what they
+/// hold of the bytes, and so the whole takes 72 bytes: a `SmallVec` next to a count takes 16 more,
+/// for its length and for what tells its kind of place.
 #[derive(Drop)]
 pub(crate) struct Spelled {
     place: Place,

@@ -1,4 +1,4 @@
-//! A value: what a store keeps under a key.
+//! A value: what a store has under a key.
 
 ghost use Rattle.std.specs.Prelude.{[], ◌≡◌, ◌≢◌, ◌<◌, ◌≤◌, ◌↔◌, ◌∷◌, ◌++◌, ℕ, List, length, map, slice_get, option_copied, is_ok, if◌then◌else◌, IfOk, IfSome};
 ghost use Rattle.std.specs.Prelude.{MatchOption, IsTrue, Ok, Err};
@@ -99,7 +99,7 @@ impl Value {
         self.fields.iter()
     }
 
-    /// The field at a place, counted from 0; none behind the last.
+    /// The field at a place, counted from 0; none after the last.
     pub fn field(&self, index: usize) -> Option<&[u8]>
         ensures { option_copied result ≡ slice_get self.now index }
     {
@@ -171,7 +171,7 @@ pub fn put_fields(out: &mut Vec<u8>, value: &Value) -> Result<(), AllocError>
     appended
 }
 
-/// The value at the front, and what follows it; none where no value is there.
+/// The first value, and what follows it; none where no value is there.
 pub fn take_fields(alloc: Global, bytes: &[u8]) -> Result<Option<(Value, &[u8])>, AllocError>
     ensures { IfOk result (λ o. MatchOption o ((value : List (List ℕ)) (rest : List ℕ) → IsValue value → bytes.now ≢ value_bytes value ++ rest)
         (λ p. IsValue p.0 × (bytes.now ≡ value_bytes p.0 ++ p.1.now))) }

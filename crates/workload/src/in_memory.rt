@@ -21,13 +21,13 @@ use std::thread::Threads;
 /// The layout of a stress's store whose log is slots.
 pub const SLOTS: Layout = Layout::Slots(32_768);
 
-/// The mark of a stress's store.
+/// The store mark of a stress's store.
 const MARK: u64 = 1;
 
 /// Writers commit their own keys, and readers read them, in threads of their own over a new store of this
-/// layout in memory, beside a committer and a vacuum. Gives how many commits there were, and the time of the
-/// last, in microseconds since 1970. None where a caller was refused, memory ran out, or a writer's key
-/// has not the value of its last round.
+/// layout in memory, with a committer and a vacuum. Gives how many commits there were, and the time of the
+/// last, in microseconds since 1970. None where a caller was refused, memory ran out, or a writer's key has
+/// not the value of its last round.
 pub fn stress<R: Threads + Wait + Sync>(
     rt: &R,
     alloc: Global,

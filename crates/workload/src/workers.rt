@@ -1,4 +1,4 @@
-//! Threads that commit and read beside a committer and a vacuum.
+//! Threads that commit and read, with a committer and a vacuum.
 ghost use Rattle.std.specs.Prelude.{◌≡◌, ◌+◌, ◌≤◌, ◌<◌, ◌^◌, [], true, length, vec_len, IfOk, IfSome, if◌then◌else◌};
 ghost use Rattle.std.specs.Int.{w32, to_le_bytes};
 ghost use Rattle.crossbeam_utils.specs.Seq.{cell_view};
@@ -295,7 +295,7 @@ fn gather<L: Opening>(worked: Vec<Worked<L>>, all: &mut Share<L>) -> u64
     done
 }
 
-/// Writers and readers in threads of their own over a store that was just opened, beside a committer
+/// Writers and readers in threads of their own over a store that was just opened, with a committer
 /// and a vacuum. Gives the store back, and how many commits the writers count together: none where a
 /// caller was refused or memory ran out. These and the ones for which nobody was answered Done are
 /// the commits since opening.

@@ -1,4 +1,4 @@
-//! Threads that write and read a shared store beside its committer.
+//! Threads that write and read a shared store, and its committer.
 ghost use Rattle.std.specs.Prelude.{◌≡◌, ◌+◌, ◌<◌, [], true, length, IfOk};
 ghost use Rattle.crossbeam_utils.specs.Seq.{cell_view};
 ghost use Rattle.shared.specs.Naming.{IsFresh};

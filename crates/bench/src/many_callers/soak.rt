@@ -1,4 +1,4 @@
-//! A soak: writers of the same records and readers, beside a committer and a vacuum.
+//! A soak: writers of the same records and readers, with a committer and a vacuum.
 ghost use Rattle.std.specs.Prelude.{◌≡◌, ◌+◌, ◌<◌, [], true, false, length};
 ghost use Rattle.crossbeam_utils.specs.Seq.{cell_view};
 ghost use Rattle.any_store.specs.Values.{commits_of};
@@ -290,7 +290,7 @@ fn run_over<R: Threads + Wait + Clock + Sync>(
     }
 }
 
-/// Prints the notes of each thread behind a line with what it did and its number.
+/// Prints the notes of each thread after a line with what it did and its number.
 fn print_all<R: Print>(rt: &R, kind: &str, noted: Noted) -> Result<(), Fault> {
     let mut number = 0u64;
     for each in noted? {

@@ -1,4 +1,4 @@
-//! Commits and views of many threads, beside the raw writes and syncs of as many groups.
+//! Commits and views of many threads, compared with the raw writes and syncs of as many groups.
 ghost use Rattle.std.specs.Prelude.{◌≡◌, [], false, length, IfOk};
 ghost use Rattle.any_store.specs.Values.{commits_of};
 ghost use Rattle.history.specs.Machine.{Machine};
@@ -40,7 +40,7 @@ const FULL_LOG_GROUP: u64 = 1_024;
 /// The most raw groups.
 const MOST_RAW_GROUPS: u64 = 1_000;
 
-/// The most commits of a writer beside readers: a store has not many more slots.
+/// The most commits of a writer among readers: a store has not many more slots.
 const MOST_COMMITS: u64 = 60_000;
 
 /// The threads of a measurement that is done so often.

@@ -12,7 +12,7 @@ pub(crate) enum Verb {
     Writers(u8),
     /// The same of a store whose log lies in the heap.
     LogWriters(u8),
-    /// What so many readers read beside one writer.
+    /// What so many readers read while one writes.
     Readers(u8, Reading),
     /// How long the lock is held.
     Holding,

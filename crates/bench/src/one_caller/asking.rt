@@ -1,4 +1,5 @@
-//! Queries of a store with 1,000 keys of as many versions each, beside copies of their answers.
+//! Queries of a store with 1,000 keys of as many versions each, compared with copies of their
+//! answers.
 
 use crate::fault::Fault;
 use crate::numbers::{milliseconds, nanoseconds, quotient, rate};

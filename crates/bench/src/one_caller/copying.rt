@@ -1,4 +1,4 @@
-//! Plain copies of answers that stand in memory one after another.
+//! Plain copies of answers that lie in memory one after another.
 
 use crate::fault::Fault;
 use crate::numbers::nanoseconds;
@@ -20,7 +20,7 @@ fn table(alloc: Global) -> Result<Vec<u8>, AllocError> {
     Ok(bytes)
 }
 
-/// Copies the answer at a place to the front of `out`. Gives its first byte, 0 of none.
+/// Copies the answer at a place to the beginning of `out`. Gives its first byte, 0 of none.
 fn copy(table: &[u8], place: usize, out: &mut [u8]) -> u8 {
     let start = place.saturating_mul(out.len());
     let end = start.saturating_add(out.len());

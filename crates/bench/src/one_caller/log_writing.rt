@@ -1,4 +1,5 @@
-//! Commits of a store whose log lies in the heap, beside the raw writes and the two syncs of as many.
+//! Commits of a store whose log lies in the heap, compared with the raw writes and the two syncs of
+//! as many.
 
 use crate::fault::Fault;
 use crate::numbers::{Times, nanoseconds};

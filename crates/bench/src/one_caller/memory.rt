@@ -18,7 +18,7 @@ pub(crate) struct Held {
     pub(crate) most: u64,
 }
 
-/// The number of kilobytes behind this name, in bytes; 0 where the name isn't there.
+/// The number of kilobytes after this name, in bytes; 0 where the name isn't there.
 fn bytes_of(status: &str, name: &str) -> u64 {
     for line in status.lines() {
         let mut words = line.split_whitespace();

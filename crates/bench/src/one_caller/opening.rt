@@ -1,4 +1,4 @@
-//! Opening a store, beside reading its files.
+//! Opening a store, compared with reading its files.
 
 use crate::fault::Fault;
 use crate::numbers::{milliseconds, nanoseconds};

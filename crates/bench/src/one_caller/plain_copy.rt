@@ -11,7 +11,7 @@ use std::time::{Clock, Instant};
 /// The bytes that one call reads or writes.
 const PIECE_LEN: usize = 8_192;
 
-/// Copies up to so many bytes of a piece. Gives how many; 0 at the end of the file.
+/// Copies up to so many bytes of a part. Gives how many; 0 at the end of the file.
 fn copy_piece(from: &mut File, to: &mut File, left: u64) -> io::Result<u64> {
     let mut piece = [0; PIECE_LEN];
     let read = from.read(&mut piece)?;
@@ -33,7 +33,7 @@ fn copy(from: &mut File, to: &mut File, bytes: u64) -> io::Result<()> {
     to.sync_data()
 }
 
-/// The nanoseconds of copying the first bytes of a file to another, which is made, in pieces of 8,192
+/// The nanoseconds of copying the first bytes of a file to another, which is made, in parts of 8,192
 /// bytes, with one sync.
 pub(crate) fn time_copy(rt: &HostRuntime, from: &str, to: &str, bytes: u64) -> Result<u64, Fault> {
     let mut source = std::fs::open(rt, from)?;

@@ -1,4 +1,4 @@
-//! Stores that are to be vacuumed: of each key the last version stands, and the others ended.
+//! Stores that are to be vacuumed: of each key the last version is valid, and the others ended.
 
 use crate::fault::Fault;
 use crate::numbers::{milliseconds, nanoseconds};

@@ -1,4 +1,4 @@
-//! Archives and reclaims, beside a plain copy of as many bytes.
+//! Archives and reclaims, compared with a plain copy of as many bytes.
 
 use crate::fault::Fault;
 use crate::numbers::{megabytes_a_second, milliseconds, nanoseconds};
@@ -21,7 +21,7 @@ const PIECE_LEN: u64 = 8_192;
 /// The bytes of a job's slot.
 const SLOT_LEN: u64 = 512;
 
-/// The nanoseconds of jobs, and how many pieces they wrote.
+/// The nanoseconds of jobs, and how many parts they wrote.
 #[derive(Clone, Copy)]
 struct Spent {
     starting: u64,

@@ -1,4 +1,4 @@
-//! Commits, beside the raw writes and syncs of as many.
+//! Commits, compared with the raw writes and syncs of as many.
 
 use crate::fault::Fault;
 use crate::numbers::{Times, microseconds, nanoseconds, quotient, rate};
