@@ -1,0 +1,6 @@
+mod Floors
+mod Named
+mod Shares
+mod Alike
+mod Leaving
+mod Starting

@@ -1,0 +1,3 @@
+pub mod Bases
+pub mod Ends
+pub mod Laws
