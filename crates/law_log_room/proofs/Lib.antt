@@ -4,3 +4,8 @@ mod Shares
 mod Alike
 mod Leaving
 mod Starting
+mod Calls
+mod Lasts
+mod Behind
+mod Ending
+mod Stuck
