@@ -6,6 +6,7 @@ use Rattle.std.proofs.lemmas.List.{append-nil}
 use Rattle.std.proofs.lemmas.List.Concat.{flat_map-cons}
 use Rattle.floors.specs.declared.floors.OwnFloor.{OwnFloor}
 use Rattle.log_entries.specs.declared.entry.Archive.{Archive}
+use Rattle.log_entries.specs.declared.entry.Roll.{Roll}
 use Rattle.log_base.specs.Bases.{mark_of, own_behind, own_from, rolls_at, rolls_of}
 use Rattle.log_recovery.specs.Live.{LiveChainValue, part_of}
 use Rattle.log_recovery.specs.declared.live.LivePart.{LivePart}
@@ -74,8 +75,8 @@ pub alike-one : (a b : List LiveChainValue) (c d : LiveChainValue) → Alike a b
     → Alike (a ++ c ∷ []) (b ++ d ∷ [])
 alike-one a b c d is same none =
     let none-c : is_base c.part ≡ false = ap is_base same ∙ none in
-    let rolls-a = ap (λ (xs : List _). length xs) (rolls-more a c none-c) in
-    let rolls-b = ap (λ (xs : List _). length xs) (rolls-more b d none) in
+    let rolls-a = ap (λ (xs : List Roll). length xs) (rolls-more a c none-c) in
+    let rolls-b = ap (λ (xs : List Roll). length xs) (rolls-more b d none) in
     let archives-a = archives-more a c in
     let archives-b = archives-more b d in
     let part = ap (λ (p : LivePart). length (archives_at p)) same in
@@ -93,7 +94,7 @@ alike-group a c time same =
     let archives = archives-more a c in
     let part = ap (λ (p : LivePart). length (archives_at p)) same in
     record {
-      rolls = ap (λ (xs : List _). length xs) (rolls-more a c none);
+      rolls = ap (λ (xs : List Roll). length xs) (rolls-more a c none);
       mark = mark-more a c none;
       archives = omega (arith, archives, part);
       own = own-more [] a c ∙ ap (own_behind (own_from [] a)) same;

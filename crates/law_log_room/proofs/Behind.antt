@@ -70,12 +70,12 @@ all-front : (mark old last : ℕ) (before : List Slot) (names : List Head) (chai
     → last_commit last (chains_told names chains) ≤ mark → drop (front_len mark (map live_of chains)) chains ≡ []
 all-front mark old last before names [] may low = refl
 all-front mark old last before names (c ∷ cs) may low =
-    let told = chain_told names c.entry in
-    let next = last_time_after last (commits_in told) in
-    let grows = all-rise old next (told_behind old before told) (chains_told names cs) may.1 in
+    let said = chain_told names c.entry in
+    let next = last_time_after last (commits_in said) in
+    let grows = all-rise old next (told_behind old before said) (chains_told names cs) may.1 in
     let early = chain-early mark old last before names c.entry may.0 (omega (arith, grows, low)) in
     ap (λ (b : Bool). drop (cond b zero (suc (front_len mark (map live_of cs)))) (c ∷ cs)) early
-    ∙ all-front mark old next (told_behind old before told) names cs may.1 low
+    ∙ all-front mark old next (told_behind old before said) names cs may.1 low
 
 -- one that tells of no commit, and of no archive, has no chain
 none-at-all : (names : List Head) (chains : List PlacedChain) → KeepsChainRules (chains_told names chains)
@@ -112,11 +112,11 @@ module _ (tells : Bool) (v : LogStoreValue) (m : Machine Value) (is : IsStoreOf 
   commits-low =
       let telling = (tells-all (chains_told names s.l.chains) ((s.is_log).rules).each).telling in
       let here = ap told_time log-is in
-      let told = last-told tells v m is s step none free in
+      let said = last-told tells v m is s step none free in
       let archived = archived-range s.reading m.published m.floors s.stands in
       let order = s.stands.homes.marks in
       let same = last-is v.commits m is.memory in
-      omega (arith, telling, here, told, archived, order, same)
+      omega (arith, telling, here, said, archived, order, same)
 
   -- where all is archived the front is the whole log
   pub whole-front : v.named.upto ≡ last v.commits → drop (front_count v) v.live.chains ≡ []

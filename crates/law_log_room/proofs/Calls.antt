@@ -8,9 +8,11 @@ use Rattle.snapshot.specs.Txn.{TxnValue}
 use Rattle.group.specs.declared.answers.Submitted.{Submitted}
 use Rattle.group.specs.declared.answers.Submitted.TheVariants.{ReadOnly, Queued}
 use Rattle.group.specs.declared.answers.SubmitFault.{SubmitFault}
+use Rattle.group.specs.declared.answers.SubmitFault.TheVariants as refused
 use Rattle.timequery.specs.Asked.{Finds, OrStranger, is_own as is_own_view}
 use Rattle.timequery.specs.View.{ViewValue}
 use Rattle.timequery.specs.declared.fault.QueryFault.{QueryFault}
+use Rattle.timequery.specs.declared.fault.QueryFault.TheVariants as query
 use Rattle.commits.specs.Values.{CommitsValue, is_own}
 use Rattle.log_store.specs.Calls.{InMemory, with_commits}
 use Rattle.log_room.specs.Bases.{has_base_room}
@@ -57,11 +59,11 @@ submit-left old new txn label now answer is left = by-own (is_own old.commits tx
         same-left _ new so.2 (keeps-left v _ (record { reclaim = refl; job = refl; live = refl; named = refl; used = refl }) here)
     by-answer (Err why) so = same-left v new so.1 here
 
-    by-failed : (b : Bool) → MatchBool b ((answer ≡ Err _) × (new ≡ v)) (AnswersSubmit v txn label now answer new) → LeavesBaseRoom new
+    by-failed : (b : Bool) → MatchBool b ((answer ≡ Err refused.Failed) × (new ≡ v)) (AnswersSubmit v txn label now answer new) → LeavesBaseRoom new
     by-failed true failed = same-left v new failed.1 here
     by-failed false so = by-answer answer so
 
-    by-own : (b : Bool) → MatchBool b (SubmitsOwn v txn label now answer new) ((answer ≡ Err _) × (new ≡ old)) → LeavesBaseRoom new
+    by-own : (b : Bool) → MatchBool b (SubmitsOwn v txn label now answer new) ((answer ≡ Err refused.Stranger) × (new ≡ old)) → LeavesBaseRoom new
     by-own true so = by-failed old.commits.failed so
     by-own false strange = same-left old new strange.1 left
 
@@ -71,7 +73,7 @@ query-left : {T : Type 0} (tells : Bool) (v new : LogStoreValue) (view : ViewVal
     → LeavesBaseRoom v → LeavesBaseRoom new
 query-left tells v new view from Refuses Recent OfHistory Exact answer says left = by-own (is_own_view v.commits.mark v.archive view) says
   where
-    by-own : (b : Bool) → MatchBool b (Finds in_log_store tells v view from Refuses Recent OfHistory Exact answer new) ((answer ≡ Err _) × (new ≡ v))
+    by-own : (b : Bool) → MatchBool b (Finds in_log_store tells v view from Refuses Recent OfHistory Exact answer new) ((answer ≡ Err query.Stranger) × (new ≡ v))
         → LeavesBaseRoom new
     by-own true finds =
         same-left _ new finds.asks.new_is (keeps-left v _ (record { reclaim = refl; job = refl; live = refl; named = refl; used = refl }) left)

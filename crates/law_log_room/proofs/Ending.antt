@@ -5,21 +5,22 @@ use Rattle.std.specs.Prelude.{flat_map, IsTrue, MatchBool, MatchOption}
 use Rattle.std.proofs.lemmas.List.Concat.{flat_map-cons}
 use Rattle.disk.specs.Calls.{DiskState}
 use Rattle.group.specs.declared.answers.PumpFault.{PumpFault}
+use Rattle.group.specs.declared.answers.PumpFault.TheVariants as pump
 use Rattle.commits.specs.Values.{CommitsValue, WaitingValue, last}
 use Rattle.log_base.specs.Rolls.{InRoll}
 use Rattle.log_recovery.specs.Live.{LiveChainValue, counted_at, live_count}
 use Rattle.log_roots.specs.declared.roots.Roots.{Roots}
 use Rattle.log_roots.specs.Turning.{RootTurnState}
 use Rattle.log_roots.specs.Turning as turning
-use Rattle.log_writer.specs.Turns.{Part, Stage, Writing, Syncing, Opening, Settling, Done}
+use Rattle.log_writer.specs.Turns.{Part, Stage, Writing, Syncing, Opening, Settling, Done, stage_after}
 use Rattle.log_writer.specs.Whole.{WholeState}
-use Rattle.log_writer.specs.Writer.{WriterState}
+use Rattle.log_writer.specs.Writer.{WriterState, with_stage}
 use Rattle.log_store.specs.Gates.{waits_at}
 use Rattle.log_store.specs.Jobs.{AdvancesAt, AdvancesEntry, BeginsEntry, Enters, PumpsJob, StepsAt, StepsJob, StepsReady, at_stage, commits_with, named_with}
 use Rattle.log_store.specs.Jobs.{with_entry, with_work}
 use Rattle.log_store.specs.Jobs as jobs
 use Rattle.log_store.specs.Pumps.{with_failure}
-use Rattle.log_store.specs.Reclaiming.{AdvancesReclaim, StepsReclaim, base_chain, behind_extents, behind_roll, behind_turn}
+use Rattle.log_store.specs.Reclaiming.{AdvancesReclaim, StepsReclaim, at_turn, base_chain, behind_extents, behind_roll, behind_turn}
 use Rattle.log_store.specs.Reclaiming as reclaiming
 use Rattle.log_store.specs.Runs.{WritesRun, stage_behind}
 use Rattle.log_store.specs.Values.{LogStoreValue, ReclaimValue, IsInStep}
@@ -88,9 +89,9 @@ module _ (old : LogStoreValue) (job : Job) (is-job : old.job ≡ Some job) where
       record { commits = record { queue = refl; last = refl }; reclaim = refl; at = λ t is. same t is }
 
   after-goes : (w : WriterState) (stage : Stage) (disk : DiskState) → JobGoes old job (record (jobs.after_call old job w stage) { disk = disk })
-  after-goes w (Writing done rest) disk = staged (Entering _) disk
-  after-goes w Syncing disk = staged (Entering _) disk
-  after-goes w Opening disk = staged (Entering _) disk
+  after-goes w (Writing done rest) disk = staged (Entering (with_stage w (stage_after w.stage))) disk
+  after-goes w Syncing disk = staged (Entering (with_stage w (stage_after w.stage))) disk
+  after-goes w Opening disk = staged (Entering (with_stage w (stage_after w.stage))) disk
   after-goes w Settling disk = ended job.work disk (λ t is. is)
   after-goes w Done disk = record { commits = record { queue = refl; last = refl }; reclaim = refl; at = (stays).at }
 
@@ -179,7 +180,7 @@ archiving-step tells t old new answer is pumps = by-failed old.commits.failed pu
     by-reclaim None e steps = by-job old.job refl steps
     by-reclaim (Some r) e steps = absurd (let no : Some r ≡ None = sym e ∙ is.reclaim in cc)
 
-    by-failed : (b : Bool) → MatchBool b ((answer ≡ Err _) × (new ≡ old))
+    by-failed : (b : Bool) → MatchBool b ((answer ≡ Err pump.Failed) × (new ≡ old))
         (MatchOption old.reclaim (StepsJob tells old.job old answer new) (λ r. StepsReclaim tells r old answer new)) → Archiving t new
     by-failed true failed = same failed.1
     by-failed false steps = by-reclaim old.reclaim refl steps
@@ -220,6 +221,13 @@ module _ (old : LogStoreValue) (r : ReclaimValue) (is-reclaim : old.reclaim ≡ 
     empty = λ none. subst (λ (o : Option ReclaimValue). IsEmptied o old.live.chains) (sym is-reclaim) none;
   }
 
+  waits-on : ReclaimGoes old r old
+  waits-on = record {
+    commits = record { queue = refl; last = refl };
+    job = refl;
+    empty = λ none. subst (λ (o : Option ReclaimValue). IsEmptied o old.live.chains) (sym is-reclaim) none;
+  }
+
   making : (s : ReclaimValue) (disk : DiskState) → s.front ≡ r.front → ReclaimGoes old r (record old { reclaim = Some s; disk = disk })
   making s disk same = record {
     commits = record { queue = refl; last = refl };
@@ -241,9 +249,9 @@ module _ (old : LogStoreValue) (r : ReclaimValue) (is-reclaim : old.reclaim ≡ 
   pieces-front roll (b ∷ bs) = refl
 
   turn-goes : (t : RootTurnState) (stage : turning.Stage) (disk : DiskState) → ReclaimGoes old r (record (behind_turn old r t stage) { disk = disk })
-  turn-goes t turning.Writing disk = making _ disk refl
-  turn-goes t turning.Syncing disk = making _ disk refl
-  turn-goes t turning.Turning disk = making _ disk refl
+  turn-goes t turning.Writing disk = making (at_turn r t turning.Syncing) disk refl
+  turn-goes t turning.Syncing disk = making (at_turn r t turning.Turning) disk refl
+  turn-goes t turning.Turning disk = making (at_turn r t turning.Settling) disk refl
   turn-goes t turning.Settling disk = record {
     commits = record { queue = refl; last = refl };
     job = refl;
@@ -252,8 +260,9 @@ module _ (old : LogStoreValue) (r : ReclaimValue) (is-reclaim : old.reclaim ≡ 
   turn-goes t turning.Done disk = remains disk old.commits refl refl
 
   stage-goes : (stage : ReclaimStage) (disk : DiskState) → ReclaimGoes old r (record (reclaiming.behind old r stage) { disk = disk })
-  stage-goes (reclaims.Writing anchors base) disk = making _ disk (extents-front anchors base anchors.left base.left)
-  stage-goes (Rolling roll) disk = making _ disk (pieces-front roll roll.left)
+  stage-goes (reclaims.Writing anchors base) disk =
+      making (behind_extents old.roots r anchors base anchors.left base.left) disk (extents-front anchors base anchors.left base.left)
+  stage-goes (Rolling roll) disk = making (behind_roll old.roots r roll roll.left) disk (pieces-front roll roll.left)
   stage-goes (Turning t) disk = turn-goes t t.stage disk
 
   advance-goes : (tells : Bool) (new : LogStoreValue) (answer : Result JobDid PumpFault) → AdvancesReclaim tells r old answer new → ReclaimGoes old r new
@@ -263,8 +272,8 @@ module _ (old : LogStoreValue) (r : ReclaimValue) (is-reclaim : old.reclaim ≡ 
   reclaim-goes : (tells : Bool) (new : LogStoreValue) (answer : Result JobDid PumpFault) → StepsReclaim tells r old answer new → ReclaimGoes old r new
   reclaim-goes tells new answer is = by-wait (waits_at old.turn r.stage) is
     where
-      by-wait : (b : Bool) → MatchBool b ((answer ≡ Err _) × (new ≡ old)) (AdvancesReclaim tells r old answer new) → ReclaimGoes old r new
-      by-wait true waits = reclaims-same old r old new waits.1 (remains old.disk old.commits refl refl)
+      by-wait : (b : Bool) → MatchBool b ((answer ≡ Err pump.Busy) × (new ≡ old)) (AdvancesReclaim tells r old answer new) → ReclaimGoes old r new
+      by-wait true waits = reclaims-same old r old new waits.1 waits-on
       by-wait false is = advance-goes tells new answer is
 
 -- Nothing waits while a reclaim is made, of the whole log or of some of it.
@@ -291,7 +300,7 @@ emptying-step tells whole old new answer is pumps = by-failed old.commits.failed
           at = λ all. goes.empty (subst (λ (o : Option ReclaimValue). IsEmptied o old.live.chains) e (is.at all));
         }
 
-    by-failed : (b : Bool) → MatchBool b ((answer ≡ Err _) × (new ≡ old))
+    by-failed : (b : Bool) → MatchBool b ((answer ≡ Err pump.Failed) × (new ≡ old))
         (MatchOption old.reclaim (StepsJob tells old.job old answer new) (λ r. StepsReclaim tells r old answer new)) → Emptying whole new
     by-failed true failed = same failed.1
     by-failed false steps = by-reclaim old.reclaim refl steps

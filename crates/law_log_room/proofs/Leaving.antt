@@ -4,6 +4,8 @@ use Rattle.std.proofs.Common.{refl, arith, ap, sym, subst, ◌∙◌, inl, inr}
 use Rattle.std.specs.Prelude.{IsTrue, MatchBool, MatchOption}
 use Rattle.disk.specs.Calls.{DiskState}
 use Rattle.group.specs.declared.answers.PumpFault.{PumpFault}
+use Rattle.group.specs.declared.answers.PumpFault.TheVariants as pump
+use Rattle.commits.specs.Steps.{group_last, grouped}
 use Rattle.log_extents.specs.Chains.{count_of}
 use Rattle.log_base.specs.Rolls.{InRoll}
 use Rattle.log_recovery.specs.Live.{LiveChainValue, part_of}
@@ -14,9 +16,9 @@ use Rattle.log_roots.specs.Turning.{RootTurnState}
 use Rattle.log_roots.specs.Turning as turning
 use Rattle.log_room.specs.Rooms.{RoomValue, TakesChain}
 use Rattle.log_room.proofs.Taken.{used_len}
-use Rattle.log_writer.specs.Turns.{Part, Stage, Writing, Syncing, Opening, Settling, Done}
+use Rattle.log_writer.specs.Turns.{Part, Stage, Writing, Syncing, Opening, Settling, Done, stage_after}
 use Rattle.log_writer.specs.Whole.{WholeState}
-use Rattle.log_writer.specs.Writer.{WriterState}
+use Rattle.log_writer.specs.Writer.{WriterState, with_stage}
 use Rattle.archive.specs.Pieces.{InWriting}
 use Rattle.log_store.specs.Gates.{waits_at, waits_to_open}
 use Rattle.log_store.specs.Jobs.{AdvancesAt, AdvancesEntry, BeginsEntry, Enters, PumpsJob, StepsAt, StepsJob, StepsReady, at_stage, entry_of, is_entering}
@@ -25,7 +27,7 @@ use Rattle.log_store.specs.Jobs as jobs
 use Rattle.log_store.specs.Live.{LiveValue}
 use Rattle.log_store.specs.Named.{NamedValue}
 use Rattle.log_store.specs.Pumps.{Advances, AdvancesGroup, Begins, BeginsGroup, BeginsOrWaits, Pumps, TakesStep, after_call, bars_groups, with_failure}
-use Rattle.log_store.specs.Reclaiming.{AdvancesReclaim, StepsReclaim, base_chain, behind_extents, behind_roll, behind_turn, room_with, with_base}
+use Rattle.log_store.specs.Reclaiming.{AdvancesReclaim, StepsReclaim, at_turn, base_chain, behind_extents, behind_roll, behind_turn, room_with, with_base}
 use Rattle.log_store.specs.Reclaiming as reclaiming
 use Rattle.log_store.specs.Runs.{WritesRun, stage_behind, stage_with}
 use Rattle.log_store.specs.Runs as runs
@@ -38,6 +40,7 @@ use Rattle.log_store.specs.declared.job.JobStage.TheVariants as stages
 use Rattle.log_store.specs.declared.job.JobWork.{JobWork}
 use Rattle.log_store.specs.declared.job.JobWork.TheVariants.{Floor, Archive}
 use Rattle.log_store.specs.declared.pump.Did.{Did}
+use Rattle.log_store.specs.declared.pump.Did.TheVariants as did
 use Rattle.log_store.specs.declared.reclaim.ReclaimStage.{ReclaimStage}
 use Rattle.log_store.specs.declared.reclaim.ReclaimStage.TheVariants.{Rolling, Turning}
 use Rattle.log_store.specs.declared.reclaim.ReclaimStage.TheVariants as reclaims
@@ -112,12 +115,14 @@ front-in job cs reserved most (Some r) is = is.front
 
 begun-left : (old begun : LogStoreValue) → IsInStep old → Begins old begun → LeavesBaseRoom old → LeavesBaseRoom begun
 begun-left old begun step b left =
-    let c : LiveChainValue = record { numbers = b.numbers; part = Commits (Rattle.commits.specs.Steps.group_last (Rattle.commits.specs.Steps.grouped 1024 old.commits)) } in
+    let c : LiveChainValue = record { numbers = b.numbers; part = Commits (group_last (grouped 1024 old.commits)) } in
     let front = front-in old.job old.live.chains old.room.reserved (length old.room.used) old.reclaim step.reclaim in
     let same = alike-most (chains_then old.reclaim old.job (old.live.chains ++ c ∷ [])) (chains_then old.reclaim old.job old.live.chains)
     (upto_then old.reclaim old.job old.named.upto) (then-group old.reclaim old.job old.live.chains c _ refl front) in
     let used = taken-len old.room b.room _ _ b.numbers b.link b.takes in
-    subst LeavesBaseRoom (sym b.new_is) (omega (arith, left, same, used))
+    let here : count_of (base_most (chains_then old.reclaim old.job (old.live.chains ++ c ∷ [])) (upto_then old.reclaim old.job old.named.upto))
+    ≤ length b.room.used / 16 = omega (arith, left, same, used) in
+    subst LeavesBaseRoom (sym b.new_is) here
 
 pub pump-left : (tells : Bool) (old new : LogStoreValue) (answer : Result Did PumpFault) → IsInStep old → Pumps tells old answer new → LeavesBaseRoom old
     → LeavesBaseRoom new
@@ -128,15 +133,15 @@ pump-left tells old new answer step pumps left = by-failed old.commits.failed pu
     begun (inr is) =
         keeps-left is.0 new (group-keeps tells is.0.turn is.0 new answer is.2) (begun-left old is.0 step is.1 left)
 
-    by-bars : (b : Bool) → MatchBool b ((answer ≡ Err _) × (new ≡ old)) (BeginsGroup tells old answer new) → LeavesBaseRoom new
+    by-bars : (b : Bool) → MatchBool b ((answer ≡ Err pump.Busy) × (new ≡ old)) (BeginsGroup tells old answer new) → LeavesBaseRoom new
     by-bars true waits = same-left old new waits.1 left
     by-bars false is = begun is
 
-    by-queue : (b : Bool) → MatchBool b ((answer ≡ Ok _) × (new ≡ old)) (BeginsOrWaits tells old answer new) → LeavesBaseRoom new
+    by-queue : (b : Bool) → MatchBool b ((answer ≡ Ok did.Idle) × (new ≡ old)) (BeginsOrWaits tells old answer new) → LeavesBaseRoom new
     by-queue true idle = same-left old new idle.1 left
     by-queue false is = by-bars (bars_groups old.job) is
 
-    by-gate : (w : WriterState) (b : Bool) → MatchBool b ((answer ≡ Err _) × (new ≡ old)) (Advances tells w old answer new) → LeavesBaseRoom new
+    by-gate : (w : WriterState) (b : Bool) → MatchBool b ((answer ≡ Err pump.Busy) × (new ≡ old)) (Advances tells w old answer new) → LeavesBaseRoom new
     by-gate w true waits = same-left old new waits.1 left
     by-gate w false is = keeps-left old new (advances-keep tells w old new answer is) left
 
@@ -144,7 +149,7 @@ pump-left tells old new answer step pumps left = by-failed old.commits.failed pu
     by-turn None is = by-queue (length old.commits.queue == 0) is
     by-turn (Some w) is = by-gate w (waits_to_open old.reclaim w.stage) is
 
-    by-failed : (b : Bool) → MatchBool b ((answer ≡ Err _) × (new ≡ old)) (TakesStep tells old old.turn answer new) → LeavesBaseRoom new
+    by-failed : (b : Bool) → MatchBool b ((answer ≡ Err pump.Failed) × (new ≡ old)) (TakesStep tells old old.turn answer new) → LeavesBaseRoom new
     by-failed true failed = same-left old new failed.1 left
     by-failed false is = by-turn old.turn is
 
@@ -176,9 +181,9 @@ module _ (old : LogStoreValue) (job : Job) (is-job : old.job ≡ Some job) (none
 
   after-left : (w : WriterState) → is_entering job.stage ≡ true → (stage : Stage) (disk : DiskState)
       → LeavesBaseRoom (record (jobs.after_call old job w stage) { disk = disk })
-  after-left w entering (Writing done rest) disk = stage-left (Entering _) (sym entering) disk
-  after-left w entering Syncing disk = stage-left (Entering _) (sym entering) disk
-  after-left w entering Opening disk = stage-left (Entering _) (sym entering) disk
+  after-left w entering (Writing done rest) disk = stage-left (Entering (with_stage w (stage_after w.stage))) (sym entering) disk
+  after-left w entering Syncing disk = stage-left (Entering (with_stage w (stage_after w.stage))) (sym entering) disk
+  after-left w entering Opening disk = stage-left (Entering (with_stage w (stage_after w.stage))) (sym entering) disk
   after-left w entering Settling disk = ended-left entering disk
   after-left w entering Done disk = left
 
@@ -213,8 +218,10 @@ module _ (old : LogStoreValue) (job : Job) (is-job : old.job ≡ Some job) (none
       let now : count_of (base_most (old.live.chains ++ entry_chain job.work ∷ []) (upto_with job.work old.named.upto)) ≤ length old.room.used / 16 =
       subst (λ (b : Bool). count_of (base_most (chains_with b job.work old.live.chains) (upto_with job.work old.named.upto)) ≤ length old.room.used / 16)
       ahead as-job in
-      left-so begun None _ (ap (λ (v : LogStoreValue). v.reclaim) b.new_is ∙ none) (ap (λ (v : LogStoreValue). v.job) b.new_is)
-      (subst (λ (v : LogStoreValue). IsLeft v None (Some (record job { stage = Entering _ }))) (sym b.new_is) (omega (arith, now, same, used)))
+      let here : count_of (base_most (old.live.chains ++ c ∷ []) (upto_with job.work old.named.upto)) ≤ length b.room.used / 16 =
+      omega (arith, now, same, used) in
+      left-so begun None begun.job (ap (λ (v : LogStoreValue). v.reclaim) b.new_is ∙ none) refl
+      (subst (λ (v : LogStoreValue). IsLeft v None v.job) (sym b.new_is) here)
 
 entry-goes : (tells : Bool) (old new : LogStoreValue) (answer : Result JobDid PumpFault) (job : Option Job) → old.job ≡ job → old.reclaim ≡ None
     → LeavesBaseRoom old → AdvancesEntry tells job old answer new → LeavesBaseRoom new
@@ -262,8 +269,9 @@ module _ (old : LogStoreValue) (r : ReclaimValue) (is-reclaim : old.reclaim ≡ 
   making-left s disk same =
       let most : base_most (base_chain s ∷ drop s.front old.live.chains) s.named.upto ≡ base_most (base_chain r ∷ drop r.front old.live.chains) r.named.upto =
       λ i. base_most (same.base i ∷ drop (same.front i) old.live.chains) (same.named i).upto in
-      let now = as-reclaim in
-      omega (arith, now, most)
+      let now : count_of (base_most (base_chain r ∷ drop r.front old.live.chains) r.named.upto) ≤ length old.room.used / 16 = as-reclaim in
+      let here : count_of (base_most (base_chain s ∷ drop s.front old.live.chains) s.named.upto) ≤ length old.room.used / 16 = omega (arith, now, most) in
+      here
 
   roll-making : (roots : Roots) (s : ReclaimValue) (roll : Option InRoll) → SameMaking r s → SameMaking r (reclaiming.begins_roll roots s roll)
   roll-making roots s None same = record { front = same.front; base = same.base; named = same.named }
@@ -280,18 +288,21 @@ module _ (old : LogStoreValue) (r : ReclaimValue) (is-reclaim : old.reclaim ≡ 
 
   turn-left : (alone : old.job ≡ None) (t : RootTurnState) (stage : turning.Stage) (disk : DiskState)
       → LeavesBaseRoom (record (behind_turn old r t stage) { disk = disk })
-  turn-left alone t turning.Writing disk = making-left _ disk (record { front = refl; base = refl; named = refl })
-  turn-left alone t turning.Syncing disk = making-left _ disk (record { front = refl; base = refl; named = refl })
-  turn-left alone t turning.Turning disk = making-left _ disk (record { front = refl; base = refl; named = refl })
+  turn-left alone t turning.Writing disk = making-left (at_turn r t turning.Syncing) disk (record { front = refl; base = refl; named = refl })
+  turn-left alone t turning.Syncing disk = making-left (at_turn r t turning.Turning) disk (record { front = refl; base = refl; named = refl })
+  turn-left alone t turning.Turning disk = making-left (at_turn r t turning.Settling) disk (record { front = refl; base = refl; named = refl })
   turn-left alone t turning.Settling disk =
       let len = (room-stands r old.live old.room).len in
-      let now = as-reclaim in
-      left-so (record (with_base old r) { disk = disk }) None None refl alone (omega (arith, now, len))
+      let now : count_of (base_most (base_chain r ∷ drop r.front old.live.chains) r.named.upto) ≤ length old.room.used / 16 = as-reclaim in
+      let here : count_of (base_most (base_chain r ∷ drop r.front old.live.chains) r.named.upto) ≤ length (room_with r old.live old.room).used / 16 =
+      omega (arith, now, len) in
+      left-so (record (with_base old r) { disk = disk }) None None refl alone here
   turn-left alone t turning.Done disk = left
 
   stage-made : (alone : old.job ≡ None) (stage : ReclaimStage) (disk : DiskState) → LeavesBaseRoom (record (reclaiming.behind old r stage) { disk = disk })
-  stage-made alone (reclaims.Writing anchors base) disk = making-left _ disk (extents-making anchors base anchors.left base.left)
-  stage-made alone (Rolling roll) disk = making-left _ disk (pieces-making roll roll.left)
+  stage-made alone (reclaims.Writing anchors base) disk =
+      making-left (behind_extents old.roots r anchors base anchors.left base.left) disk (extents-making anchors base anchors.left base.left)
+  stage-made alone (Rolling roll) disk = making-left (behind_roll old.roots r roll roll.left) disk (pieces-making roll roll.left)
   stage-made alone (Turning t) disk = turn-left alone t t.stage disk
 
   advanced : (tells : Bool) (new : LogStoreValue) (answer : Result JobDid PumpFault) → old.job ≡ None → AdvancesReclaim tells r old answer new
@@ -303,7 +314,7 @@ module _ (old : LogStoreValue) (r : ReclaimValue) (is-reclaim : old.reclaim ≡ 
       → LeavesBaseRoom new
   reclaim-left tells new answer alone is = by-wait (waits_at old.turn r.stage) is
     where
-      by-wait : (b : Bool) → MatchBool b ((answer ≡ Err _) × (new ≡ old)) (AdvancesReclaim tells r old answer new) → LeavesBaseRoom new
+      by-wait : (b : Bool) → MatchBool b ((answer ≡ Err pump.Busy) × (new ≡ old)) (AdvancesReclaim tells r old answer new) → LeavesBaseRoom new
       by-wait true waits = same-left old new waits.1 left
       by-wait false is = advanced tells new answer alone is
 
@@ -317,7 +328,7 @@ job-pump-left tells old new answer step pumps left = by-failed old.commits.faile
     by-reclaim None none beside is = job-left tells old new answer old.job refl none left is
     by-reclaim (Some r) some beside is = reclaim-left old r some left tells new answer beside.alone is
 
-    by-failed : (b : Bool) → MatchBool b ((answer ≡ Err _) × (new ≡ old))
+    by-failed : (b : Bool) → MatchBool b ((answer ≡ Err pump.Failed) × (new ≡ old))
         (MatchOption old.reclaim (StepsJob tells old.job old answer new) (λ r. StepsReclaim tells r old answer new)) → LeavesBaseRoom new
     by-failed true failed = same-left old new failed.1 left
     by-failed false is = by-reclaim old.reclaim refl step.reclaim is

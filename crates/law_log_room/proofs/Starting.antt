@@ -180,7 +180,8 @@ created-left tells old mark extents v size is =
     let len : length (with_use (replicate extents false) 1 true) ≡ extents =
     used_len (replicate extents false) (1 ∷ []) ∙ length-replicate extents false in
     let least = size.least in
-    subst LeavesBaseRoom (sym is.new_is) (omega (arith, len, least))
+    let here : count_of (base_most [] 0) ≤ length (with_use (replicate extents false) 1 true) / 16 = omega (arith, len, least) in
+    subst LeavesBaseRoom (sym is.new_is) here
 
 module _ (tells : Bool) (v : LogStoreValue) (m : Machine Value) (is : IsStoreOf tells v m) (s : StandsOnHeap v m.published m.queue m.floors)
     (free : v.job ≡ None) where
@@ -203,7 +204,8 @@ module _ (tells : Bool) (v : LogStoreValue) (m : Machine Value) (is : IsStoreOf 
       let rolls = rolls-here in
       let archives = archives-here in
       let floors = floors-here in
-      left-so v None None none free (omega (arith, fits, more, rolls, archives, floors))
+      let here : count_of (base_most cs v.named.upto) ≤ length v.room.used / 16 = omega (arith, fits, more, rolls, archives, floors) in
+      left-so v None None none free here
 
   -- ---- a floor
 
@@ -238,7 +240,8 @@ module _ (tells : Bool) (v : LogStoreValue) (m : Machine Value) (is : IsStoreOf 
           (omega (arith, some, told)) in
           let now = room-now v free none left in
           let len = floor-len relation time in
-          omega (arith, same, now, len)
+          let here : count_of (base_most (cs ++ floor_chain relation time ∷ []) v.named.upto) ≤ length v.room.used / 16 = omega (arith, same, now, len) in
+          here
       by-floor false old true e either =
           let fits = is-upto (2 * bases.floored_extents (base_parts v)) (length v.room.used / 16) e in
           let one = with-more (own_from [] cs) relation time in
@@ -247,7 +250,9 @@ module _ (tells : Bool) (v : LogStoreValue) (m : Machine Value) (is : IsStoreOf 
           let rolls = rolls-here in
           let archives = archives-here in
           let floors = floors-here in
-          omega (arith, fits, one, len, more, rolls, archives, floors)
+          let here : count_of (base_most (cs ++ floor_chain relation time ∷ []) v.named.upto) ≤ length v.room.used / 16 =
+          omega (arith, fits, one, len, more, rolls, archives, floors) in
+          here
       by-floor false old false e either = absurd (let no : false ≡ true = either in cc)
 
   -- ---- an archive
@@ -266,8 +271,9 @@ module _ (tells : Bool) (v : LogStoreValue) (m : Machine Value) (is : IsStoreOf 
       let rolls = rolls-here in
       let archives = archives-here in
       let floors = floors-here in
-      subst LeavesBaseRoom (sym b.new_is)
-      (left-so target None (target).job none refl (omega (arith, fits, rolls-c, archives-c, own-c, more, rolls, archives, floors)))
+      let here : count_of (base_most (cs ++ c ∷ []) run.upto) ≤ length v.room.used / 16 =
+      omega (arith, fits, rolls-c, archives-c, own-c, more, rolls, archives, floors) in
+      subst LeavesBaseRoom (sym b.new_is) (left-so target None target.job none refl here)
 
 -- ---- a reclaim
 
@@ -288,7 +294,9 @@ reclaim-begun v new free none left b =
     let split = runs-split n [] cs in
     let own = ap (λ (xs : List OwnFloor). length xs) (own-based n cs) in
     let used = ap (λ (r : RoomValue). length r.used) b.reserves.new_is ∙ used_len v.room.used (b.made ++ b.numbers) in
-    subst LeavesBaseRoom (sym b.new_is) (omega (arith, now, few-rolls, rolls, added, more, archives, split, own, used))
+    let here : count_of (base_most (c ∷ drop n cs) v.named.upto) ≤ length b.room.used / 16 =
+    omega (arith, now, few-rolls, rolls, added, more, archives, split, own, used) in
+    subst LeavesBaseRoom (sym b.new_is) here
 
 -- ---- the starts
 

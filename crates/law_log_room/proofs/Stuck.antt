@@ -10,7 +10,7 @@ use Rattle.history.specs.Machine.{Machine}
 use Rattle.law_image.specs.Values.{Value}
 use Rattle.law_image.proofs.Standing.{archived-range}
 use Rattle.snapshot.specs.Txn.{TxnValue}
-use Rattle.group.specs.Submits.{Verdict, ClockEnds, HeapIsFull, Queues, first_conflict, verdict_on_clock}
+use Rattle.group.specs.Submits.{Verdict, ClockEnds, Conflicts, HeapIsFull, Queues, Reads, first_conflict, verdict_on_clock}
 use Rattle.group.specs.declared.answers.Submitted.{Submitted}
 use Rattle.group.specs.declared.answers.SubmitFault.{SubmitFault}
 use Rattle.group.specs.declared.answers.SubmitFault.TheVariants as refused
@@ -163,7 +163,7 @@ archive-rests v new upto starts = by-refusal (archive_refusal v upto) refl start
 -- ---- a log that is all base
 
 dropped : {X : Type 0} (n : ℕ) (xs : List X) → drop n xs ≡ [] → length xs ≤ n
-dropped zero xs none = let len = ap (λ (l : List _). length l) none in omega (arith, len)
+dropped {X} zero xs none = let len = ap (λ (l : List X). length l) none in omega (arith, len)
 dropped (suc n) [] none = omega arith
 dropped (suc n) (x ∷ xs) none = let rest = dropped n xs none in omega (arith, rest)
 
@@ -190,6 +190,21 @@ record Rested (tells : Bool) (v : LogStoreValue) : Type 0 where
   job : v.job ≡ None
   reclaim : v.reclaim ≡ None
 
+-- and where all is archived, nothing of its log is left but the base
+record Reclaimed (tells whole : Bool) (v : LogStoreValue) : Type 0 where
+  rested : Rested tells v
+  base : whole ≡ true → live_count v.live.chains ≡ 0
+
+-- or all that is published is archived
+record Archived (tells : Bool) (v : LogStoreValue) : Type 0 where
+  rested : Rested tells v
+  all : v.named.upto ≡ last v.commits
+
+-- its heap has 64 extents at least, and the anchors keep their share
+record HasShares (room : RoomValue) : Type 0 where
+  least : 64 ≤ length room.used
+  anchors : count_of room.anchors ≤ (3 * length room.used) / 16
+
 module _ (tells : Bool) (tell : IsTrue tells) where
   steps-roomy : (old new : LogStoreValue) (between : List LogStoreValue) → Roomy tells old → StepsTo tells old between new → Roomy tells new
   steps-roomy old new [] is steps = subst (λ (v : LogStoreValue). Roomy tells v) (sym steps) is
@@ -205,11 +220,6 @@ module _ (tells : Bool) (tell : IsTrue tells) where
       (is.roomy.stands.store.disk tell)
 
   -- ---- a reclaim
-
-  -- where all is archived, nothing of the log is left but its base
-  record Reclaimed (whole : Bool) (v : LogStoreValue) : Type 0 where
-    rested : Rested tells v
-    base : whole ≡ true → live_count v.live.chains ≡ 0
 
   nothing-left : (v : LogStoreValue) → IsInStep v → Rested tells v → v.named.upto ≡ last v.commits → has_nothing v ≡ true → live_count v.live.chains ≡ 0
   nothing-left v step is all nothing =
@@ -236,7 +246,7 @@ module _ (tells : Bool) (tell : IsTrue tells) where
       by-first false some false e either = absurd (let no : false ≡ true = either in cc)
 
   reclaimed-so : (whole : Bool) (v a : LogStoreValue) → Rested tells v → (whole ≡ true → v.named.upto ≡ last v.commits) → Reclaims tells v a
-      → Reclaimed whole a
+      → Reclaimed tells whole a
   reclaimed-so whole v a is all r = by-answer r.answer r.starts r.ends
     where
       started : (answer : Result (Unit {0}) StartFault) → StartsReclaim v answer r.begun → Roomy tells r.begun
@@ -249,7 +259,7 @@ module _ (tells : Bool) (tell : IsTrue tells) where
         at = λ yes. whole-front tells v is.roomy.machine is.roomy.stands.store (stands v is) r.step is.none is.job (all yes);
       })
 
-      ended : (done : Unit {0}) → StartsReclaim v (Ok done) r.begun → RunsOut tells r.begun a → Reclaimed whole a
+      ended : (done : Unit {0}) → StartsReclaim v (Ok done) r.begun → RunsOut tells r.begun a → Reclaimed tells whole a
       ended done starts out =
           let end = emptying-steps tells whole r.begun a out.between (made (reclaim-began v r.begun done starts)) out.steps in
           record {
@@ -263,11 +273,11 @@ module _ (tells : Bool) (tell : IsTrue tells) where
             base = λ yes. subst (λ (o : Option ReclaimValue). IsEmptied o a.live.chains) out.reclaim (end.at yes);
           }
 
-      by-answer : (answer : Result (Unit {0}) StartFault) → StartsReclaim v answer r.begun → Ends tells answer r.begun a → Reclaimed whole a
+      by-answer : (answer : Result (Unit {0}) StartFault) → StartsReclaim v answer r.begun → Ends tells answer r.begun a → Reclaimed tells whole a
       by-answer (Ok done) starts out = ended done starts out
       by-answer (Err fault.NothingToDo) starts same =
           let rests = reclaim-rests v r.begun starts in
-          subst (Reclaimed whole) (sym (same ∙ rests.same))
+          subst (Reclaimed tells whole) (sym (same ∙ rests.same))
           (record { rested = is; base = λ yes. nothing-left v r.step is (all yes) rests.nothing })
       by-answer (Err fault.Failed) starts out = absurd out
       by-answer (Err fault.WrongProfile) starts out = absurd out
@@ -280,11 +290,6 @@ module _ (tells : Bool) (tell : IsTrue tells) where
 
   -- ---- an archive
 
-  -- all that is published is archived
-  record Archived (v : LogStoreValue) : Type 0 where
-    rested : Rested tells v
-    all : v.named.upto ≡ last v.commits
-
   archived-low : (v : LogStoreValue) → Rested tells v → v.named.upto ≤ last v.commits
   archived-low v is =
       let m = is.roomy.machine in
@@ -294,7 +299,7 @@ module _ (tells : Bool) (tell : IsTrue tells) where
       let same = last-is v.commits m is.roomy.stands.store.memory in
       omega (arith, upto, low, same)
 
-  archived-so : (a b : LogStoreValue) → Rested tells a → ArchivesAll tells a b → Archived b
+  archived-so : (a b : LogStoreValue) → Rested tells a → ArchivesAll tells a b → Archived tells b
   archived-so a b is r = by-answer r.answer r.starts r.ends
     where
       started : (answer : Result (Unit {0}) StartFault) → StartsArchive a (last a.commits) answer r.begun → Roomy tells r.begun
@@ -305,7 +310,7 @@ module _ (tells : Bool) (tell : IsTrue tells) where
           subst (Archiving (last a.commits)) (sym (archive-began a r.begun (last a.commits) done starts).new_is)
           (record { queue = is.none; last = refl; reclaim = is.reclaim; at = refl })
 
-      ended : (done : Unit {0}) → StartsArchive a (last a.commits) (Ok done) r.begun → RunsOut tells r.begun b → Archived b
+      ended : (done : Unit {0}) → StartsArchive a (last a.commits) (Ok done) r.begun → RunsOut tells r.begun b → Archived tells b
       ended done starts out =
           let end = archiving-steps tells (last a.commits) r.begun b out.between (made done starts) out.steps in
           record {
@@ -319,13 +324,13 @@ module _ (tells : Bool) (tell : IsTrue tells) where
             all = subst (λ (j : Option Job). IsAt (last a.commits) j b.named.upto) out.job end.at ∙ sym end.last;
           }
 
-      by-answer : (answer : Result (Unit {0}) StartFault) → StartsArchive a (last a.commits) answer r.begun → Ends tells answer r.begun b → Archived b
+      by-answer : (answer : Result (Unit {0}) StartFault) → StartsArchive a (last a.commits) answer r.begun → Ends tells answer r.begun b → Archived tells b
       by-answer (Ok done) starts out = ended done starts out
       by-answer (Err fault.NothingToDo) starts same =
           let rests = archive-rests a r.begun (last a.commits) starts in
           let high = rests.low in
           let low = archived-low a is in
-          subst Archived (sym (same ∙ rests.same)) (record { rested = is; all = omega (arith, high, low) })
+          subst (Archived tells) (sym (same ∙ rests.same)) (record { rested = is; all = omega (arith, high, low) })
       by-answer (Err fault.Failed) starts out = absurd out
       by-answer (Err fault.WrongProfile) starts out = absurd out
       by-answer (Err fault.JobBusy) starts out = absurd out
@@ -339,11 +344,6 @@ module _ (tells : Bool) (tell : IsTrue tells) where
 
   is-le : (a b : ℕ) → a ≤ b → nat_le a b ≡ true
   is-le a b le = grind (arith, nat_tests, le)
-
-  -- the heap has 64 extents at least, and the anchors their share
-  record HasShares (room : RoomValue) : Type 0 where
-    least : 64 ≤ length room.used
-    anchors : count_of room.anchors ≤ (3 * length room.used) / 16
 
   shares : (v : LogStoreValue) → Rested tells v → HasShares v.room
   shares v is =
@@ -364,7 +364,7 @@ module _ (tells : Bool) (tell : IsTrue tells) where
         anchors = omega (arith, used, long, now, ap count_of len);
       }
 
-  small-fits : (c d : LogStoreValue) (writes : List (KeyWrite Value)) → IsInStep c → Reclaimed true c → d ≡ with_commits c d.commits → IsSmall d writes
+  small-fits : (c d : LogStoreValue) (writes : List (KeyWrite Value)) → IsInStep c → Reclaimed tells true c → d ≡ with_commits c d.commits → IsSmall d writes
       → has_room d writes ≡ true
   small-fits c d writes step is same small =
       let room = ap (λ (v : LogStoreValue). v.room) same in
@@ -386,7 +386,7 @@ module _ (tells : Bool) (tell : IsTrue tells) where
       λ i. first i && second i
 
   not-full : (v : LogStoreValue) (snapshot now : ℕ) (writes : List (KeyWrite Value)) → has_room v writes ≡ true → verdict v snapshot writes now ≢ HeapIsFull
-  not-full v snapshot now [] room full = cc
+  not-full v snapshot now [] room full = let no : Path Verdict Reads HeapIsFull = full in cc
   not-full v snapshot now (w ∷ ws) room full = by-conflict (first_conflict (ordered v.commits) snapshot (w ∷ ws)) full
     where
       by-clock : (b : Bool) → (time : ℕ) → Path Verdict (cond b (Queues time) ClockEnds) HeapIsFull → ⊥
@@ -399,10 +399,10 @@ module _ (tells : Bool) (tell : IsTrue tells) where
           (sym (ap (λ (b : Bool). cond b (verdict_on_clock (time_now v.commits now)) HeapIsFull) room) ∙ full)
 
       by-conflict : (o : Option Key) → verdict_on_conflict v (w ∷ ws) now o ≡ HeapIsFull → ⊥
-      by-conflict (Some key) full = cc
+      by-conflict (Some key) full = let no : Path Verdict (Conflicts key) HeapIsFull = full in cc
       by-conflict None full = by-room full
 
-  small-goes : (c d new : LogStoreValue) (txn : TxnValue) (label now : ℕ) (answer : Result Submitted SubmitFault) → IsInStep c → Reclaimed true c
+  small-goes : (c d new : LogStoreValue) (txn : TxnValue) (label now : ℕ) (answer : Result Submitted SubmitFault) → IsInStep c → Reclaimed tells true c
       → d ≡ with_commits c d.commits → IsSmall d txn.writes → Submits d txn label now answer new → answer ≢ Err refused.HeapFull
   small-goes c d new txn label now answer step is same small submits full =
       by-own (is_own d.commits txn) (subst (λ (a : Result Submitted SubmitFault). Submits d txn label now a new) full submits)
