@@ -57,8 +57,10 @@ rolls-more (d ∷ ds) c none = refl
 pub archives-more : (cs : List LiveChainValue) (c : LiveChainValue)
     → length (archives_in (cs ++ c ∷ [])) ≡ length (archives_in cs) + length (archives_at c.part)
 archives-more [] c =
+    let one : length (archives_in (c ∷ [])) ≡ length (archives_at c.part) =
     ap (λ (xs : List Archive). length xs)
-    (flat_map-cons (λ (d : LiveChainValue). archives_at d.part) c [] ∙ append-nil (archives_at c.part))
+    (flat_map-cons (λ (d : LiveChainValue). archives_at d.part) c [] ∙ append-nil (archives_at c.part)) in
+    omega (arith, one)
 archives-more (d ∷ ds) c =
     let one = ap (λ (xs : List Archive). length xs) (flat_map-cons (λ (e : LiveChainValue). archives_at e.part) d (ds ++ c ∷ []))
     ∙ length-append (archives_at d.part) (archives_in (ds ++ c ∷ [])) in

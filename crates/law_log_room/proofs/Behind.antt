@@ -129,9 +129,9 @@ module _ (tells : Bool) (v : LogStoreValue) (m : Machine Value) (is : IsStoreOf 
 
   -- and where nothing was ever committed there is no log
   pub no-log : v.named.upto ≡ 0 → v.named.upto ≡ last v.commits → v.live.chains ≡ []
-  no-log zero all =
+  no-log naught all =
       let low = commits-low in
       let upto = s.named.upto in
       let archived = ap archive_mark log-is in
       chains-are
-      ∙ ap (map live_of) (none-at-all names s.l.chains (s.is_log).rules (omega (arith, zero, upto, archived)) (omega (arith, low, zero, all)))
+      ∙ ap (map live_of) (none-at-all names s.l.chains (s.is_log).rules (omega (arith, naught, upto, archived)) (omega (arith, low, naught, all)))

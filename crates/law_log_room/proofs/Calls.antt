@@ -19,7 +19,7 @@ use Rattle.log_room.specs.Bases.{has_base_room}
 use Rattle.log_store.specs.Jobs.{base_parts}
 use Rattle.log_store.specs.Queries.{in_log_store}
 use Rattle.log_store.specs.Reclaims.{StartsReclaim}
-use Rattle.log_store.specs.Submits.{AnswersSubmit, Submits, SubmitsOwn, spent}
+use Rattle.log_store.specs.Submits.{AnswersSubmit, Submits, SubmitsOwn, spent, with_queued}
 use Rattle.log_store.specs.Values.{LogStoreValue, IsInStep}
 use Rattle.log_store.specs.declared.job.StartFault.{StartFault}
 use Rattle.log_store.specs.declared.job.StartFault.TheVariants as fault
@@ -43,27 +43,26 @@ memory-left call old new is left =
 spent-left : (old : LogStoreValue) (number : ℕ) → LeavesBaseRoom old → LeavesBaseRoom (spent old number)
 spent-left old number left = keeps-left old (spent old number) (record { reclaim = refl; job = refl; live = refl; named = refl; used = refl }) left
 
+queued-left : (v new : LogStoreValue) (txn : TxnValue) (label now : ℕ) (answer : Result Submitted SubmitFault) → AnswersSubmit v txn label now answer new
+    → LeavesBaseRoom v → LeavesBaseRoom new
+queued-left v new txn label now (Ok (ReadOnly snapshot)) so left = same-left v new so.2 left
+queued-left v new txn label now (Ok (Queued ticket)) so left =
+    same-left (with_queued v label ticket.time txn.writes) new so.2
+    (keeps-left v (with_queued v label ticket.time txn.writes) (record { reclaim = refl; job = refl; live = refl; named = refl; used = refl }) left)
+queued-left v new txn label now (Err why) so left = same-left v new so.1 left
+
 submit-left : (old new : LogStoreValue) (txn : TxnValue) (label now : ℕ) (answer : Result Submitted SubmitFault) → Submits old txn label now answer new
     → LeavesBaseRoom old → LeavesBaseRoom new
 submit-left old new txn label now answer is left = by-own (is_own old.commits txn) is
   where
-    abbrev v : LogStoreValue
-    v = spent old txn.number
+    by-failed : (b : Bool)
+        → MatchBool b ((answer ≡ Err refused.Failed) × (new ≡ spent old txn.number)) (AnswersSubmit (spent old txn.number) txn label now answer new)
+        → LeavesBaseRoom new
+    by-failed true failed = same-left (spent old txn.number) new failed.1 (spent-left old txn.number left)
+    by-failed false so = queued-left (spent old txn.number) new txn label now answer so (spent-left old txn.number left)
 
-    here : LeavesBaseRoom v
-    here = spent-left old txn.number left
-
-    by-answer : (a : Result Submitted SubmitFault) → AnswersSubmit v txn label now a new → LeavesBaseRoom new
-    by-answer (Ok (ReadOnly snapshot)) so = same-left v new so.2 here
-    by-answer (Ok (Queued ticket)) so =
-        same-left _ new so.2 (keeps-left v _ (record { reclaim = refl; job = refl; live = refl; named = refl; used = refl }) here)
-    by-answer (Err why) so = same-left v new so.1 here
-
-    by-failed : (b : Bool) → MatchBool b ((answer ≡ Err refused.Failed) × (new ≡ v)) (AnswersSubmit v txn label now answer new) → LeavesBaseRoom new
-    by-failed true failed = same-left v new failed.1 here
-    by-failed false so = by-answer answer so
-
-    by-own : (b : Bool) → MatchBool b (SubmitsOwn v txn label now answer new) ((answer ≡ Err refused.Stranger) × (new ≡ old)) → LeavesBaseRoom new
+    by-own : (b : Bool) → MatchBool b (SubmitsOwn (spent old txn.number) txn label now answer new) ((answer ≡ Err refused.Stranger) × (new ≡ old))
+        → LeavesBaseRoom new
     by-own true so = by-failed old.commits.failed so
     by-own false strange = same-left old new strange.1 left
 
@@ -73,7 +72,8 @@ query-left : {T : Type 0} (tells : Bool) (v new : LogStoreValue) (view : ViewVal
     → LeavesBaseRoom v → LeavesBaseRoom new
 query-left tells v new view from Refuses Recent OfHistory Exact answer says left = by-own (is_own_view v.commits.mark v.archive view) says
   where
-    by-own : (b : Bool) → MatchBool b (Finds in_log_store tells v view from Refuses Recent OfHistory Exact answer new) ((answer ≡ Err query.Stranger) × (new ≡ v))
+    by-own : (b : Bool)
+        → MatchBool b (Finds in_log_store tells v view from Refuses Recent OfHistory Exact answer new) ((answer ≡ Err query.Stranger) × (new ≡ v))
         → LeavesBaseRoom new
     by-own true finds =
         same-left _ new finds.asks.new_is (keeps-left v _ (record { reclaim = refl; job = refl; live = refl; named = refl; used = refl }) left)
@@ -95,7 +95,8 @@ call-leaves tells old new m tell step stands (OfArchive upto answer starts) left
 call-leaves tells old new m tell step stands (OfReclaim answer starts) left = reclaim-starts-left tells old new m tell stands.store left answer starts
 call-leaves tells old new m tell step stands (OfJob answer sound pumps) left = job-pump-left tells old new answer step pumps left
 call-leaves tells old new m tell step stands (OfAt view key time answer says) left = query-left tells old new view time _ _ _ _ answer says left
-call-leaves tells old new m tell step stands (OfScanAt view relation time answer says) left = query-left tells old new view time _ _ _ _ answer says left
+call-leaves tells old new m tell step stands (OfScanAt view relation time answer says) left =
+    query-left tells old new view time _ _ _ _ answer says left
 call-leaves tells old new m tell step stands (OfBetween view key a b answer says) left = query-left tells old new view a _ _ _ _ answer says left
 call-leaves tells old new m tell step stands (OfScanBetween view relation a b answer says) left =
     query-left tells old new view a _ _ _ _ answer says left

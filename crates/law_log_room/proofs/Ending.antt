@@ -105,33 +105,29 @@ module _ (old : LogStoreValue) (job : Job) (is-job : old.job ≡ Some job) where
   run-goes tells new (Err why) is =
       goes-same old job _ new is.answer.1 (record { commits = record { queue = refl; last = refl }; reclaim = refl; at = λ t is. is })
 
-  -- its entry begins, and its first call is made
-  begun-goes : (tells : Bool) (begun new : LogStoreValue) (answer : Result JobDid PumpFault) → BeginsEntry old job begun
-      → AdvancesEntry tells begun.job begun answer new → JobGoes old job new
-  begun-goes tells begun new answer b is = joined (by-job begun.job refl is)
-    where
-      by-stage : (j : Job) → begun.job ≡ Some j → (k : JobStage) → AdvancesAt tells j k begun answer new → JobGoes begun j new
-      by-stage j at (stages.Writing writer) is = absurd is
-      by-stage j at (Ready waited) is = absurd is
-      by-stage j at (Entering w) is = entry-goes begun j at tells w new answer is
+-- its entry is in the writing
+entered-goes : (tells : Bool) (begun new : LogStoreValue) (answer : Result JobDid PumpFault) (j : Job) → begun.job ≡ Some j → (k : JobStage)
+    → AdvancesAt tells j k begun answer new → JobGoes begun j new
+entered-goes tells begun new answer j at (stages.Writing writer) is = absurd is
+entered-goes tells begun new answer j at (Ready waited) is = absurd is
+entered-goes tells begun new answer j at (Entering w) is = entry-goes begun j at tells w new answer is
 
-      by-job : (o : Option Job) → begun.job ≡ o → AdvancesEntry tells o begun answer new → (j : Job) × (begun.job ≡ Some j) × JobGoes begun j new
-      by-job None at is = absurd is
-      by-job (Some j) at is = (j, at, by-stage j at j.stage is)
-
-      joined : (j : Job) × (begun.job ≡ Some j) × JobGoes begun j new → JobGoes old job new
-      joined found =
-          let goes = found.2 in
-          record {
-            commits = record {
-              queue = goes.commits.queue ∙ ap (λ (v : LogStoreValue). v.commits.queue) b.new_is;
-              last = goes.commits.last ∙ ap (λ (v : LogStoreValue). last v.commits) b.new_is;
-            };
-            reclaim = goes.reclaim ∙ ap (λ (v : LogStoreValue). v.reclaim) b.new_is;
-            at = λ t is. goes.at t
-                (subst (λ (o : Option Job). IsAt t o begun.named.upto) found.1
-                (subst (λ (v : LogStoreValue). IsAt t v.job begun.named.upto) (sym b.new_is) is));
-          }
+-- it begins, and its first call is made
+begun-goes : (old : LogStoreValue) (job : Job) (tells : Bool) (begun new : LogStoreValue) (answer : Result JobDid PumpFault) → BeginsEntry old job begun
+    → (o : Option Job) → begun.job ≡ o → AdvancesEntry tells o begun answer new → JobGoes old job new
+begun-goes old job tells begun new answer b None at is = absurd is
+begun-goes old job tells begun new answer b (Some j) at is =
+    let goes = entered-goes tells begun new answer j at j.stage is in
+    record {
+      commits = record {
+        queue = goes.commits.queue ∙ ap (λ (v : LogStoreValue). v.commits.queue) b.new_is;
+        last = goes.commits.last ∙ ap (λ (v : LogStoreValue). last v.commits) b.new_is;
+      };
+      reclaim = goes.reclaim ∙ ap (λ (v : LogStoreValue). v.reclaim) b.new_is;
+      at = λ t up. goes.at t
+          (subst (λ (o : Option Job). IsAt t o begun.named.upto) at
+          (subst (λ (v : LogStoreValue). IsAt t v.job begun.named.upto) (sym b.new_is) up));
+    }
 
 job-goes : (tells : Bool) (old new : LogStoreValue) (answer : Result JobDid PumpFault) (job : Job) → old.job ≡ Some job
     → StepsAt tells job job.stage old answer new → JobGoes old job new
@@ -139,7 +135,7 @@ job-goes tells old new answer job is-job is = by-stage job.stage is
   where
     enters : Enters tells job old answer new → JobGoes old job new
     enters (inl short) = goes-same old job old new short.1 (stays old job is-job)
-    enters (inr b) = begun-goes old job is-job tells b.0 new answer b.1 b.2
+    enters (inr b) = begun-goes old job tells b.0 new answer b.1 b.0.job refl b.2
 
     by-turn : (t : Option WriterState) → StepsReady tells job t old answer new → JobGoes old job new
     by-turn None is = enters is

@@ -96,7 +96,7 @@ module _ (tells : Bool) (v : LogStoreValue) (m : Machine Value) (is : IsStoreOf 
       let upto = s.named.upto in
       let said = last-told in
       let before : archive_mark s.reading.log < told_time s.reading.log = omega (arith, later, upto, said) in
-      let left = ap (λ (b : Bool). if b then 1 else 0) (is_lt before) in
+      let left = ap {B = ℕ} (λ (b : Bool). if b then 1 else 0) (is_lt before) in
       let share = (s.is_log).shares.log in
       let used = used-are v m.published m.queue m.floors s in
       omega (arith, log, left, share, used)

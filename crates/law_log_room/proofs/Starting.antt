@@ -72,6 +72,11 @@ none-above low (o ∷ os) above =
     let apart : (o.relation == low) ≡ false = grind (arith, nat_tests, less) in
     ap (λ (b : Bool). cond b o.floor (floor_or 0 os low)) apart ∙ none-above low os above.1
 
+all-above : (low high : ℕ) (os : List OwnFloor) → low < high → AllByRecursion (λ (o : OwnFloor). high < o.relation) os
+    → AllByRecursion (λ (o : OwnFloor). low < o.relation) os
+all-above low high [] less all = tt
+all-above low high (o ∷ os) less all = (let first = all.0 in omega (arith, less, first), all-above low high os less all.1)
+
 with-same : (own : List OwnFloor) (relation floor : ℕ) → AreRising own → 0 < floor_or 0 own relation → length (with_own own relation floor) ≡ length own
 with-same [] relation floor up some = absurd (omega (arith, some))
 with-same (o ∷ os) relation floor up some = by-order (nat_lt o.relation relation) refl (with-same os relation floor up.1)
@@ -80,14 +85,9 @@ with-same (o ∷ os) relation floor up some = by-order (nat_lt o.relation relati
     by-same late true e = refl
     by-same late false e =
         let above : relation < o.relation = grind (arith, nat_tests, late, e) in
-        let rest = none-above relation os (all-above os above up.0) in
+        let rest = none-above relation os (all-above relation o.relation os above up.0) in
         let none : floor_or 0 (o ∷ os) relation ≡ 0 = ap (λ (b : Bool). cond b o.floor (floor_or 0 os relation)) e ∙ rest in
         absurd (omega (arith, some, none))
-      where
-        all-above : (ps : List OwnFloor) → relation < o.relation → AllByRecursion (λ (p : OwnFloor). o.relation < p.relation) ps
-            → AllByRecursion (λ (p : OwnFloor). relation < p.relation) ps
-        all-above [] less all = tt
-        all-above (p ∷ ps) less all = (let first = all.0 in omega (arith, less, first), all-above ps less all.1)
 
     by-order : (b : Bool) → nat_lt o.relation relation ≡ b
         → (0 < floor_or 0 os relation → length (with_own os relation floor) ≡ length os)

@@ -1,6 +1,6 @@
 -- A store where nothing waits is never stuck: a reclaim has room, an archive of all that is published, another reclaim, and then a small commit.
 use Rattle.std.proofs.Common.{◌≡◌, ◌≢◌, ℕ, zero, suc, ◌+◌, ◌-◌, ◌*◌, ◌/◌, ◌<◌, ◌≤◌, ◌==◌, ◌&&◌, ◌||◌, nat_le, nat_lt, Bool, true, false, cond, List, []}
-use Rattle.std.proofs.Common.{◌∷◌, ◌++◌, length, drop, Option, None, Some, Result, Ok, Err, refl, arith, ap, sym, subst, ◌∙◌}
+use Rattle.std.proofs.Common.{◌∷◌, ◌++◌, length, drop, Option, None, Some, Result, Ok, Err, refl, arith, ap, sym, subst, ◌∙◌, inl, inr}
 use Rattle.std.specs.Prelude.{IsTrue, MatchBool, MatchOption}
 use Rattle.std.proofs.lemmas.Bool.Decides.{nat_tests}
 use Rattle.std.proofs.lemmas.List.Concat.{flat_map-cons}
@@ -51,7 +51,7 @@ use Rattle.log_roots.specs.Roots.{root_of}
 use Rattle.law_log_queries.specs.Calls.{OfArchive, OfJob, OfReclaim}
 use Rattle.law_log_room.specs.Bases.{LeavesBaseRoom}
 use Rattle.law_log_room.specs.Ends.{ArchivesAll, Ends, Reclaims, RunsOut, Steps, StepsTo}
-use Rattle.law_log_room.specs.Laws.{HasAllRoom, HasBaseRoom, IsIdle, IsSmall}
+use Rattle.law_log_room.specs.Laws.{HasAllRoom, IsIdle, IsSmall, MayReclaim}
 use Rattle.law_log_room.proofs.Behind.{no-log, whole-front}
 use Rattle.law_log_room.proofs.Calls.{Roomy, call-roomy, roomy-reclaim}
 use Rattle.law_log_room.proofs.Ending.{Archiving, Emptying, IsAt, IsEmptied, archiving-steps, emptying-steps}
@@ -88,6 +88,14 @@ reclaim-began v new done starts = by-refusal (reclaim_refusal v) starts
     by-refusal None so = so
     by-refusal (Some why) so = absurd (let no : Path (Result (Unit {0}) StartFault) (Ok done) (Err why) = so.0 in cc)
 
+use-nothing : (snapshot : Option ℕ) (mark : ℕ) → nothing-in (refusal_for_use snapshot mark) ≡ false
+use-nothing None mark = refl
+use-nothing (Some snapshot) mark = by-test (nat_lt snapshot mark)
+  where
+    by-test : (b : Bool) → nothing-in (cond b (Some (fault.InUse snapshot)) None) ≡ false
+    by-test true = refl
+    by-test false = refl
+
 -- or there is nothing to do
 record ReclaimRests (v new : LogStoreValue) : Type 0 where
   same : new ≡ v
@@ -96,21 +104,13 @@ record ReclaimRests (v new : LogStoreValue) : Type 0 where
 reclaim-rests : (v new : LogStoreValue) → StartsReclaim v (Err fault.NothingToDo) new → ReclaimRests v new
 reclaim-rests v new starts = by-refusal (reclaim_refusal v) refl starts
   where
-    by-use : (snapshot : Option ℕ) → nothing-in (refusal_for_use snapshot v.named.upto) ≡ false
-    by-use None = refl
-    by-use (Some s) = by-test (nat_lt s v.named.upto)
-      where
-        by-test : (b : Bool) → nothing-in (cond b (Some (fault.InUse s)) None) ≡ false
-        by-test true = refl
-        by-test false = refl
-
     by-tests : (a b c : Bool)
         → nothing-in (cond a (Some fault.Failed)
         (cond b (Some fault.JobBusy) (cond c (Some fault.NothingToDo) (refusal_for_use (oldest v.commits) v.named.upto)))) ≡ true → c ≡ true
     by-tests true b c is = absurd (let no : false ≡ true = is in cc)
     by-tests false true c is = absurd (let no : false ≡ true = is in cc)
     by-tests false false true is = refl
-    by-tests false false false is = sym (by-use (oldest v.commits)) ∙ is
+    by-tests false false false is = sym (use-nothing (oldest v.commits) v.named.upto) ∙ is
 
     by-refusal : (o : Option StartFault) → reclaim_refusal v ≡ o
         → MatchOption o (BeginsReclaim v (Err fault.NothingToDo) new)
@@ -239,8 +239,8 @@ module _ (tells : Bool) (tell : IsTrue tells) where
 
       by-first : (a : Bool) → (v.named.upto == 0) ≡ a → (b : Bool) → ((reclaimed v == v.named.upto) && nat_le (front_count v) 1) ≡ b → (a || b) ≡ true
           → live_count v.live.chains ≡ 0
-      by-first true zero b e either =
-          let upto : v.named.upto ≡ 0 = grind (arith, nat_tests, zero) in
+      by-first true naught b e either =
+          let upto : v.named.upto ≡ 0 = grind (arith, nat_tests, naught) in
           ap live_count (no-log tells v is.roomy.machine is.roomy.stands.store (stands v is) step is.none is.job upto all)
       by-first false some true e either = by-second some (reclaimed v == v.named.upto) refl (nat_le (front_count v) 1) refl e
       by-first false some false e either = absurd (let no : false ≡ true = either in cc)
@@ -426,12 +426,12 @@ module _ (tells : Bool) (tell : IsTrue tells) where
   never-stuck v roomy idle = record {
     reclaim = λ new answer starts. roomy-reclaim tells v new answer tell roomy starts;
     archive = λ a new answer r step room starts.
-        let is = (reclaimed-so false v a rested no r).rested in
+        let is = first a r in
         last-has-room tells a is.roomy.machine tell is.roomy.stands.store step is.none room new answer starts;
     again = λ a b new answer r s step starts.
-        roomy-reclaim tells b new answer tell (archived-so a b (reclaimed-so false v a rested no r).rested s).rested.roomy starts;
+        roomy-reclaim tells b new answer tell (archived-so a b (first a r) s).rested.roomy starts;
     commit = λ a b c d new txn label now answer r s t step same small submits.
-        let archived = archived-so a b (reclaimed-so false v a rested no r).rested s in
+        let archived = archived-so a b (first a r) s in
         small-goes c d new txn label now answer step (reclaimed-so true b c archived.rested (λ yes. archived.all) t) same small submits;
   }
     where
@@ -440,3 +440,7 @@ module _ (tells : Bool) (tell : IsTrue tells) where
 
       no : Path Bool false true → v.named.upto ≡ last v.commits
       no is = absurd cc
+
+      first : (a : LogStoreValue) → MayReclaim tells v a → Rested tells a
+      first a (inl same) = subst (Rested tells) (sym same) rested
+      first a (inr r) = (reclaimed-so false v a rested no r).rested

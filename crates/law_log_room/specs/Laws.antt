@@ -1,5 +1,5 @@
 -- A store whose log lies in the heap is never stuck for want of room.
-use Rattle.std.specs.Prelude.{ℕ, ◌≡◌, ◌≢◌, ◌≤◌, Bool, false, IsTrue, List, [], None, Result, Err}
+use Rattle.std.specs.Prelude.{ℕ, ◌≡◌, ◌≢◌, ◌⊎◌, ◌≤◌, Bool, false, IsTrue, List, [], None, Result, Err}
 use Rattle.disk.specs.Calls.{DiskState}
 use Rattle.history.specs.Machine.{Machine}
 use Rattle.history.specs.declared.key.KeyWrite.{KeyWrite}
@@ -84,15 +84,20 @@ pub record IsSmall (v : LogStoreValue) (writes : List (KeyWrite Value)) : Type 0
   pub one : extents_over (ordered v.commits) writes ≡ 1
   pub no_more : count_of (anchors_behind v writes) ≤ count_of v.room.anchors
 
--- What follows is not refused for want of room: a reclaim; behind it an archive of all that is published, while there is room for a base that names it; behind
--- that another reclaim; and behind that a small commit. Calls that change nothing but the commits in memory, as a begin does, may come before it.
+-- a reclaim is made first, or none is
+abbrev pub MayReclaim : Bool → LogStoreValue → LogStoreValue → Type 0
+MayReclaim tells v a = (a ≡ v) ⊎ Reclaims tells v a
+
+-- What follows is not refused for want of room: a reclaim; with it or without it an archive of all that is published, while there is room for a base that
+-- names it; behind that another reclaim; and behind that a small commit. Calls that change nothing but the commits in memory, as a begin does, may come before
+-- it.
 pub record HasAllRoom (tells : Bool) (v : LogStoreValue) : Type 0 where
   pub reclaim : (new : LogStoreValue) (answer : Result (Unit {0}) StartFault) → StartsReclaim v answer new → answer ≢ Err fault.HeapFull
-  pub archive : (a new : LogStoreValue) (answer : Result (Unit {0}) StartFault) → Reclaims tells v a → IsInStep a → HasBaseRoom a
+  pub archive : (a new : LogStoreValue) (answer : Result (Unit {0}) StartFault) → MayReclaim tells v a → IsInStep a → HasBaseRoom a
       → StartsArchive a (last a.commits) answer new → answer ≢ Err fault.HeapFull
-  pub again : (a b new : LogStoreValue) (answer : Result (Unit {0}) StartFault) → Reclaims tells v a → ArchivesAll tells a b → IsInStep b
+  pub again : (a b new : LogStoreValue) (answer : Result (Unit {0}) StartFault) → MayReclaim tells v a → ArchivesAll tells a b → IsInStep b
       → StartsReclaim b answer new → answer ≢ Err fault.HeapFull
-  pub commit : (a b c d new : LogStoreValue) (txn : TxnValue) (label now : ℕ) (answer : Result Submitted SubmitFault) → Reclaims tells v a
+  pub commit : (a b c d new : LogStoreValue) (txn : TxnValue) (label now : ℕ) (answer : Result Submitted SubmitFault) → MayReclaim tells v a
       → ArchivesAll tells a b → Reclaims tells b c → IsInStep c → d ≡ with_commits c d.commits → IsSmall d txn.writes
       → Submits d txn label now answer new → answer ≢ Err refused.HeapFull
 
