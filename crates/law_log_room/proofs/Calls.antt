@@ -75,8 +75,7 @@ query-left tells v new view from Refuses Recent OfHistory Exact answer says left
     by-own : (b : Bool)
         → MatchBool b (Finds in_log_store tells v view from Refuses Recent OfHistory Exact answer new) ((answer ≡ Err query.Stranger) × (new ≡ v))
         → LeavesBaseRoom new
-    by-own true finds =
-        same-left _ new finds.asks.new_is (keeps-left v _ (record { reclaim = refl; job = refl; live = refl; named = refl; used = refl }) left)
+    by-own true finds = subst LeavesBaseRoom (sym finds.asks.new_is) left
     by-own false strange = same-left v new strange.1 left
 
 -- ---- all calls
@@ -101,7 +100,7 @@ call-leaves tells old new m tell step stands (OfBetween view key a b answer says
 call-leaves tells old new m tell step stands (OfScanBetween view relation a b answer says) left =
     query-left tells old new view a _ _ _ _ answer says left
 call-leaves tells old new m tell step stands (OfTimes label answer says) left =
-    same-left _ new says.new_is (keeps-left old _ (record { reclaim = refl; job = refl; live = refl; named = refl; used = refl }) left)
+    subst LeavesBaseRoom (sym says.new_is) left
 
 -- ---- after any calls
 
