@@ -1,32 +1,22 @@
 -- What is left behind an archive of all that is published, and a reclaim of it: a commit of one extent has room.
-use Rattle.std.proofs.Common.{◌≡◌, ◌≢◌, ℕ, zero, suc, ◌+◌, ◌-◌, ◌*◌, ◌/◌, ◌<◌, ◌≤◌, ◌==◌, ◌&&◌, ◌||◌, max, nat_le, nat_lt, Bool, true, false, cond}
-use Rattle.std.proofs.Common.{List, [], ◌∷◌, ◌++◌, length, map, drop, Option, None, Some, Result, Ok, Err, refl, arith, ap, sym, subst, ◌∙◌, inl, inr}
-use Rattle.std.specs.Prelude.{flat_map, IsTrue, MatchBool, MatchOption}
-use Rattle.std.proofs.lemmas.Bool.Decides.{nat_tests}
-use Rattle.std.proofs.lemmas.List.{append-nil, drop-map}
-use Rattle.std.proofs.lemmas.List.Concat.{flat_map-cons}
-use Rattle.disk.specs.Calls.{DiskState}
-use Rattle.history.specs.Histories as histories
+use Rattle.std.proofs.Common.{◌≡◌, ℕ, zero, suc, ◌<◌, ◌≤◌, Bool, false, cond}
+use Rattle.std.proofs.Common.{List, [], ◌∷◌, length, map, drop, None, refl, arith, ap, ◌∙◌}
+use Rattle.std.proofs.lemmas.List.{drop-map}
 use Rattle.history.specs.Machine.{Machine}
 use Rattle.history.proofs.Orders.{not_lt}
 use Rattle.law_image.specs.Values.{Value}
 use Rattle.law_image.specs.Reading.{Head, Reading, Slot}
-use Rattle.law_image.specs.Log.{archive_mark, last_time_after, told_time, AreRisingAfter}
+use Rattle.law_image.specs.Log.{archive_mark, last_time_after, told_time}
 use Rattle.law_image.proofs.GroupStep.{length-map}
 use Rattle.law_image.proofs.Standing.{archived-range}
 use Rattle.law_log.specs.Chains.{KeepsChainRules, LogChain, MayAllFollow, MayFollow, OfBase, OfFloor, OfGroup, OfRun, commits_in, heads_in, last_commit}
 use Rattle.law_log.specs.Chains.{reclaimed_by, told, told_behind}
 use Rattle.law_log.proofs.Telling.{last-rises, tells-all}
-use Rattle.group.specs.declared.answers.PumpFault.{PumpFault}
 use Rattle.log_entries.specs.declared.entry.Entry.{Entry}
 use Rattle.log_entries.specs.declared.entry.Entry.TheVariants.{Group, Archived, Floor}
 use Rattle.log_entries.specs.declared.entry.Entry.TheVariants as entries
-use Rattle.log_base.specs.Bases.{front_len, is_later, mark_at, mark_of}
-use Rattle.log_base.specs.Rolls.{InRoll}
-use Rattle.log_recovery.specs.Live.{LiveChainValue, counted_at, live_count, live_of, part_of}
-use Rattle.log_recovery.specs.declared.live.LivePart.{LivePart}
-use Rattle.log_recovery.specs.declared.live.LivePart.TheVariants.{Commits}
-use Rattle.log_recovery.specs.declared.live.LivePart.TheVariants as parts
+use Rattle.log_base.specs.Bases.{front_len, is_later}
+use Rattle.log_recovery.specs.Live.{live_of, part_of}
 use Rattle.law_log_layout.specs.HeapLog.{PlacedChain, chain_told, chains_told, member_told}
 use Rattle.commits.specs.Values.{last}
 use Rattle.law_commits.proofs.Names.{last-is}

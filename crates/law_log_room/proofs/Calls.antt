@@ -1,5 +1,5 @@
 -- Each call leaves the room for a base that there was, and so no reclaim is refused for want of room after any calls.
-use Rattle.std.proofs.Common.{◌≡◌, ◌≢◌, ℕ, Bool, true, false, List, [], ◌∷◌, Option, None, Some, Result, Ok, Err, refl, sym, subst}
+use Rattle.std.proofs.Common.{◌≡◌, ◌≢◌, ℕ, Bool, true, false, List, [], ◌∷◌, None, Result, Ok, Err, refl, sym, subst}
 use Rattle.std.specs.Prelude.{IsTrue, MatchBool}
 use Rattle.history.specs.Histories.{History}
 use Rattle.history.specs.Machine.{Machine}
@@ -29,7 +29,7 @@ use Rattle.law_log_queries.specs.Calls.{IsCall, LeadsTo, OfAbort, OfArchive, OfA
 use Rattle.law_log_queries.specs.Calls.{OfScanAt, OfScanBetween, OfSubmit, OfTimes}
 use Rattle.law_log_queries.proofs.Calls.{call-stands}
 use Rattle.law_log_room.specs.Bases.{LeavesBaseRoom}
-use Rattle.law_log_room.proofs.Leaving.{Keeps, job-pump-left, keeps-left, pump-left, same-left}
+use Rattle.law_log_room.proofs.Leaving.{job-pump-left, keeps-left, pump-left, same-left}
 use Rattle.law_log_room.proofs.Shares.{reclaim-has-room}
 use Rattle.law_log_room.proofs.Starting.{archive-starts-left, floor-starts-left, reclaim-starts-left, room-left}
 

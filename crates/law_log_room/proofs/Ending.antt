@@ -1,12 +1,12 @@
 -- Jobs run to their end: what that leaves of the commits that wait, of the archive mark, and of the log.
-use Rattle.std.proofs.Common.{◌≡◌, ℕ, ◌+◌, ◌≤◌, Bool, true, false, List, [], ◌∷◌, ◌++◌, length, drop, Option, None, Some, Result, Ok, Err}
-use Rattle.std.proofs.Common.{refl, arith, ap, sym, subst, ◌∙◌, inl, inr}
-use Rattle.std.specs.Prelude.{flat_map, IsTrue, MatchBool, MatchOption}
+use Rattle.std.proofs.Common.{◌≡◌, ℕ, Bool, true, false, List, [], ◌∷◌, length, drop, Option, None, Some, Result, Ok, Err}
+use Rattle.std.proofs.Common.{refl, ap, sym, subst, ◌∙◌, inl, inr}
+use Rattle.std.specs.Prelude.{MatchBool, MatchOption}
 use Rattle.std.proofs.lemmas.List.Concat.{flat_map-cons}
 use Rattle.disk.specs.Calls.{DiskState}
 use Rattle.group.specs.declared.answers.PumpFault.{PumpFault}
 use Rattle.group.specs.declared.answers.PumpFault.TheVariants as pump
-use Rattle.commits.specs.Values.{CommitsValue, WaitingValue, last}
+use Rattle.commits.specs.Values.{CommitsValue, last}
 use Rattle.log_base.specs.Rolls.{InRoll}
 use Rattle.log_recovery.specs.Live.{LiveChainValue, counted_at, live_count}
 use Rattle.log_roots.specs.declared.roots.Roots.{Roots}
@@ -23,7 +23,7 @@ use Rattle.log_store.specs.Pumps.{with_failure}
 use Rattle.log_store.specs.Reclaiming.{AdvancesReclaim, StepsReclaim, at_turn, base_chain, behind_extents, behind_roll, behind_turn}
 use Rattle.log_store.specs.Reclaiming as reclaiming
 use Rattle.log_store.specs.Runs.{WritesRun, stage_behind}
-use Rattle.log_store.specs.Values.{LogStoreValue, ReclaimValue, IsInStep}
+use Rattle.log_store.specs.Values.{LogStoreValue, ReclaimValue}
 use Rattle.log_store.specs.declared.job.Job.{Job}
 use Rattle.log_store.specs.declared.job.JobDid.{JobDid}
 use Rattle.log_store.specs.declared.job.JobStage.{JobStage}
@@ -35,7 +35,7 @@ use Rattle.log_store.specs.declared.reclaim.ReclaimStage.{ReclaimStage}
 use Rattle.log_store.specs.declared.reclaim.ReclaimStage.TheVariants.{Rolling, Turning}
 use Rattle.log_store.specs.declared.reclaim.ReclaimStage.TheVariants as reclaims
 use Rattle.law_log_store.specs.Standing.{IsUpTo}
-use Rattle.law_log_room.specs.Ends.{Steps, StepsTo}
+use Rattle.law_log_room.specs.Ends.{StepsTo}
 
 -- ---- the commits that wait
 

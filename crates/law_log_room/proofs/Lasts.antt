@@ -1,11 +1,11 @@
 -- An archive of all that is published has an extent for its entry, where no commit waits.
-use Rattle.std.proofs.Common.{◌≡◌, ◌≢◌, ℕ, zero, suc, ◌+◌, ◌-◌, ◌*◌, ◌/◌, ◌<◌, ◌≤◌, ◌&&◌, max, nat_le, nat_lt, Bool, true, false, cond, List, [], ◌∷◌}
-use Rattle.std.proofs.Common.{◌++◌, length, map, Option, None, Some, Result, Ok, Err, refl, arith, ap, sym, subst, ◌∙◌, append-nil}
-use Rattle.std.specs.Prelude.{flat_map, if◌then◌else◌, IsTrue, MatchBool, MatchOption}
+use Rattle.std.proofs.Common.{◌≡◌, ◌≢◌, ℕ, zero, suc, ◌+◌, ◌/◌, ◌<◌, ◌≤◌, ◌&&◌, nat_le, nat_lt, Bool, true, false, cond, List, [], ◌∷◌}
+use Rattle.std.proofs.Common.{◌++◌, length, map, Option, None, Some, Result, Err, refl, arith, ap, sym, subst, ◌∙◌, append-nil}
+use Rattle.std.specs.Prelude.{if◌then◌else◌, IsTrue, MatchBool, MatchOption}
 use Rattle.std.proofs.lemmas.Bool.Decides.{nat_tests}
 use Rattle.history.specs.Histories as histories
 use Rattle.history.specs.Histories.{History}
-use Rattle.history.specs.Machine.{Machine, commit_order}
+use Rattle.history.specs.Machine.{Machine}
 use Rattle.history.proofs.Orders.{is_lt, not_lt}
 use Rattle.law_image.specs.Values.{Value}
 use Rattle.law_image.specs.Log.{archive_mark, last_time, last_time_after, told_time}
@@ -16,7 +16,7 @@ use Rattle.law_commits.specs.Standing.{AllWait}
 use Rattle.law_commits.proofs.Names.{assigned-is, last-is}
 use Rattle.log_room.specs.Bases.{has_base_room}
 use Rattle.log_room.specs.Contents.{extents_of}
-use Rattle.log_room.specs.Rooms.{has_entry_room, has_last_room}
+use Rattle.log_room.specs.Rooms.{has_entry_room}
 use Rattle.log_store.specs.Archives.{BeginsRun, StartsArchive, archive_refusal, has_archive_room}
 use Rattle.log_store.specs.Jobs.{base_parts}
 use Rattle.log_store.specs.Values.{LogStoreValue, IsInStep, HasTurn, is_busy, promised_to}
@@ -24,7 +24,6 @@ use Rattle.log_store.specs.declared.job.Job.{Job}
 use Rattle.log_store.specs.declared.job.StartFault.{StartFault}
 use Rattle.log_store.specs.declared.job.StartFault.TheVariants as fault
 use Rattle.log_writer.specs.Writer.{WriterState}
-use Rattle.law_log_layout.specs.HeapLog.{PlacedChain, counted_of}
 use Rattle.law_log_store.specs.Standing as standing
 use Rattle.law_log_store.specs.Standing.{IsAtRest, StandsOnHeap, StopsOnHeap}
 use Rattle.law_log_store.proofs.Used.{used-are}

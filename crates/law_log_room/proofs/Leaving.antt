@@ -1,7 +1,7 @@
 -- Each step of a group or a job, and each call of memory, leaves the room for a base that there was.
-use Rattle.std.proofs.Common.{◌≡◌, ℕ, ◌+◌, ◌/◌, ◌≤◌, ◌==◌, Bool, true, false, List, [], ◌∷◌, ◌++◌, length, drop, Option, None, Some, Result, Ok, Err}
+use Rattle.std.proofs.Common.{◌≡◌, ℕ, ◌/◌, ◌≤◌, ◌==◌, Bool, true, false, List, [], ◌∷◌, ◌++◌, length, drop, Option, None, Some, Result, Ok, Err}
 use Rattle.std.proofs.Common.{refl, arith, ap, sym, subst, ◌∙◌, inl, inr}
-use Rattle.std.specs.Prelude.{IsTrue, MatchBool, MatchOption}
+use Rattle.std.specs.Prelude.{MatchBool, MatchOption}
 use Rattle.disk.specs.Calls.{DiskState}
 use Rattle.group.specs.declared.answers.PumpFault.{PumpFault}
 use Rattle.group.specs.declared.answers.PumpFault.TheVariants as pump
@@ -10,7 +10,6 @@ use Rattle.log_extents.specs.Chains.{count_of}
 use Rattle.log_base.specs.Rolls.{InRoll}
 use Rattle.log_recovery.specs.Live.{LiveChainValue, part_of}
 use Rattle.log_recovery.specs.declared.live.LivePart.TheVariants.{Commits}
-use Rattle.log_roots.specs.Roots.{root_of}
 use Rattle.log_roots.specs.declared.roots.Roots.{Roots}
 use Rattle.log_roots.specs.Turning.{RootTurnState}
 use Rattle.log_roots.specs.Turning as turning
@@ -24,13 +23,11 @@ use Rattle.log_store.specs.Gates.{waits_at, waits_to_open}
 use Rattle.log_store.specs.Jobs.{AdvancesAt, AdvancesEntry, BeginsEntry, Enters, PumpsJob, StepsAt, StepsJob, StepsReady, at_stage, entry_of, is_entering}
 use Rattle.log_store.specs.Jobs.{named_with, with_entry}
 use Rattle.log_store.specs.Jobs as jobs
-use Rattle.log_store.specs.Live.{LiveValue}
 use Rattle.log_store.specs.Named.{NamedValue}
-use Rattle.log_store.specs.Pumps.{Advances, AdvancesGroup, Begins, BeginsGroup, BeginsOrWaits, Pumps, TakesStep, after_call, bars_groups, with_failure}
+use Rattle.log_store.specs.Pumps.{Advances, AdvancesGroup, Begins, BeginsGroup, BeginsOrWaits, Pumps, TakesStep, after_call, bars_groups}
 use Rattle.log_store.specs.Reclaiming.{AdvancesReclaim, StepsReclaim, at_turn, base_chain, behind_extents, behind_roll, behind_turn, room_with, with_base}
 use Rattle.log_store.specs.Reclaiming as reclaiming
 use Rattle.log_store.specs.Runs.{WritesRun, stage_behind, stage_with}
-use Rattle.log_store.specs.Runs as runs
 use Rattle.log_store.specs.Values.{LogStoreValue, ReclaimValue, IsInStep, IsReclaiming}
 use Rattle.log_store.specs.declared.job.Job.{Job}
 use Rattle.log_store.specs.declared.job.JobDid.{JobDid}
@@ -46,7 +43,7 @@ use Rattle.log_store.specs.declared.reclaim.ReclaimStage.TheVariants.{Rolling, T
 use Rattle.log_store.specs.declared.reclaim.ReclaimStage.TheVariants as reclaims
 use Rattle.log_store.proofs.Lives.{room-stands}
 use Rattle.law_log_room.specs.Bases.{LeavesBaseRoom, base_most, chains_then, chains_with, entry_chain, upto_then, upto_with}
-use Rattle.law_log_room.proofs.Alike.{Alike, FrontIsIn, alike-most, alike-one, entry-no-base, same-alike, then-group}
+use Rattle.law_log_room.proofs.Alike.{FrontIsIn, alike-most, alike-one, entry-no-base, same-alike, then-group}
 
 -- ---- what it rests on
 

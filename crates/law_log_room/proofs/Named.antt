@@ -1,6 +1,6 @@
 -- What a base names of the log's front: no more than the log names.
-use Rattle.std.proofs.Common.{◌≡◌, ◌⊎◌, ℕ, zero, suc, ◌+◌, ◌-◌, ◌*◌, ◌<◌, ◌≤◌, ◌^◌, Bool, true, false, cond, List, [], ◌∷◌, ◌++◌, length, map, take, drop}
-use Rattle.std.proofs.Common.{Option, None, Some, refl, arith, ap, sym, subst, ◌∙◌, inl, inr, length-append}
+use Rattle.std.proofs.Common.{◌≡◌, ℕ, zero, suc, ◌+◌, ◌-◌, ◌<◌, ◌≤◌, List, [], ◌∷◌, ◌++◌, length, map, take, drop}
+use Rattle.std.proofs.Common.{None, refl, arith, ap, sym, subst, ◌∙◌, inl, length-append}
 use Rattle.std.specs.Prelude.{flat_map}
 use Rattle.std.specs.List.{AllByRecursion}
 use Rattle.std.proofs.lemmas.Grind.{flat_map-append}
@@ -10,14 +10,13 @@ use Rattle.history.specs.Histories.{History}
 use Rattle.law_image.specs.Values.{Value}
 use Rattle.law_image.specs.Reading.{Reading}
 use Rattle.law_image.specs.Log.{floor_of}
-use Rattle.law_log.specs.Chains.{reclaimed_by, told}
+use Rattle.law_log.specs.Chains.{reclaimed_by}
 use Rattle.floors.specs.Floors.{AreRising, floor_at, floor_or}
 use Rattle.floors.specs.declared.floors.OwnFloor.{OwnFloor}
 use Rattle.log_entries.specs.declared.entry.Archive.{Archive}
 use Rattle.log_entries.specs.declared.entry.Entry.{Entry}
 use Rattle.log_entries.specs.declared.entry.Entry.TheVariants.{Group, Archived, Floor}
 use Rattle.log_entries.specs.declared.entry.Entry.TheVariants as entries
-use Rattle.log_entries.specs.declared.entry.RelationFloor.{RelationFloor}
 use Rattle.log_entries.specs.declared.entry.Roll.{Roll}
 use Rattle.log_entries.specs.Ranges.{IsFloor}
 use Rattle.log_base.specs.Bases.{no_anchors, own_from, own_behind, relation_floor, rolls_at, rolls_of, runs_behind, runs_from}
@@ -29,7 +28,7 @@ use Rattle.log_recovery.specs.Read.{all_archives, archives_named}
 use Rattle.log_recovery.specs.declared.live.LivePart.{LivePart}
 use Rattle.log_recovery.specs.declared.live.LivePart.TheVariants.{Commits}
 use Rattle.log_recovery.specs.declared.live.LivePart.TheVariants as parts
-use Rattle.law_log_layout.specs.HeapLog.{IsPlaced, PlacedChain, PlacedRoll, chains_told, rolls_in}
+use Rattle.law_log_layout.specs.HeapLog.{IsPlaced, PlacedChain, chains_told, rolls_in}
 use Rattle.log_store.specs.Reclaims.{archives_at, archives_in}
 use Rattle.log_store.specs.Values.{LogStoreValue}
 use Rattle.law_log_store.specs.Standing.{StandsOnHeap}

@@ -1,13 +1,12 @@
 -- The base of a reclaim and its anchors keep their shares, so no reclaim is refused for want of room.
-use Rattle.std.proofs.Common.{◌≡◌, ◌≢◌, ℕ, zero, suc, ◌+◌, ◌*◌, ◌/◌, ◌<◌, ◌≤◌, ◌&&◌, ◌||◌, nat_lt, nat_le, Bool, true, false, cond, List, [], ◌∷◌, ◌++◌}
-use Rattle.std.proofs.Common.{length, map, take, Option, None, Some, Result, Ok, Err, refl, arith, ap, sym, subst, ◌∙◌, length-append}
+use Rattle.std.proofs.Common.{◌≡◌, ◌≢◌, ℕ, suc, ◌+◌, ◌*◌, ◌/◌, ◌≤◌, nat_lt, Bool, true, false, cond, List, [], ◌∷◌}
+use Rattle.std.proofs.Common.{length, Option, None, Some, Result, Ok, Err, refl, arith, ap, sym, subst, ◌∙◌, length-append}
 use Rattle.std.specs.Prelude.{filter, flat_map, option_to_list, if◌then◌else◌, IsTrue, MatchBool, MatchOption}
 use Rattle.std.proofs.lemmas.Bool.Decides.{nat_tests}
 use Rattle.std.proofs.lemmas.List.{length-map}
 use Rattle.history.specs.declared.key.Key.{Key}
 use Rattle.history.specs.declared.time.TimedWrite.{TimedWrite}
 use Rattle.history.specs.declared.time.Version.{Version}
-use Rattle.history.specs.Histories.{History}
 use Rattle.history.specs.Machine.{Machine}
 use Rattle.history.specs.Versions.{versions, stands_at, ends_after}
 use Rattle.history.proofs.Intervals.{ended-stands}
@@ -19,7 +18,6 @@ use Rattle.law_image.specs.Plans.{IsReclaimPlan}
 use Rattle.law_image.specs.StandsFor.{archived_upto, reclaimed_upto}
 use Rattle.law_image.proofs.Standing.{archived-range, last-range}
 use Rattle.law_layout.specs.Records.{old_bytes}
-use Rattle.law_log.specs.Chains.{reclaimed_by, told}
 use Rattle.law_log.proofs.Telling.{tells-all}
 use Rattle.chains.specs.KeyWrites.{writes_of}
 use Rattle.chains.proofs.Versions.{versions-kept}
@@ -33,11 +31,11 @@ use Rattle.log_base.specs.Names.{AreBytesBetween, is_between, named_between}
 use Rattle.log_base.proofs.RunsLeft.{mark-is}
 use Rattle.commits.specs.Calls.{oldest}
 use Rattle.log_store.specs.Reclaims.{BeginsReclaim, KeepsBaseShares, StartsReclaim, anchor_bytes, base_len, base_with, front, front_count, has_nothing}
-use Rattle.log_store.specs.Reclaims.{makes, reclaim_refusal, reclaimed, refusal_for_use, roll_of, standing}
-use Rattle.log_store.specs.Values.{LogStoreValue, IsInStep, is_busy}
+use Rattle.log_store.specs.Reclaims.{makes, reclaim_refusal, reclaimed, refusal_for_use, roll_of}
+use Rattle.log_store.specs.Values.{LogStoreValue, is_busy}
 use Rattle.log_store.specs.declared.job.StartFault.{StartFault}
 use Rattle.log_store.specs.declared.job.StartFault.TheVariants as fault
-use Rattle.law_log_layout.specs.HeapLog.{AreAnchorsAt, chains_told, name_bytes}
+use Rattle.law_log_layout.specs.HeapLog.{chains_told, name_bytes}
 use Rattle.law_log_store.specs.Standing.{StandsOnHeap, StopsOnHeap}
 use Rattle.law_log_store.proofs.Anchored.{anchored-plan, own-plan}
 use Rattle.law_log_store.proofs.Behind.{HasChains, has-chains}

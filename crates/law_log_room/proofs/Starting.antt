@@ -4,7 +4,7 @@ use Rattle.std.proofs.Common.{length, map, take, drop, Option, None, Some, Resul
 use Rattle.std.specs.Prelude.{option_to_list, replicate, IsTrue, MatchBool, MatchOption}
 use Rattle.std.specs.List.{AllByRecursion}
 use Rattle.std.proofs.lemmas.Bool.Decides.{nat_tests}
-use Rattle.std.proofs.lemmas.List.{append-nil, length-map, length-replicate}
+use Rattle.std.proofs.lemmas.List.{append-nil, length-replicate}
 use Rattle.std.proofs.lemmas.List.Concat.{flat_map-cons}
 use Rattle.history.specs.Machine.{Machine}
 use Rattle.history.proofs.Filters.{AllByRecursion-append}
@@ -17,8 +17,8 @@ use Rattle.log_entries.specs.declared.entry.Archive.{Archive}
 use Rattle.log_entries.specs.declared.entry.RelationFloor.{RelationFloor}
 use Rattle.log_entries.specs.declared.entry.Roll.{Roll}
 use Rattle.log_extents.specs.Chains.{count_of}
-use Rattle.log_base.specs.Bases.{mark_of, own_behind, own_from, raised_by, relation_floor, rolls_of, runs_behind, runs_from}
-use Rattle.log_recovery.specs.Live.{LiveChainValue, part_of}
+use Rattle.log_base.specs.Bases.{mark_of, own_behind, own_from, raised_by, relation_floor, rolls_of, runs_from}
+use Rattle.log_recovery.specs.Live.{LiveChainValue}
 use Rattle.log_recovery.specs.declared.live.LivePart.{LivePart}
 use Rattle.log_recovery.specs.declared.live.LivePart.TheVariants.{Commits}
 use Rattle.log_recovery.specs.declared.live.LivePart.TheVariants as parts
@@ -33,11 +33,11 @@ use Rattle.commits.specs.Values.{last, last_assigned}
 use Rattle.archive.specs.Pieces.{InWriting}
 use Rattle.wire.specs.declared.slot.Run.{Run}
 use Rattle.log_store.specs.Archives.{BeginsArchive, BeginsRun, StartsArchive, archive_as, archive_refusal, has_archive_room, run_to, with_archive}
-use Rattle.log_store.specs.Formats.{Creates, created_on}
+use Rattle.log_store.specs.Formats.{Creates}
 use Rattle.log_store.specs.Jobs.{BeginsFloor, StartsFloor, base_parts, entry_of, floor_refusal, floor_refusal_of, has_floor_room, with_floor}
 use Rattle.log_store.specs.Jobs as jobs
-use Rattle.log_store.specs.Reclaims.{BeginsReclaim, IsReclaimBegun, StartsReclaim, archives_at, archives_in, base_with, front, front_count, makes}
-use Rattle.log_store.specs.Reclaims.{reclaim_refusal, roll_of, with_reclaim}
+use Rattle.log_store.specs.Reclaims.{BeginsReclaim, IsReclaimBegun, StartsReclaim, archives_at, archives_in, base_with, front, front_count}
+use Rattle.log_store.specs.Reclaims.{reclaim_refusal, roll_of}
 use Rattle.log_store.specs.Values.{LogStoreValue, is_busy}
 use Rattle.log_store.specs.declared.job.StartFault.{StartFault}
 use Rattle.log_store.specs.declared.job.StartFault.TheVariants as fault

@@ -6,7 +6,6 @@ use Rattle.std.proofs.lemmas.Bool.Decides.{nat_tests}
 use Rattle.std.proofs.lemmas.List.Concat.{flat_map-cons}
 use Rattle.history.specs.declared.key.Key.{Key}
 use Rattle.history.specs.declared.key.KeyWrite.{KeyWrite}
-use Rattle.history.specs.Machine.{Machine}
 use Rattle.law_image.specs.Values.{Value}
 use Rattle.law_image.proofs.Standing.{archived-range}
 use Rattle.snapshot.specs.Txn.{TxnValue}
@@ -16,7 +15,7 @@ use Rattle.group.specs.declared.answers.SubmitFault.{SubmitFault}
 use Rattle.group.specs.declared.answers.SubmitFault.TheVariants as refused
 use Rattle.commits.specs.Calls.{oldest}
 use Rattle.commits.specs.Steps.{time_now}
-use Rattle.commits.specs.Values.{CommitsValue, is_own, last, last_assigned, ordered}
+use Rattle.commits.specs.Values.{is_own, last, ordered}
 use Rattle.law_commits.proofs.Names.{last-is}
 use Rattle.log_extents.specs.Chains.{count_of}
 use Rattle.log_base.specs.Bases.{mark_at, mark_of}
@@ -24,13 +23,11 @@ use Rattle.log_recovery.specs.Live.{LiveChainValue, counted_at, live_count}
 use Rattle.log_recovery.specs.declared.live.LivePart.{LivePart}
 use Rattle.log_recovery.specs.declared.live.LivePart.TheVariants.{Commits}
 use Rattle.log_recovery.specs.declared.live.LivePart.TheVariants as parts
-use Rattle.log_room.specs.Bases.{has_base_room}
 use Rattle.log_room.specs.Contents.{extents_over}
-use Rattle.log_room.specs.Rooms.{RoomValue, fits}
+use Rattle.log_room.specs.Rooms.{RoomValue}
 use Rattle.log_room.proofs.Taken.{used_len}
 use Rattle.log_store.specs.Archives.{BeginsArchive, BeginsRun, StartsArchive, archive_refusal, has_archive_room, records_to, run_to}
 use Rattle.log_store.specs.Calls.{with_commits}
-use Rattle.log_store.specs.Jobs.{base_parts}
 use Rattle.log_store.specs.Reclaims.{BeginsReclaim, IsReclaimBegun, StartsReclaim, front_count, has_nothing, reclaim_refusal, reclaimed, refusal_for_use}
 use Rattle.log_store.specs.Submits.{AnswersSubmit, Submits, SubmitsOwn, anchors_behind, has_room, spent, verdict, verdict_on_conflict}
 use Rattle.log_store.specs.Values.{LogStoreValue, ReclaimValue, IsInStep, is_busy}
@@ -43,14 +40,13 @@ use Rattle.law_image.specs.Facts.{values_now}
 use Rattle.law_image.specs.Plans.{stored_members}
 use Rattle.law_log_sizes.specs.Sizes.{len_from}
 use Rattle.history.specs.Histories.{History}
-use Rattle.law_log_store.specs.Opened.{LeavesRoom, live_uses}
+use Rattle.law_log_store.specs.Opened.{live_uses}
 use Rattle.law_log_store.specs.Standing.{StandsOnHeap, StopsOnHeap}
 use Rattle.law_log_store.proofs.Opened.{leaves-room}
 use Rattle.law_log_store.proofs.Used.{used-are}
 use Rattle.log_roots.specs.Roots.{root_of}
 use Rattle.law_log_queries.specs.Calls.{OfArchive, OfJob, OfReclaim}
-use Rattle.law_log_room.specs.Bases.{LeavesBaseRoom}
-use Rattle.law_log_room.specs.Ends.{ArchivesAll, Ends, Reclaims, RunsOut, Steps, StepsTo}
+use Rattle.law_log_room.specs.Ends.{ArchivesAll, Ends, Reclaims, RunsOut, StepsTo}
 use Rattle.law_log_room.specs.Laws.{HasAllRoom, IsIdle, IsSmall, MayReclaim}
 use Rattle.law_log_room.proofs.Behind.{no-log, whole-front}
 use Rattle.law_log_room.proofs.Calls.{Roomy, call-roomy, roomy-reclaim}
