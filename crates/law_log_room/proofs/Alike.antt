@@ -1,8 +1,10 @@
 -- Chains that name the same leave the same room for a base.
-use Rattle.std.proofs.Common.{◌≡◌, ℕ, ◌+◌, ◌≤◌, nat_lt, Bool, true, false, List, [], ◌∷◌, ◌++◌, length, drop, Option, None, Some}
+use Rattle.std.proofs.Common.{◌≡◌, ℕ, ◌+◌, ◌*◌, ◌<◌, ◌≤◌, nat_lt, Bool, true, false, List, [], ◌∷◌, ◌++◌, length, drop, Option, None, Some}
 use Rattle.std.proofs.Common.{refl, arith, ap, sym, subst, ◌∙◌, length-append}
 use Rattle.std.proofs.lemmas.List.{append-nil}
 use Rattle.std.proofs.lemmas.List.Concat.{flat_map-cons}
+use Rattle.history.proofs.Orders.{is_lt}
+use Rattle.std.proofs.lemmas.Bool.Decides.{nat_tests}
 use Rattle.floors.specs.declared.floors.OwnFloor.{OwnFloor}
 use Rattle.log_entries.specs.declared.entry.Archive.{Archive}
 use Rattle.log_entries.specs.declared.entry.Roll.{Roll}
@@ -125,3 +127,19 @@ then-group None (Some job) cs c time same front = by-stage (is_entering job.stag
     by-stage false =
         alike-one (cs ++ c ∷ []) cs (entry_chain job.work) (entry_chain job.work) (alike-group cs c time same) refl (entry-no-base job.work)
 then-group None None cs c time same front = alike-group cs c time same
+
+-- ---- a later mark
+
+pub later-most : (chains : List LiveChainValue) (upto later : ℕ) → upto ≤ later → base_most chains upto ≤ base_most chains later
+later-most chains upto later le = by-tests (nat_lt (mark_of chains) upto) refl (nat_lt (mark_of chains) later) refl
+  where
+    by-tests : (a : Bool) → nat_lt (mark_of chains) upto ≡ a → (b : Bool) → nat_lt (mark_of chains) later ≡ b
+        → 21 + 17 * (length (rolls_of chains) + more_rolls a) + 35 * length (archives_in chains) + 11 * length (own_from [] chains)
+        ≤ 21 + 17 * (length (rolls_of chains) + more_rolls b) + 35 * length (archives_in chains) + 11 * length (own_from [] chains)
+    by-tests true e true f = omega arith
+    by-tests false e true f = omega arith
+    by-tests false e false f = omega arith
+    by-tests true e false f = absurd (let less : mark_of chains < later = grind (arith, nat_tests, e, le) in
+        let no : nat_lt (mark_of chains) later ≡ true = is_lt less in
+        let off : true ≡ false = sym no ∙ f in
+        cc)

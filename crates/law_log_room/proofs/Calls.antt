@@ -92,7 +92,7 @@ call-leaves tells old new m tell step stands (OfFloor scope floor answer starts)
 call-leaves tells old new m tell step stands (OfArchive upto answer starts) left =
     archive-starts-left tells old new m tell stands.store left upto answer starts
 call-leaves tells old new m tell step stands (OfReclaim answer starts) left = reclaim-starts-left tells old new m tell stands.store left answer starts
-call-leaves tells old new m tell step stands (OfJob answer sound pumps) left = job-pump-left tells old new answer step pumps left
+call-leaves tells old new m tell step stands (OfJob answer sound pumps) left = job-pump-left tells old new answer step stands.store.marks pumps left
 call-leaves tells old new m tell step stands (OfAt view key time answer says) left = query-left tells old new view time _ _ _ _ answer says left
 call-leaves tells old new m tell step stands (OfScanAt view relation time answer says) left =
     query-left tells old new view time _ _ _ _ answer says left

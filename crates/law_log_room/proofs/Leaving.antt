@@ -43,23 +43,29 @@ use Rattle.log_store.specs.declared.reclaim.ReclaimStage.TheVariants.{Rolling, T
 use Rattle.log_store.specs.declared.reclaim.ReclaimStage.TheVariants as reclaims
 use Rattle.log_store.proofs.Lives.{room-stands}
 use Rattle.law_log_room.specs.Bases.{LeavesBaseRoom, base_most, chains_then, chains_with, entry_chain, upto_then, upto_with}
-use Rattle.law_log_room.proofs.Alike.{FrontIsIn, alike-most, alike-one, entry-no-base, same-alike, then-group}
+use Rattle.law_log_steps.specs.Store.{HasMarks, JobReaches, Reaches}
+use Rattle.law_log_room.proofs.Alike.{FrontIsIn, alike-group, alike-most, alike-one, entry-no-base, later-most, same-alike, then-group}
 
 -- ---- what it rests on
 
--- so much is left where these run
+-- so much is left now, and where these run behind them
+abbrev pub IsNow : LogStoreValue → Type 0
+IsNow v = count_of (base_most v.live.chains v.named.upto) ≤ length v.room.used / 16
+
 abbrev pub IsLeft : LogStoreValue → Option ReclaimValue → Option Job → Type 0
 IsLeft v reclaim job = count_of (base_most (chains_then reclaim job v.live.chains) (upto_then reclaim job v.named.upto)) ≤ length v.room.used / 16
 
 pub left-as : (v : LogStoreValue) (reclaim : Option ReclaimValue) (job : Option Job) → v.reclaim ≡ reclaim → v.job ≡ job → LeavesBaseRoom v
     → IsLeft v reclaim job
 left-as v reclaim job is-reclaim is-job left =
-    subst (λ (j : Option Job). IsLeft v reclaim j) is-job (subst (λ (r : Option ReclaimValue). IsLeft v r v.job) is-reclaim left)
+    subst (λ (j : Option Job). IsLeft v reclaim j) is-job (subst (λ (r : Option ReclaimValue). IsLeft v r v.job) is-reclaim left.1)
 
-pub left-so : (v : LogStoreValue) (reclaim : Option ReclaimValue) (job : Option Job) → v.reclaim ≡ reclaim → v.job ≡ job → IsLeft v reclaim job
+pub left-so : (v : LogStoreValue) (reclaim : Option ReclaimValue) (job : Option Job) → v.reclaim ≡ reclaim → v.job ≡ job → IsNow v → IsLeft v reclaim job
     → LeavesBaseRoom v
-left-so v reclaim job is-reclaim is-job left =
-    subst (λ (r : Option ReclaimValue). IsLeft v r v.job) (sym is-reclaim) (subst (λ (j : Option Job). IsLeft v reclaim j) (sym is-job) left)
+left-so v reclaim job is-reclaim is-job now left = (
+  now,
+  subst (λ (r : Option ReclaimValue). IsLeft v r v.job) (sym is-reclaim) (subst (λ (j : Option Job). IsLeft v reclaim j) (sym is-job) left),
+)
 
 -- the log, its heap, and the job that runs are as they were
 pub record Keeps (old new : LogStoreValue) : Type 0 where
@@ -74,8 +80,9 @@ keeps-left old new is left =
     let same : base_most (chains_then new.reclaim new.job new.live.chains) (upto_then new.reclaim new.job new.named.upto)
     ≡ base_most (chains_then old.reclaim old.job old.live.chains) (upto_then old.reclaim old.job old.named.upto) =
     λ i. base_most (chains_then (is.reclaim i) (is.job i) (is.live i).chains) (upto_then (is.reclaim i) (is.job i) (is.named i).upto) in
+    let now : base_most new.live.chains new.named.upto ≡ base_most old.live.chains old.named.upto = λ i. base_most (is.live i).chains (is.named i).upto in
     let used = is.used in
-    omega (arith, left, same, used)
+    (omega (arith, left.0, now, used), omega (arith, left.1, same, used))
 
 pub same-left : (old new : LogStoreValue) → new ≡ old → LeavesBaseRoom old → LeavesBaseRoom new
 same-left old new is left = subst LeavesBaseRoom (sym is) left
@@ -118,8 +125,10 @@ begun-left old begun step b left =
     (upto_then old.reclaim old.job old.named.upto) (then-group old.reclaim old.job old.live.chains c _ refl front) in
     let used = taken-len old.room b.room _ _ b.numbers b.link b.takes in
     let here : count_of (base_most (chains_then old.reclaim old.job (old.live.chains ++ c ∷ [])) (upto_then old.reclaim old.job old.named.upto))
-    ≤ length b.room.used / 16 = omega (arith, left, same, used) in
-    subst LeavesBaseRoom (sym b.new_is) here
+    ≤ length b.room.used / 16 = omega (arith, left.1, same, used) in
+    let more = alike-most (old.live.chains ++ c ∷ []) old.live.chains old.named.upto (alike-group old.live.chains c _ refl) in
+    let now : count_of (base_most (old.live.chains ++ c ∷ []) old.named.upto) ≤ length b.room.used / 16 = omega (arith, left.0, more, used) in
+    subst LeavesBaseRoom (sym b.new_is) (now, here)
 
 pub pump-left : (tells : Bool) (old new : LogStoreValue) (answer : Result Did PumpFault) → IsInStep old → Pumps tells old answer new → LeavesBaseRoom old
     → LeavesBaseRoom new
@@ -160,7 +169,7 @@ module _ (old : LogStoreValue) (job : Job) (is-job : old.job ≡ Some job) (none
   stage-left : (stage : JobStage) → is_entering stage ≡ is_entering job.stage → (disk : DiskState)
       → LeavesBaseRoom (record (at_stage old job stage) { disk = disk })
   stage-left stage same disk =
-      left-so (record (at_stage old job stage) { disk = disk }) None (Some (record job { stage = stage })) none refl
+      left-so (record (at_stage old job stage) { disk = disk }) None (Some (record job { stage = stage })) none refl left.0
       (subst (λ (b : Bool). count_of (base_most (chains_with b job.work old.live.chains) (upto_with job.work old.named.upto)) ≤ length old.room.used / 16)
       (sym same) as-job)
 
@@ -171,10 +180,11 @@ module _ (old : LogStoreValue) (job : Job) (is-job : old.job ≡ Some job) (none
   -- it is over
   ended-left : is_entering job.stage ≡ true → (disk : DiskState) → LeavesBaseRoom (record (with_entry old job) { disk = disk })
   ended-left entering disk =
-      left-so (record (with_entry old job) { disk = disk }) None None none refl
-      (subst (λ (upto : ℕ). count_of (base_most old.live.chains upto) ≤ length old.room.used / 16) (upto-is job.work old.named)
+      let here =
+      subst (λ (upto : ℕ). count_of (base_most old.live.chains upto) ≤ length old.room.used / 16) (upto-is job.work old.named)
       (subst (λ (b : Bool). count_of (base_most (chains_with b job.work old.live.chains) (upto_with job.work old.named.upto)) ≤ length old.room.used / 16)
-      entering as-job))
+      entering as-job) in
+      left-so (record (with_entry old job) { disk = disk }) None None none refl here here
 
   after-left : (w : WriterState) → is_entering job.stage ≡ true → (stage : Stage) (disk : DiskState)
       → LeavesBaseRoom (record (jobs.after_call old job w stage) { disk = disk })
@@ -206,18 +216,22 @@ module _ (old : LogStoreValue) (job : Job) (is-job : old.job ≡ Some job) (none
       same-left _ new is.answer.1 (stage-left (stage_behind job.stage false) (behind-entering job.stage false) new.disk)
 
   -- its entry begins
-  begun-entry : (begun : LogStoreValue) → is_entering job.stage ≡ false → BeginsEntry old job begun → LeavesBaseRoom begun
-  begun-entry begun ahead b =
+  begun-entry : (begun : LogStoreValue) → old.named.upto ≤ upto_with job.work old.named.upto → is_entering job.stage ≡ false → BeginsEntry old job begun
+      → LeavesBaseRoom begun
+  begun-entry begun reach ahead b =
       let c : LiveChainValue = record { numbers = b.numbers; part = part_of (entry_of job.work) } in
       let same = alike-most (old.live.chains ++ c ∷ []) (old.live.chains ++ entry_chain job.work ∷ []) (upto_with job.work old.named.upto)
       (alike-one old.live.chains old.live.chains c (entry_chain job.work) (same-alike old.live.chains) refl (entry-no-base job.work)) in
       let used = taken-len old.room b.room 1 1 b.numbers b.link b.takes in
-      let now : count_of (base_most (old.live.chains ++ entry_chain job.work ∷ []) (upto_with job.work old.named.upto)) ≤ length old.room.used / 16 =
+      let then : count_of (base_most (old.live.chains ++ entry_chain job.work ∷ []) (upto_with job.work old.named.upto)) ≤ length old.room.used / 16 =
       subst (λ (b : Bool). count_of (base_most (chains_with b job.work old.live.chains) (upto_with job.work old.named.upto)) ≤ length old.room.used / 16)
       ahead as-job in
       let here : count_of (base_most (old.live.chains ++ c ∷ []) (upto_with job.work old.named.upto)) ≤ length b.room.used / 16 =
-      omega (arith, now, same, used) in
+      omega (arith, then, same, used) in
+      let rises = later-most (old.live.chains ++ c ∷ []) old.named.upto (upto_with job.work old.named.upto) reach in
+      let now : count_of (base_most (old.live.chains ++ c ∷ []) old.named.upto) ≤ length b.room.used / 16 = omega (arith, here, rises) in
       left-so begun None begun.job (ap (λ (v : LogStoreValue). v.reclaim) b.new_is ∙ none) refl
+      (subst (λ (v : LogStoreValue). IsNow v) (sym b.new_is) now)
       (subst (λ (v : LogStoreValue). IsLeft v None v.job) (sym b.new_is) here)
 
 entry-goes : (tells : Bool) (old new : LogStoreValue) (answer : Result JobDid PumpFault) (job : Option Job) → old.job ≡ job → old.reclaim ≡ None
@@ -230,16 +244,21 @@ entry-goes tells old new answer (Some job) is-job none left is = by-stage job.st
     by-stage (Ready waited) at is = absurd is
     by-stage (Entering w) at is = entry-left old job is-job none left tells w new answer (ap is_entering at) is
 
+-- an archive goes further than the mark
+reaches : (upto : ℕ) (work : JobWork) → Reaches upto work → upto ≤ upto_with work upto
+reaches upto (Floor floor kept) reach = omega arith
+reaches upto (Archive archive archives) reach = reach
+
 job-left : (tells : Bool) (old new : LogStoreValue) (answer : Result JobDid PumpFault) (job : Option Job) → old.job ≡ job → old.reclaim ≡ None
-    → LeavesBaseRoom old → StepsJob tells job old answer new → LeavesBaseRoom new
-job-left tells old new answer None is-job none left is = same-left old new is.1 left
-job-left tells old new answer (Some job) is-job none left is = by-stage job.stage refl is
+    → JobReaches old.named.upto job → LeavesBaseRoom old → StepsJob tells job old answer new → LeavesBaseRoom new
+job-left tells old new answer None is-job none reach left is = same-left old new is.1 left
+job-left tells old new answer (Some job) is-job none reach left is = by-stage job.stage refl is
   where
     enters : is_entering job.stage ≡ false → Enters tells job old answer new → LeavesBaseRoom new
     enters ahead (inl short) = same-left old new short.1 left
     enters ahead (inr b) =
         entry-goes tells b.0 new answer b.0.job refl (ap (λ (v : LogStoreValue). v.reclaim) b.1.new_is ∙ none)
-        (begun-entry old job is-job none left b.0 ahead b.1) b.2
+        (begun-entry old job is-job none left b.0 (reaches old.named.upto job.work reach) ahead b.1) b.2
 
     by-turn : is_entering job.stage ≡ false → (t : Option WriterState) → StepsReady tells job t old answer new → LeavesBaseRoom new
     by-turn ahead None is = enters ahead is
@@ -268,7 +287,7 @@ module _ (old : LogStoreValue) (r : ReclaimValue) (is-reclaim : old.reclaim ≡ 
       λ i. base_most (same.base i ∷ drop (same.front i) old.live.chains) (same.named i).upto in
       let now : count_of (base_most (base_chain r ∷ drop r.front old.live.chains) r.named.upto) ≤ length old.room.used / 16 = as-reclaim in
       let here : count_of (base_most (base_chain s ∷ drop s.front old.live.chains) s.named.upto) ≤ length old.room.used / 16 = omega (arith, now, most) in
-      here
+      (left.0, here)
 
   roll-making : (roots : Roots) (s : ReclaimValue) (roll : Option InRoll) → SameMaking r s → SameMaking r (reclaiming.begins_roll roots s roll)
   roll-making roots s None same = record { front = same.front; base = same.base; named = same.named }
@@ -293,7 +312,7 @@ module _ (old : LogStoreValue) (r : ReclaimValue) (is-reclaim : old.reclaim ≡ 
       let now : count_of (base_most (base_chain r ∷ drop r.front old.live.chains) r.named.upto) ≤ length old.room.used / 16 = as-reclaim in
       let here : count_of (base_most (base_chain r ∷ drop r.front old.live.chains) r.named.upto) ≤ length (room_with r old.live old.room).used / 16 =
       omega (arith, now, len) in
-      left-so (record (with_base old r) { disk = disk }) None None refl alone here
+      left-so (record (with_base old r) { disk = disk }) None None refl alone here here
   turn-left alone t turning.Done disk = left
 
   stage-made : (alone : old.job ≡ None) (stage : ReclaimStage) (disk : DiskState) → LeavesBaseRoom (record (reclaiming.behind old r stage) { disk = disk })
@@ -315,14 +334,14 @@ module _ (old : LogStoreValue) (r : ReclaimValue) (is-reclaim : old.reclaim ≡ 
       by-wait true waits = same-left old new waits.1 left
       by-wait false is = advanced tells new answer alone is
 
-pub job-pump-left : (tells : Bool) (old new : LogStoreValue) (answer : Result JobDid PumpFault) → IsInStep old → PumpsJob tells old answer new
+pub job-pump-left : (tells : Bool) (old new : LogStoreValue) (answer : Result JobDid PumpFault) → IsInStep old → HasMarks old → PumpsJob tells old answer new
     → LeavesBaseRoom old → LeavesBaseRoom new
-job-pump-left tells old new answer step pumps left = by-failed old.commits.failed pumps
+job-pump-left tells old new answer step marks pumps left = by-failed old.commits.failed pumps
   where
     by-reclaim : (o : Option ReclaimValue) → old.reclaim ≡ o
         → MatchOption o (old.room.reserved ≡ 0) (IsReclaiming old.job old.live.chains old.room.reserved (length old.room.used))
         → MatchOption o (StepsJob tells old.job old answer new) (λ r. StepsReclaim tells r old answer new) → LeavesBaseRoom new
-    by-reclaim None none beside is = job-left tells old new answer old.job refl none left is
+    by-reclaim None none beside is = job-left tells old new answer old.job refl none marks.job left is
     by-reclaim (Some r) some beside is = reclaim-left old r some left tells new answer beside.alone is
 
     by-failed : (b : Bool) → MatchBool b ((answer ≡ Err pump.Failed) × (new ≡ old))

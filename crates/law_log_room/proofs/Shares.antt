@@ -45,7 +45,7 @@ use Rattle.law_log_store.proofs.Used.{used-are}
 use Rattle.law_log_steps.specs.Store.{IsStoreOf}
 use Rattle.law_log_steps.proofs.ArchiveStarts.{in-memory}
 use Rattle.law_log_steps.proofs.ReclaimStarts.{MayReclaim, may-reclaim}
-use Rattle.law_log_room.specs.Bases.{LeavesBaseRoom, base_most, chains_then, more_rolls, upto_then}
+use Rattle.law_log_room.specs.Bases.{LeavesBaseRoom, base_most, more_rolls}
 use Rattle.law_log_room.proofs.Named.{NamesFew, names-few}
 
 -- ---- the names of a roll
@@ -234,14 +234,6 @@ early-full v = by-tests v.commits.failed (is_busy v) (has_nothing v)
     by-tests false false true = refl
     by-tests false false false = use-full (oldest v.commits) v.named.upto
 
--- what the log leaves, where nothing runs
-pub room-now : (v : LogStoreValue) → v.job ≡ None → v.reclaim ≡ None → LeavesBaseRoom v
-    → count_of (base_most v.live.chains v.named.upto) ≤ length v.room.used / 16
-room-now v free unmade leaves =
-    let same : base_most (chains_then v.reclaim v.job v.live.chains) (upto_then v.reclaim v.job v.named.upto) ≡ base_most v.live.chains v.named.upto =
-    λ i. base_most (chains_then (unmade i) (free i) v.live.chains) (upto_then (unmade i) (free i) v.named.upto) in
-    omega (arith, leaves, same)
-
 pub reclaim-has-room : (tells : Bool) (v new : LogStoreValue) (m : Machine Value) (answer : Result (Unit {0}) StartFault) → IsTrue tells
     → IsStoreOf tells v m → LeavesBaseRoom v → StartsReclaim v answer new → answer ≢ Err fault.HeapFull
 reclaim-has-room tells v new m answer tell is leaves starts full =
@@ -258,7 +250,7 @@ reclaim-has-room tells v new m answer tell is leaves starts full =
     by-refusal None none so =
         let may = may-reclaim v none in
         let refused = so.0 in
-        refused.2 (shares-kept tells v m is (stands may) may.free (room-now v may.free may.unmade leaves) refused.0 refused.1)
+        refused.2 (shares-kept tells v m is (stands may) may.free leaves.0 refused.0 refused.1)
     by-refusal (Some why) some so =
         let no : true ≡ false = ap answer-full so.0 ∙ sym (ap full-in some) ∙ early-full v in
         cc

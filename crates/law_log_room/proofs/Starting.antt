@@ -52,7 +52,7 @@ use Rattle.law_log_room.specs.Bases.{LeavesBaseRoom, base_most, more_rolls}
 use Rattle.law_log_room.proofs.Alike.{archives-more, own-more, rolls-more}
 use Rattle.law_log_room.proofs.Leaving.{IsLeft, left-so, same-left}
 use Rattle.law_log_room.proofs.Named.{archives-are, floors-few, names-few, own-rising, rolls-few, runs-split, told-same}
-use Rattle.law_log_room.proofs.Shares.{rolls-added, room-now}
+use Rattle.law_log_room.proofs.Shares.{rolls-added}
 
 more-most : (b : Bool) → more_rolls b ≤ 2
 more-most true = omega arith
@@ -181,7 +181,7 @@ created-left tells old mark extents v size is =
     used_len (replicate extents false) (1 ∷ []) ∙ length-replicate extents false in
     let least = size.least in
     let here : count_of (base_most [] 0) ≤ length (with_use (replicate extents false) 1 true) / 16 = omega (arith, len, least) in
-    subst LeavesBaseRoom (sym is.new_is) here
+    subst LeavesBaseRoom (sym is.new_is) (here, here)
 
 module _ (tells : Bool) (v : LogStoreValue) (m : Machine Value) (is : IsStoreOf tells v m) (s : StandsOnHeap v m.published m.queue m.floors)
     (free : v.job ≡ None) where
@@ -205,7 +205,7 @@ module _ (tells : Bool) (v : LogStoreValue) (m : Machine Value) (is : IsStoreOf 
       let archives = archives-here in
       let floors = floors-here in
       let here : count_of (base_most cs v.named.upto) ≤ length v.room.used / 16 = omega (arith, fits, more, rolls, archives, floors) in
-      left-so v None None none free here
+      left-so v None None none free here here
 
   -- ---- a floor
 
@@ -227,7 +227,7 @@ module _ (tells : Bool) (v : LogStoreValue) (m : Machine Value) (is : IsStoreOf 
   pub floor-left : (none : v.reclaim ≡ None) (relation time : ℕ) → has_floor_room v relation ≡ true → LeavesBaseRoom v
       → LeavesBaseRoom (with_floor v relation time)
   floor-left none relation time room left =
-      left-so (with_floor v relation time) None (with_floor v relation time).job none refl
+      left-so (with_floor v relation time) None (with_floor v relation time).job none refl left.0
       (by-floor (nat_lt 0 (floor_at v.commits.floors relation)) refl (bases.has_floor_room v.room (base_parts v)) refl
       (second (has_entry_room v.room) (nat_lt 0 (floor_at v.commits.floors relation) || bases.has_floor_room v.room (base_parts v)) room))
     where
@@ -238,7 +238,7 @@ module _ (tells : Bool) (v : LogStoreValue) (m : Machine Value) (is : IsStoreOf 
           let told = told-same v m.published m.queue m.floors s free is.memory.floors relation in
           let same = with-same (own_from [] cs) relation time (own-rising v m.published m.queue m.floors s free is.memory.floors)
           (omega (arith, some, told)) in
-          let now = room-now v free none left in
+          let now = left.0 in
           let len = floor-len relation time in
           let here : count_of (base_most (cs ++ floor_chain relation time ∷ []) v.named.upto) ≤ length v.room.used / 16 = omega (arith, same, now, len) in
           here
@@ -257,9 +257,9 @@ module _ (tells : Bool) (v : LogStoreValue) (m : Machine Value) (is : IsStoreOf 
 
   -- ---- an archive
 
-  pub archive-left : (none : v.reclaim ≡ None) (upto : ℕ) (run : Run) (writer : InWriting) (new : LogStoreValue) → has_archive_room v upto ≡ true
+  pub archive-left : (none : v.reclaim ≡ None) → LeavesBaseRoom v → (upto : ℕ) (run : Run) (writer : InWriting) (new : LogStoreValue) → has_archive_room v upto ≡ true
       → BeginsArchive v run writer new → LeavesBaseRoom new
-  archive-left none upto run writer new room b =
+  archive-left none left upto run writer new room b =
       let target = with_archive v run writer b.entry in
       let c : LiveChainValue = record { numbers = []; part = parts.Archived (archive_as run) } in
       let fits = is-upto (bases.base_extents (base_parts v)) (length v.room.used / 16)
@@ -273,7 +273,7 @@ module _ (tells : Bool) (v : LogStoreValue) (m : Machine Value) (is : IsStoreOf 
       let floors = floors-here in
       let here : count_of (base_most (cs ++ c ∷ []) run.upto) ≤ length v.room.used / 16 =
       omega (arith, fits, rolls-c, archives-c, own-c, more, rolls, archives, floors) in
-      subst LeavesBaseRoom (sym b.new_is) (left-so target None target.job none refl here)
+      subst LeavesBaseRoom (sym b.new_is) (left-so target None target.job none refl left.0 here)
 
 -- ---- a reclaim
 
@@ -283,7 +283,7 @@ reclaim-begun v new free none left b =
     let n = front_count v in
     let base = base_with v b.names b.made in
     let c : LiveChainValue = record { numbers = b.numbers; part = parts.Base base } in
-    let now = room-now v free none left in
+    let now = left.0 in
     let few-rolls = (names-few cs n).rolls in
     let rolls = length-append (rolls_of (front v)) (option_to_list (roll_of v.named.end b.names)) in
     let added = rolls-added v b.names b.names_are in
@@ -296,7 +296,8 @@ reclaim-begun v new free none left b =
     let used = ap (λ (r : RoomValue). length r.used) b.reserves.new_is ∙ used_len v.room.used (b.made ++ b.numbers) in
     let here : count_of (base_most (c ∷ drop n cs) v.named.upto) ≤ length b.room.used / 16 =
     omega (arith, now, few-rolls, rolls, added, more, archives, split, own, used) in
-    subst LeavesBaseRoom (sym b.new_is) here
+    let before : count_of (base_most cs v.named.upto) ≤ length b.room.used / 16 = omega (arith, now, used) in
+    subst LeavesBaseRoom (sym b.new_is) (before, here)
 
 -- ---- the starts
 
@@ -356,7 +357,7 @@ module _ (tells : Bool) (old new : LogStoreValue) (m : Machine Value) (tell : Is
       by-answer : archive_refusal old upto ≡ None → (a : Result (Unit {0}) StartFault) → BeginsRun old upto a new → LeavesBaseRoom new
       by-answer none (Ok done) so =
           let may = may-archive old upto none in
-          archive-left tells old m is (stands may.works) may.free may.unmade upto (run_to old upto) _ new may.room so.3
+          archive-left tells old m is (stands may.works) may.free may.unmade left upto (run_to old upto) _ new may.room so.3
       by-answer none (Err why) so = same-left old new so.1 left
 
       by-refusal : (o : Option StartFault) → archive_refusal old upto ≡ o

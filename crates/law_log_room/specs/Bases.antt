@@ -52,7 +52,11 @@ upto_then None None upto = upto
 
 -- ---- its share
 
--- The base of the next reclaim has room in its share of the heap, a sixteenth, once the job that runs is over.
+-- so much room is left for a base in the place of these chains, up to this time: its share of the heap is a sixteenth
+abbrev pub HasRoom : List LiveChainValue → ℕ → LogStoreValue → Type 0
+HasRoom chains upto v = count_of (base_most chains upto) ≤ length v.room.used / 16
+
+-- The base of the next reclaim has room now, and once the job that runs is over.
 abbrev pub LeavesBaseRoom : LogStoreValue → Type 0
 LeavesBaseRoom v =
-    count_of (base_most (chains_then v.reclaim v.job v.live.chains) (upto_then v.reclaim v.job v.named.upto)) ≤ length v.room.used / 16
+    HasRoom v.live.chains v.named.upto v × HasRoom (chains_then v.reclaim v.job v.live.chains) (upto_then v.reclaim v.job v.named.upto) v
