@@ -42,8 +42,8 @@ use Rattle.log_store.specs.declared.reclaim.ReclaimStage.{ReclaimStage}
 use Rattle.log_store.specs.declared.reclaim.ReclaimStage.TheVariants.{Rolling, Turning}
 use Rattle.log_store.specs.declared.reclaim.ReclaimStage.TheVariants as reclaims
 use Rattle.log_store.proofs.Lives.{room-stands}
-use Rattle.law_log_room.specs.Bases.{LeavesBaseRoom, base_most, chains_then, chains_with, entry_chain, upto_then, upto_with}
 use Rattle.law_log_steps.specs.Store.{HasMarks, JobReaches, Reaches}
+use Rattle.law_log_room.specs.Bases.{LeavesBaseRoom, base_most, chains_then, chains_with, entry_chain, upto_then, upto_with}
 use Rattle.law_log_room.proofs.Alike.{FrontIsIn, alike-group, alike-most, alike-one, entry-no-base, later-most, same-alike, then-group}
 
 -- ---- what it rests on

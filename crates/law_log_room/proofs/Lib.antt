@@ -9,3 +9,4 @@ mod Lasts
 mod Behind
 mod Ending
 mod Stuck
+mod Reopened

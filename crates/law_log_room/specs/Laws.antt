@@ -1,5 +1,6 @@
 -- A store whose log lies in the heap is never stuck for want of room.
 use Rattle.std.specs.Prelude.{ℕ, ◌≡◌, ◌≢◌, ◌⊎◌, ◌≤◌, Bool, false, IsTrue, List, [], None, Result, Err}
+use Rattle.disk.specs.Areas.{AreSound, LeavesImage, image_of}
 use Rattle.disk.specs.Calls.{DiskState}
 use Rattle.history.specs.Machine.{Machine}
 use Rattle.history.specs.declared.key.KeyWrite.{KeyWrite}
@@ -17,6 +18,7 @@ use Rattle.log_store.specs.Archives.{StartsArchive}
 use Rattle.log_store.specs.Calls.{with_commits}
 use Rattle.log_store.specs.Formats.{Creates}
 use Rattle.log_store.specs.Jobs.{base_parts}
+use Rattle.log_store.specs.Opens.{Opens}
 use Rattle.log_store.specs.Reclaims.{StartsReclaim}
 use Rattle.log_store.specs.Submits.{Submits, anchors_behind}
 use Rattle.log_store.specs.Values.{LogStoreValue, IsInStep}
@@ -30,6 +32,13 @@ use Rattle.law_log_room.specs.Ends.{Reclaims, ArchivesAll}
 -- A base that names two rolls and two archives more than the log does keeps its share of the heap.
 abbrev pub HasBaseRoom : LogStoreValue → Type 0
 HasBaseRoom v = IsTrue (has_base_room v.room (base_parts v))
+
+-- A store that works, where no commit waits and no job runs.
+pub record IsIdle (v : LogStoreValue) : Type 0 where
+  pub works : v.commits.failed ≡ false
+  pub none : v.commits.queue ≡ []
+  pub job : v.job ≡ None
+  pub reclaim : v.reclaim ≡ None
 
 -- ---- a reclaim
 
@@ -62,6 +71,12 @@ ReclaimIsNeverFull =
     (tells : Bool) (old now new : LogStoreValue) (between : List LogStoreValue) (m : Machine Value) (answer : Result (Unit {0}) StartFault) → IsTrue tells
     → Stands tells old m → LeavesBaseRoom old → LeadsTo tells old between now → IsInStep now → StartsReclaim now answer new → answer ≢ Err fault.HeapFull
 
+-- Whatever a stop leaves of a store at rest that leaves room opens as a store that does.
+abbrev pub ReopenedLeaves : Type 0
+ReopenedLeaves =
+    (tells : Bool) (v again : LogStoreValue) (m : Machine Value) (old : DiskState) (mark : ℕ) → IsTrue tells → IsInStep v → Stands tells v m → IsIdle v
+    → LeavesBaseRoom v → LeavesImage v.disk.areas (image_of old.areas) → AreSound old.areas → Opens tells old mark again → LeavesBaseRoom again
+
 -- ---- an archive of all that is published
 
 -- where no commit waits it is not refused for want of room, if there is room for a base that names it
@@ -71,13 +86,6 @@ LastHasRoom =
     → v.commits.queue ≡ [] → HasBaseRoom v → StartsArchive v (last v.commits) answer new → answer ≢ Err fault.HeapFull
 
 -- ---- never stuck
-
--- A store that works, where no commit waits and no job runs.
-pub record IsIdle (v : LogStoreValue) : Type 0 where
-  pub works : v.commits.failed ≡ false
-  pub none : v.commits.queue ≡ []
-  pub job : v.job ≡ None
-  pub reclaim : v.reclaim ≡ None
 
 -- a commit of one extent, behind which the anchors have no more extents than before it
 pub record IsSmall (v : LogStoreValue) (writes : List (KeyWrite Value)) : Type 0 where

@@ -1,14 +1,17 @@
 //! Laws of the room in the heap of a store whose log lies there.
-ghost use Rattle.law_log_room.specs.Laws.{CallLeaves, CreatedLeaves, LastHasRoom, NeverStuck, ReclaimHasRoom, ReclaimIsNeverFull, RoomLeaves};
+ghost use Rattle.law_log_room.specs.Laws.{CallLeaves, CreatedLeaves, LastHasRoom, NeverStuck, ReclaimHasRoom, ReclaimIsNeverFull, ReopenedLeaves};
+ghost use Rattle.law_log_room.specs.Laws.{RoomLeaves};
 
 /// No reclaim is refused for want of room: not where what the log names leaves room for its base. A new store leaves it, so does one
-/// where an archive would have room, and each call keeps it, so after any calls a reclaim has room.
+/// where an archive would have room, and each call keeps it, so after any calls a reclaim has room. A store at rest that leaves it is
+/// opened again as one that does, whatever a crash leaves.
 pub fn reclaim_has_room()
     ensures room { ReclaimHasRoom }
     ensures created { CreatedLeaves }
     ensures archive { RoomLeaves }
     ensures call { CallLeaves }
     ensures never { ReclaimIsNeverFull }
+    ensures reopened { ReopenedLeaves }
 {}
 
 /// No archive of all that is published is refused for want of room where no commit waits, and a base that names it keeps its share.

@@ -1,4 +1,5 @@
 use Rattle.law_log_room.proofs.Calls.{call-leaves, never-full, roomy-left}
+use Rattle.law_log_room.proofs.Reopened.{reopened-left}
 use Rattle.law_log_room.proofs.Shares.{reclaim-has-room}
 use Rattle.law_log_room.proofs.Starting.{created-left}
 use Rattle.law_log_room.proofs.laws.reclaim_has_room.Goals as goal
@@ -19,3 +20,6 @@ returns-clause-call c = call-leaves
 pub returns-clause-never : goal.returns-clause-never
 returns-clause-never c = λ tells old now new between m answer tell stands left leads step starts.
     never-full tells old now new between m answer tell stands left leads starts
+
+pub returns-clause-reopened : goal.returns-clause-reopened
+returns-clause-reopened c = reopened-left
