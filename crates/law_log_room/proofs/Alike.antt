@@ -24,6 +24,7 @@ use Rattle.log_store.specs.declared.job.JobWork.TheVariants as works
 use Rattle.law_log_store.proofs.Queues.{drop-more}
 use Rattle.law_log_steps.proofs.Pumping.{mark-more}
 use Rattle.law_log_room.specs.Bases.{base_most, chains_then, chains_with, entry_chain, more_rolls}
+use Rattle.law_log_room.proofs.Floors.{own-longer}
 
 -- they name as many rolls and archives, have the same mark, and floors of the same relations
 pub record Alike (a b : List LiveChainValue) : Type 0 where
@@ -143,3 +144,14 @@ later-most chains upto later le = by-tests (nat_lt (mark_of chains) upto) refl (
         let no : nat_lt (mark_of chains) later ≡ true = is_lt less in
         let off : true ≡ false = sym no ∙ f in
         cc)
+
+-- ---- a chain more
+
+pub fewer-most : (cs : List LiveChainValue) (c : LiveChainValue) (upto : ℕ) → is_base c.part ≡ false → base_most cs upto ≤ base_most (cs ++ c ∷ []) upto
+fewer-most cs c upto none =
+    let rolls = ap (λ (xs : List Roll). length xs) (rolls-more cs c none) in
+    let more = ap (λ (mark : ℕ). more_rolls (nat_lt mark upto)) (mark-more cs c none) in
+    let archives = archives-more cs c in
+    let own = ap (λ (os : List OwnFloor). length os) (own-more [] cs c) in
+    let longer = own-longer (own_from [] cs) c.part in
+    omega (arith, rolls, more, archives, own, longer)

@@ -35,7 +35,7 @@ raised-longer own (f ∷ more) =
     let rest = raised-longer (with_own own f.relation f.floor) more in
     omega (arith, one, rest)
 
-own-longer : (own : List OwnFloor) (part : LivePart) → length own ≤ length (own_behind own part)
+pub own-longer : (own : List OwnFloor) (part : LivePart) → length own ≤ length (own_behind own part)
 own-longer own (Commits last) = omega arith
 own-longer own (Archived archive) = omega arith
 own-longer own (Floor floor) = with-longer own floor.relation floor.floor

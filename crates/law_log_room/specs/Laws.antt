@@ -33,13 +33,6 @@ use Rattle.law_log_room.specs.Ends.{Reclaims, ArchivesAll}
 abbrev pub HasBaseRoom : LogStoreValue → Type 0
 HasBaseRoom v = IsTrue (has_base_room v.room (base_parts v))
 
--- A store that works, where no commit waits and no job runs.
-pub record IsIdle (v : LogStoreValue) : Type 0 where
-  pub works : v.commits.failed ≡ false
-  pub none : v.commits.queue ≡ []
-  pub job : v.job ≡ None
-  pub reclaim : v.reclaim ≡ None
-
 -- ---- a reclaim
 
 -- where the log leaves room for its base it is not refused for want of room
@@ -71,11 +64,12 @@ ReclaimIsNeverFull =
     (tells : Bool) (old now new : LogStoreValue) (between : List LogStoreValue) (m : Machine Value) (answer : Result (Unit {0}) StartFault) → IsTrue tells
     → Stands tells old m → LeavesBaseRoom old → LeadsTo tells old between now → IsInStep now → StartsReclaim now answer new → answer ≢ Err fault.HeapFull
 
--- Whatever a stop leaves of a store at rest that leaves room opens as a store that does.
+-- Whatever a stop leaves between two calls of a store that works, and leaves room, opens as a store that leaves it.
 abbrev pub ReopenedLeaves : Type 0
 ReopenedLeaves =
-    (tells : Bool) (v again : LogStoreValue) (m : Machine Value) (old : DiskState) (mark : ℕ) → IsTrue tells → IsInStep v → Stands tells v m → IsIdle v
-    → LeavesBaseRoom v → LeavesImage v.disk.areas (image_of old.areas) → AreSound old.areas → Opens tells old mark again → LeavesBaseRoom again
+    (tells : Bool) (v again : LogStoreValue) (m : Machine Value) (old : DiskState) (mark : ℕ) → IsTrue tells → IsInStep v → Stands tells v m
+    → v.commits.failed ≡ false → LeavesBaseRoom v → LeavesImage v.disk.areas (image_of old.areas) → AreSound old.areas → Opens tells old mark again
+    → LeavesBaseRoom again
 
 -- ---- an archive of all that is published
 
@@ -86,6 +80,13 @@ LastHasRoom =
     → v.commits.queue ≡ [] → HasBaseRoom v → StartsArchive v (last v.commits) answer new → answer ≢ Err fault.HeapFull
 
 -- ---- never stuck
+
+-- A store that works, where no commit waits and no job runs.
+pub record IsIdle (v : LogStoreValue) : Type 0 where
+  pub works : v.commits.failed ≡ false
+  pub none : v.commits.queue ≡ []
+  pub job : v.job ≡ None
+  pub reclaim : v.reclaim ≡ None
 
 -- a commit of one extent, behind which the anchors have no more extents than before it
 pub record IsSmall (v : LogStoreValue) (writes : List (KeyWrite Value)) : Type 0 where

@@ -3,8 +3,8 @@ ghost use Rattle.law_log_room.specs.Laws.{CallLeaves, CreatedLeaves, LastHasRoom
 ghost use Rattle.law_log_room.specs.Laws.{RoomLeaves};
 
 /// No reclaim is refused for want of room: not where what the log names leaves room for its base. A new store leaves it, so does one
-/// where an archive would have room, and each call keeps it, so after any calls a reclaim has room. A store at rest that leaves it is
-/// opened again as one that does, whatever a crash leaves.
+/// where an archive would have room, and each call keeps it, so after any calls a reclaim has room. Whatever a crash leaves
+/// between two calls of a store that leaves it opens as one that does.
 pub fn reclaim_has_room()
     ensures room { ReclaimHasRoom }
     ensures created { CreatedLeaves }

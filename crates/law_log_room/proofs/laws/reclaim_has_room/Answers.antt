@@ -1,5 +1,5 @@
 use Rattle.law_log_room.proofs.Calls.{call-leaves, never-full, roomy-left}
-use Rattle.law_log_room.proofs.Reopened.{reopened-left}
+use Rattle.law_log_room.proofs.Reopened.{reopened}
 use Rattle.law_log_room.proofs.Shares.{reclaim-has-room}
 use Rattle.law_log_room.proofs.Starting.{created-left}
 use Rattle.law_log_room.proofs.laws.reclaim_has_room.Goals as goal
@@ -22,4 +22,5 @@ returns-clause-never c = λ tells old now new between m answer tell stands left 
     never-full tells old now new between m answer tell stands left leads starts
 
 pub returns-clause-reopened : goal.returns-clause-reopened
-returns-clause-reopened c = reopened-left
+returns-clause-reopened c = λ tells v again m old mark tell step stands works left leaves sound opens.
+    reopened tells v again m old mark tell step stands.store works left leaves sound opens
