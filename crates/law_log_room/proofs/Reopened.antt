@@ -1,5 +1,5 @@
 -- Whatever a stop leaves of a store that works, and leaves room for a base, opens as a store that does.
-use Rattle.std.proofs.Common.{◌≡◌, ℕ, ◌-◌, ◌/◌, ◌≤◌, Bool, true, false, List, [], ◌∷◌, ◌++◌, length, map, take, drop, Option, None, Some}
+use Rattle.std.proofs.Common.{◌≡◌, ℕ, ◌-◌, ◌/◌, ◌≤◌, Bool, false, List, [], ◌∷◌, ◌++◌, length, map, take, drop, Option, None, Some}
 use Rattle.std.proofs.Common.{refl, arith, ap, sym, subst, ◌∙◌, ⊎_elim}
 use Rattle.std.specs.Prelude.{IsTrue, MatchBool, MatchOption}
 use Rattle.std.proofs.lemmas.List.{drop-map, length-append, length-map, map-append}
@@ -11,7 +11,6 @@ use Rattle.law_image.specs.Values.{Value}
 use Rattle.law_image.specs.Reading.{Head, Member, Reading, Slot}
 use Rattle.law_image.specs.Reading as slots
 use Rattle.law_image.specs.HeapPlans.{first_runs}
-use Rattle.law_image.specs.Log.{archive_mark}
 use Rattle.law_image.specs.Plans.{with_group}
 use Rattle.law_image.specs.StandsFor.{StandsFor, archived_upto}
 use Rattle.law_image.proofs.GroupStep.{group-stands_for}
