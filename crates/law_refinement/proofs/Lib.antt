@@ -4,7 +4,7 @@ pub mod HeapForgets
 pub mod Held
 pub mod Waiting
 pub mod FloorStarts
-mod Forgetting
+pub mod Forgetting
 pub mod Names
 pub mod Memory
 pub mod Orders
