@@ -424,7 +424,7 @@ module _ (tells : Bool) (tell : IsTrue tells) where
     archive = λ a new answer r step room starts.
         let is = first a r in
         last-has-room tells a is.roomy.machine tell is.roomy.stands.store step is.none room new answer starts;
-    again = λ a b new answer r s step starts.
+    again = λ a b new answer r s starts.
         roomy-reclaim tells b new answer tell (archived-so a b (first a r) s).rested.roomy starts;
     commit = λ a b c d new txn label now answer r s t step same small submits.
         let archived = archived-so a b (first a r) s in

@@ -38,7 +38,7 @@ HasBaseRoom v = IsTrue (has_base_room v.room (base_parts v))
 -- where the log leaves room for its base it is not refused for want of room
 abbrev pub ReclaimHasRoom : Type 0
 ReclaimHasRoom =
-    (tells : Bool) (v new : LogStoreValue) (m : Machine Value) (answer : Result (Unit {0}) StartFault) → IsTrue tells → IsInStep v → Stands tells v m
+    (tells : Bool) (v new : LogStoreValue) (m : Machine Value) (answer : Result (Unit {0}) StartFault) → IsTrue tells → Stands tells v m
     → LeavesBaseRoom v → StartsReclaim v answer new → answer ≢ Err fault.HeapFull
 
 -- a new store leaves it
@@ -62,7 +62,7 @@ CallLeaves =
 abbrev pub ReclaimIsNeverFull : Type 0
 ReclaimIsNeverFull =
     (tells : Bool) (old now new : LogStoreValue) (between : List LogStoreValue) (m : Machine Value) (answer : Result (Unit {0}) StartFault) → IsTrue tells
-    → Stands tells old m → LeavesBaseRoom old → LeadsTo tells old between now → IsInStep now → StartsReclaim now answer new → answer ≢ Err fault.HeapFull
+    → Stands tells old m → LeavesBaseRoom old → LeadsTo tells old between now → StartsReclaim now answer new → answer ≢ Err fault.HeapFull
 
 -- Whatever a stop leaves between two calls of a store that works, and leaves room, opens as a store that leaves it.
 abbrev pub ReopenedLeaves : Type 0
@@ -104,7 +104,7 @@ pub record HasAllRoom (tells : Bool) (v : LogStoreValue) : Type 0 where
   pub reclaim : (new : LogStoreValue) (answer : Result (Unit {0}) StartFault) → StartsReclaim v answer new → answer ≢ Err fault.HeapFull
   pub archive : (a new : LogStoreValue) (answer : Result (Unit {0}) StartFault) → MayReclaim tells v a → IsInStep a → HasBaseRoom a
       → StartsArchive a (last a.commits) answer new → answer ≢ Err fault.HeapFull
-  pub again : (a b new : LogStoreValue) (answer : Result (Unit {0}) StartFault) → MayReclaim tells v a → ArchivesAll tells a b → IsInStep b
+  pub again : (a b new : LogStoreValue) (answer : Result (Unit {0}) StartFault) → MayReclaim tells v a → ArchivesAll tells a b
       → StartsReclaim b answer new → answer ≢ Err fault.HeapFull
   pub commit : (a b c d new : LogStoreValue) (txn : TxnValue) (label now : ℕ) (answer : Result Submitted SubmitFault) → MayReclaim tells v a
       → ArchivesAll tells a b → Reclaims tells b c → IsInStep c → d ≡ with_commits c d.commits → IsSmall d txn.writes
@@ -113,4 +113,4 @@ pub record HasAllRoom (tells : Bool) (v : LogStoreValue) : Type 0 where
 -- a store where no commit waits and no job runs is never stuck, while what the log names leaves room for the base of a reclaim
 abbrev pub NeverStuck : Type 0
 NeverStuck =
-    (tells : Bool) (v : LogStoreValue) (m : Machine Value) → IsTrue tells → IsInStep v → Stands tells v m → IsIdle v → LeavesBaseRoom v → HasAllRoom tells v
+    (tells : Bool) (v : LogStoreValue) (m : Machine Value) → IsTrue tells → Stands tells v m → IsIdle v → LeavesBaseRoom v → HasAllRoom tells v

@@ -5,7 +5,7 @@ use Rattle.law_log_room.proofs.Starting.{created-left}
 use Rattle.law_log_room.proofs.laws.reclaim_has_room.Goals as goal
 
 pub returns-clause-room : goal.returns-clause-room
-returns-clause-room c = λ tells v new m answer tell step stands left starts.
+returns-clause-room c = λ tells v new m answer tell stands left starts.
     reclaim-has-room tells v new m answer tell stands.store left starts
 
 pub returns-clause-created : goal.returns-clause-created
@@ -18,8 +18,7 @@ pub returns-clause-call : goal.returns-clause-call
 returns-clause-call c = call-leaves
 
 pub returns-clause-never : goal.returns-clause-never
-returns-clause-never c = λ tells old now new between m answer tell stands left leads step starts.
-    never-full tells old now new between m answer tell stands left leads starts
+returns-clause-never c = never-full
 
 pub returns-clause-reopened : goal.returns-clause-reopened
 returns-clause-reopened c = λ tells v again m old mark tell step stands works left leaves sound opens.
