@@ -257,8 +257,8 @@ module _ (tells : Bool) (v : LogStoreValue) (m : Machine Value) (is : IsStoreOf 
 
   -- ---- an archive
 
-  pub archive-left : (none : v.reclaim ≡ None) → LeavesBaseRoom v → (upto : ℕ) (run : Run) (writer : InWriting) (new : LogStoreValue) → has_archive_room v upto ≡ true
-      → BeginsArchive v run writer new → LeavesBaseRoom new
+  pub archive-left : (none : v.reclaim ≡ None) → LeavesBaseRoom v → (upto : ℕ) (run : Run) (writer : InWriting) (new : LogStoreValue)
+      → has_archive_room v upto ≡ true → BeginsArchive v run writer new → LeavesBaseRoom new
   archive-left none left upto run writer new room b =
       let target = with_archive v run writer b.entry in
       let c : LiveChainValue = record { numbers = []; part = parts.Archived (archive_as run) } in
