@@ -9,8 +9,9 @@ extern "C" {
 #endif
 
 /* A store in files. It keeps to what timestore.h asks of a host, but for its third point, which is its
-   user's. The folder is not renamed while it is open. In the child of a fork its files are closed, and
-   all its calls but ts_file_close answer TS_CLOSED; its parent goes on. */
+   user's. The folder is not renamed while it is open. In the child of a fork its files are closed, whenever
+   the fork comes, and all its calls but ts_file_close answer TS_CLOSED; its parent goes on. No file of it has
+   the descriptor of a standard stream that the process has closed: what is written there is refused. */
 typedef struct ts_file ts_file;
 
 /* Codes besides those of the store. */

@@ -76,7 +76,7 @@ if ! { echo 'int main(void){return 0;}' | gcc -x c - $sanitized -o "$work/probe"
     left_out "the tests in C under gcc's sanitizers, which do not run here"
     sanitized=""
 fi
-for test in rows worked refused memory lost reads forks shared shared_memory; do
+for test in rows worked refused memory lost reads forks descriptors shared shared_memory; do
     say "C, $test${sanitized:+ (address, undefined, leak)}"
     wrapped=
     case $test in *memory) wrapped="-Wl,--wrap=malloc,--wrap=calloc,--wrap=realloc" ;; esac
