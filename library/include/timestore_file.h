@@ -84,6 +84,27 @@ int32_t ts_file_scan(ts_file *file, uint16_t relation, ts_row *rows, size_t row_
 
 void ts_file_close(ts_file *file);
 
+/* ---- cursors, over any handle: what a query finds of the records of a relation from one on up to another, which counts
+   too, block by block. The query is made as the cursor is, and once: it takes memory as it finds rows, and no buffer of
+   yours. The cursor needs neither the store nor the view any more; a thread uses it at a time. The memory of what it has
+   passed is given back by and by. */
+typedef struct ts_cursor ts_cursor;
+
+/* What a transaction sees, as ts_scan. */
+int32_t ts_cursor_of(ts *h, uint64_t txn, uint16_t relation, uint64_t first, uint64_t last, ts_cursor **cursor, ts_info *info);
+
+/* The records that have a value at a time, as ts_scan_at, and rows from one time up to another, as ts_scan_between. */
+int32_t ts_cursor_at(ts *h, uint64_t view, uint16_t relation, uint64_t first, uint64_t last, uint64_t time,
+                     const uint8_t *archive, size_t archive_len, ts_cursor **cursor, ts_info *info);
+int32_t ts_cursor_between(ts *h, uint64_t view, uint16_t relation, uint64_t first, uint64_t last, uint64_t from, uint64_t upto,
+                          const uint8_t *archive, size_t archive_len, ts_cursor **cursor, ts_info *info);
+
+/* The next rows, so many at most, or TS_NONE. The value of a row lies at `at` of the values. They stay where they are until the
+   next call of this cursor. A new cursor from the record after the last one goes on where this one is. */
+int32_t ts_cursor_next(ts_cursor *cursor, size_t most, const ts_row **rows, size_t *count, const uint8_t **values);
+
+void ts_cursor_free(ts_cursor *cursor);
+
 /* The text of a code, as the program has it. */
 const char *ts_text(int32_t code);
 

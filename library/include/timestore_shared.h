@@ -104,6 +104,15 @@ int32_t ts_shared_between(ts_shared *store, uint64_t view, uint16_t relation, ui
 int32_t ts_shared_scan_between(ts_shared *store, uint64_t view, uint16_t relation, uint64_t from, uint64_t upto,
                                ts_row *rows, size_t row_count, uint8_t *out, size_t len, ts_info *info);
 
+/* Cursors, as those of timestore_file.h, over what a transaction sees, a time, or an interval. To make one takes the lock as a
+   query does; its rows are taken without. */
+int32_t ts_shared_cursor_of(ts_shared *store, uint64_t txn, uint16_t relation, uint64_t first, uint64_t last,
+                            ts_cursor **cursor, ts_info *info);
+int32_t ts_shared_cursor_at(ts_shared *store, uint64_t view, uint16_t relation, uint64_t first, uint64_t last, uint64_t time,
+                            ts_cursor **cursor, ts_info *info);
+int32_t ts_shared_cursor_between(ts_shared *store, uint64_t view, uint16_t relation, uint64_t first, uint64_t last,
+                                 uint64_t from, uint64_t upto, ts_cursor **cursor, ts_info *info);
+
 /* The times of the commits with a label, rising, as ts_times_of; a: how many. The archive is read where that needs it. */
 int32_t ts_shared_times_of(ts_shared *store, uint64_t label, uint64_t *times, size_t count, ts_info *info);
 

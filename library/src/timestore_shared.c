@@ -1,6 +1,7 @@
 /* The calls of a store that threads share. */
 #define _GNU_SOURCE
 #include "committer.h"
+#include "cursor.h"
 #include "files.h"
 #include <errno.h>
 #include <signal.h>
@@ -500,6 +501,44 @@ int32_t ts_shared_scan_between(ts_shared *s, uint64_t view, uint16_t relation, u
             code = ts_scan_between(tsi_store(s), q.view, relation, from, upto, q.archive, q.len, rows, row_count, out, len, info);
         while (is_lent(s, &q, &code));
     return leave_view(s, &q, code);
+}
+
+/* ---- cursors */
+
+static int32_t scan_of(const asked *q, ts_row *rows, size_t row_count, uint8_t *out, size_t len, ts_info *info) {
+    if (q->first != q->last) return ts_shared_txn_scan(q->of, q->number, q->relation, rows, row_count, out, len, info);
+    int32_t code = ts_shared_txn_get(q->of, q->number, q->relation, q->first, out, len, info);
+    return tsi_as_rows(code, q->first, rows, row_count, info);
+}
+
+static int32_t scan_at(const asked *q, ts_row *rows, size_t row_count, uint8_t *out, size_t len, ts_info *info) {
+    if (q->first != q->last) return ts_shared_scan_at(q->of, q->number, q->relation, q->from, rows, row_count, out, len, info);
+    int32_t code = ts_shared_at(q->of, q->number, q->relation, q->first, q->from, out, len, info);
+    return tsi_as_rows(code, q->first, rows, row_count, info);
+}
+
+static int32_t scan_between(const asked *q, ts_row *rows, size_t row_count, uint8_t *out, size_t len, ts_info *info) {
+    if (q->first != q->last)
+        return ts_shared_scan_between(q->of, q->number, q->relation, q->from, q->upto, rows, row_count, out, len, info);
+    return ts_shared_between(q->of, q->number, q->relation, q->first, q->from, q->upto, rows, row_count, out, len, info);
+}
+
+int32_t ts_shared_cursor_of(ts_shared *s, uint64_t txn, uint16_t relation, uint64_t first, uint64_t last, ts_cursor **cursor,
+                            ts_info *info) {
+    asked q = {.of = s, .number = txn, .relation = relation, .first = first, .last = last};
+    return tsi_cursor_make(scan_of, &q, cursor, info);
+}
+
+int32_t ts_shared_cursor_at(ts_shared *s, uint64_t view, uint16_t relation, uint64_t first, uint64_t last, uint64_t time,
+                            ts_cursor **cursor, ts_info *info) {
+    asked q = {.of = s, .number = view, .relation = relation, .first = first, .last = last, .from = time};
+    return tsi_cursor_make(scan_at, &q, cursor, info);
+}
+
+int32_t ts_shared_cursor_between(ts_shared *s, uint64_t view, uint16_t relation, uint64_t first, uint64_t last, uint64_t from,
+                                 uint64_t upto, ts_cursor **cursor, ts_info *info) {
+    asked q = {.of = s, .number = view, .relation = relation, .first = first, .last = last, .from = from, .upto = upto};
+    return tsi_cursor_make(scan_between, &q, cursor, info);
 }
 
 /* ---- the vacuum */

@@ -76,10 +76,13 @@ if ! { echo 'int main(void){return 0;}' | gcc -x c - $sanitized -o "$work/probe"
     left_out "the tests in C under gcc's sanitizers, which do not run here"
     sanitized=""
 fi
-for test in rows worked refused memory lost reads forks descriptors shared shared_memory; do
+for test in rows worked refused memory lost reads forks descriptors cursors shared shared_memory; do
     say "C, $test${sanitized:+ (address, undefined, leak)}"
     wrapped=
-    case $test in *memory) wrapped="-Wl,--wrap=malloc,--wrap=calloc,--wrap=realloc" ;; esac
+    case $test in
+        *memory) wrapped="-Wl,--wrap=malloc,--wrap=calloc,--wrap=realloc" ;;
+        cursors) wrapped="-Wl,--wrap=malloc,--wrap=calloc,--wrap=mmap,--wrap=ts_scan_at" ;;
+    esac
     # shellcheck disable=SC2086
     build "$test" $sanitized $wrapped "$here/$test.c"
     mkdir "$work/$test-folder"
