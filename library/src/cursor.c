@@ -196,19 +196,19 @@ int32_t ts_cursor_next(ts_cursor *c, size_t most, const ts_row **rows, size_t *c
 /* ---- those of a handle */
 
 static int32_t scan_of(const asked *q, ts_row *rows, size_t row_count, uint8_t *out, size_t len, ts_info *info) {
-    if (q->first != q->last) return ts_scan(q->of, q->number, q->relation, rows, row_count, out, len, info);
+    if (q->first < q->last) return ts_scan(q->of, q->number, q->relation, rows, row_count, out, len, info);
     return tsi_as_rows(ts_get(q->of, q->number, q->relation, q->first, out, len, info), q->first, rows, row_count, info);
 }
 
 static int32_t scan_at(const asked *q, ts_row *rows, size_t row_count, uint8_t *out, size_t len, ts_info *info) {
-    if (q->first != q->last)
+    if (q->first < q->last)
         return ts_scan_at(q->of, q->number, q->relation, q->from, q->archive, q->archive_len, rows, row_count, out, len, info);
     int32_t code = ts_at(q->of, q->number, q->relation, q->first, q->from, q->archive, q->archive_len, out, len, info);
     return tsi_as_rows(code, q->first, rows, row_count, info);
 }
 
 static int32_t scan_between(const asked *q, ts_row *rows, size_t row_count, uint8_t *out, size_t len, ts_info *info) {
-    if (q->first != q->last)
+    if (q->first < q->last)
         return ts_scan_between(q->of, q->number, q->relation, q->from, q->upto, q->archive, q->archive_len, rows, row_count,
                                out, len, info);
     return ts_between(q->of, q->number, q->relation, q->first, q->from, q->upto, q->archive, q->archive_len, rows, row_count,

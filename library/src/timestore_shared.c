@@ -506,19 +506,19 @@ int32_t ts_shared_scan_between(ts_shared *s, uint64_t view, uint16_t relation, u
 /* ---- cursors */
 
 static int32_t scan_of(const asked *q, ts_row *rows, size_t row_count, uint8_t *out, size_t len, ts_info *info) {
-    if (q->first != q->last) return ts_shared_txn_scan(q->of, q->number, q->relation, rows, row_count, out, len, info);
+    if (q->first < q->last) return ts_shared_txn_scan(q->of, q->number, q->relation, rows, row_count, out, len, info);
     int32_t code = ts_shared_txn_get(q->of, q->number, q->relation, q->first, out, len, info);
     return tsi_as_rows(code, q->first, rows, row_count, info);
 }
 
 static int32_t scan_at(const asked *q, ts_row *rows, size_t row_count, uint8_t *out, size_t len, ts_info *info) {
-    if (q->first != q->last) return ts_shared_scan_at(q->of, q->number, q->relation, q->from, rows, row_count, out, len, info);
+    if (q->first < q->last) return ts_shared_scan_at(q->of, q->number, q->relation, q->from, rows, row_count, out, len, info);
     int32_t code = ts_shared_at(q->of, q->number, q->relation, q->first, q->from, out, len, info);
     return tsi_as_rows(code, q->first, rows, row_count, info);
 }
 
 static int32_t scan_between(const asked *q, ts_row *rows, size_t row_count, uint8_t *out, size_t len, ts_info *info) {
-    if (q->first != q->last)
+    if (q->first < q->last)
         return ts_shared_scan_between(q->of, q->number, q->relation, q->from, q->upto, rows, row_count, out, len, info);
     return ts_shared_between(q->of, q->number, q->relation, q->first, q->from, q->upto, rows, row_count, out, len, info);
 }
