@@ -70,6 +70,14 @@ build() { # NAME FLAGS..
     gcc $warnings "$@" "$top"/src/*.c "$work/faults.o" -o "$work/$name" "$out/libtimestore.a"
 }
 
+# The calls that a test has its own of, as flags.
+wrapped_by() { # TEST
+    case $1 in
+        *memory) echo "-Wl,--wrap=malloc,--wrap=calloc,--wrap=realloc" ;;
+        cursors) echo "-Wl,--wrap=malloc,--wrap=calloc,--wrap=mmap,--wrap=ts_scan_at" ;;
+    esac
+}
+
 sanitized="-fsanitize=address,undefined -fno-sanitize-recover=all"
 # They may also be there and not run, as where no process may trace another.
 if ! { echo 'int main(void){return 0;}' | gcc -x c - $sanitized -o "$work/probe" && "$work/probe"; } > /dev/null 2>&1; then
@@ -78,13 +86,8 @@ if ! { echo 'int main(void){return 0;}' | gcc -x c - $sanitized -o "$work/probe"
 fi
 for test in rows worked refused memory lost reads forks descriptors cursors shared shared_memory; do
     say "C, $test${sanitized:+ (address, undefined, leak)}"
-    wrapped=
-    case $test in
-        *memory) wrapped="-Wl,--wrap=malloc,--wrap=calloc,--wrap=realloc" ;;
-        cursors) wrapped="-Wl,--wrap=malloc,--wrap=calloc,--wrap=mmap,--wrap=ts_scan_at" ;;
-    esac
-    # shellcheck disable=SC2086
-    build "$test" $sanitized $wrapped "$here/$test.c"
+    # shellcheck disable=SC2046,SC2086
+    build "$test" $sanitized $(wrapped_by "$test") "$here/$test.c"
     mkdir "$work/$test-folder"
     if "$work/$test" "$work/$test-folder" > "$work/said"; then
         echo "ok $(cat "$work/said")"
@@ -127,12 +130,13 @@ if ! { echo 'int main(void){return 0;}' | gcc -x c - $of_threads -o "$work/probe
     tsan="setarch -R"
 fi
 if { echo 'int main(void){return 0;}' | gcc -x c - $of_threads -o "$work/probe" && $tsan "$work/probe"; } > /dev/null 2>&1; then
-    for test in shared shared_soak; do
+    for test in shared cursors shared_soak; do
         say "C, $test (thread sanitizer)"
-        build "$test-threads" $of_threads "$here/$test.c"
+        # shellcheck disable=SC2046
+        build "$test-threads" $of_threads $(wrapped_by "$test") "$here/$test.c"
         mkdir "$work/$test-threads-folder"
         watched_threads() { $tsan "$work/$test-threads" "$work/$test-threads-folder" "$@" > "$work/said" && printf '%s ' "$(cat "$work/said")"; }
-        if [ "$test" = shared ]; then passes watched_threads; else passes watched_threads "${SOAK:-3000}" 2; fi
+        if [ "$test" = shared_soak ]; then passes watched_threads "${SOAK:-3000}" 2; else passes watched_threads; fi
     done
 else
     left_out "the threads under gcc's thread sanitizer, which does not run here"
