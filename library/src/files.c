@@ -246,11 +246,13 @@ static int32_t compare(const store_files *files, int area, uint8_t *bytes, size_
     return TS_CACHED;
 }
 
-/* Whether the system has a page of a window in memory. */
-static bool has_pages(const uint8_t *map, size_t len, int *fault) {
+/* Whether the system has a page of a window in memory. Of a file that can't be mapped nobody knows. */
+static bool has_pages(const uint8_t *map, uint64_t at, size_t len, int *fault) {
     unsigned char pages[WINDOW / LEAST_PAGE];
     size_t page_len = (size_t)sysconf(_SC_PAGESIZE);
-    *fault = mincore((void *)(uintptr_t)map, len, pages);
+    *fault = 0;
+    if (!map) return true;
+    *fault = mincore((void *)(uintptr_t)(map + at), len, pages);
     for (size_t page = 0; *fault == 0 && page * page_len < len; page++)
         if (pages[page] & 1) return true;
     return false;
@@ -263,7 +265,7 @@ static int32_t compare_kept(const store_files *files, int area, const uint8_t *m
     for (uint64_t at = 0; at < len && code == TS_OK; at += WINDOW) {
         size_t part = len - at < WINDOW ? (size_t)(len - at) : WINDOW;
         int fault;
-        bool kept = has_pages(map + at, part, &fault);
+        bool kept = has_pages(map, at, part, &fault);
         if (fault) code = refused_on("mincore", area);
         else if (kept && !bytes && !(bytes = aligned_alloc(ALIGNMENT, 2 * WINDOW))) code = TS_NO_MEMORY;
         else if (kept) code = compare(files, area, bytes, part, at);
@@ -278,9 +280,9 @@ int32_t tsi_settle(const store_files *files, int area) {
     if (code == TS_OK) code = tsi_length(files, area, &len);
     if (code != TS_OK || len == 0 || is_in_memory(files->fd[area])) return code;
     posix_fadvise(files->fd[area], 0, 0, POSIX_FADV_DONTNEED); /* what it leaves is compared */
-    void *map = mmap(NULL, (size_t)len, PROT_READ, MAP_SHARED, files->fd[area], 0);
-    if (map == MAP_FAILED) return refused_on("mmap", area);
-    code = compare_kept(files, area, map, len);
-    munmap(map, (size_t)len);
+    /* Private, since some file systems have no other mappings of a file that can be written. */
+    void *map = mmap(NULL, (size_t)len, PROT_READ, MAP_PRIVATE, files->fd[area], 0);
+    code = compare_kept(files, area, map == MAP_FAILED ? NULL : map, len);
+    if (map != MAP_FAILED) munmap(map, (size_t)len);
     return code;
 }

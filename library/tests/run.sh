@@ -74,6 +74,7 @@ build() { # NAME FLAGS..
 wrapped_by() { # TEST
     case $1 in
         *memory) echo "-Wl,--wrap=malloc,--wrap=calloc,--wrap=realloc" ;;
+        lost) echo "-Wl,--wrap=mmap" ;;
         cursors) echo "-Wl,--wrap=malloc,--wrap=calloc,--wrap=mmap,--wrap=ts_scan_at" ;;
     esac
 }
