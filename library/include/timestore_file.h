@@ -85,9 +85,10 @@ int32_t ts_file_scan(ts_file *file, uint16_t relation, ts_row *rows, size_t row_
 void ts_file_close(ts_file *file);
 
 /* ---- cursors, over any handle: what a query finds of the records of a relation from one on up to another, which counts
-   too, block by block. The query is made as the cursor is, and once: it takes memory as it finds rows, and no buffer of
-   yours. The cursor needs neither the store nor the view any more; a thread uses it at a time. The memory of what it has
-   passed is given back by and by. */
+   too, block by block. The query is made as the cursor is, of the whole relation, and takes memory as it finds rows. It is
+   made once; but twice where the system refuses addresses for more than the machine has memory, and the first time that a
+   query of a process finds more than some megabytes. The cursor needs neither the store nor the view any more; one thread
+   uses it at a time. What it has passed is given back by and by. */
 typedef struct ts_cursor ts_cursor;
 
 /* What a transaction sees, as ts_scan. */

@@ -1,6 +1,6 @@
-/* Cursors. What a query finds is as large as it is only once it was made. So that none is made again for want of room, a
- * cursor has addresses for more than the machine has memory; the system gives it memory as it is written to. Where there
- * are no such addresses, a query that finds much is made twice. */
+/* Cursors. How much a query finds is known once it was made. So that none is made again for want of room, each has more room
+ * than most queries fill: the system gives memory for it as it is written to. Once one has found more than that, those that
+ * may find much have addresses, while they are made, for more than the machine has memory. */
 #define _GNU_SOURCE
 #include "cursor.h"
 #include <stdatomic.h>
@@ -8,89 +8,93 @@
 #include <sys/mman.h>
 #include <unistd.h>
 
-enum { POOLED = 8 }; /* so many cursors are kept for the next queries */
+enum { POOLED = 4 }; /* so many cursors are kept for the next queries */
 
-/* Memory that is written to is kept up to here; what a cursor has passed is given back by so much. */
-#define KEPT ((size_t)1 << 16)
+/* The room of a cursor that is kept. It is no more, since a process may lock in memory all that it has. */
+#define KEPT_ROWS ((size_t)6 << 20)
+#define KEPT_VALUES ((size_t)10 << 20)
+/* So much of it keeps its memory. What a cursor has passed is given back by so much. */
+#define WARM ((size_t)1 << 16)
 #define PART ((size_t)1 << 20)
-/* Where there are no addresses: what a cursor begins with. */
-#define FIRST_ROWS ((size_t)64)
-#define FIRST_BYTES ((size_t)4096)
+
+/* A mapping, and how much of it was written, and given back since. */
+typedef struct part {
+    uint8_t *at;
+    size_t len, used, gone;
+} part;
 
 struct ts_cursor {
-    ts_row *rows;
-    size_t row_count;
-    uint8_t *values;
-    size_t len;
-    size_t reserved;   /* the length of both as one mapping; 0 where they are the allocator's */
-    size_t next, end;  /* rows that are still to be given */
-    size_t used, size; /* what was written of each, in bytes */
-    size_t rows_gone, values_gone; /* from their beginnings on, what was given back */
+    part rows, values;
+    size_t next, end; /* rows that are still to be given */
 };
 
 /* ---- memory */
 
-/* Addresses without memory, which are not locked in it, nor written where the process leaves a core. */
-static uint8_t *reserve(size_t len) {
+static size_t in_pages(size_t len) {
+    size_t page = (size_t)sysconf(_SC_PAGESIZE);
+    return (len + page - 1) / page * page;
+}
+
+/* Addresses, which are not locked in memory, nor written where the process leaves a core. */
+static bool map(part *p, size_t len) {
     uint8_t *at = mmap(NULL, len, PROT_NONE, MAP_PRIVATE | MAP_ANONYMOUS | MAP_NORESERVE, -1, 0);
-    if (at == MAP_FAILED) return NULL;
+    if (at == MAP_FAILED) return false;
     munlock(at, len);
     madvise(at, len, MADV_DONTDUMP);
     madvise(at, len, MADV_NOHUGEPAGE);
-    if (mprotect(at, len, PROT_READ | PROT_WRITE) == 0) return at;
+    *p = (part){.at = at, .len = len};
+    if (mprotect(at, len, PROT_READ | PROT_WRITE) == 0) return true;
     munmap(at, len);
-    return NULL;
-}
-
-/* All values that are found are in memory, and for each the store has 16 bytes more while it is asked: a row has 40. */
-static bool reserve_all(ts_cursor *c) {
-    size_t pages = (size_t)sysconf(_SC_PHYS_PAGES), page = (size_t)sysconf(_SC_PAGESIZE);
-    if (pages > SIZE_MAX / 8 / page) return false;
-    size_t memory = pages * page;
-    uint8_t *at = reserve(4 * memory);
-    if (!at) return false;
-    c->reserved = 4 * memory;
-    c->rows = (ts_row *)(void *)at;
-    c->row_count = 3 * memory / sizeof(ts_row);
-    c->values = at + 3 * memory;
-    c->len = memory;
-    return true;
-}
-
-static void drop_memory(ts_cursor *c) {
-    if (c->reserved > 0) {
-        munmap(c->rows, c->reserved);
-    } else {
-        free(c->rows);
-        free(c->values);
-    }
-    *c = (ts_cursor){.rows = NULL};
-}
-
-/* Room for so many rows and bytes, for a query that is made again. */
-static bool allocate(ts_cursor *c, uint64_t rows, uint64_t bytes) {
-    drop_memory(c);
-    if (rows > SIZE_MAX / sizeof(ts_row) || bytes > SIZE_MAX) return false;
-    c->row_count = rows < FIRST_ROWS ? FIRST_ROWS : (size_t)rows;
-    c->len = bytes < FIRST_BYTES ? FIRST_BYTES : (size_t)bytes;
-    c->rows = malloc(c->row_count * sizeof(ts_row));
-    c->values = malloc(c->len);
-    if (c->rows && c->values) return true;
-    drop_memory(c);
+    *p = (part){.at = NULL};
     return false;
 }
 
-/* The system has the pages of this part back, which begins with a page. */
-static void give_back(uint8_t *at, size_t from, size_t upto) {
-    if (from < upto) madvise(at + from, upto - from, MADV_DONTNEED);
+static void unmap(part *p) {
+    if (p->at) munmap(p->at, p->len);
+    *p = (part){.at = NULL};
+}
+
+/* Only what was written stays mapped. */
+static void trim(part *p) {
+    size_t len = in_pages(p->used > 0 ? p->used : 1);
+    if (len < p->len) munmap(p->at + len, p->len - len);
+    p->len = len < p->len ? len : p->len;
 }
 
 /* What lies before a place is not asked for any more. */
-static void pass(const ts_cursor *c, uint8_t *at, size_t *gone, size_t place) {
-    if (c->reserved == 0 || place < *gone + PART) return;
+static void pass(part *p, size_t place) {
     size_t upto = place / PART * PART;
-    give_back(at, *gone, upto);
-    *gone = upto;
+    if (upto <= p->gone) return;
+    madvise(p->at + p->gone, upto - p->gone, MADV_DONTNEED);
+    p->gone = upto;
+}
+
+/* It is as good as new. */
+static void refresh(part *p) {
+    if (p->used > WARM) madvise(p->at + WARM, p->used - WARM, MADV_DONTNEED);
+    p->used = p->gone = 0;
+}
+
+static void drop_room(ts_cursor *c) {
+    unmap(&c->rows);
+    unmap(&c->values);
+}
+
+static bool has_room_of(ts_cursor *c, size_t rows, size_t values) {
+    drop_room(c);
+    return map(&c->rows, in_pages(rows)) && map(&c->values, in_pages(values));
+}
+
+/* Addresses for whatever a query may find. All values are in memory then, and of each row 16 bytes more, which has 40 here. */
+static bool has_addresses(ts_cursor *c) {
+    size_t pages = (size_t)sysconf(_SC_PHYS_PAGES), page = (size_t)sysconf(_SC_PAGESIZE);
+    return pages <= SIZE_MAX / 8 / page && has_room_of(c, 3 * pages * page, pages * page);
+}
+
+/* Room for so much as a query has found, which is made again. */
+static bool has_room_for(ts_cursor *c, const ts_info *found) {
+    if (found->a >= SIZE_MAX / 2 / sizeof(ts_row) || found->b >= SIZE_MAX / 2) return false;
+    return has_room_of(c, ((size_t)found->a + 1) * sizeof(ts_row), (size_t)found->b + 1);
 }
 
 /* ---- cursors that no query has */
@@ -103,7 +107,8 @@ static ts_cursor *take_pooled(void) {
         if (c) return c;
     }
     ts_cursor *c = calloc(1, sizeof *c);
-    if (c && !reserve_all(c) && !allocate(c, 0, 0)) {
+    if (c && !has_room_of(c, KEPT_ROWS, KEPT_VALUES)) {
+        drop_room(c);
         free(c);
         return NULL;
     }
@@ -111,6 +116,9 @@ static ts_cursor *take_pooled(void) {
 }
 
 static bool is_pooled(ts_cursor *c) {
+    if (c->rows.len != in_pages(KEPT_ROWS) || c->values.len != in_pages(KEPT_VALUES)) return false;
+    refresh(&c->rows);
+    refresh(&c->values);
     for (int i = 0; i < POOLED; i++) {
         ts_cursor *none = NULL;
         if (atomic_compare_exchange_strong(&pool[i], &none, c)) return true;
@@ -119,14 +127,8 @@ static bool is_pooled(ts_cursor *c) {
 }
 
 void ts_cursor_free(ts_cursor *c) {
-    if (!c) return;
-    if (c->reserved > 0) {
-        give_back((uint8_t *)c->rows, KEPT, c->used);
-        give_back(c->values, KEPT, c->size);
-    }
-    bool is_large = c->reserved == 0 && (c->row_count > FIRST_ROWS || c->len > FIRST_BYTES);
-    if (c->rows && !is_large && is_pooled(c)) return;
-    drop_memory(c);
+    if (!c || is_pooled(c)) return;
+    drop_room(c);
     free(c);
 }
 
@@ -152,43 +154,61 @@ static size_t place_of(const ts_row *rows, size_t count, uint64_t record) {
     return from;
 }
 
+static const ts_row *rows_of(const ts_cursor *c) { return (const ts_row *)(const void *)c->rows.at; }
+
 /* Of what was found, the records that are asked for. */
 static void set_found(ts_cursor *c, const asked *q, const ts_info *found) {
     size_t count = (size_t)found->a;
-    c->used = count * sizeof(ts_row);
-    c->size = (size_t)found->b;
-    c->rows_gone = c->values_gone = 0;
-    c->next = place_of(c->rows, count, q->first);
-    c->end = q->last == UINT64_MAX ? count : place_of(c->rows, count, q->last + 1);
+    c->rows.used = count * sizeof(ts_row);
+    c->values.used = (size_t)found->b;
+    c->next = place_of(rows_of(c), count, q->first);
+    c->end = q->last == UINT64_MAX ? count : place_of(rows_of(c), count, q->last + 1);
     if (c->end < c->next) c->end = c->next;
 }
 
-int32_t tsi_cursor_make(asking_rows *query, const asked *q, ts_cursor **cursor, ts_info *info) {
-    ts_cursor *c = take_pooled();
-    if (!c) return TS_NO_MEMORY;
-    int32_t code = query(q, c->rows, c->row_count, c->values, c->len, info);
-    while (code == TS_SMALL) {
-        if (allocate(c, info->a, info->b)) code = query(q, c->rows, c->row_count, c->values, c->len, info);
-        else code = TS_NO_MEMORY;
-    }
-    if (code != TS_OK) {
-        c->used = c->size = 0;
-        ts_cursor_free(c);
-        return code;
-    }
+/* Makes the query over the room that the cursor has. */
+static int32_t make_query(asking_rows *query, const asked *q, ts_cursor *c, ts_info *info) {
+    return query(q, (ts_row *)(void *)c->rows.at, c->rows.len / sizeof(ts_row), c->values.at, c->values.len, info);
+}
+
+/* Makes it over as many addresses as there may be; only what it fills stays. */
+static int32_t make_large(asking_rows *query, const asked *q, ts_cursor *c, ts_info *info) {
+    if (!has_addresses(c) && !has_room_for(c, info)) return TS_NO_MEMORY;
+    int32_t code = make_query(query, q, c, info);
+    while (code == TS_SMALL) code = has_room_for(c, info) ? make_query(query, q, c, info) : TS_NO_MEMORY;
+    if (code != TS_OK) return code;
     set_found(c, q, info);
-    *cursor = c;
+    trim(&c->rows);
+    trim(&c->values);
     return TS_OK;
+}
+
+int32_t tsi_cursor_make(asking_rows *query, const asked *q, ts_cursor **cursor, ts_info *info) {
+    static atomic_bool found_much;
+    bool may_find_much = q->first < q->last && atomic_load(&found_much);
+    ts_cursor *c = may_find_much ? calloc(1, sizeof *c) : take_pooled();
+    if (!c) return TS_NO_MEMORY;
+    *info = (ts_info){0, 0};
+    int32_t code = may_find_much ? TS_SMALL : make_query(query, q, c, info);
+    if (code == TS_OK) {
+        set_found(c, q, info);
+    } else if (code == TS_SMALL) {
+        atomic_store(&found_much, true);
+        code = make_large(query, q, c, info);
+    }
+    if (code == TS_OK) *cursor = c;
+    else ts_cursor_free(c);
+    return code;
 }
 
 int32_t ts_cursor_next(ts_cursor *c, size_t most, const ts_row **rows, size_t *count, const uint8_t **values) {
     size_t left = c->end - c->next;
     if (left == 0) return TS_NONE;
-    *rows = c->rows + c->next;
+    *rows = rows_of(c) + c->next;
     *count = most < left ? most : left;
-    *values = c->values;
-    pass(c, (uint8_t *)c->rows, &c->rows_gone, c->next * sizeof(ts_row));
-    pass(c, c->values, &c->values_gone, (size_t)(*rows)->at);
+    *values = c->values.at;
+    pass(&c->rows, c->next * sizeof(ts_row));
+    pass(&c->values, (size_t)(*rows)->at);
     c->next += *count;
     return TS_OK;
 }

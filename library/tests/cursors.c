@@ -1,5 +1,5 @@
-/* Cursors: cursors FOLDER, one that is there. They give what the queries give, and each query is made once. What it calls of the
- * store and of the system is wrapped. */
+/* Cursors: cursors FOLDER, one that is there. They give what the queries give, and no query is made twice but the first that
+ * finds much. What is called of the store and of the system is wrapped. */
 #define _GNU_SOURCE
 #include "check.h"
 #include <pthread.h>
@@ -7,7 +7,7 @@
 #include <sys/stat.h>
 #include <timestore_shared.h>
 
-enum { RECORDS = 3000, EACH = 1000, TIMES = 3, MOST = RECORDS * TIMES, SIZE = 1 << 21, MANY = 20 };
+enum { RECORDS = 3000, EACH = 1000, TIMES = 3, MOST = RECORDS * TIMES, SIZE = 1 << 24, MANY = 20, SMALL = 1, LARGE = 2 };
 
 static ts_row rows[MOST];
 static uint8_t values[SIZE];
@@ -17,7 +17,7 @@ static uint8_t archive[1];
 
 static int asked;
 static bool has_no_addresses;
-static int refused; /* of the next allocations the one of this number, from 1, is refused */
+static int refused; /* of the next allocations and mappings the one of this number, from 1, is refused */
 
 int32_t __real_ts_scan_at(ts *h, uint64_t view, uint16_t relation, uint64_t time, const uint8_t *lent, size_t lent_len,
                           ts_row *found, size_t row_count, uint8_t *out, size_t len, ts_info *info);
@@ -29,8 +29,8 @@ int32_t __wrap_ts_scan_at(ts *h, uint64_t view, uint16_t relation, uint64_t time
 
 void *__real_mmap(void *at, size_t len, int protection, int flags, int fd, off_t offset);
 void *__wrap_mmap(void *at, size_t len, int protection, int flags, int fd, off_t offset) {
-    if (!has_no_addresses || len < 1 << 30) return __real_mmap(at, len, protection, flags, fd, offset);
-    return MAP_FAILED;
+    if ((refused > 0 && --refused == 0) || (has_no_addresses && len >= 1 << 30)) return MAP_FAILED;
+    return __real_mmap(at, len, protection, flags, fd, offset);
 }
 
 void *__real_malloc(size_t len);
@@ -44,7 +44,16 @@ void *__wrap_calloc(size_t count, size_t len) { return refused > 0 && --refused 
 static ts_shared *store;
 static uint64_t view, last;
 
-/* Of each record, which is every other number, three values at three times. */
+static void put_large(ts *h, uint64_t txn, uint64_t record) {
+    uint8_t value[TS_VALUE_MOST] = {16};
+    for (int field = 0; field < 16; field++) {
+        value[1 + 256 * field] = 255;
+        value[2 + 256 * field] = (uint8_t)record;
+    }
+    CHECK(TS_OK, ts_put(h, txn, LARGE, record, value, sizeof value));
+}
+
+/* Of each record, which is every other number, three values at three times; and relation 2, with one of the longest values of each. */
 static void fill(const char *folder) {
     ts_info info;
     ts_file *file;
@@ -60,6 +69,11 @@ static void fill(const char *folder) {
                 snprintf(text, sizeof text, "%" PRIu64 " of %" PRIu64 "%*s", time, i, (int)(100 + i % 100), "");
                 put_text(h, txn, 2 * i, text);
             }
+            CHECK(TS_OK, ts_file_commit(file, txn, 9, 100 * time + part, &info));
+            if (time != 1) continue;
+            CHECK(TS_OK, ts_begin(h, &info));
+            txn = info.a;
+            for (uint64_t i = part * EACH; i < (part + 1) * EACH; i++) put_large(h, txn, 2 * i);
             CHECK(TS_OK, ts_file_commit(file, txn, 9, 100 * time + part, &info));
         }
     ts_file_close(file);
@@ -145,63 +159,87 @@ static void what_is_refused(void) {
     }
 }
 
-static ts_cursor *all_now(void) {
+static ts_cursor *all_of(uint16_t relation) {
     ts_info info;
     ts_cursor *cursor;
-    CHECK(TS_OK, ts_shared_cursor_at(store, view, 1, 0, UINT64_MAX, last, &cursor, &info));
+    CHECK(TS_OK, ts_shared_cursor_at(store, view, relation, 0, UINT64_MAX, last, &cursor, &info));
     return cursor;
 }
 
-static size_t all_rows(void) {
+static size_t rows_of(uint16_t relation) {
     ts_info info;
-    CHECK(TS_OK, ts_shared_scan_at(store, view, 1, last, rows, MOST, values, SIZE, &info));
+    CHECK(TS_OK, ts_shared_scan_at(store, view, relation, last, rows, MOST, values, SIZE, &info));
     return info.a;
 }
 
 /* ---- how often, and in which memory */
 
+/* Whether this often a query is made for a cursor over a relation, which gives all. */
+static bool is_asked(int times, uint16_t relation) {
+    size_t count = rows_of(relation);
+    asked = 0;
+    gives(all_of(relation), count, 0, UINT64_MAX, 64);
+    return asked == times;
+}
+
 static void a_query_is_made_once(void) {
-    size_t count = all_rows();
-    asked = 0;
-    gives(all_now(), count, 0, UINT64_MAX, 64);
-    HOLDS(asked == 1);
-}
-
-/* Without addresses it is made once more where it finds much. */
-static void without_addresses(void) {
-    size_t count = all_rows();
+    HOLDS(is_asked(1, SMALL));
+    HOLDS(is_asked(2, LARGE)); /* the first of this process that finds more than a cursor has room for */
+    HOLDS(is_asked(1, LARGE) && is_asked(1, SMALL));
+    size_t count = rows_of(LARGE);
     ts_cursor *all[MANY];
-    for (int i = 0; i < MANY; i++) all[i] = all_now(); /* none is left that has addresses */
-    has_no_addresses = true;
     asked = 0;
-    gives(all_now(), count, 0, UINT64_MAX, 64);
-    HOLDS(asked == 2);
-    ts_cursor *again = all_now();
-    has_no_addresses = false;
-    gives(again, count, 0, UINT64_MAX, 64);
+    for (int i = 0; i < MANY; i++) all[i] = all_of(LARGE);
     for (int i = 0; i < MANY; i++) gives(all[i], count, 0, UINT64_MAX, 1000);
+    HOLDS(asked == MANY && is_asked(1, LARGE));
 }
 
+/* Without addresses it is made once more. */
+static void without_addresses(void) {
+    has_no_addresses = true;
+    HOLDS(is_asked(2, LARGE) && is_asked(2, SMALL));
+    has_no_addresses = false;
+    HOLDS(is_asked(1, LARGE));
+}
+
+/* Of the cursor, and of each of its two mappings, with addresses for much and without. */
 static void without_memory(void) {
     ts_info info;
-    ts_cursor *cursor, *all[MANY];
-    size_t count = all_rows();
+    ts_cursor *cursor;
+    size_t count = rows_of(LARGE);
     int refusals = 0;
-    for (int i = 0; i < MANY; i++) all[i] = all_now();
-    has_no_addresses = true;
-    for (int nth = 1; nth < 7; nth++) {
-        refused = nth;
-        int32_t code = ts_shared_cursor_at(store, view, 1, 0, UINT64_MAX, last, &cursor, &info);
+    for (int nth = 1; nth <= 8; nth++) {
+        has_no_addresses = nth > 4;
+        refused = (nth - 1) % 4 + 1;
+        int32_t code = ts_shared_cursor_at(store, view, LARGE, 0, UINT64_MAX, last, &cursor, &info);
         refused = 0;
         if (code == TS_OK) gives(cursor, count, 0, UINT64_MAX, 64);
         else CHECK(TS_NO_MEMORY, code);
         refusals += code != TS_OK;
-        gives(all_now(), count, 0, UINT64_MAX, 64);
+        gives(all_of(LARGE), count, 0, UINT64_MAX, 64);
     }
-    HOLDS(refusals >= 5); /* of the cursor, and of each of its two buffers, for each time that the query is made */
+    HOLDS(refusals >= 2);
     has_no_addresses = false;
-    for (int i = 0; i < MANY; i++) ts_cursor_free(all[i]);
     ts_cursor_free(NULL);
+}
+
+/* How many bytes of addresses the process has. */
+static uint64_t addresses(void) {
+    uint64_t pages;
+    FILE *file = fopen("/proc/self/statm", "r");
+    HOLDS(file && fscanf(file, "%" SCNu64, &pages) == 1);
+    fclose(file);
+    return pages * 4096;
+}
+
+/* A cursor that is made has no more addresses than it needs: who locks all of them in memory takes no more than that. */
+static void addresses_are_given_back(void) {
+    size_t count = rows_of(LARGE);
+    uint64_t before = addresses();
+    ts_cursor *cursor = all_of(LARGE);
+    HOLDS(addresses() - before < 2 * count * TS_VALUE_MOST);
+    gives(cursor, count, 0, UINT64_MAX, 64);
+    HOLDS(addresses() - before < 1 << 20);
 }
 
 /* Whether the system has memory for the page that a byte lies in. */
@@ -269,7 +307,7 @@ static void *walks(void *none) {
         const ts_row *block;
         const uint8_t *bytes;
         size_t n, all = 0;
-        ts_cursor *cursor = all_now();
+        ts_cursor *cursor = all_of(SMALL);
         while (ts_cursor_next(cursor, 97, &block, &n, &bytes) == TS_OK) {
             for (size_t k = 0; k < n; k++) HOLDS(block[k].record == 2 * (all + k) && bytes[block[k].at] == 1);
             all += n;
@@ -300,6 +338,7 @@ int main(int argc, char **argv) {
     a_query_is_made_once();
     without_addresses();
     without_memory();
+    addresses_are_given_back();
     what_is_passed_is_given_back();
     threads_have_cursors();
     ts_shared_free(store);
