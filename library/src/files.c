@@ -258,7 +258,7 @@ static bool has_pages(const uint8_t *map, uint64_t at, size_t len, int *fault) {
     return false;
 }
 
-/* Compares each window of which the system has something in memory. The mapping is never read. */
+/* Compares each window of which the system has something in memory. */
 static int32_t compare_kept(const store_files *files, int area, const uint8_t *map, uint64_t len) {
     uint8_t *bytes = NULL;
     int32_t code = TS_OK;
@@ -280,8 +280,9 @@ int32_t tsi_settle(const store_files *files, int area) {
     if (code == TS_OK) code = tsi_length(files, area, &len);
     if (code != TS_OK || len == 0 || is_in_memory(files->fd[area])) return code;
     posix_fadvise(files->fd[area], 0, 0, POSIX_FADV_DONTNEED); /* what it leaves is compared */
-    /* Private, since some file systems have no other mappings of a file that can be written. */
-    void *map = mmap(NULL, (size_t)len, PROT_READ, MAP_PRIVATE, files->fd[area], 0);
+    /* Private, since some file systems have no other mappings of a file that can be written; and not to be read, since else a
+       process that locks its memory would have all of it read. */
+    void *map = mmap(NULL, (size_t)len, PROT_NONE, MAP_PRIVATE, files->fd[area], 0);
     code = compare_kept(files, area, map == MAP_FAILED ? NULL : map, len);
     if (map != MAP_FAILED) munmap(map, (size_t)len);
     return code;
