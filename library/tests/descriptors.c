@@ -8,6 +8,7 @@
 #include <fcntl.h>
 #include <pthread.h>
 #include <semaphore.h>
+#include <sys/resource.h>
 #include <sys/wait.h>
 #include <time.h>
 #include <unistd.h>
@@ -138,6 +139,27 @@ static void none_is_left_of_a_part(void) {
     HOLDS(count_open(true) == 0);
 }
 
+/* A process that may have only so many more: the folder, and each of the three files, is refused in its turn. */
+static void none_is_left_where_there_are_few(void) {
+    struct rlimit old, few;
+    HOLDS(getrlimit(RLIMIT_NOFILE, &old) == 0);
+    int next = dup(STDERR_FILENO); /* the lowest that is free */
+    HOLDS(next > STDERR_FILENO && close(next) == 0);
+    few = old;
+    for (int more = 0; more < 4; more++) {
+        few.rlim_cur = (rlim_t)(next + more);
+        HOLDS(setrlimit(RLIMIT_NOFILE, &few) == 0);
+        int32_t opened = opens();
+        bool is_told = was_caused(NULL, more == 0 ? "open" : "openat", (const char *[]){"", "status", "heap", "archive"}[more], EMFILE);
+        int32_t formatted = formats();
+        HOLDS(setrlimit(RLIMIT_NOFILE, &old) == 0);
+        CHECK(TS_SYSTEM, opened);
+        CHECK(TS_SYSTEM, formatted);
+        HOLDS(is_told);
+        has_none();
+    }
+}
+
 /* ---- none is one that messages are written to */
 
 static bool writes_messages(void) {
@@ -199,6 +221,7 @@ int main(int argc, char **argv) {
     folder = argv[1];
     none_is_left();
     none_is_left_of_a_part();
+    none_is_left_where_there_are_few();
     none_is_a_stream();
     a_child_has_none();
     opens_at_once();
