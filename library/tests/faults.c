@@ -143,6 +143,7 @@ static void forget_folder(const char *folder) {
     for (int i = 0; i < 3; i++) {
         strcat(strcat(strcpy(path, folder), "/"), names[i]);
         int fd = open(path, O_RDWR | O_CLOEXEC);
+        if (fd < 0 && errno == ENOENT) continue;
         if (fd < 0) abort();
         forget(fd, true);
         close(fd);
