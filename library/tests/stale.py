@@ -87,7 +87,7 @@ class Small:
 
     def drop(self, disk: Disk, at: int) -> None:
         """A page of the disk has no room any more, and reads as zeros. What fills the folder comes in its place."""
-        hole = 3  # that the file keeps its length
+        hole = 3  # a hole, and the length as it is
         with disk.image.open("r+b", buffering=0) as image:
             length = ctypes.c_int64(PAGE)
             assert ctypes.CDLL(None).fallocate(image.fileno(), hole, ctypes.c_int64(at), length) == 0

@@ -36,7 +36,7 @@ pub(crate) fn ends(records: impl RangeBounds<u64>) -> (u64, u64) {
     first.zip(last).unwrap_or((1, 0))
 }
 
-/// What a query has found. The library keeps it until it is dropped, and needs no store for it.
+/// What a query has found. It is in memory of the library until it is dropped, and needs no store.
 #[derive(Debug)]
 pub(crate) struct Cursor {
     at: *mut raw::Cursor,
