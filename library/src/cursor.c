@@ -8,11 +8,11 @@
 #include <sys/mman.h>
 #include <unistd.h>
 
-enum { POOLED = 4 }; /* so many cursors are kept for the next queries */
+enum { POOLED = 16 }; /* so many cursors are kept for the next queries */
 
 /* The room of a cursor that is kept. It is no more, since a process may lock in memory all that it has. */
-#define KEPT_ROWS ((size_t)6 << 20)
-#define KEPT_VALUES ((size_t)10 << 20)
+#define KEPT_ROWS ((size_t)3 << 20)
+#define KEPT_VALUES ((size_t)5 << 20)
 /* So much of it stays in memory. What a cursor has passed is given back by so much. */
 #define WARM ((size_t)1 << 16)
 #define PART ((size_t)1 << 20)
