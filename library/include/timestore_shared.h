@@ -11,7 +11,8 @@
  *   - ts_shared_begin, a commit's beginning, ts_shared_times_of and the beginning of a job wait for the device call
  *     that is being made, if one is: for a sync at most.
  *   - ts_shared_view, ts_shared_get, ts_shared_scan and ts_shared_last wait for none.
- *   - A query that needs the archive reads what is new of it from its file, under the lock.
+ *   - A query that needs the archive reads what is new of it from its file first, one at a time, and without the lock
+ *     where that is more than 65,536 bytes.
  *
  * Transactions and views are numbers. Any thread may use one, also several at once, and any may end it. One whose
  * thread ended stays open until another thread ends it or the store is closed. A number that was given back names
@@ -94,7 +95,8 @@ int32_t ts_shared_abort(ts_shared *store, uint64_t txn);
 int32_t ts_shared_view(ts_shared *store, ts_info *info);
 int32_t ts_shared_end(ts_shared *store, uint64_t view);
 
-/* The queries of timestore.h. The archive is read where one needs it. */
+/* The queries of timestore.h. The archive is read where one needs it. One that is being made is answered, though its view is
+   ended meanwhile. */
 int32_t ts_shared_at(ts_shared *store, uint64_t view, uint16_t relation, uint64_t record, uint64_t time, uint8_t *out,
                      size_t len, ts_info *info);
 int32_t ts_shared_scan_at(ts_shared *store, uint64_t view, uint16_t relation, uint64_t time, ts_row *rows,

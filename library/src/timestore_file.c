@@ -16,6 +16,7 @@ struct ts_file {
     uint8_t *archive; /* its first bytes, as far as they were read; NULL for none */
     size_t archive_read, archive_room;
     uint64_t archive_len; /* all that was written to it */
+    uint64_t reading;     /* up to here it is being read, and was not written since */
 };
 
 static const uint8_t nothing[1];
@@ -221,9 +222,28 @@ int32_t ts_file_archive(ts_file *file, const uint8_t **at, size_t *len) {
     return TS_OK;
 }
 
+uint64_t tsi_file_unread(const ts_file *file) { return file->archive_len - file->archive_read; }
+
+int32_t tsi_file_begin_read(ts_file *file, archive_part *part) {
+    if (!has_room(file, (size_t)file->archive_len)) return TS_NO_MEMORY;
+    file->reading = file->archive_len;
+    *part = (archive_part){file->archive + file->archive_read, (size_t)tsi_file_unread(file), file->archive_read};
+    return TS_OK;
+}
+
+int32_t tsi_file_read(const ts_file *file, const archive_part *part) {
+    return tsi_read(&file->files, TS_ARCHIVE, part->at, part->len, part->from);
+}
+
+void tsi_file_end_read(ts_file *file, int32_t code) {
+    if (code == TS_OK && file->reading > file->archive_read) file->archive_read = (size_t)file->reading;
+    file->reading = 0;
+}
+
 /* What a write to the archive leaves to be read. */
 static void wrote_archive(ts_file *file, const ts_device *call) {
     if (call->at < file->archive_read) file->archive_read = (size_t)call->at;
+    if (call->at < file->reading) file->reading = call->at;
     if (call->at + call->len > file->archive_len) file->archive_len = call->at + call->len;
 }
 

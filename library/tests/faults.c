@@ -171,6 +171,7 @@ int fdatasync(int fd) {
 
 ssize_t pread(int fd, void *bytes, size_t len, off_t at) {
     struct stat file;
+    do_before("pread");
     if (read_errno) {
         errno = read_errno;
         return -1;
