@@ -201,7 +201,7 @@ static int32_t resume(ts *store, const words *w, ts_info *info) { return ts_rede
 
 /* ---- the archive, of which much may be new: that is read without the lock */
 
-#define WORTH ((uint64_t)1 << 16) /* less than so much is read under it */
+#define LITTLE ((uint64_t)1 << 16) /* no more than so much is read under it */
 #define UNREAD (-1000)            /* no code of the store's: so much is to be read first */
 
 /* Reads what is new. The lock is given up meanwhile; closing waits for the end. */
@@ -225,7 +225,7 @@ static int32_t read_new(ts_shared *s) {
 /* The archive as it is now, with the lock, which may be given up meanwhile. */
 static int32_t lend_archive(ts_shared *s, const uint8_t **at, size_t *len) {
     int32_t code = TS_OK;
-    while (code == TS_OK && !s->closing && tsi_file_unread(s->file) > WORTH) {
+    while (code == TS_OK && !s->closing && tsi_file_unread(s->file) > LITTLE) {
         if (s->reading) pthread_cond_wait(&s->quiet, &s->lock);
         else code = read_new(s);
     }
@@ -240,7 +240,7 @@ static int32_t times_of(ts *store, const words *w, ts_info *info) {
     size_t len;
     int32_t code = ts_times_of(store, w->a, none, 0, w->times, w->len, info);
     if (code != TS_NEEDS_ARCHIVE) return code;
-    if (tsi_file_unread(w->of->file) > WORTH) return UNREAD;
+    if (tsi_file_unread(w->of->file) > LITTLE) return UNREAD;
     code = ts_file_archive(w->of->file, &archive, &len);
     if (code == TS_OK) return ts_times_of(store, w->a, archive, len, w->times, w->len, info);
     if (code == TS_SYSTEM) *w->cause = *tsi_last_cause(); /* another thread may have asked */
