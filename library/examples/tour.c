@@ -30,11 +30,21 @@ static int32_t count(ts_file *file, uint64_t record, int attempts, ts_info *info
     return code;
 }
 
+/* Writes the rows of a cursor, of which it takes a block at a time. */
+static void print_rows(ts_cursor *cursor) {
+    const ts_row *rows;
+    const uint8_t *values;
+    size_t found;
+    while (ts_cursor_next(cursor, 64, &rows, &found, &values) == TS_OK)
+        for (size_t i = 0; i < found; i++)
+            printf("%" PRIu64 " %" PRIu64 " %.*s\n", rows[i].from, rows[i].upto, values[rows[i].at + 1],
+                   (const char *)values + rows[i].at + 2);
+}
+
 int main(int argc, char **argv) {
     ts_file *file;
     ts_info info, view;
     uint8_t value[TS_VALUE_MOST];
-    ts_row rows[8];
     if (argc != 2) return 2;
     ask(ts_file_format(argv[1], 1024), "format");
     ask(ts_file_open(argv[1], &file, &info), "open");
@@ -56,10 +66,10 @@ int main(int argc, char **argv) {
     printf("at 100: %.*s\n", value[1], (const char *)value + 2);
     int32_t code = ts_at(store, view.a, 1, 7, 101, archive, archive_len, value, sizeof value, &info);
     printf("refused: %s %" PRIu64 "\n", ts_text(code), info.a);
-    ask(ts_between(store, view.a, 1, 7, 0, 101, archive, archive_len, rows, 8, value, sizeof value, &info), "between");
-    for (uint64_t i = 0; i < info.a; i++)
-        printf("%" PRIu64 " %" PRIu64 " %.*s\n", rows[i].from, rows[i].upto, value[rows[i].at + 1],
-               (const char *)value + rows[i].at + 2);
+    ts_cursor *cursor; /* over the records 1 to 9, of which 7 has a value */
+    ask(ts_cursor_between(store, view.a, 1, 1, 9, 0, 101, archive, archive_len, &cursor, &info), "between");
+    print_rows(cursor);
+    ts_cursor_free(cursor);
     ask(ts_end(store, view.a), "end");
 
     for (int n = 0; n < 3; n++) ask(count(file, 8, 10, &info), "count");

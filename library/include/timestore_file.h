@@ -9,8 +9,9 @@ extern "C" {
 #endif
 
 /* A store in files. It keeps to what timestore.h asks of a host, but for its third point, which is its
-   user's. The folder is not renamed while it is open. In the child of a fork its files are closed, and
-   all its calls but ts_file_close answer TS_CLOSED; its parent goes on. */
+   user's. The folder is not renamed while it is open. In the child of a fork its files are closed, whenever
+   the fork comes, and all its calls but ts_file_close answer TS_CLOSED; its parent goes on. No file of it has
+   the descriptor of a standard stream that the process has closed: what is written there is refused. */
 typedef struct ts_file ts_file;
 
 /* Codes besides those of the store. */
@@ -82,6 +83,28 @@ int32_t ts_file_scan(ts_file *file, uint16_t relation, ts_row *rows, size_t row_
                      ts_info *info);
 
 void ts_file_close(ts_file *file);
+
+/* ---- cursors, over any handle: what a query finds of the records of a relation from one on up to another, which counts
+   too, block by block. The query is made as the cursor is, of the whole relation, and takes memory as it finds rows. It is
+   made once; but twice where the system refuses addresses for more than the machine has memory, and the first time that a
+   query of a process finds more than some megabytes. The cursor needs neither the store nor the view any more; one thread
+   uses it at a time. What it has passed is given back by and by. */
+typedef struct ts_cursor ts_cursor;
+
+/* What a transaction sees, as ts_scan. */
+int32_t ts_cursor_of(ts *h, uint64_t txn, uint16_t relation, uint64_t first, uint64_t last, ts_cursor **cursor, ts_info *info);
+
+/* The records that have a value at a time, as ts_scan_at, and rows from one time up to another, as ts_scan_between. */
+int32_t ts_cursor_at(ts *h, uint64_t view, uint16_t relation, uint64_t first, uint64_t last, uint64_t time,
+                     const uint8_t *archive, size_t archive_len, ts_cursor **cursor, ts_info *info);
+int32_t ts_cursor_between(ts *h, uint64_t view, uint16_t relation, uint64_t first, uint64_t last, uint64_t from, uint64_t upto,
+                          const uint8_t *archive, size_t archive_len, ts_cursor **cursor, ts_info *info);
+
+/* The next rows, so many at most, or TS_NONE. The value of a row lies at `at` of the values. They stay where they are until the
+   next call of this cursor. A new cursor from the record after the last one goes on where this one is. */
+int32_t ts_cursor_next(ts_cursor *cursor, size_t most, const ts_row **rows, size_t *count, const uint8_t **values);
+
+void ts_cursor_free(ts_cursor *cursor);
 
 /* The text of a code, as the program has it. */
 const char *ts_text(int32_t code);

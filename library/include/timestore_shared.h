@@ -11,7 +11,8 @@
  *   - ts_shared_begin, a commit's beginning, ts_shared_times_of and the beginning of a job wait for the device call
  *     that is being made, if one is: for a sync at most.
  *   - ts_shared_view, ts_shared_get, ts_shared_scan and ts_shared_last wait for none.
- *   - A query that needs the archive reads what is new of it from its file, under the lock.
+ *   - A query that needs the archive reads what is new of it from its file first, one at a time, and without the lock
+ *     where that is more than 65,536 bytes.
  *
  * Transactions and views are numbers. Any thread may use one, also several at once, and any may end it. One whose
  * thread ended stays open until another thread ends it or the store is closed. A number that was given back names
@@ -94,7 +95,8 @@ int32_t ts_shared_abort(ts_shared *store, uint64_t txn);
 int32_t ts_shared_view(ts_shared *store, ts_info *info);
 int32_t ts_shared_end(ts_shared *store, uint64_t view);
 
-/* The queries of timestore.h. The archive is read where one needs it. */
+/* The queries of timestore.h. The archive is read where one needs it. One that is being made is answered, though its view is
+   ended meanwhile. */
 int32_t ts_shared_at(ts_shared *store, uint64_t view, uint16_t relation, uint64_t record, uint64_t time, uint8_t *out,
                      size_t len, ts_info *info);
 int32_t ts_shared_scan_at(ts_shared *store, uint64_t view, uint16_t relation, uint64_t time, ts_row *rows,
@@ -103,6 +105,15 @@ int32_t ts_shared_between(ts_shared *store, uint64_t view, uint16_t relation, ui
                           uint64_t upto, ts_row *rows, size_t row_count, uint8_t *out, size_t len, ts_info *info);
 int32_t ts_shared_scan_between(ts_shared *store, uint64_t view, uint16_t relation, uint64_t from, uint64_t upto,
                                ts_row *rows, size_t row_count, uint8_t *out, size_t len, ts_info *info);
+
+/* Cursors, as those of timestore_file.h, over what a transaction sees, a time, or an interval. To make one takes the lock as a
+   query does; its rows are taken without. */
+int32_t ts_shared_cursor_of(ts_shared *store, uint64_t txn, uint16_t relation, uint64_t first, uint64_t last,
+                            ts_cursor **cursor, ts_info *info);
+int32_t ts_shared_cursor_at(ts_shared *store, uint64_t view, uint16_t relation, uint64_t first, uint64_t last, uint64_t time,
+                            ts_cursor **cursor, ts_info *info);
+int32_t ts_shared_cursor_between(ts_shared *store, uint64_t view, uint16_t relation, uint64_t first, uint64_t last,
+                                 uint64_t from, uint64_t upto, ts_cursor **cursor, ts_info *info);
 
 /* The times of the commits with a label, rising, as ts_times_of; a: how many. The archive is read where that needs it. */
 int32_t ts_shared_times_of(ts_shared *store, uint64_t label, uint64_t *times, size_t count, ts_info *info);

@@ -73,8 +73,9 @@ struct ts_shared {
     bool gathering;             /* the leader waits for them, on this word */
     atomic_uint_least32_t gathered;
     uint64_t group_began, group_took; /* in microseconds */
-    size_t within;              /* threads whose requests are not answered yet */
-    pthread_cond_t quiet;
+    size_t within;              /* threads whose requests are not answered yet, and the one that reads */
+    bool reading;               /* a thread reads the archive, without the lock */
+    pthread_cond_t quiet;       /* these have become fewer, or it has ended */
 
     moment *latest;             /* what is published now; NULL where there was no memory for it */
     seat *seats;

@@ -3,6 +3,7 @@
 #include "files.h"
 #include <errno.h>
 #include <fcntl.h>
+#include <pthread.h>
 #include <stdlib.h>
 #include <string.h>
 #include <sys/file.h>
@@ -37,25 +38,109 @@ static int32_t refused(const char *call, const char *file) {
 
 static int32_t refused_on(const char *call, int area) { return refused(call, NAMES[area]); }
 
-/* ---- opening and closing */
+/* ---- the files that this process has open. A fork waits while some are opened or closed. */
 
-void tsi_files_leave(store_files *files) {
+static pthread_mutex_t open_lock = PTHREAD_MUTEX_INITIALIZER;
+static store_files *open_files;
+
+static void close_all(store_files *files) {
     for (int area = 0; area < AREAS; area++) {
         if (files->fd[area] >= 0) close(files->fd[area]);
         files->fd[area] = -1;
     }
 }
 
-void tsi_files_close(store_files *files) {
-    if (files->fd[TS_STATUS] >= 0) flock(files->fd[TS_STATUS], LOCK_UN);
-    tsi_files_leave(files);
+static void before_fork(void) { pthread_mutex_lock(&open_lock); }
+
+static void in_parent(void) { pthread_mutex_unlock(&open_lock); }
+
+/* The parent's stores are not the child's: it has none of their files, whose lock its parent keeps, and no handle that
+   answers. */
+static void in_child(void) {
+    for (store_files *files = open_files; files; files = files->next) {
+        close_all(files);
+        if (files->store) *files->store = (ts)TS_EMPTY;
+    }
+    open_files = NULL;
+    pthread_mutex_unlock(&open_lock);
 }
 
-static int32_t open_one(int dir, int area, bool make, int *fd) {
-    *fd = openat(dir, NAMES[area], O_RDWR | O_CLOEXEC | (make ? O_CREAT : 0), 0666);
-    if (*fd < 0) return errno == ENOENT && !make ? TS_NOT_A_STORE : refused_on("openat", area);
-    if (area != TS_STATUS || flock(*fd, LOCK_EX | LOCK_NB) == 0) return TS_OK;
-    return errno == EWOULDBLOCK ? TS_LOCKED : refused_on("flock", area);
+static void watch_forks(void) { pthread_atfork(before_fork, in_parent, in_child); }
+
+static void remove_open(const store_files *files) {
+    for (store_files **at = &open_files; *at; at = &(*at)->next)
+        if (*at == files) {
+            *at = files->next;
+            return;
+        }
+}
+
+/* Whether this process has them open already. */
+static bool are_open_here(const store_files *files) {
+    for (const store_files *it = open_files; it; it = it->next)
+        if (it->device == files->device && it->number == files->number) return true;
+    return false;
+}
+
+/* ---- opening and closing */
+
+enum { STREAMS = STDERR_FILENO + 1 };
+
+/* A folder that is open, and descriptors of it in the places of the standard streams that the process has closed: what is
+   written to one of these is refused, and does not go to a file of the store. */
+typedef struct open_folder {
+    int fd, held[STREAMS], count;
+} open_folder;
+
+static int32_t folder_open(const char *path, open_folder *folder) {
+    folder->count = 0;
+    while ((folder->fd = open(path, O_RDONLY | O_DIRECTORY | O_CLOEXEC)) >= 0 && folder->fd < STREAMS)
+        folder->held[folder->count++] = folder->fd;
+    return folder->fd < 0 ? refused("open", "") : TS_OK;
+}
+
+static void folder_close(open_folder *folder) {
+    for (int i = 0; i < folder->count; i++) close(folder->held[i]);
+    if (folder->fd >= 0) close(folder->fd);
+}
+
+static int32_t note_identity(store_files *files) {
+    struct stat state;
+    if (fstat(files->fd[TS_STATUS], &state)) return refused_on("fstat", TS_STATUS);
+    files->device = state.st_dev;
+    files->number = state.st_ino;
+    return TS_OK;
+}
+
+/* Locks the status file; says of a lock who has it. */
+static int32_t lock(const store_files *files) {
+    if (flock(files->fd[TS_STATUS], LOCK_EX | LOCK_NB) == 0) return TS_OK;
+    if (errno != EWOULDBLOCK) return refused_on("flock", TS_STATUS);
+    return are_open_here(files) ? TS_ALREADY_OPEN : TS_LOCKED;
+}
+
+static int32_t open_one(int dir, int area, bool make, store_files *files) {
+    int fd = openat(dir, NAMES[area], O_RDWR | O_CLOEXEC | (make ? O_CREAT : 0), 0666);
+    if (fd < 0) return errno == ENOENT && !make ? TS_NOT_A_STORE : refused_on("openat", area);
+    files->fd[area] = fd;
+    if (area != TS_STATUS) return TS_OK;
+    int32_t code = note_identity(files);
+    return code == TS_OK ? lock(files) : code;
+}
+
+/* Opens them all, or none. */
+static int32_t open_all(int dir, bool make, store_files *files) {
+    int32_t code = TS_OK;
+    pthread_mutex_lock(&open_lock);
+    for (int area = 0; area < AREAS && code == TS_OK; area++) code = open_one(dir, area, make, files);
+    if (code == TS_OK) {
+        files->next = open_files;
+        open_files = files;
+    } else {
+        close_all(files);
+    }
+    pthread_mutex_unlock(&open_lock);
+    return code;
 }
 
 /* Makes new files and their names outlast a stop. */
@@ -65,22 +150,26 @@ static int32_t keep_names(int dir, const store_files *files) {
     return fsync(dir) ? refused("fsync", "") : TS_OK;
 }
 
-int32_t tsi_files_open(const char *folder, bool make, store_files *files) {
-    int32_t code = TS_OK;
-    int dir = open(folder, O_RDONLY | O_DIRECTORY | O_CLOEXEC);
-    if (dir < 0) return refused("open", "");
-    for (int area = 0; area < AREAS && code == TS_OK; area++) code = open_one(dir, area, make, &files->fd[area]);
-    if (code == TS_OK && make) code = keep_names(dir, files);
-    close(dir);
+int32_t tsi_files_open(const char *path, bool make, store_files *files) {
+    static pthread_once_t once = PTHREAD_ONCE_INIT;
+    open_folder folder;
+    pthread_once(&once, watch_forks);
+    int32_t code = folder_open(path, &folder);
+    if (code == TS_OK) code = open_all(folder.fd, make, files);
+    if (code == TS_OK && make) {
+        code = keep_names(folder.fd, files);
+        if (code != TS_OK) tsi_files_close(files);
+    }
+    folder_close(&folder);
     return code;
 }
 
-int32_t tsi_files_identity(const store_files *files, dev_t *device, ino_t *number) {
-    struct stat state;
-    if (fstat(files->fd[TS_STATUS], &state)) return refused_on("fstat", TS_STATUS);
-    *device = state.st_dev;
-    *number = state.st_ino;
-    return TS_OK;
+void tsi_files_close(store_files *files) {
+    pthread_mutex_lock(&open_lock);
+    remove_open(files);
+    if (files->fd[TS_STATUS] >= 0) flock(files->fd[TS_STATUS], LOCK_UN);
+    close_all(files);
+    pthread_mutex_unlock(&open_lock);
 }
 
 /* ---- reading and writing */
@@ -157,24 +246,26 @@ static int32_t compare(const store_files *files, int area, uint8_t *bytes, size_
     return TS_CACHED;
 }
 
-/* Whether the system has a page of a window in memory. */
-static bool has_pages(const uint8_t *map, size_t len, int *fault) {
+/* Whether the system has a page of a window in memory. Of a file that can't be mapped nobody knows. */
+static bool has_pages(const uint8_t *map, uint64_t at, size_t len, int *fault) {
     unsigned char pages[WINDOW / LEAST_PAGE];
     size_t page_len = (size_t)sysconf(_SC_PAGESIZE);
-    *fault = mincore((void *)(uintptr_t)map, len, pages);
+    *fault = 0;
+    if (!map) return true;
+    *fault = mincore((void *)(uintptr_t)(map + at), len, pages);
     for (size_t page = 0; *fault == 0 && page * page_len < len; page++)
         if (pages[page] & 1) return true;
     return false;
 }
 
-/* Compares each window of which the system has something in memory. The mapping is never read. */
+/* Compares each window of which the system has something in memory. */
 static int32_t compare_kept(const store_files *files, int area, const uint8_t *map, uint64_t len) {
     uint8_t *bytes = NULL;
     int32_t code = TS_OK;
     for (uint64_t at = 0; at < len && code == TS_OK; at += WINDOW) {
         size_t part = len - at < WINDOW ? (size_t)(len - at) : WINDOW;
         int fault;
-        bool kept = has_pages(map + at, part, &fault);
+        bool kept = has_pages(map, at, part, &fault);
         if (fault) code = refused_on("mincore", area);
         else if (kept && !bytes && !(bytes = aligned_alloc(ALIGNMENT, 2 * WINDOW))) code = TS_NO_MEMORY;
         else if (kept) code = compare(files, area, bytes, part, at);
@@ -189,9 +280,10 @@ int32_t tsi_settle(const store_files *files, int area) {
     if (code == TS_OK) code = tsi_length(files, area, &len);
     if (code != TS_OK || len == 0 || is_in_memory(files->fd[area])) return code;
     posix_fadvise(files->fd[area], 0, 0, POSIX_FADV_DONTNEED); /* what it leaves is compared */
-    void *map = mmap(NULL, (size_t)len, PROT_READ, MAP_SHARED, files->fd[area], 0);
-    if (map == MAP_FAILED) return refused_on("mmap", area);
-    code = compare_kept(files, area, map, len);
-    munmap(map, (size_t)len);
+    /* Private, since some file systems have no other mappings of a file that can be written; and not to be read, since else a
+       process that locks its memory would have all of it read. */
+    void *map = mmap(NULL, (size_t)len, PROT_NONE, MAP_PRIVATE, files->fd[area], 0);
+    code = compare_kept(files, area, map == MAP_FAILED ? NULL : map, len);
+    if (map != MAP_FAILED) munmap(map, (size_t)len);
     return code;
 }

@@ -9,20 +9,19 @@
 /* Descriptors of the three files, -1 where there is none; the first of them has the lock. */
 typedef struct store_files {
     int fd[AREAS];
+    ts *store; /* the store over them, or NULL: it is empty in the child of a fork, which has none of the files */
+    dev_t device;
+    ino_t number; /* of the status file, by whatever name it was opened */
+    struct store_files *next; /* of those that this process has open */
 } store_files;
-#define NO_FILES {{-1, -1, -1}}
+#define NO_FILES {.fd = {-1, -1, -1}}
 
-/* Opens the files of a folder and locks them; makes those that are missing where `make` says so. */
+/* Opens the files of a folder and locks them; makes those that are missing where `make` says so. The struct stays where
+   it is until they are closed. Where it is refused none is open. */
 int32_t tsi_files_open(const char *folder, bool make, store_files *files);
 
 /* Gives the lock back, also where the child of a fork has the descriptors, and closes the files. */
 void tsi_files_close(store_files *files);
-
-/* Closes the files in the child of a fork, whose parent keeps the lock. */
-void tsi_files_leave(store_files *files);
-
-/* Which file the first one is, wherever it was opened. */
-int32_t tsi_files_identity(const store_files *files, dev_t *device, ino_t *number);
 
 int32_t tsi_length(const store_files *files, int area, uint64_t *len);
 

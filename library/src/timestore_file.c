@@ -4,7 +4,6 @@
 #include "files.h"
 #include "steps.h"
 #include <errno.h>
-#include <pthread.h>
 #include <stdlib.h>
 #include <time.h>
 
@@ -17,76 +16,14 @@ struct ts_file {
     uint8_t *archive; /* its first bytes, as far as they were read; NULL for none */
     size_t archive_read, archive_room;
     uint64_t archive_len; /* all that was written to it */
-    dev_t device;
-    ino_t number; /* of the status file */
-    ts_file *next;
+    uint64_t reading;     /* up to here it is being read, and was not written since */
 };
 
 static const uint8_t nothing[1];
 
-/* ---- the stores that are open in this process */
-
-static pthread_mutex_t open_lock = PTHREAD_MUTEX_INITIALIZER;
-static ts_file *open_stores;
-
-static void before_fork(void) { pthread_mutex_lock(&open_lock); }
-
-static void in_parent(void) { pthread_mutex_unlock(&open_lock); }
-
-/* The parent's stores are not the child's: it has none of their files, and no handle that answers. */
-static void in_child(void) {
-    for (ts_file *file = open_stores; file; file = file->next) {
-        tsi_files_leave(&file->files);
-        file->host.store = (ts)TS_EMPTY;
-    }
-    open_stores = NULL;
-    pthread_mutex_unlock(&open_lock);
-}
-
-static void watch_forks(void) { pthread_atfork(before_fork, in_parent, in_child); }
-
-static void add_open(ts_file *file) {
-    static pthread_once_t once = PTHREAD_ONCE_INIT;
-    pthread_once(&once, watch_forks);
-    pthread_mutex_lock(&open_lock);
-    file->next = open_stores;
-    open_stores = file;
-    pthread_mutex_unlock(&open_lock);
-}
-
-static void remove_open(const ts_file *file) {
-    pthread_mutex_lock(&open_lock);
-    for (ts_file **at = &open_stores; *at; at = &(*at)->next)
-        if (*at == file) {
-            *at = file->next;
-            break;
-        }
-    pthread_mutex_unlock(&open_lock);
-}
-
-static bool is_open_here(dev_t device, ino_t number) {
-    bool found = false;
-    pthread_mutex_lock(&open_lock);
-    for (const ts_file *file = open_stores; file && !found; file = file->next)
-        found = file->device == device && file->number == number;
-    pthread_mutex_unlock(&open_lock);
-    return found;
-}
-
 /* A code that is given out; where the system refused a call, with the errno of that, whatever was called since. */
 static int32_t told(int32_t code) {
     if (code == TS_SYSTEM || code == TS_CACHED) errno = tsi_last_cause()->number;
-    return code;
-}
-
-/* The files of a folder; says of a lock who has it. */
-static int32_t open_files(const char *folder, bool make, store_files *files) {
-    dev_t device;
-    ino_t number;
-    int32_t code = tsi_files_open(folder, make, files);
-    if (code == TS_LOCKED && tsi_files_identity(files, &device, &number) == TS_OK && is_open_here(device, number))
-        code = TS_ALREADY_OPEN;
-    if (code != TS_OK) tsi_files_close(files);
     return code;
 }
 
@@ -157,7 +94,7 @@ static int32_t write_status(const store_files *files, const uint8_t *bytes, size
 /* Makes a store of what a format told: these bytes are its status area. */
 static int32_t make_store(const char *folder, const uint8_t *bytes, const ts_info *told) {
     store_files files = NO_FILES;
-    int32_t code = open_files(folder, true, &files);
+    int32_t code = tsi_files_open(folder, true, &files);
     if (code != TS_OK) return code;
     code = is_free(&files, (size_t)told->b);
     if (code == TS_OK) code = write_zeros(&files, (size_t)told->b);
@@ -227,24 +164,21 @@ int32_t ts_file_open(const char *folder, ts_file **out, ts_info *info) {
     if (!file) return TS_NO_MEMORY;
     file->host.make = make;
     file->files = (store_files)NO_FILES;
-    int32_t code = open_files(folder, false, &file->files);
-    if (code == TS_OK) code = tsi_files_identity(&file->files, &file->device, &file->number);
+    file->files.store = &file->host.store;
+    int32_t code = tsi_files_open(folder, false, &file->files);
     if (code == TS_OK) {
-        add_open(file);
         code = open_read(file, info);
-        if (code != TS_OK) remove_open(file);
+        if (code != TS_OK) tsi_files_close(&file->files);
     }
     if (code == TS_OK) {
         *out = file;
         return TS_OK;
     }
-    tsi_files_close(&file->files);
     free(file);
     return told(code);
 }
 
 void ts_file_close(ts_file *file) {
-    remove_open(file);
     ts_close(&file->host.store);
     tsi_files_close(&file->files);
     free(file->archive);
@@ -288,9 +222,28 @@ int32_t ts_file_archive(ts_file *file, const uint8_t **at, size_t *len) {
     return TS_OK;
 }
 
+uint64_t tsi_file_unread(const ts_file *file) { return file->archive_len - file->archive_read; }
+
+int32_t tsi_file_begin_read(ts_file *file, archive_part *part) {
+    if (!has_room(file, (size_t)file->archive_len)) return TS_NO_MEMORY;
+    file->reading = file->archive_len;
+    *part = (archive_part){file->archive + file->archive_read, (size_t)tsi_file_unread(file), file->archive_read};
+    return TS_OK;
+}
+
+int32_t tsi_file_read(const ts_file *file, const archive_part *part) {
+    return tsi_read(&file->files, TS_ARCHIVE, part->at, part->len, part->from);
+}
+
+void tsi_file_end_read(ts_file *file, int32_t code) {
+    if (code == TS_OK && file->reading > file->archive_read) file->archive_read = (size_t)file->reading;
+    file->reading = 0;
+}
+
 /* What a write to the archive leaves to be read. */
 static void wrote_archive(ts_file *file, const ts_device *call) {
     if (call->at < file->archive_read) file->archive_read = (size_t)call->at;
+    if (call->at < file->reading) file->reading = call->at;
     if (call->at + call->len > file->archive_len) file->archive_len = call->at + call->len;
 }
 

@@ -1,6 +1,7 @@
 /* The calls of a store that threads share. */
 #define _GNU_SOURCE
 #include "committer.h"
+#include "cursor.h"
 #include "files.h"
 #include <errno.h>
 #include <signal.h>
@@ -198,17 +199,62 @@ static int32_t submit(ts *store, const words *w, ts_info *info) { return ts_subm
 
 static int32_t resume(ts *store, const words *w, ts_info *info) { return ts_redeem(store, w->a, info); }
 
-/* It is lent the archive where it needs it. */
+/* ---- the archive, of which much may be new: that is read without the lock */
+
+#define LITTLE ((uint64_t)1 << 16) /* no more than so much is read under it */
+#define UNREAD (-1000)            /* no code of the store's: so much is to be read first */
+
+/* Reads what is new. The lock is given up meanwhile; closing waits for the end. */
+static int32_t read_new(ts_shared *s) {
+    archive_part part;
+    int state;
+    int32_t code = tsi_file_begin_read(s->file, &part);
+    if (code != TS_OK) return code;
+    s->reading = true;
+    s->within++;
+    tsi_leave(s, PTHREAD_CANCEL_DISABLE, TS_OK);
+    code = tsi_file_read(s->file, &part);
+    tsi_enter(s, &state);
+    tsi_file_end_read(s->file, code);
+    s->reading = false;
+    s->within--;
+    pthread_cond_broadcast(&s->quiet);
+    return code;
+}
+
+/* The archive as it is now, with the lock, which may be given up meanwhile. */
+static int32_t lend_archive(ts_shared *s, const uint8_t **at, size_t *len) {
+    int32_t code = TS_OK;
+    while (code == TS_OK && !s->closing && tsi_file_unread(s->file) > LITTLE) {
+        if (s->reading) pthread_cond_wait(&s->quiet, &s->lock);
+        else code = read_new(s);
+    }
+    if (code == TS_OK) code = s->closing ? TS_CLOSED : ts_file_archive(s->file, at, len);
+    return code;
+}
+
+/* It is lent the archive where it needs it, once its caller has read what is much. */
 static int32_t times_of(ts *store, const words *w, ts_info *info) {
     static const uint8_t none[1];
     const uint8_t *archive;
     size_t len;
     int32_t code = ts_times_of(store, w->a, none, 0, w->times, w->len, info);
     if (code != TS_NEEDS_ARCHIVE) return code;
+    if (tsi_file_unread(w->of->file) > LITTLE) return UNREAD;
     code = ts_file_archive(w->of->file, &archive, &len);
     if (code == TS_OK) return ts_times_of(store, w->a, archive, len, w->times, w->len, info);
     if (code == TS_SYSTEM) *w->cause = *tsi_last_cause(); /* another thread may have asked */
     return code;
+}
+
+/* Reads what is new of the archive, for a request that needs it. */
+static int32_t read_much(ts_shared *s) {
+    const uint8_t *at;
+    size_t len;
+    int state;
+    int32_t code = tsi_enter(s, &state);
+    if (code == TS_OK) code = lend_archive(s, &at, &len);
+    return tsi_leave(s, state, code);
 }
 
 static int32_t archive(ts *store, const words *w, ts_info *info) { return ts_archive(store, w->a, info); }
@@ -254,7 +300,9 @@ int32_t ts_shared_resume(ts_shared *s, uint64_t ticket, ts_info *info) { return 
 
 int32_t ts_shared_times_of(ts_shared *s, uint64_t label, uint64_t *times, size_t count, ts_info *info) {
     words w = {.a = label, .times = times, .len = count, .of = s, .cause = tsi_last_cause()};
-    int32_t code = ask(s, ANSWERS, times_of, w, info);
+    int32_t code;
+    do code = ask(s, ANSWERS, times_of, w, info);
+    while (code == UNREAD && (code = read_much(s)) == TS_OK);
     if (code == TS_SYSTEM) errno = tsi_last_cause()->number;
     return code;
 }
@@ -430,6 +478,7 @@ int32_t ts_shared_end(ts_shared *s, uint64_t view) {
 /* A query, and what it is lent of the archive. */
 typedef struct query {
     int state;
+    moment *of; /* used until it is answered, though its view is ended meanwhile */
     uint64_t view;
     const uint8_t *archive;
     size_t len;
@@ -440,8 +489,10 @@ static int32_t enter_view(ts_shared *s, uint64_t view, query *q) {
     static const uint8_t none[1];
     int32_t code = tsi_enter(s, &q->state);
     const seat *it = code == TS_OK ? seat_of(s, view) : NULL;
+    q->of = it ? it->of : NULL;
     if (!it) return code == TS_OK ? TS_UNKNOWN : code;
-    q->view = it->of->view;
+    q->of->users++;
+    q->view = q->of->view;
     q->archive = none;
     q->len = 0;
     return TS_OK;
@@ -450,13 +501,14 @@ static int32_t enter_view(ts_shared *s, uint64_t view, query *q) {
 /* Lends it the archive, where it needs it; whether it is to be made again. */
 static bool is_lent(ts_shared *s, query *q, int32_t *code) {
     if (*code != TS_NEEDS_ARCHIVE || q->len > 0) return false;
-    int32_t read = ts_file_archive(s->file, &q->archive, &q->len);
+    int32_t read = lend_archive(s, &q->archive, &q->len);
     if (read != TS_OK) *code = read;
     return read == TS_OK && q->len > 0;
 }
 
 /* Gives the lock up; where the archive could not be read errno says why. */
 static int32_t leave_view(ts_shared *s, const query *q, int32_t code) {
+    tsi_forget(s, q->of);
     tsi_leave(s, q->state, code);
     if (code == TS_SYSTEM) errno = tsi_last_cause()->number;
     return code;
@@ -500,6 +552,44 @@ int32_t ts_shared_scan_between(ts_shared *s, uint64_t view, uint16_t relation, u
             code = ts_scan_between(tsi_store(s), q.view, relation, from, upto, q.archive, q.len, rows, row_count, out, len, info);
         while (is_lent(s, &q, &code));
     return leave_view(s, &q, code);
+}
+
+/* ---- cursors */
+
+static int32_t scan_of(const asked *q, ts_row *rows, size_t row_count, uint8_t *out, size_t len, ts_info *info) {
+    if (q->first < q->last) return ts_shared_txn_scan(q->of, q->number, q->relation, rows, row_count, out, len, info);
+    int32_t code = ts_shared_txn_get(q->of, q->number, q->relation, q->first, out, len, info);
+    return tsi_as_rows(code, q->first, rows, row_count, info);
+}
+
+static int32_t scan_at(const asked *q, ts_row *rows, size_t row_count, uint8_t *out, size_t len, ts_info *info) {
+    if (q->first < q->last) return ts_shared_scan_at(q->of, q->number, q->relation, q->from, rows, row_count, out, len, info);
+    int32_t code = ts_shared_at(q->of, q->number, q->relation, q->first, q->from, out, len, info);
+    return tsi_as_rows(code, q->first, rows, row_count, info);
+}
+
+static int32_t scan_between(const asked *q, ts_row *rows, size_t row_count, uint8_t *out, size_t len, ts_info *info) {
+    if (q->first < q->last)
+        return ts_shared_scan_between(q->of, q->number, q->relation, q->from, q->upto, rows, row_count, out, len, info);
+    return ts_shared_between(q->of, q->number, q->relation, q->first, q->from, q->upto, rows, row_count, out, len, info);
+}
+
+int32_t ts_shared_cursor_of(ts_shared *s, uint64_t txn, uint16_t relation, uint64_t first, uint64_t last, ts_cursor **cursor,
+                            ts_info *info) {
+    asked q = {.of = s, .number = txn, .relation = relation, .first = first, .last = last};
+    return tsi_cursor_make(scan_of, &q, cursor, info);
+}
+
+int32_t ts_shared_cursor_at(ts_shared *s, uint64_t view, uint16_t relation, uint64_t first, uint64_t last, uint64_t time,
+                            ts_cursor **cursor, ts_info *info) {
+    asked q = {.of = s, .number = view, .relation = relation, .first = first, .last = last, .from = time};
+    return tsi_cursor_make(scan_at, &q, cursor, info);
+}
+
+int32_t ts_shared_cursor_between(ts_shared *s, uint64_t view, uint16_t relation, uint64_t first, uint64_t last, uint64_t from,
+                                 uint64_t upto, ts_cursor **cursor, ts_info *info) {
+    asked q = {.of = s, .number = view, .relation = relation, .first = first, .last = last, .from = from, .upto = upto};
+    return tsi_cursor_make(scan_between, &q, cursor, info);
 }
 
 /* ---- the vacuum */

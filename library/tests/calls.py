@@ -2,11 +2,14 @@
 
 import ctypes
 import errno
+import functools
 import gc
+import itertools
 import os
 import resource
 import struct
 import sys
+import tracemalloc
 from collections.abc import Callable, Iterator
 from concurrent.futures import ThreadPoolExecutor
 from contextlib import contextmanager
@@ -407,29 +410,57 @@ def test_transact(folder: Path) -> None:
         assert store.transact(lambda txn: txn.get(6, 1)) == (b"\7",)
 
 
-def test_rooms(folder: Path) -> None:
-    """A query is asked again where its room was too small, and the next one as large is not."""
+def ranges_of(ask: Callable[..., Iterator[tuple[int, timestore.Fields]]], wanted: dict[int, timestore.Fields]) -> None:
+    """A query gives the records of a range, whether or not it has any."""
+    most = (1 << 64) - 1
+    for first, last in ((0, most), (0, 0), (5, 5), (7, 300), (299, most), (300, 299), (most, most), (1, 0)):
+        found = ask(first=first, last=last)
+        assert iter(found) is found
+        assert [*found] == [it for it in wanted.items() if first <= it[0] <= last], (first, last)
+    assert [*itertools.islice(ask(first=100), 3)] == [(record, wanted[record]) for record in (100, 102, 104)]
+    refuses(ValueError, lambda: ask(first=-1))
+    refuses(ValueError, lambda: ask(last=most + 1))
+
+
+def test_ranges(folder: Path) -> None:
+    """Queries of a range of records, of each kind that gives rows."""
+    wanted = {record: (bytes([record % 256]) * 200,) for record in range(0, 600, 2)}
+    for kind in (timestore.Store, timestore.SharedStore):
+        with kind(folder) as store:
+            with store.begin() as txn:
+                for record, fields in wanted.items():
+                    txn.put(7, record, *fields)
+                ranges_of(functools.partial(txn.scan, 7), wanted)
+            ranges_of(functools.partial(store.scan, 7), wanted)
+            ranges_of(functools.partial(store.scan_at, 7, store.last), wanted)
+            with store.view() as view:
+                ranges_of(functools.partial(view.scan, 7), wanted)
+                ranges_of(functools.partial(view.scan_at, 7, view.last), wanted)
+                rows = functools.partial(view.scan_between, 7, view.last, view.last + 1)
+                ranges_of(lambda **ends: ((row.record, row.fields) for row in rows(**ends)), wanted)
+                assert [row.record for row in view.between(7, 8, view.last, view.last + 1)] == [8]
+                assert [*view.between(7, 9, view.last, view.last + 1)] == []
+            # What was found stays, by turns with another query, and beyond its view and its store.
+            first, second = store.scan(7), store.scan(7)
+            assert [*zip(first, second)] == [*zip(wanted.items(), wanted.items())]
+            left, _ = store.scan(7), store.scan(7)
+        assert dict(left) == wanted
+
+
+def test_blocks(folder: Path) -> None:
+    """An iterator holds no more than a block of rows, of 256."""
     with timestore.Store(folder) as store:
-        with store.begin() as txn:
-            for record in range(500):
-                txn.put(7, record, bytes([record % 256]) * 100)
-        asked, scan_at = [], timestore._library.ts_scan_at
-
-        def counted(*args: object) -> int:
-            asked.append(1)
-            return scan_at(*args)
-
-        timestore._library.ts_scan_at = counted
+        for part in range(4):
+            with store.begin() as txn:
+                for record in range(1000 * part, 1000 * part + 1000):
+                    txn.put(8, record, b"v" * 255)
+        tracemalloc.start()
         try:
-            wanted = [(record, (bytes([record % 256]) * 100,)) for record in range(500)]
-            for times in (2, 3, 4):
-                assert [*store.scan_at(7, store.last)] == wanted
-                assert len(asked) == times
-            # Two that are taken by turns have a room each.
-            first, second = store.scan_at(7, store.last), store.scan_at(7, store.last)
-            assert [*zip(first, second)] == [*zip(wanted, wanted)]
+            assert sum(1 for _ in store.scan(8)) == 4000
+            peak = tracemalloc.get_traced_memory()[1]
         finally:
-            timestore._library.ts_scan_at = scan_at
+            tracemalloc.stop()
+    assert peak < 1 << 19, peak  # the values take twice as much
 
 
 def test_causes(folder: Path) -> None:
@@ -490,7 +521,8 @@ def main() -> None:
     test_names()
     test_now(folder)
     test_transact(folder)
-    test_rooms(folder)
+    test_ranges(folder)
+    test_blocks(folder)
     test_causes(folder)
     test_make_endless(folder.parent / "make-endless")
     test_endless(folder.parent / "endless")

@@ -29,6 +29,8 @@ static _Thread_local uint64_t made, refused_call;
 static _Thread_local int call_errno, read_errno;
 static atomic_uint_fast64_t made_by_all, refused_of_all; /* before the call that is refused of all threads' */
 static atomic_int errno_of_all;
+static const char *before_name;
+static void (*before_what)(void);
 static bool loses, keeps, has_direct, is_direct[FDS_MOST];
 static page *pages[PAGES_MOST];
 
@@ -53,6 +55,17 @@ void faults_lose(void) { loses = true; }
 void faults_keep(bool direct) {
     keeps = true;
     has_direct = direct;
+}
+
+void faults_before(const char *name, void (*what)(void)) {
+    before_name = name;
+    before_what = what;
+}
+
+static void do_before(const char *name) {
+    if (!before_name || strcmp(before_name, name) != 0) return;
+    before_name = NULL;
+    before_what();
 }
 
 static bool is_refused(void) {
@@ -130,6 +143,7 @@ static void forget_folder(const char *folder) {
     for (int i = 0; i < 3; i++) {
         strcat(strcat(strcpy(path, folder), "/"), names[i]);
         int fd = open(path, O_RDWR | O_CLOEXEC);
+        if (fd < 0 && errno == ENOENT) continue;
         if (fd < 0) abort();
         forget(fd, true);
         close(fd);
@@ -157,6 +171,7 @@ int fdatasync(int fd) {
 
 ssize_t pread(int fd, void *bytes, size_t len, off_t at) {
     struct stat file;
+    do_before("pread");
     if (read_errno) {
         errno = read_errno;
         return -1;
@@ -187,6 +202,20 @@ int fstatfs(int fd, struct statfs *system) {
     int code = REAL(fstatfs)(fd, system);
     if (loses || keeps) system->f_type = EXT4;
     return code;
+}
+
+int openat(int dir, const char *name, int flags, ...) {
+    va_list words;
+    va_start(words, flags);
+    mode_t mode = flags & O_CREAT ? va_arg(words, mode_t) : 0;
+    va_end(words);
+    do_before(name);
+    return REAL(openat)(dir, name, flags, mode);
+}
+
+int fsync(int fd) {
+    do_before("fsync");
+    return REAL(fsync)(fd);
 }
 
 int fcntl(int fd, int command, ...) {

@@ -14,6 +14,9 @@ void faults_refuse_of_all(uint64_t call, int number);
 /* All reads of this thread from now on are refused with this errno; 0 for none. */
 void faults_refuse_reads(int number);
 
+/* Does this before the next opening of a file of this name, or before the next "fsync" or "pread", of whichever thread. */
+void faults_before(const char *name, void (*what)(void));
+
 /* Of the growths of memory of this thread from now on the one of this number, from 1, is refused; 0 for none. Only
    what is preloaded has it. */
 void faults_refuse_memory(uint64_t growth);

@@ -15,6 +15,17 @@ enum { COMMITS = 7, CALLS_OF_COMMIT = 6, PAGE = 4096 };
 
 static char folder[4096];
 
+/* Whether files can be mapped: some file systems have no mapping at all, some none that is shared. */
+static enum { ALL_MAPS, PRIVATE_MAPS, NO_MAPS } maps;
+
+void *__real_mmap(void *at, size_t len, int protection, int flags, int fd, off_t offset);
+void *__wrap_mmap(void *at, size_t len, int protection, int flags, int fd, off_t offset) {
+    bool is_refused = fd >= 0 && (maps == NO_MAPS || (maps == PRIVATE_MAPS && (flags & MAP_SHARED)));
+    if (!is_refused) return __real_mmap(at, len, protection, flags, fd, offset);
+    errno = ENODEV;
+    return MAP_FAILED;
+}
+
 static void fresh(const char *top, const char *kind, uint64_t number) {
     snprintf(folder, sizeof folder, "%s/%s%" PRIu64, top, kind, number);
     HOLDS(mkdir(folder, 0777) == 0);
@@ -141,12 +152,39 @@ static void what_is_mapped(const char *top) {
     close(fd);
 }
 
+/* Where nobody knows what the system has in memory all is compared with the disk. */
+static void what_cannot_be_mapped(const char *top) {
+    ts_info info;
+    ts_file *file;
+    fresh(top, "unmapped", 0);
+    maps = PRIVATE_MAPS;
+    file = opened(&info);
+    commit_some(file, 1, 2);
+    ts_file_close(file);
+    maps = NO_MAPS;
+    faults_keep(true);
+    file = opened(&info);
+    HOLDS(info.a == 200);
+    faults_lose();
+    faults_refuse(CALLS_OF_COMMIT, EIO);
+    HOLDS(commit_some(file, 3, 3) == 2);
+    ts_file_close(file);
+    faults_refuse(0, 0);
+    CHECK(TS_CACHED, ts_file_open(folder, &file, &info)); /* the gate that the disk lacks */
+    HOLDS(was_caused(NULL, "posix_fadvise", "status", EBUSY));
+    faults_keep(false);
+    CHECK(TS_CACHED, ts_file_open(folder, &file, &info)); /* nor can it be compared */
+    maps = ALL_MAPS;
+    survives(2);
+}
+
 int main(int argc, char **argv) {
     if (argc != 2) return 2;
     for (uint64_t call = 1; call <= COMMITS * CALLS_OF_COMMIT; call++) trial(argv[1], call);
     a_refused_opening(argv[1]);
     what_is_kept(argv[1]);
     what_is_mapped(argv[1]);
+    what_cannot_be_mapped(argv[1]);
     printf("lost what %d calls were to keep\n", COMMITS * CALLS_OF_COMMIT);
     return 0;
 }

@@ -4,9 +4,11 @@
 #include "faults.h"
 #include <errno.h>
 #include <pthread.h>
+#include <semaphore.h>
 #include <stdatomic.h>
 #include <sys/stat.h>
 #include <sys/wait.h>
+#include <time.h>
 #include <timestore_shared.h>
 #include <unistd.h>
 
@@ -468,6 +470,146 @@ static void unreadable(void) {
     ts_shared_free(s);
 }
 
+/* ---- an archive that is read while others do something */
+
+enum { READ_RECORDS = 600, LATER = 100 }; /* their first values are more than is read under the lock */
+
+static sem_t did_it;
+static void *(*does)(void *);
+static bool is_done_meanwhile;
+
+static void *and_tell(void *arg) {
+    does(arg);
+    HOLDS(sem_post(&did_it) == 0);
+    return NULL;
+}
+
+/* Has another thread do it, before an archive is read; so long it may take. */
+static void let_another(void) {
+    struct timespec until;
+    pthread_t thread;
+    HOLDS(pthread_create(&thread, NULL, and_tell, NULL) == 0 && pthread_detach(thread) == 0);
+    clock_gettime(CLOCK_REALTIME, &until);
+    until.tv_sec += 1;
+    is_done_meanwhile = sem_timedwait(&did_it, &until) == 0;
+    HOLDS(is_done_meanwhile || errno == ETIMEDOUT);
+}
+
+static void *commits(void *arg) {
+    ts_info told;
+    CHECK(TS_OK, put_number(READ_RECORDS, 1, 1, &told));
+    return arg;
+}
+
+static uint64_t asked_view;
+
+static void *asks_too(void *arg) {
+    HOLDS(view_has(asked_view, 8, 1, "8 of 1"));
+    return arg;
+}
+
+static void *ends_it(void *arg) {
+    commits(arg); /* so that nothing else needs what that view is of */
+    CHECK(TS_OK, ts_shared_end(s, asked_view));
+    return arg;
+}
+
+static void *closes(void *arg) {
+    CHECK(TS_OK, ts_shared_close(s));
+    return arg;
+}
+
+/* A text that is as long as most values may be, and like no other. */
+static const char *long_text(void) {
+    static char text[220];
+    static uint32_t chance = 1;
+    for (size_t i = 0; i + 1 < sizeof text; i++) {
+        chance = chance * 1664525 + 1013904223;
+        text[i] = (char)('!' + (chance >> 24) % 90);
+    }
+    return text;
+}
+
+/* Two values of each record, at 1 and LATER, of which the first is in the archive alone. */
+static void fill_archive(void) {
+    char text[40];
+    for (uint64_t time = 1; time <= LATER; time += LATER - 1) {
+        uint64_t txn = begin();
+        for (uint64_t n = 0; n < READ_RECORDS; n++) {
+            snprintf(text, sizeof text, "%" PRIu64 " of %" PRIu64, n, time);
+            CHECK(TS_OK, txn_put(txn, n, n == 8 ? text : long_text()));
+        }
+        CHECK(TS_OK, ts_shared_commit(s, txn, 1, time, &info));
+    }
+    CHECK(TS_OK, ts_shared_archive(s, info.a, &info));
+    CHECK(TS_OK, ts_shared_reclaim(s, &info));
+}
+
+/* The same store, of which nothing of the archive was read. */
+static void open_unread(void) {
+    open_it();
+    CHECK(TS_OK, ts_shared_view(s, &info));
+    asked_view = info.a;
+    HOLDS(sem_init(&did_it, 0, 0) == 0);
+}
+
+/* A query of the archive, amid whose reading another thread does that; its code. */
+static int32_t asks_while(void *(*that)(void *)) {
+    uint8_t out[TS_VALUE_MOST];
+    ts_info told;
+    does = that;
+    faults_before("pread", let_another);
+    int32_t code = ts_shared_at(s, asked_view, 1, 8, 1, out, sizeof out, &told);
+    HOLDS(code != TS_OK || is_text(code, out, told.a, "8 of 1"));
+    return code;
+}
+
+static void reads_without_the_lock(void) {
+    new_store("reads", 256);
+    fill_archive();
+    ts_shared_free(s);
+    open_unread();
+    CHECK(TS_OK, asks_while(commits));
+    HOLDS(is_done_meanwhile);
+    ts_shared_free(s);
+    open_unread();
+    CHECK(TS_OK, asks_while(asks_too)); /* it waits for what the first one reads */
+    HOLDS(!is_done_meanwhile && sem_wait(&did_it) == 0);
+    ts_shared_free(s);
+    open_unread();
+    CHECK(TS_OK, asks_while(ends_it));
+    HOLDS(is_done_meanwhile && !view_has(asked_view, 8, 1, "8 of 1"));
+    ts_shared_free(s);
+    open_unread();
+    CHECK(TS_CLOSED, asks_while(closes)); /* that waits for it too */
+    HOLDS(!is_done_meanwhile && sem_wait(&did_it) == 0);
+    ts_shared_free(s);
+    open_unread();
+    faults_refuse_reads(EIO);
+    CHECK(TS_SYSTEM, asks_while(commits));
+    HOLDS(is_done_meanwhile && was_caused(NULL, "pread", "archive", EIO));
+    faults_refuse_reads(0);
+    HOLDS(view_has(asked_view, 8, 1, "8 of 1"));
+    ts_shared_free(s);
+}
+
+/* So are the names of commits, which lie in the archive where the log lies in the heap. */
+static void labels_are_read_without_the_lock(void) {
+    uint64_t times[16];
+    snprintf(folder, sizeof folder, "%s/labels", top);
+    HOLDS(mkdir(folder, 0777) == 0);
+    CHECK(TS_OK, ts_file_format_endless(folder, 256));
+    open_it();
+    fill_archive();
+    ts_shared_free(s);
+    open_unread();
+    does = commits;
+    faults_before("pread", let_another);
+    CHECK(TS_OK, ts_shared_times_of(s, 1, times, 16, &info));
+    HOLDS(is_done_meanwhile && info.a == 3 && times[0] == 1 && times[1] == LATER && times[2] == LATER + 1);
+    ts_shared_free(s);
+}
+
 int main(int argc, char **argv) {
     if (argc != 2) return 2;
     top = argv[1];
@@ -483,5 +625,7 @@ int main(int argc, char **argv) {
     vacuumed();
     vacuumed_in_the_heap();
     unreadable();
+    reads_without_the_lock();
+    labels_are_read_without_the_lock();
     return 0;
 }

@@ -1,6 +1,7 @@
 /* The folder of a store whose archive alone is in a pool: the files status and heap, and a file that names the archive, so that no
  * folder is opened with the archive of another. There is no file `archive`: what opens stores in files does not take it for one. */
 #define _GNU_SOURCE
+#include "files.h"
 #include "rados_parts.h"
 #include <errno.h>
 #include <fcntl.h>
@@ -58,6 +59,17 @@ static int32_t sync_made(int dir, const local_files *local) {
     return tsr_refuse(TS_SYSTEM, errno, "sync the folder");
 }
 
+/* From now on the files read as the disk has them: after a sync that failed the system may have more of them in memory. */
+static int32_t settle(const local_files *local) {
+    const store_files files = {.fd = {[TS_STATUS] = local->status, [TS_HEAP] = local->heap, [TS_ARCHIVE] = -1}};
+    int32_t code = tsi_settle(&files, TS_STATUS);
+    if (code == TS_OK) code = tsi_settle(&files, TS_HEAP);
+    if (code == TS_OK) return TS_OK;
+    if (code == TS_NO_MEMORY) return tsr_refuse(code, ENOMEM, "read what the disk has");
+    const ts_cause *why = tsi_last_cause();
+    return tsr_refuse(code, why->number, "read what the disk has of the file %s: %s", why->file, why->call);
+}
+
 static void close_files(local_files *local) {
     if (local->status >= 0) close(local->status);
     if (local->heap >= 0) close(local->heap);
@@ -73,6 +85,7 @@ int32_t tsr_folder_open(local_files *local, const char *path, bool make) {
     if (code == TS_OK) code = open_file(dir, "heap", make, &local->heap);
     if (code == TS_OK) code = find_name(dir, make, local->archive);
     if (code == TS_OK && make) code = sync_made(dir, local);
+    if (code == TS_OK) code = settle(local);
     if (code != TS_OK) close_files(local);
     close(dir);
     return code;

@@ -7,7 +7,9 @@
 #include <rados/librados.h>
 #include <stdatomic.h>
 
+#ifndef AREAS
 #define AREAS 3
+#endif
 #define PIECE ((uint64_t)4 << 20)      /* bytes of an object */
 #define BLOCK ((size_t)64 << 10)       /* bytes of the archive that are read at a time; a piece is so many whole ones */
 #define HEAD "head"                    /* the object with the lock, the owner, the layout and how many objects an area may have */

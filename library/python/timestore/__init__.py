@@ -86,7 +86,6 @@ from ._refused import (
 from ._shared import SharedStore, SharedTicket, SharedTransaction, SharedView
 from ._values import VALUE_MOST as _VALUE_MOST
 from ._values import Fields, Row, Time, make, make_endless, micros, moment
-from ._values import Room as _Room
 from ._values import fields_of as _fields
 from ._values import key_of as _key
 from ._values import number_of as _number
@@ -148,8 +147,8 @@ __all__ = [
     "moment",
 ]
 
-# How many words of a call are the room for a value, or for rows, and what it tells.
-_VALUE_WORDS, _ROWS_WORDS, _TIMES_WORDS = 3, 5, 3
+# How many words of a call are the room for a value or for times, or the cursor, and what it tells.
+_VALUE_WORDS, _ROWS_WORDS, _TIMES_WORDS = 3, 2, 3
 # What is lent for an archive of no bytes.
 _NOTHING = ctypes.create_string_buffer(1)
 
@@ -186,11 +185,9 @@ def library_version() -> str:
 class Store(_CommonStore["Transaction", "View"]):
     """An open store. As a context it is closed at its end."""
 
-    _rooms_kept = 4
     _has_files = False
     _file: ctypes.c_void_p | None
     _let_go: deque[tuple[Callable[..., int], int]]
-    _rooms: list[_Room]
 
     def __new__(cls, *_: Any, **__: Any) -> Self:
         """What the store of each host has.
@@ -199,7 +196,7 @@ class Store(_CommonStore["Transaction", "View"]):
         `_file` and `_at`, and has an `_end`, an `_archive`, a `flush`, `pump`, `job` and `job_pump`.
         """
         store = super().__new__(cls)
-        store._let_go, store._rooms = deque(), []
+        store._let_go = deque()
         return store
 
     def __init__(self, folder: str | os.PathLike[str]) -> None:
@@ -302,11 +299,6 @@ class Store(_CommonStore["Transaction", "View"]):
         """The value after the last commit; None where there is none."""
         with self.view() as view:
             return view.get(relation, record)
-
-    def scan(self, relation: int) -> Iterator[tuple[int, Fields]]:
-        """The records of a relation with their values after the last commit, in rising order."""
-        with self.view() as view:
-            return view.scan(relation)
 
     def flush(self) -> None:
         """Publishes what waits."""
@@ -459,7 +451,7 @@ class Transaction(_CommonTransaction[Store]):
     where it is let go. `snapshot` is the time of its snapshot, `time` that of its commit.
     """
 
-    _back, _calls = "ts_abort", "ts_"
+    _back, _calls, _cursors = "ts_abort", "ts_", "ts_cursor_"
 
     def submit(self, label: int | None = None, now: Time | None = None) -> Ticket | None:
         """Queues the writes as a commit; None where there are none. The transaction is over."""
@@ -500,14 +492,14 @@ class View(_CommonView[Store]):
     `last` is the time of the last commit that it has, 0 for none.
     """
 
-    _back, _calls = "ts_end", "ts_"
+    _back, _calls, _cursors = "ts_end", "ts_", "ts_cursor_"
 
     def _value_at(self, *key_and_time: int) -> Fields | None:
         call = self._store._lending(_library.ts_at, _VALUE_WORDS)
         return self._store._read(call, self._open(), *key_and_time)
 
     def _rows(self, name: str, *args: int) -> Iterator[Row]:
-        return self._store._rows(self._call(name), self._open(), *args, lends=True)
+        return self._store._rows(self._cursor(name), self._open(), *args, lends=True)
 
     def get(self, relation: int, record: int) -> Fields | None:
         """The value of a record after the view's last commit, None where it had none."""

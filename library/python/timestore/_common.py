@@ -9,14 +9,17 @@ from ._native import SMALL, Info, ask, library
 from ._refused import Conflict, Refused, Unknown
 from ._values import (
     ATTEMPTS,
+    LAST_RECORD,
+    Cursor,
     Fields,
-    Room,
     Row,
     Time,
     commit_time,
     key_of,
     micros,
     number_of,
+    range_of,
+    rows_of,
     spelled,
 )
 
@@ -28,10 +31,6 @@ _View = TypeVar("_View", bound="CommonView[Any]")
 
 class CommonStore(Generic[_Transaction, _View]):
     """An open store. As a context it is closed at its end."""
-
-    # How many pairs of buffers it keeps for its next queries.
-    _rooms_kept: int
-    _rooms: list[Room]
 
     @property
     def _handle(self) -> Any:
@@ -123,20 +122,31 @@ class CommonStore(Generic[_Transaction, _View]):
         with self.view() as view:
             return view.at(relation, record, time)
 
-    def scan_at(self, relation: int, time: Time) -> Iterator[tuple[int, Fields]]:
+    def scan(
+        self, relation: int, *, first: int = 0, last: int = LAST_RECORD
+    ) -> Iterator[tuple[int, Fields]]:
+        """`scan` of a view: what is there after the last commit."""
+        with self.view() as view:
+            return view.scan(relation, first=first, last=last)
+
+    def scan_at(
+        self, relation: int, time: Time, *, first: int = 0, last: int = LAST_RECORD
+    ) -> Iterator[tuple[int, Fields]]:
         """`scan_at` of a view."""
         with self.view() as view:
-            return view.scan_at(relation, time)
+            return view.scan_at(relation, time, first=first, last=last)
 
     def between(self, relation: int, record: int, start: Time, end: Time) -> Iterator[Row]:
         """`between` of a view."""
         with self.view() as view:
             return view.between(relation, record, start, end)
 
-    def scan_between(self, relation: int, start: Time, end: Time) -> Iterator[Row]:
+    def scan_between(
+        self, relation: int, start: Time, end: Time, *, first: int = 0, last: int = LAST_RECORD
+    ) -> Iterator[Row]:
         """`scan_between` of a view."""
         with self.view() as view:
-            return view.scan_between(relation, start, end)
+            return view.scan_between(relation, start, end, first=first, last=last)
 
     def _times(self, function: Callable[..., int], label: int) -> list[int]:
         """The times that a call finds, rising."""
@@ -150,34 +160,19 @@ class CommonStore(Generic[_Transaction, _View]):
             room = info.a
 
     def _rows(self, function: Callable[..., int], *args: int) -> Iterator[Row]:
-        """What a call finds: it is asked at once, and each row made as it is taken.
-
-        The memory for it grows with the most that was found, and the next query has it again.
-        """
-        try:
-            room = self._rooms.pop()
-        except IndexError:
-            room = Room(64, 4096)
-        handle, info = self._handle, self._info_of_call()
-        while (code := function(handle, *args, *room.args, info)) == SMALL:
-            room = Room(max(info.a, len(room.rows)), max(info.b, len(room.out)))
-        ask(code, info, self._note_failure)
-        return self._taken_rows(room, info.a)
-
-    def _taken_rows(self, room: Room, count: int) -> Iterator[Row]:
-        try:
-            yield from map(room.row, range(count))
-        finally:
-            if len(self._rooms) < self._rooms_kept:
-                self._rooms.append(room)
+        """The rows of a cursor that a call makes: it is asked at once, and each row made as it is taken."""
+        cursor, info = Cursor(), self._info_of_call()
+        ask(function(self._handle, *args, cursor.at, info), info, self._note_failure)
+        return rows_of(cursor)
 
 
 class Given(Generic[_Store]):
     """What a store gave out under a number. It is given back where it is let go."""
 
-    # The names of the call that gives it back, and how those of its own calls begin.
+    # The names of the call that gives it back, and how those of its own calls and cursors begin.
     _back: str
     _calls: str
+    _cursors: str
 
     def __init__(self, store: _Store, number: int) -> None:
         self._store = store
@@ -191,6 +186,10 @@ class Given(Generic[_Store]):
     def _call(self, name: str) -> Any:
         """The library's call of this name."""
         return getattr(library, self._calls + name)
+
+    def _cursor(self, name: str) -> Any:
+        """That of this name which makes a cursor."""
+        return getattr(library, self._cursors + name)
 
     def _end(self) -> None:
         """Gives it back, if it was not. Where that is refused it is still to be given back."""
@@ -242,9 +241,13 @@ class CommonTransaction(Given[_Store]):
         """The value that the transaction sees."""
         return self._store._read(self._call("get"), self._open(), *key_of(relation, record))
 
-    def scan(self, relation: int) -> Iterator[tuple[int, Fields]]:
-        """The records of a relation with their values, in rising order."""
-        rows = self._store._rows(self._call("scan"), self._open(), number_of(relation, 16))
+    def scan(
+        self, relation: int, *, first: int = 0, last: int = LAST_RECORD
+    ) -> Iterator[tuple[int, Fields]]:
+        """The records of a relation with their values, in rising order, from `first` up to `last`,
+        which counts too."""
+        words = range_of(relation, first, last)
+        rows = self._store._rows(self._cursor("of"), self._open(), *words)
         return ((row.record, row.fields) for row in rows)
 
     def _label_and_time(self, label: int | None, now: Time | None) -> tuple[int, int]:
@@ -289,32 +292,41 @@ class CommonView(Given[_Store]):
         return self._store._read(self._call("at"), self._open(), *key_and_time)
 
     def _rows(self, name: str, *args: int) -> Iterator[Row]:
-        return self._store._rows(self._call(name), self._open(), *args)
+        return self._store._rows(self._cursor(name), self._open(), *args)
 
     def get(self, relation: int, record: int) -> Fields | None:
         """The value of a record after the view's last commit, None where it had none."""
         return self.at(relation, record, self.last)
 
-    def scan(self, relation: int) -> Iterator[tuple[int, Fields]]:
+    def scan(
+        self, relation: int, *, first: int = 0, last: int = LAST_RECORD
+    ) -> Iterator[tuple[int, Fields]]:
         """The records of a relation with their values after the view's last commit."""
-        return self.scan_at(relation, self.last)
+        return self.scan_at(relation, self.last, first=first, last=last)
 
     def at(self, relation: int, record: int, time: Time) -> Fields | None:
         """The value of a record at a time, None where it had none."""
         return self._value_at(*key_of(relation, record), micros(time))
 
-    def scan_at(self, relation: int, time: Time) -> Iterator[tuple[int, Fields]]:
-        """The records of a relation that have a value at a time, in rising order."""
-        rows = self._rows("scan_at", number_of(relation, 16), micros(time))
+    def scan_at(
+        self, relation: int, time: Time, *, first: int = 0, last: int = LAST_RECORD
+    ) -> Iterator[tuple[int, Fields]]:
+        """The records of a relation that have a value at a time, in rising order, from `first` up to
+        `last`, which counts too."""
+        rows = self._rows("at", *range_of(relation, first, last), micros(time))
         return ((row.record, row.fields) for row in rows)
 
     def between(self, relation: int, record: int, start: Time, end: Time) -> Iterator[Row]:
         """What a record held from one time up to another, by rising time."""
-        return self._rows("between", *key_of(relation, record), micros(start), micros(end))
+        return self.scan_between(relation, start, end, first=record, last=record)
 
-    def scan_between(self, relation: int, start: Time, end: Time) -> Iterator[Row]:
-        """The same of a relation's records, by record and then by time."""
-        return self._rows("scan_between", number_of(relation, 16), micros(start), micros(end))
+    def scan_between(
+        self, relation: int, start: Time, end: Time, *, first: int = 0, last: int = LAST_RECORD
+    ) -> Iterator[Row]:
+        """The same of a relation's records, by record and then by time, from `first` up to `last`,
+        which counts too."""
+        words = range_of(relation, first, last)
+        return self._rows("between", *words, micros(start), micros(end))
 
     def end(self) -> None:
         """Gives the view back."""

@@ -24,15 +24,6 @@ class Info(ctypes.Structure):
     _fields_ = [("a", ctypes.c_uint64), ("b", ctypes.c_uint64)]
 
 
-class RawRow(ctypes.Structure):
-    record: int
-    start: int
-    end: int
-    at: int
-    len: int
-    _fields_ = [(name, ctypes.c_uint64) for name in ("record", "start", "end", "at", "len")]
-
-
 class RawPolicy(ctypes.Structure):
     _fields_ = [("every", ctypes.c_uint64), ("keep", ctypes.c_uint64), ("grows", ctypes.c_bool)]
 
@@ -49,14 +40,13 @@ def _prototypes() -> dict[str, list[Any]]:
     handle, info, text = ctypes.POINTER(Handle), ctypes.POINTER(Info), ctypes.c_char_p
     out = [buf, size, info]
     lent = [buf, size]
-    rows = [ctypes.POINTER(RawRow), size, *out]
+    made = [ctypes.POINTER(buf), info]
     return {
         "ts_last": [handle, info],
         "ts_begin": [handle, info],
         "ts_put": [handle, u64, u16, u64, text, size],
         "ts_delete": [handle, u64, u16, u64],
         "ts_get": [handle, u64, u16, u64, *out],
-        "ts_scan": [handle, u64, u16, *rows],
         "ts_submit": [handle, u64, u64, u64, info],
         "ts_abort": [handle, u64],
         "ts_redeem": [handle, u64, info],
@@ -65,9 +55,10 @@ def _prototypes() -> dict[str, list[Any]]:
         "ts_end": [handle, u64],
         "ts_recent": [handle, u64, u16, u64, u64, *out],
         "ts_at": [handle, u64, u16, u64, u64, *lent, *out],
-        "ts_scan_at": [handle, u64, u16, u64, *lent, *rows],
-        "ts_between": [handle, u64, u16, u64, u64, u64, *lent, *rows],
-        "ts_scan_between": [handle, u64, u16, u64, u64, *lent, *rows],
+        "ts_cursor_of": [handle, u64, u16, u64, u64, *made],
+        "ts_cursor_at": [handle, u64, u16, u64, u64, u64, *lent, *made],
+        "ts_cursor_between": [handle, u64, u16, u64, u64, u64, u64, *lent, *made],
+        "ts_cursor_next": [buf, size, ctypes.POINTER(buf), ctypes.POINTER(size), ctypes.POINTER(buf)],
         "ts_times_of": [handle, u64, *lent, *out],
         "ts_archive": [handle, u64, info],
         "ts_reclaim": [handle, info],
@@ -90,7 +81,7 @@ def _shared_prototypes() -> dict[str, list[Any]]:
     u64, u16, size, buf = ctypes.c_uint64, ctypes.c_uint16, ctypes.c_size_t, ctypes.c_void_p
     store, info, text = buf, ctypes.POINTER(Info), ctypes.c_char_p
     out = [buf, size, info]
-    rows = [ctypes.POINTER(RawRow), size, *out]
+    made = [ctypes.POINTER(buf), info]
     return {
         "ts_shared_open": [text, ctypes.POINTER(store), info],
         "ts_shared_close": [store],
@@ -99,12 +90,10 @@ def _shared_prototypes() -> dict[str, list[Any]]:
         "ts_shared_put": [store, u16, u64, text, size, u64, u64, info],
         "ts_shared_delete": [store, u16, u64, u64, u64, info],
         "ts_shared_get": [store, u16, u64, *out],
-        "ts_shared_scan": [store, u16, *rows],
         "ts_shared_begin": [store, info],
         "ts_shared_txn_put": [store, u64, u16, u64, text, size],
         "ts_shared_txn_delete": [store, u64, u16, u64],
         "ts_shared_txn_get": [store, u64, u16, u64, *out],
-        "ts_shared_txn_scan": [store, u64, u16, *rows],
         "ts_shared_commit": [store, u64, u64, u64, info],
         "ts_shared_resume": [store, u64, info],
         "ts_shared_give_up": [store, u64],
@@ -112,9 +101,9 @@ def _shared_prototypes() -> dict[str, list[Any]]:
         "ts_shared_view": [store, info],
         "ts_shared_end": [store, u64],
         "ts_shared_at": [store, u64, u16, u64, u64, *out],
-        "ts_shared_scan_at": [store, u64, u16, u64, *rows],
-        "ts_shared_between": [store, u64, u16, u64, u64, u64, *rows],
-        "ts_shared_scan_between": [store, u64, u16, u64, u64, *rows],
+        "ts_shared_cursor_of": [store, u64, u16, u64, u64, *made],
+        "ts_shared_cursor_at": [store, u64, u16, u64, u64, u64, *made],
+        "ts_shared_cursor_between": [store, u64, u16, u64, u64, u64, u64, *made],
         "ts_shared_times_of": [store, u64, buf, size, info],
         "ts_shared_archive": [store, u64, info],
         "ts_shared_reclaim": [store, info],
@@ -146,6 +135,7 @@ def _load() -> ctypes.CDLL:
     loaded.ts_file_store.argtypes = [ctypes.c_void_p]
     loaded.ts_file_store.restype = ctypes.POINTER(Handle)
     loaded.ts_file_close.argtypes, loaded.ts_file_close.restype = [ctypes.c_void_p], None
+    loaded.ts_cursor_free.argtypes, loaded.ts_cursor_free.restype = [ctypes.c_void_p], None
     loaded.ts_shared_free.argtypes, loaded.ts_shared_free.restype = [ctypes.c_void_p], None
     return loaded
 

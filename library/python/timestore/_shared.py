@@ -2,7 +2,7 @@
 
 import ctypes
 import os
-from collections.abc import Callable, Iterator
+from collections.abc import Callable
 from typing import Any, cast
 
 from ._common import CommonStore, CommonTransaction, CommonView, Given
@@ -11,7 +11,6 @@ from ._refused import Closed, Refused, Waiting
 from ._values import (
     VALUE_MOST,
     Fields,
-    Room,
     Time,
     commit_time,
     fields_of,
@@ -32,12 +31,10 @@ class SharedStore(CommonStore["SharedTransaction", "SharedView"]):
     run; queries are made one at a time. Transactions and views may go from thread to thread.
     """
 
-    _rooms_kept = _KEPT
     _open: ctypes.c_void_p | None = None  # until nothing refers to the store
 
     def __init__(self, folder: str | os.PathLike[str]) -> None:
         self._values: list[Any] = []
-        self._rooms: list[Room] = []
         store, info = ctypes.c_void_p(), Info()
         ask(library.ts_shared_open(os.fsencode(folder), store, info), info)
         self._open = store
@@ -112,11 +109,6 @@ class SharedStore(CommonStore["SharedTransaction", "SharedView"]):
     def get(self, relation: int, record: int) -> Fields | None:
         """The value after the last commit; None where there is none."""
         return self._read(library.ts_shared_get, *key_of(relation, record))
-
-    def scan(self, relation: int) -> Iterator[tuple[int, Fields]]:
-        """The records of a relation with their values after the last commit, in rising order."""
-        rows = self._rows(library.ts_shared_scan, number_of(relation, 16))
-        return ((row.record, row.fields) for row in rows)
 
     def view(self) -> "SharedView":
         """What is published now, which later commits do not change."""
@@ -203,7 +195,7 @@ class SharedTransaction(CommonTransaction[SharedStore]):
     where it is let go. `snapshot` is the time of its snapshot, `time` that of its commit.
     """
 
-    _back, _calls = "ts_shared_abort", "ts_shared_txn_"
+    _back, _calls, _cursors = "ts_shared_abort", "ts_shared_txn_", "ts_shared_cursor_"
 
     def commit(self, label: int | None = None, now: Time | None = None) -> int | None:
         """Commits it; its time, once it outlasts a stop, or None where nothing was written.
@@ -223,7 +215,7 @@ class SharedView(CommonView[SharedStore]):
     `last` is the time of the last commit that it has, 0 for none.
     """
 
-    _back, _calls = "ts_shared_end", "ts_shared_"
+    _back, _calls, _cursors = "ts_shared_end", "ts_shared_", "ts_shared_cursor_"
 
 
 for _it in (SharedStore, SharedTicket, SharedTransaction, SharedView):

@@ -3,10 +3,12 @@
 import ctypes
 import os
 import time
+from collections.abc import Iterator
 from datetime import datetime, timedelta, timezone
-from typing import Any, NamedTuple
+from struct import Struct
+from typing import NamedTuple
 
-from ._native import RawRow, ask, library
+from ._native import NONE, ask, library
 from ._refused import BadSlots, BadValue
 
 Fields = tuple[bytes, ...]
@@ -15,8 +17,13 @@ Time = datetime | int
 _EPOCH = datetime(1970, 1, 1, tzinfo=timezone.utc)
 # The bytes of the longest value.
 VALUE_MOST = 4097
+# The greatest number of a record.
+LAST_RECORD = (1 << 64) - 1
 # How often a transaction is tried that others were ahead of.
 ATTEMPTS = 10
+# A row as the library has it, and how many are taken of a cursor at once.
+_ROW = Struct("=5Q")
+_BLOCK = 256
 
 
 class Row(NamedTuple):
@@ -43,6 +50,11 @@ def number_of(number: int, bits: int = 64) -> int:
 def key_of(relation: int, record: int) -> tuple[int, int]:
     """The names of a record."""
     return number_of(relation, 16), number_of(record)
+
+
+def range_of(relation: int, first: int, last: int) -> tuple[int, int, int]:
+    """The names of the records of a relation from one on up to another."""
+    return number_of(relation, 16), number_of(first), number_of(last)
 
 
 def micros(time: Time) -> int:
@@ -76,10 +88,11 @@ def spelled(fields: tuple[bytes, ...]) -> bytes:
     return bytes([len(fields)]) + b"".join(bytes([len(field)]) + field for field in fields)
 
 
-def fields_of(value: bytes) -> Fields:
-    """The value of such bytes."""
-    at, fields = 1, []
-    for _ in range(value[0]):
+def fields_of(value: bytes, at: int = 0) -> Fields:
+    """The value of such bytes, from this one on."""
+    count, fields = value[at], []
+    at += 1
+    for _ in range(count):
         end = at + 1 + value[at]
         fields.append(value[at + 1:end])
         at = end
@@ -104,21 +117,25 @@ def make_endless(folder: str | os.PathLike[str], extents: int = 262_144) -> None
     ask(library.ts_file_format_endless(os.fsencode(folder), extents))
 
 
-class Room:
-    """Memory for what a query finds."""
+class Cursor:
+    """What a query has found. It is given back where it is let go."""
 
-    def __init__(self, count: int, size: int) -> None:
-        self.rows = (RawRow * count)()
-        self.out = ctypes.create_string_buffer(size)
+    def __init__(self) -> None:
+        self.at = ctypes.c_void_p()
 
-    @property
-    def args(self) -> tuple[Any, ...]:
-        return self.rows, len(self.rows), self.out, len(self.out)
+    def __del__(self) -> None:
+        library.ts_cursor_free(self.at)
 
-    def row(self, number: int) -> Row:
-        raw = self.rows[number]
-        value = ctypes.string_at(ctypes.addressof(self.out) + raw.at, raw.len)
-        return Row(raw.record, raw.start, raw.end, fields_of(value))
+
+def rows_of(cursor: Cursor) -> Iterator[Row]:
+    """The rows of a cursor, each made as it is taken. No more than a block of them is held here."""
+    rows, count, values = ctypes.c_void_p(), ctypes.c_size_t(), ctypes.c_void_p()
+    while library.ts_cursor_next(cursor.at, _BLOCK, rows, count, values) != NONE:
+        block = [*_ROW.iter_unpack(ctypes.string_at(rows, _ROW.size * count.value))]
+        start, (_, _, _, last, size) = block[0][3], block[-1]
+        found = ctypes.string_at((values.value or 0) + start, last + size - start)
+        for record, since, until, at, _ in block:
+            yield Row(record, since, until, fields_of(found, at - start))
 
 
 Row.__module__ = micros.__module__ = moment.__module__ = "timestore"

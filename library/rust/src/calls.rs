@@ -1,7 +1,7 @@
 //! How calls are made of a store, that of one thread and that which threads share.
 use crate::error::IN_DOUBT;
 use crate::raw::{self, Info};
-use crate::rows::Room;
+use crate::rows::Cursor;
 use crate::{Cause, Error, Fields, Result, fields_of};
 use std::ffi::CString;
 use std::io;
@@ -47,21 +47,14 @@ pub(crate) trait Calls {
         Ok((code != raw::NONE).then(|| fields_of(&value[..info.a as usize])))
     }
 
-    /// What a query finds, and how many rows. It is called with this room, which grows where it is too small.
-    fn find(
+    /// The cursor that a call makes.
+    fn cursor(
         &self,
-        mut room: Room,
-        mut query: impl FnMut(*mut Self::Raw, &mut Room, &mut Info) -> i32,
-    ) -> Result<(Room, usize)> {
-        loop {
-            let mut info = Info::default();
-            let code = query(self.raw(), &mut room, &mut info);
-            if code != raw::SMALL {
-                self.asked(code, info)?;
-                return Ok((room, info.a as usize));
-            }
-            room.grow(info.a as usize, info.b as usize);
-        }
+        call: impl FnOnce(*mut Self::Raw, &mut *mut raw::Cursor, &mut Info) -> i32,
+    ) -> Result<Cursor> {
+        let mut made = std::ptr::null_mut();
+        self.ask(|h, info| call(h, &mut made, info))?;
+        Ok(Cursor::of(made))
     }
 
     /// The times that a call writes, which is told how many there is room for.

@@ -27,6 +27,11 @@ pub struct Shared {
 }
 
 #[repr(C)]
+pub struct Cursor {
+    _private: [u8; 0],
+}
+
+#[repr(C)]
 pub struct Policy {
     pub every: u64,
     pub keep: u64,
@@ -41,7 +46,7 @@ pub struct Info {
 }
 
 #[repr(C)]
-#[derive(Clone, Copy, Debug, Default)]
+#[derive(Clone, Copy, Debug)]
 pub struct Row {
     pub record: u64,
     pub from: u64,
@@ -78,10 +83,15 @@ macro_rules! give_a_value {
     };
 }
 
-/// Calls that copy out rows, and their values.
-macro_rules! give_rows {
+/// Calls that make a cursor over a range of records.
+macro_rules! make_cursors {
     ($of:ty; $($name:ident($($word:ident: $kind:ty),*);)*) => {
-        give_a_value! { $of; $($name($($word: $kind,)* rows: *mut Row, count: usize);)* }
+        unsafe extern "C" {
+            $(pub fn $name(
+                h: *mut $of, number: u64, relation: u16, first: u64, last: u64, $($word: $kind,)*
+                cursor: &mut *mut Cursor, info: &mut Info,
+            ) -> i32;)*
+        }
     };
 }
 
@@ -91,11 +101,10 @@ give_a_value! { Handle;
     ts_at(view: u64, relation: u16, record: u64, time: u64, archive: *const u8, size: usize);
 }
 
-give_rows! { Handle;
-    ts_scan(txn: u64, relation: u16);
-    ts_scan_at(view: u64, relation: u16, time: u64, archive: *const u8, size: usize);
-    ts_between(view: u64, relation: u16, record: u64, from: u64, upto: u64, archive: *const u8, size: usize);
-    ts_scan_between(view: u64, relation: u16, from: u64, upto: u64, archive: *const u8, size: usize);
+make_cursors! { Handle;
+    ts_cursor_of();
+    ts_cursor_at(time: u64, archive: *const u8, size: usize);
+    ts_cursor_between(from: u64, upto: u64, archive: *const u8, size: usize);
 }
 
 give_a_value! { Shared;
@@ -104,12 +113,21 @@ give_a_value! { Shared;
     ts_shared_at(view: u64, relation: u16, record: u64, time: u64);
 }
 
-give_rows! { Shared;
-    ts_shared_scan(relation: u16);
-    ts_shared_txn_scan(txn: u64, relation: u16);
-    ts_shared_scan_at(view: u64, relation: u16, time: u64);
-    ts_shared_between(view: u64, relation: u16, record: u64, from: u64, upto: u64);
-    ts_shared_scan_between(view: u64, relation: u16, from: u64, upto: u64);
+make_cursors! { Shared;
+    ts_shared_cursor_of();
+    ts_shared_cursor_at(time: u64);
+    ts_shared_cursor_between(from: u64, upto: u64);
+}
+
+unsafe extern "C" {
+    pub fn ts_cursor_next(
+        cursor: *mut Cursor,
+        most: usize,
+        rows: &mut *const Row,
+        count: &mut usize,
+        values: &mut *const u8,
+    ) -> i32;
+    pub fn ts_cursor_free(cursor: *mut Cursor);
 }
 
 unsafe extern "C" {
@@ -216,15 +234,6 @@ unsafe extern "C" {
         file: *mut File,
         relation: u16,
         record: u64,
-        out: *mut u8,
-        len: usize,
-        info: &mut Info,
-    ) -> i32;
-    pub fn ts_file_scan(
-        file: *mut File,
-        relation: u16,
-        rows: *mut Row,
-        count: usize,
         out: *mut u8,
         len: usize,
         info: &mut Info,

@@ -1,5 +1,12 @@
 //! What queries find, made row by row as it is taken.
 use crate::{Fields, Store, fields_of, raw};
+use std::iter::FusedIterator;
+use std::marker::PhantomData;
+use std::ops::{Bound, RangeBounds};
+use std::{ptr, slice};
+
+// So many rows are taken of a cursor at once.
+const BLOCK: usize = 256;
 
 /// A value that a record had, from one time on up to another.
 #[derive(Clone, Debug, PartialEq, Eq)]
@@ -14,130 +21,130 @@ pub struct Row {
     pub fields: Fields,
 }
 
-/// Memory for what a query finds.
-#[derive(Debug)]
-pub struct Room {
-    rows: Vec<raw::Row>,
-    out: Vec<u8>,
+/// The first and the last of a range of records; of one without any the first is the greater.
+pub(crate) fn ends(records: impl RangeBounds<u64>) -> (u64, u64) {
+    let first = match records.start_bound() {
+        Bound::Included(first) => Some(*first),
+        Bound::Excluded(before) => before.checked_add(1),
+        Bound::Unbounded => Some(0),
+    };
+    let last = match records.end_bound() {
+        Bound::Included(last) => Some(*last),
+        Bound::Excluded(after) => after.checked_sub(1),
+        Bound::Unbounded => Some(u64::MAX),
+    };
+    first.zip(last).unwrap_or((1, 0))
 }
 
-impl Room {
-    pub(crate) fn new() -> Room {
-        Room {
-            rows: vec![raw::Row::default(); 64],
-            out: vec![0; 4096],
+/// What a query has found. It is in memory of the library until it is dropped, and needs no store.
+#[derive(Debug)]
+pub(crate) struct Cursor {
+    at: *mut raw::Cursor,
+    // Of the block that was taken last the rows that are left, and where their values lie.
+    rows: *const raw::Row,
+    left: usize,
+    values: *const u8,
+}
+
+// SAFETY: a cursor is no thread's own, and one call of it is made at a time.
+unsafe impl Send for Cursor {}
+
+impl Cursor {
+    // The cursor that a call has made.
+    pub(crate) fn of(made: *mut raw::Cursor) -> Cursor {
+        Cursor {
+            at: made,
+            rows: ptr::null(),
+            left: 0,
+            values: ptr::null(),
         }
     }
 
-    // Where rows go and how many there is room for, and the same of the bytes of their values.
-    pub(crate) fn parts(&mut self) -> (*mut raw::Row, usize, *mut u8, usize) {
-        let Room { rows, out } = self;
-        (rows.as_mut_ptr(), rows.len(), out.as_mut_ptr(), out.len())
+    // Takes the next block; whether there is one.
+    fn take_block(&mut self) -> bool {
+        let Cursor {
+            at,
+            rows,
+            left,
+            values,
+        } = self;
+        // SAFETY: the cursor was made, and is not freed.
+        unsafe { raw::ts_cursor_next(*at, BLOCK, rows, left, values) != raw::NONE }
     }
 
-    // Room for so many rows and bytes of values, and for what it had room for.
-    pub(crate) fn grow(&mut self, rows: usize, bytes: usize) {
-        self.rows
-            .resize(rows.max(self.rows.len()), raw::Row::default());
-        self.out.resize(bytes.max(self.out.len()), 0);
-    }
-
-    fn row(&self, number: usize) -> Row {
-        let raw = &self.rows[number];
-        let value = &self.out[raw.at as usize..(raw.at + raw.len) as usize];
-        Row {
+    fn next(&mut self) -> Option<Row> {
+        if self.left == 0 && !self.take_block() {
+            return None;
+        }
+        // SAFETY: a row is left, and it and its value stay until the next block is taken.
+        let (raw, value) = unsafe {
+            let raw = *self.rows;
+            self.rows = self.rows.add(1);
+            let at = self.values.add(raw.at as usize);
+            (raw, slice::from_raw_parts(at, raw.len as usize))
+        };
+        self.left -= 1;
+        Some(Row {
             record: raw.record,
             from: raw.from,
             upto: raw.upto,
             fields: fields_of(value),
-        }
+        })
     }
 }
 
-/// Who takes the memory of a query back; by itself nobody.
-pub trait Home {
-    /// Takes it.
-    fn keep(&self, _room: Room) {}
-}
-
-impl Home for () {}
-
-impl Home for &Store {
-    fn keep(&self, room: Room) {
-        Store::keep(self, room);
+impl Drop for Cursor {
+    fn drop(&mut self) {
+        // SAFETY: the cursor was made, and nothing of it is used any more.
+        unsafe { raw::ts_cursor_free(self.at) }
     }
 }
 
 /// The rows that a query found, each made as it is taken.
+///
+/// The query was made once. What it found is in memory of the library, which is given back as the iterator goes on.
 #[derive(Debug)]
-pub struct RowsOf<H: Home> {
-    home: H,
-    room: Option<Room>,
-    next: usize,
-    count: usize,
+pub struct RowsOf<H> {
+    cursor: Cursor,
+    of: PhantomData<H>,
 }
 
 /// The rows that a query found, each made as it is taken.
 pub type Rows<'a> = RowsOf<&'a Store>;
 
-impl<H: Home> RowsOf<H> {
-    // Its home has its memory again where it is dropped.
-    pub(crate) fn new(home: H, (room, count): (Room, usize)) -> RowsOf<H> {
+impl<H> RowsOf<H> {
+    pub(crate) fn new(cursor: Cursor) -> RowsOf<H> {
         RowsOf {
-            home,
-            room: Some(room),
-            next: 0,
-            count,
+            cursor,
+            of: PhantomData,
         }
     }
 }
 
-impl<H: Home> Iterator for RowsOf<H> {
+impl<H> Iterator for RowsOf<H> {
     type Item = Row;
 
     fn next(&mut self) -> Option<Row> {
-        if self.next == self.count {
-            return None;
-        }
-        let row = self.room.as_ref()?.row(self.next);
-        self.next += 1;
-        Some(row)
-    }
-
-    fn size_hint(&self) -> (usize, Option<usize>) {
-        let left = self.count - self.next;
-        (left, Some(left))
+        self.cursor.next()
     }
 }
 
-impl<H: Home> ExactSizeIterator for RowsOf<H> {}
-
-impl<H: Home> Drop for RowsOf<H> {
-    fn drop(&mut self) {
-        if let Some(room) = self.room.take() {
-            self.home.keep(room);
-        }
-    }
-}
+impl<H> FusedIterator for RowsOf<H> {}
 
 /// The records that a scan found, with their values.
 #[derive(Debug)]
-pub struct RecordsOf<H: Home>(pub(crate) RowsOf<H>);
+pub struct RecordsOf<H>(pub(crate) RowsOf<H>);
 
 /// The records that a scan found, with their values.
 pub type Records<'a> = RecordsOf<&'a Store>;
 
-impl<H: Home> Iterator for RecordsOf<H> {
+impl<H> Iterator for RecordsOf<H> {
     type Item = (u64, Fields);
 
     fn next(&mut self) -> Option<(u64, Fields)> {
         let row = self.0.next()?;
         Some((row.record, row.fields))
     }
-
-    fn size_hint(&self) -> (usize, Option<usize>) {
-        self.0.size_hint()
-    }
 }
 
-impl<H: Home> ExactSizeIterator for RecordsOf<H> {}
+impl<H> FusedIterator for RecordsOf<H> {}

@@ -17,7 +17,7 @@
 //!         scope.spawn(move || store.put(1, record, &[b"a"], 0));
 //!     }
 //! });
-//! assert_eq!(store.scan(1)?.len(), 4);
+//! assert_eq!(store.scan(1)?.count(), 4);
 //! # drop(store);
 //! # std::fs::remove_dir_all(&folder).unwrap();
 //! # Ok(())
@@ -26,8 +26,9 @@
 use crate::calls::{Calls, asked, attempted, path_of};
 use crate::error::WAITING;
 use crate::raw::{self, Info};
-use crate::rows::{RecordsOf, Room, RowsOf};
+use crate::rows::{RecordsOf, RowsOf, ends};
 use crate::{Cause, Error, Fields, Result, WaitingTicket, When, spelled};
+use std::ops::RangeBounds;
 use std::path::Path;
 use std::sync::Arc;
 use std::time::Duration;
@@ -76,12 +77,12 @@ impl Open {
         Ok(self.commit(call)?.expect("something was written"))
     }
 
-    // What a query finds, which is called with room for it: no more rows and bytes are written than there is.
+    // What a query finds, which makes a cursor.
     fn rows(
         &self,
-        query: impl FnMut(*mut raw::Shared, &mut Room, &mut Info) -> i32,
+        query: impl FnOnce(*mut raw::Shared, &mut *mut raw::Cursor, &mut Info) -> i32,
     ) -> Result<Rows> {
-        Ok(RowsOf::new((), self.find(Room::new(), query)?))
+        Ok(RowsOf::new(self.cursor(query)?))
     }
 }
 
@@ -163,11 +164,7 @@ impl SharedStore {
 
     /// The records of a relation with their present values, in rising order.
     pub fn scan(&self, relation: u16) -> Result<Records> {
-        let found = self.0.rows(|s, room, info| unsafe {
-            let (rows, count, out, len) = room.parts();
-            raw::ts_shared_scan(s, relation, rows, count, out, len, info)
-        });
-        found.map(RecordsOf)
+        self.view()?.scan(relation)
     }
 
     /// A transaction on what is published now.
@@ -326,9 +323,14 @@ impl Txn {
 
     /// The records of a relation that it sees, in rising order.
     pub fn scan(&self, relation: u16) -> Result<Records> {
-        let found = self.store.rows(|s, room, info| unsafe {
-            let (rows, count, out, len) = room.parts();
-            raw::ts_shared_txn_scan(s, self.number, relation, rows, count, out, len, info)
+        self.range(relation, ..)
+    }
+
+    /// The same of a range of records.
+    pub fn range(&self, relation: u16, records: impl RangeBounds<u64>) -> Result<Records> {
+        let (number, (first, last)) = (self.number, ends(records));
+        let found = self.store.rows(|s, cursor, info| unsafe {
+            raw::ts_shared_cursor_of(s, number, relation, first, last, cursor, info)
         });
         found.map(RecordsOf)
     }
@@ -387,48 +389,45 @@ impl View {
 
     /// The records of a relation that have a value at a time, in rising order.
     pub fn scan_at(&self, relation: u16, time: u64) -> Result<Records> {
-        let found = self.store.rows(|s, room, info| unsafe {
-            let (rows, count, out, len) = room.parts();
-            raw::ts_shared_scan_at(s, self.number, relation, time, rows, count, out, len, info)
+        self.range_at(relation, .., time)
+    }
+
+    /// The same of a range of records.
+    pub fn range_at(
+        &self,
+        relation: u16,
+        records: impl RangeBounds<u64>,
+        time: u64,
+    ) -> Result<Records> {
+        let (number, (first, last)) = (self.number, ends(records));
+        let found = self.store.rows(|s, cursor, info| unsafe {
+            raw::ts_shared_cursor_at(s, number, relation, first, last, time, cursor, info)
         });
         found.map(RecordsOf)
     }
 
     /// The values of a record from one time up to another, by rising time.
     pub fn between(&self, relation: u16, record: u64, from: u64, upto: u64) -> Result<Rows> {
-        self.store.rows(|s, room, info| unsafe {
-            let (rows, count, out, len) = room.parts();
-            raw::ts_shared_between(
-                s,
-                self.number,
-                relation,
-                record,
-                from,
-                upto,
-                rows,
-                count,
-                out,
-                len,
-                info,
-            )
-        })
+        self.range_between(relation, record..=record, from, upto)
     }
 
     /// The same of a relation's records, by record and then by time.
     pub fn scan_between(&self, relation: u16, from: u64, upto: u64) -> Result<Rows> {
-        self.store.rows(|s, room, info| unsafe {
-            let (rows, count, out, len) = room.parts();
-            raw::ts_shared_scan_between(
-                s,
-                self.number,
-                relation,
-                from,
-                upto,
-                rows,
-                count,
-                out,
-                len,
-                info,
+        self.range_between(relation, .., from, upto)
+    }
+
+    /// The same of a range of records.
+    pub fn range_between(
+        &self,
+        relation: u16,
+        records: impl RangeBounds<u64>,
+        from: u64,
+        upto: u64,
+    ) -> Result<Rows> {
+        let (number, (first, last)) = (self.number, ends(records));
+        self.store.rows(|s, cursor, info| unsafe {
+            raw::ts_shared_cursor_between(
+                s, number, relation, first, last, from, upto, cursor, info,
             )
         })
     }

@@ -1,13 +1,9 @@
 //! An open store.
 use crate::calls::{Calls, asked, attempted, path_of};
 use crate::raw::{self, Info};
-use crate::rows::{Records, RecordsOf, Room, Rows, RowsOf};
+use crate::rows::{Records, Rows, RowsOf};
 use crate::{Cause, Error, Fields, Result, Ticket, Txn, View, WaitingTicket, When};
-use std::cell::RefCell;
 use std::path::Path;
-
-// How many pairs of buffers a store keeps for its next queries.
-const ROOMS_KEPT: usize = 4;
 
 /// What a step of a group or of a job did.
 #[derive(Clone, Copy, Debug, PartialEq, Eq)]
@@ -82,7 +78,6 @@ impl Step {
 pub struct Store {
     file: *mut raw::File,
     pub(crate) handle: *mut raw::Handle,
-    rooms: RefCell<Vec<Room>>,
 }
 
 // It is neither `Send` nor `Sync`, so no two calls are made at once.
@@ -129,11 +124,7 @@ impl Store {
         asked(code, info, || None)?;
         // SAFETY: the file is open until the store is dropped.
         let handle = unsafe { raw::ts_file_store(file) };
-        Ok(Store {
-            file,
-            handle,
-            rooms: RefCell::default(),
-        })
+        Ok(Store { file, handle })
     }
 
     /// The time of the last commit, 0 for none.
@@ -202,13 +193,7 @@ impl Store {
 
     /// The records of a relation with their present values, in rising order.
     pub fn scan(&self, relation: u16) -> Result<Records<'_>> {
-        let file = self.file;
-        // SAFETY: the file is open, and no more rows and bytes are written than there is room for.
-        let found = self.rows(|_, room, info| unsafe {
-            let (rows, count, out, len) = room.parts();
-            raw::ts_file_scan(file, relation, rows, count, out, len, info)
-        });
-        found.map(RecordsOf)
+        self.view()?.scan(relation)
     }
 
     /// The ticket of a commit that waits, as a refused commit gave it back. That of another store is unknown.
@@ -363,33 +348,30 @@ impl Store {
         refusal.map_or(value, Err)
     }
 
-    // What a query finds, which is called with room for it. The room grows with the most that was found, and the
-    // next query has it again.
+    // What a query finds, which makes a cursor.
     pub(crate) fn rows(
         &self,
-        query: impl FnMut(*mut raw::Handle, &mut Room, &mut Info) -> i32,
+        query: impl FnOnce(*mut raw::Handle, &mut *mut raw::Cursor, &mut Info) -> i32,
     ) -> Result<Rows<'_>> {
-        let room = self.rooms.borrow_mut().pop().unwrap_or_else(Room::new);
-        Ok(RowsOf::new(self, self.find(room, query)?))
+        Ok(RowsOf::new(self.cursor(query)?))
     }
 
     // The same of a query that may be lent the archive.
     pub(crate) fn rows_lent(
         &self,
-        mut query: impl FnMut(*mut raw::Handle, *const u8, usize, &mut Room, &mut Info) -> i32,
+        mut query: impl FnMut(
+            *mut raw::Handle,
+            *const u8,
+            usize,
+            &mut *mut raw::Cursor,
+            &mut Info,
+        ) -> i32,
     ) -> Result<Rows<'_>> {
         let mut refusal = None;
-        let rows = self.rows(|h, room, info| {
-            self.lent(&mut refusal, |at, size| query(h, at, size, room, info))
+        let rows = self.rows(|h, cursor, info| {
+            self.lent(&mut refusal, |at, size| query(h, at, size, cursor, info))
         });
         refusal.map_or(rows, Err)
-    }
-
-    pub(crate) fn keep(&self, room: Room) {
-        let mut rooms = self.rooms.borrow_mut();
-        if rooms.len() < ROOMS_KEPT {
-            rooms.push(room);
-        }
     }
 }
 

@@ -1,9 +1,10 @@
 //! Transactions, and the tickets of their commits.
 use crate::calls::Calls;
 use crate::error::WAITING;
-use crate::rows::{Records, RecordsOf};
+use crate::rows::{Records, RecordsOf, ends};
 use crate::{Error, Fields, Result, Store, WaitingTicket, When, raw, spelled};
 use std::cell::Cell;
+use std::ops::RangeBounds;
 
 /// An open transaction: what it reads is its snapshot with its own writes over it. Dropped, it is given up.
 #[derive(Debug)]
@@ -55,11 +56,14 @@ impl<'a> Txn<'a> {
 
     /// The records of a relation that it sees, in rising order.
     pub fn scan(&self, relation: u16) -> Result<Records<'a>> {
-        let number = self.number;
-        // SAFETY: no more rows and bytes are written than there is room for.
-        let found = self.store.rows(|h, room, info| unsafe {
-            let (rows, count, out, len) = room.parts();
-            raw::ts_scan(h, number, relation, rows, count, out, len, info)
+        self.range(relation, ..)
+    }
+
+    /// The same of a range of records.
+    pub fn range(&self, relation: u16, records: impl RangeBounds<u64>) -> Result<Records<'a>> {
+        let (number, (first, last)) = (self.number, ends(records));
+        let found = self.store.rows(|h, cursor, info| unsafe {
+            raw::ts_cursor_of(h, number, relation, first, last, cursor, info)
         });
         found.map(RecordsOf)
     }

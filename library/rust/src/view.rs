@@ -1,7 +1,8 @@
 //! Views, and the questions about the past.
 use crate::calls::Calls;
-use crate::rows::{Records, RecordsOf, Rows};
+use crate::rows::{Records, RecordsOf, Rows, ends};
 use crate::{Fields, Result, Store, raw};
+use std::ops::RangeBounds;
 
 /// What was published at one moment. Dropped, it is given back.
 #[derive(Debug)]
@@ -53,13 +54,21 @@ impl<'a> View<'a> {
 
     /// The records of a relation that have a value at a time, in rising order.
     pub fn scan_at(&self, relation: u16, time: u64) -> Result<Records<'a>> {
-        let number = self.number;
-        // SAFETY: no more rows and bytes are written than there is room for, and the archive that is lent stays
-        // where it is, here and below.
-        let found = self.store.rows_lent(|h, at, size, room, info| unsafe {
-            let (rows, count, out, len) = room.parts();
-            raw::ts_scan_at(
-                h, number, relation, time, at, size, rows, count, out, len, info,
+        self.range_at(relation, .., time)
+    }
+
+    /// The same of a range of records.
+    pub fn range_at(
+        &self,
+        relation: u16,
+        records: impl RangeBounds<u64>,
+        time: u64,
+    ) -> Result<Records<'a>> {
+        let (number, (first, last)) = (self.number, ends(records));
+        // SAFETY: the archive that is lent stays where it is for the call, here and below.
+        let found = self.store.rows_lent(|h, at, size, cursor, info| unsafe {
+            raw::ts_cursor_at(
+                h, number, relation, first, last, time, at, size, cursor, info,
             )
         });
         found.map(RecordsOf)
@@ -67,22 +76,26 @@ impl<'a> View<'a> {
 
     /// The values of a record from one time up to another, by rising time.
     pub fn between(&self, relation: u16, record: u64, from: u64, upto: u64) -> Result<Rows<'a>> {
-        let number = self.number;
-        self.store.rows_lent(|h, at, size, room, info| unsafe {
-            let (rows, count, out, len) = room.parts();
-            raw::ts_between(
-                h, number, relation, record, from, upto, at, size, rows, count, out, len, info,
-            )
-        })
+        self.range_between(relation, record..=record, from, upto)
     }
 
     /// The same of a relation's records, by record and then by time.
     pub fn scan_between(&self, relation: u16, from: u64, upto: u64) -> Result<Rows<'a>> {
-        let number = self.number;
-        self.store.rows_lent(|h, at, size, room, info| unsafe {
-            let (rows, count, out, len) = room.parts();
-            raw::ts_scan_between(
-                h, number, relation, from, upto, at, size, rows, count, out, len, info,
+        self.range_between(relation, .., from, upto)
+    }
+
+    /// The same of a range of records.
+    pub fn range_between(
+        &self,
+        relation: u16,
+        records: impl RangeBounds<u64>,
+        from: u64,
+        upto: u64,
+    ) -> Result<Rows<'a>> {
+        let (number, (first, last)) = (self.number, ends(records));
+        self.store.rows_lent(|h, at, size, cursor, info| unsafe {
+            raw::ts_cursor_between(
+                h, number, relation, first, last, from, upto, at, size, cursor, info,
             )
         })
     }

@@ -1,4 +1,5 @@
 //! The crate's calls.
+use std::ops::Bound;
 use std::path::PathBuf;
 use timestore::{Area, Error, Row, Step, Store, When};
 
@@ -59,7 +60,7 @@ fn commits_are_read() {
         for record in 0..100 {
             txn.put(1, record, &[&[record as u8; 200], b""]).unwrap();
         }
-        assert_eq!(txn.scan(1).unwrap().len(), 100);
+        assert_eq!(txn.scan(1).unwrap().count(), 100);
         assert!(matches!(txn.put(1, 1, &[]), Err(Error::BadValue)));
         assert!(matches!(txn.delete(1, 100), Err(Error::Missing)));
         let ticket = txn.submit(3, 50).unwrap().unwrap();
@@ -73,7 +74,7 @@ fn commits_are_read() {
     let view = store.view().unwrap();
     assert_eq!(view.at(1, 5, 50).unwrap(), Some(vec![vec![5; 200], vec![]]));
     assert_eq!(view.at(1, 5, 49).unwrap(), None);
-    assert_eq!(view.scan_at(1, 50).unwrap().len(), 100);
+    assert_eq!(view.scan_at(1, 50).unwrap().count(), 100);
     let rows: Vec<Row> = view.scan_between(1, 0, 51).unwrap().collect();
     assert_eq!(
         (rows.len(), rows[99].record, rows[99].from, rows[99].upto),
@@ -103,7 +104,7 @@ fn an_archive_is_read_where_it_is_needed() {
     assert!(matches!(view.recent(1, 7, 9), Err(Error::NeedsArchive)));
     assert_eq!(view.recent(1, 7, 10).unwrap(), Some(vec![b"kept".to_vec()]));
     assert_eq!(view.at(1, 7, 9).unwrap(), None);
-    assert_eq!(view.scan_at(1, 9).unwrap().len(), 0);
+    assert_eq!(view.scan_at(1, 9).unwrap().count(), 0);
     assert!(matches!(store.raise_floor(10), Err(Error::WrongProfile)));
     assert!(matches!(store.floor_of(1, 11), Err(Error::NotYet(10))));
     store.floor_of(1, 10).unwrap();
@@ -273,13 +274,67 @@ fn rows_are_made_as_they_are_taken() {
         second.next().map(|row| (row.record, row.from, row.upto)),
         Some((0, 10, 11))
     );
-    assert_eq!((first.len(), second.len()), (299, 299));
     for record in 1..300 {
         let wanted = vec![vec![record as u8; 200]];
         assert_eq!(first.next(), Some((record, wanted.clone())));
         assert_eq!(second.next().map(|row| row.fields), Some(wanted));
     }
     assert_eq!((first.next(), second.next()), (None, None));
+}
+
+#[test]
+fn ranges_of_records() {
+    let path = folder("ranges");
+    timestore::format(&path, 64).unwrap();
+    let store = Store::open(&path).unwrap();
+    let mut txn = store.begin().unwrap();
+    for record in (0..600).step_by(2).chain([u64::MAX]) {
+        txn.put(1, record, &[&[record as u8; 200]]).unwrap();
+    }
+    assert_eq!(txn.range(1, 100..=104).unwrap().count(), 3);
+    txn.commit(1, 10).unwrap();
+    let view = store.view().unwrap();
+    let has = |found: Vec<u64>, wanted: &[u64]| assert_eq!(found, wanted);
+    let at = |records: (Bound<u64>, Bound<u64>)| -> Vec<u64> {
+        let found = view.range_at(1, records, 10).unwrap();
+        let rows = view.range_between(1, records, 0, 11).unwrap();
+        let found: Vec<u64> = found.map(|it| it.0).collect();
+        assert!(rows.map(|row| row.record).eq(found.iter().copied()));
+        found
+    };
+    has(
+        at((Bound::Included(100), Bound::Included(104))),
+        &[100, 102, 104],
+    );
+    has(at((Bound::Excluded(100), Bound::Excluded(104))), &[102]);
+    has(
+        at((Bound::Included(598), Bound::Unbounded)),
+        &[598, u64::MAX],
+    );
+    has(at((Bound::Excluded(598), Bound::Excluded(u64::MAX))), &[]);
+    has(at((Bound::Excluded(u64::MAX), Bound::Unbounded)), &[]);
+    has(at((Bound::Unbounded, Bound::Excluded(0))), &[]);
+    has(at((Bound::Unbounded, Bound::Included(0))), &[0]);
+    has(at((Bound::Included(9), Bound::Included(7))), &[]);
+    assert_eq!(at((Bound::Unbounded, Bound::Unbounded)).len(), 301);
+    // Goes on where an earlier one was left.
+    let mut last = None;
+    let mut all = 0;
+    loop {
+        let from = last.map_or(Bound::Unbounded, Bound::Excluded);
+        let block: Vec<_> = view
+            .range_at(1, (from, Bound::Unbounded), 10)
+            .unwrap()
+            .take(7)
+            .collect();
+        let Some((record, _)) = block.last() else {
+            break;
+        };
+        last = Some(*record);
+        all += block.len();
+    }
+    assert_eq!(all, 301);
+    assert!(matches!(view.range_at(1, 5..5, 11), Err(Error::NotYet(10))));
 }
 
 #[test]

@@ -39,7 +39,8 @@ fn each_call() {
     txn.put(1, 7, &[b"b"]).unwrap();
     txn.put(1, 8, &[b"c", b""]).unwrap();
     assert_eq!(txn.get(1, 7).unwrap(), Some(vec![b"b".to_vec()]));
-    assert_eq!(txn.scan(1).unwrap().len(), 2);
+    assert_eq!(txn.scan(1).unwrap().count(), 2);
+    assert_eq!(txn.range(1, 8..9).unwrap().count(), 1);
     assert!(matches!(txn.put(1, 7, &[]), Err(Error::BadValue)));
     assert_eq!(store.get(1, 7).unwrap(), Some(vec![b"a".to_vec()]));
     let second = txn.commit(9, When::Now).unwrap().unwrap();
@@ -51,7 +52,14 @@ fn each_call() {
         store.scan(1).unwrap().map(|it| it.0).collect::<Vec<_>>(),
         [7]
     );
-    assert_eq!(view.scan(1).unwrap().len(), 2);
+    assert_eq!(view.scan(1).unwrap().count(), 2);
+    assert_eq!(view.range_at(1, 8.., second).unwrap().count(), 1);
+    assert_eq!(
+        view.range_between(1, ..8, first, second + 1)
+            .unwrap()
+            .count(),
+        2
+    );
     assert_eq!(view.at(1, 7, first).unwrap(), Some(vec![b"a".to_vec()]));
     assert_eq!(view.get(1, 8).unwrap(), Some(vec![b"c".to_vec(), vec![]]));
     let rows: Vec<_> = view
@@ -60,7 +68,7 @@ fn each_call() {
         .map(|it| it.from)
         .collect();
     assert_eq!(rows, [first, second]);
-    assert_eq!(view.scan_between(1, first, second + 1).unwrap().len(), 3);
+    assert_eq!(view.scan_between(1, first, second + 1).unwrap().count(), 3);
     assert!(matches!(view.at(1, 7, second + 1), Err(Error::NotYet(_))));
     assert_eq!(store.times_of(9).unwrap(), [first, second]);
     assert_eq!(store.begin().unwrap().commit(0, When::Now).unwrap(), None);
@@ -82,7 +90,12 @@ fn each_call() {
     ));
     store.grow().unwrap();
     store.job().unwrap();
+    let left = thread::spawn({
+        let found = store.scan(1).unwrap();
+        move || found.count()
+    });
     store.close().unwrap();
+    assert_eq!(left.join().unwrap(), 1);
     assert!(matches!(store.close(), Err(Error::Closed)));
     assert!(matches!(view.get(1, 7), Err(Error::Closed)));
     assert!(matches!(store.put(1, 7, &[b"a"], 0), Err(Error::Closed)));

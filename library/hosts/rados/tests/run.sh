@@ -30,7 +30,14 @@ passes "$top/cluster.sh" start "$cluster"
 export RADOS_CONF=$cluster/ceph.conf
 
 sanitized="-fsanitize=address,undefined -fno-sanitize-recover=all"
-parts=("$top"/rados_*.c)
+parts=("$top"/rados_*.c "$library/src/files.c" "-I$library/src")
+
+say "C, folder (address, undefined)"
+gcc -std=c11 -g -O1 -c "$library/tests/faults.c" -o "$work/faults.o"
+# shellcheck disable=SC2086
+gcc $warnings $sanitized "$here/folder.c" "${parts[@]}" "$work/faults.o" -o "$work/folder" -lrados -lpthread
+mkdir "$work/folder-folder"
+passes "$work/folder" "$work/folder-folder"
 
 for test in areas fence; do
     say "C, $test (address, undefined)"
@@ -47,7 +54,7 @@ for kind in whole cold; do
     flags=
     [ "$kind" = whole ] || flags=-DCOLD
     # shellcheck disable=SC2086
-    gcc $warnings "-I$library/src" $sanitized $flags "-DPLACE=\"$place\"" "$library/tests/worked.c" "$library/src/steps.c" \
+    gcc $warnings $sanitized $flags "-DPLACE=\"$place\"" "$library/tests/worked.c" "$library/src/steps.c" \
         "${parts[@]}" "$top/timestore_rados.c" -o "$work/worked-$kind" "$library/out/libtimestore.a" -lrados -lpthread
     mkdir "$work/worked-$kind-folder"
     passes "$work/worked-$kind" "$work/worked-$kind-folder"
